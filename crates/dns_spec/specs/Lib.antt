@@ -1,0 +1,2 @@
+-- The meaning of the product, to be read from the first file to the last.
+pub mod Names

@@ -1,0 +1,3 @@
+// The definitions that every contract of the product speaks of, and the laws about them.
+#![tactic(auto)]
+
