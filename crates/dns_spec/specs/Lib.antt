@@ -1,2 +1,10 @@
 -- The meaning of the product, to be read from the first file to the last.
 pub mod Names
+pub mod Data
+pub mod Records
+pub mod Tree
+pub mod Checks
+pub mod Reading
+pub mod Layout
+pub mod Answer
+pub mod Reply

@@ -2,7 +2,8 @@
 -- when one is at or below another, and which of two comes first.
 --
 -- An octet is a number below 256. The lists of octets here are those of a program, so this is said nowhere again.
-use Rattle.std.specs.Prelude.{ℕ, ◌+◌, ◌-◌, Bool, true, false, ◌&&◌, ◌||◌, List, [], ◌∷◌, ◌++◌, map, reverse, length, drop, nat_lt, nat_le, ◌==◌, IsTrue}
+use Rattle.std.specs.Prelude.{ℕ, zero, suc, ◌+◌, ◌-◌, Bool, true, false, ◌&&◌, ◌||◌, List, [], ◌∷◌, ◌++◌, map, reverse, length, drop, nat_lt, nat_le, ◌==◌, IsTrue, if◌then◌else◌, Option, None, Some}
+use Rattle.std.specs.Option.{option_map, option_and_then}
 use Rattle.std.specs.List.{list_all}
 use Rattle.std.specs.Cmp.Lexicographic.{pointwise, slice_cmp}
 use Rattle.std.specs.Ordering.{nat_cmp}
@@ -67,3 +68,24 @@ label_order = slice_cmp nat_cmp
 
 abbrev pub name_order : DomainName → DomainName → Ordering
 name_order n m = slice_cmp label_order (reverse (folded n)) (reverse (folded m))
+
+-- The first octet of the label at hand, of a name that is read with the octets behind it.
+abbrev pub with_octet : ℕ → DomainName × Octets → DomainName × Octets
+with_octet o ([], rest) = ([], rest)
+with_octet o (l ∷ n, rest) = ((o ∷ l) ∷ n, rest)
+
+-- The labels that octets spell, where k octets of the label at hand are still to come: what is left of that label, the
+-- labels behind it, and the octets behind the name.
+unfoldable pub labels_from : ℕ → Octets → Option (DomainName × Octets)
+labels_from k [] = None
+labels_from zero (zero ∷ os) = Some ([] ∷ [], os)
+labels_from zero (suc k ∷ os) = option_map (λ r. ([] ∷ r.0, r.1)) (labels_from (suc k) os)
+labels_from (suc k) (o ∷ os) = option_map (with_octet o) (labels_from k os)
+
+-- RFC 1035 3.1: the name whose wire form the octets begin with, and the octets behind it
+abbrev pub name_if_valid : DomainName × Octets → Option (DomainName × Octets)
+name_if_valid ([], rest) = None
+name_if_valid (l ∷ n, rest) = if is_name n then Some (n, rest) else None
+
+abbrev pub name_of : Octets → Option (DomainName × Octets)
+name_of os = option_and_then name_if_valid (labels_from 0 os)

@@ -1,3 +1,2 @@
 // The definitions that every contract of the product speaks of, and the laws about them.
 #![tactic(auto)]
-

@@ -1,0 +1,191 @@
+-- What a reader learns here: which RRsets answer a question: the names sought one after the other, the five cases of
+-- the last of them, the additional addresses, and which of all these a reply may not leave out.
+use Rattle.std.specs.Prelude.{◌≡◌, ℕ, zero, suc, ◌+◌, min, Bool, true, false, ◌&&◌, ◌||◌, not, List, [], ◌∷◌, ◌++◌, map, length, nat_lt, ◌==◌, if◌then◌else◌}
+use Rattle.std.specs.Prelude.{Option, None, Some}
+use Rattle.std.specs.Option.{option_map, option_and_then, is_some, unwrap_or, option_to_list}
+use Rattle.std.specs.List.{list_any, filter, filter_map, flat_map}
+use Rattle.std.specs.Ordering.{nat_cmp}
+use Rattle.dns_spec.specs.Names.{DomainName, folded, same, at_or_below}
+use Rattle.dns_spec.specs.Data.{type_a, type_ns, type_cname, type_soa, type_mx, type_aaaa, type_srv, qtype_any, target, soa_minimum}
+use Rattle.dns_spec.specs.Records.{ResourceRecord, ZoneContents, rrset, of_type, distinct, sort_by, with_owner}
+use Rattle.dns_spec.specs.Tree.{cut_of, found}
+use Rattle.dns_spec.specs.Layout.{Section, answer, authority, additional, Item, records_of}
+
+-- RFC 1035 4.1.1: the RCODEs that a reply has
+abbrev pub no_error : ℕ
+no_error = 0
+
+abbrev pub format_error : ℕ
+format_error = 1
+
+abbrev pub name_error : ℕ
+name_error = 3
+
+abbrev pub not_implemented : ℕ
+not_implemented = 4
+
+abbrev pub refused : ℕ
+refused = 5
+
+-- an RRset of a section, where it has a record
+abbrev pub item : Section → List ResourceRecord → List Item
+item s [] = []
+item s (r ∷ rs) = record { section = s; records = r ∷ rs } ∷ []
+
+-- RFC 1034 4.3.2 step 3a: an alias is followed, unless it is itself what is asked for
+abbrev pub follows_alias : ℕ → Bool
+follows_alias t = not (t == type_cname || t == qtype_any)
+
+-- the CNAME set found for a name, where no cut is at or above it
+abbrev pub alias_set : ZoneContents → DomainName → List ResourceRecord
+alias_set z s = if is_some (cut_of z s) then [] else unwrap_or (option_map (of_type type_cname) (found z s)) []
+
+-- where it leads
+abbrev pub first_target : List ResourceRecord → Option DomainName
+first_target [] = None
+first_target (r ∷ rs) = target r.rtype r.rdata
+
+-- RFC 1034 4.3.2 step 3a: what is sought after s, where `sought` has the names so far: the target of its alias, where
+-- that is at or below the origin and was not sought yet
+abbrev pub next_sought : ZoneContents → List DomainName → DomainName → Option DomainName
+next_sought z sought s =
+    option_and_then (λ m. if at_or_below m z.origin && not (list_any (same m) sought) then Some m else None) (first_target (alias_set z s))
+
+-- the names sought from s on, of which at most k are targets
+unfoldable pub chain_from : ZoneContents → ℕ → List DomainName → DomainName → List DomainName
+chain_from z zero sought s = s ∷ []
+chain_from z (suc k) sought s =
+    s ∷ elim (next_sought z (s ∷ sought) s) [ None ↦ [] | Some m ↦ chain_from z k (s ∷ sought) m ]
+
+-- The names sought, the question's first. At most 16 aliases are followed, a limit of this project.
+unfoldable pub chain : ZoneContents → DomainName → ℕ → List DomainName
+chain z q t = if follows_alias t then chain_from z 16 [] q else q ∷ []
+
+abbrev pub last_of : DomainName → List DomainName → DomainName
+last_of s [] = s
+last_of s (m ∷ ms) = last_of m ms
+
+-- the last name sought
+abbrev pub last_sought : ZoneContents → DomainName → ℕ → DomainName
+last_sought z q t = last_of q (chain z q t)
+
+-- the CNAME sets of the names sought
+abbrev pub alias_items : ZoneContents → DomainName → ℕ → List Item
+alias_items z q t = if follows_alias t then flat_map (λ s. item answer (alias_set z s)) (chain z q t) else []
+
+-- How a question is answered.
+pub record Outcome : Type 0 where
+  pub rcode : ℕ
+  pub referral : Option DomainName
+  pub answers : List Item
+  pub authorities : List Item
+
+-- RFC 2308 sections 3 and 5: the SOA of a negative answer has the lesser of its TTL and its MINIMUM
+abbrev pub negative_soa : ZoneContents → List Item
+negative_soa z =
+    item authority (map (λ (r : ResourceRecord). record r { ttl = min r.ttl (soa_minimum r.rdata) }) (rrset z z.origin type_soa))
+
+-- all RRsets of the records, by rising type
+abbrev pub all_sets : List ResourceRecord → List Item
+all_sets rs =
+    flat_map (λ t. item answer (of_type t rs)) (sort_by nat_cmp (distinct ◌==◌ (map (λ (r : ResourceRecord). r.rtype) rs)))
+
+-- the sets that the records hold of what was asked for
+abbrev pub asked_sets : ℕ → List ResourceRecord → List Item
+asked_sets t rs = if t == qtype_any then all_sets rs else item answer (of_type t rs)
+
+-- the cut that refers the asker elsewhere, with its NS set
+abbrev pub referral_to : ZoneContents → DomainName → Outcome
+referral_to z c = record { rcode = no_error; referral = Some c; answers = []; authorities = item authority (with_owner c (rrset z c type_ns)) }
+
+abbrev pub negative : ZoneContents → ℕ → Outcome
+negative z rcode = record { rcode = rcode; referral = None; answers = []; authorities = negative_soa z }
+
+abbrev pub positive : List Item → Outcome
+positive sets = record { rcode = no_error; referral = None; answers = sets; authorities = [] }
+
+-- what is answered of the records found: an alias ends here without more, else the sets asked for, and none is an
+-- empty answer (RFC 2308 section 2.2)
+abbrev pub or_empty : ZoneContents → List Item → Outcome
+or_empty z [] = negative z no_error
+or_empty z (i ∷ is) = positive (i ∷ is)
+
+abbrev pub answer_from : ZoneContents → ℕ → List ResourceRecord → Outcome
+answer_from z t rs =
+    if follows_alias t && not (length (of_type type_cname rs) == 0) then positive []
+    else or_empty z (asked_sets t rs)
+
+-- RFC 1034 4.3.2 steps 3 and 4, RFC 2308 section 2: the five cases of the last name sought
+unfoldable pub outcome_at : ZoneContents → ℕ → DomainName → Outcome
+outcome_at z t s =
+    elim (cut_of z s) [
+      | Some c ↦ referral_to z c
+      | None ↦ elim (found z s) [ None ↦ negative z name_error | Some rs ↦ answer_from z t rs ]
+    ]
+
+-- the outcome, with the aliases in front of its answer
+unfoldable pub outcome : ZoneContents → DomainName → ℕ → Outcome
+outcome z q t =
+    let o = outcome_at z t (last_sought z q t) in
+    record o { answers = alias_items z q t ++ o.answers }
+
+-- RFC 1035 4.1.1: the server speaks for the zone, unless all that it answers is a referral
+abbrev pub is_authoritative : Outcome → Bool
+is_authoritative o = not (is_some o.referral && length o.answers == 0)
+
+-- RFC 1035 3.3.9 and 3.3.11, RFC 2782: addresses of these targets are of use to the asker
+abbrev pub has_target_type : ResourceRecord → Bool
+has_target_type r = r.rtype == type_ns || r.rtype == type_mx || r.rtype == type_srv
+
+abbrev pub targets_of : List Item → List DomainName
+targets_of items =
+    filter_map (λ (r : ResourceRecord). if has_target_type r then target r.rtype r.rdata else None) (records_of items)
+
+-- the targets of a referral's NS set, at or below the cut and not
+abbrev pub targets_inside : Outcome → List DomainName
+targets_inside o =
+    flat_map (λ c. filter (λ m. at_or_below m c) (targets_of o.authorities)) (option_to_list o.referral)
+
+abbrev pub targets_outside : Outcome → List DomainName
+targets_outside o =
+    flat_map (λ c. filter (λ m. not (at_or_below m c)) (targets_of o.authorities)) (option_to_list o.referral)
+
+-- The targets, in order. Of a referral those at or below the cut come first: without their addresses the asker gets
+-- no further (RFC 1034 4.3.2 step 3b).
+abbrev pub targets : Outcome → List DomainName
+targets o = targets_of o.answers ++ targets_inside o ++ targets_outside o
+
+-- the same owner and type stand in a set of the list
+abbrev pub stands : DomainName → ℕ → List Item → Bool
+stands n t items = list_any (λ (r : ResourceRecord). same r.owner n && r.rtype == t) (records_of items)
+
+-- the addresses of a name that do not stand in the reply yet, A and then AAAA
+abbrev pub address_set : ZoneContents → List Item → DomainName → ℕ → List Item
+address_set z earlier n t = if stands n t earlier then [] else item additional (rrset z n t)
+
+abbrev pub address_sets : ZoneContents → List Item → DomainName → List Item
+address_sets z earlier n = address_set z earlier n type_a ++ address_set z earlier n type_aaaa
+
+-- RFC 1034 4.3.2 step 6: the additional sets of the targets, by exact owner, also below a cut, never by a wildcard
+unfoldable pub extra : ZoneContents → List Item → List DomainName → List Item
+extra z earlier [] = []
+extra z earlier (m ∷ ms) =
+    let sets = address_sets z earlier m in
+    sets ++ extra z (earlier ++ sets) ms
+
+-- the sets of the answer and authority sections
+abbrev pub main_items : Outcome → List Item
+main_items o = o.answers ++ o.authorities
+
+-- All sets of a reply, in order: answer, authority, additional.
+unfoldable pub items : ZoneContents → DomainName → ℕ → List Item
+items z q t =
+    let o = outcome z q t in
+    main_items o ++ extra z (main_items o) (targets o)
+
+-- How many of them, from the first on, a reply may not leave out: answer, authority, and the glue of a referral. A
+-- referral's answer has no targets, so its glue comes first.
+unfoldable pub required : ZoneContents → DomainName → ℕ → ℕ
+required z q t =
+    let o = outcome z q t in
+    length (main_items o ++ extra z (main_items o) (targets_inside o))

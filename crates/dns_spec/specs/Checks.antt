@@ -1,0 +1,139 @@
+-- What a reader learns here: the fifteen faults that keep a zone from being served. Each is a condition of its own
+-- over the whole list of records, so one record may give several. Which conditions are faults is this project's choice.
+use Rattle.std.specs.Prelude.{◌≡◌, ℕ, Bool, true, false, ◌&&◌, ◌||◌, not, List, [], ◌∷◌, ◌++◌, map, length, nat_lt, nat_le, ◌==◌, IsTrue}
+use Rattle.std.specs.Prelude.{Option, None, Some}
+use Rattle.std.specs.Option.{option_map_or}
+use Rattle.std.specs.List.{list_any, filter, flat_map}
+use Rattle.dns_spec.specs.Names.{DomainName, folded, same, octets_equal, at_or_below, suffixes, name_order}
+use Rattle.dns_spec.specs.Data.{type_a, type_ns, type_cname, type_soa, type_mx, type_aaaa, type_srv, target}
+use Rattle.dns_spec.specs.Records.{ResourceRecord, ZoneContents, at, owns, distinct, sort_by}
+use Rattle.dns_spec.specs.Tree.{is_cut, without_first, asterisk}
+
+-- A condition on a name of a zone.
+abbrev pub Check : Type 0
+Check = ZoneContents → DomainName → Bool
+
+abbrev pub is_origin : Check
+is_origin z n = same n z.origin
+
+-- how many records of a type a name owns
+abbrev pub count : ZoneContents → DomainName → ℕ → ℕ
+count z n t = length (filter (λ (r : ResourceRecord). r.rtype == t) (at z n))
+
+-- the name owns a record whose type passes the test
+abbrev pub owns_such : ZoneContents → DomainName → (ℕ → Bool) → Bool
+owns_such z n test = list_any (λ (r : ResourceRecord). test r.rtype) (at z n)
+
+-- a record of the name, of such a type, has a target at or below the origin that passes the test
+abbrev pub has_target : ZoneContents → DomainName → (ℕ → Bool) → (DomainName → Bool) → Bool
+has_target z n type test =
+    list_any (λ (r : ResourceRecord). type r.rtype && option_map_or (λ m. at_or_below m z.origin && test m) (target r.rtype r.rdata) false) (at z n)
+
+-- RFC 1034 4.2: what stands at or below a cut is not the zone's own
+abbrev pub at_or_below_cut : Check
+at_or_below_cut z n = list_any (is_cut z) (suffixes n)
+
+abbrev pub below_cut : Check
+below_cut z n = list_any (is_cut z) (without_first (suffixes n))
+
+abbrev pub has_address : Check
+has_address z n = owns z n type_a || owns z n type_aaaa
+
+abbrev pub is_address_type : ℕ → Bool
+is_address_type t = t == type_a || t == type_aaaa
+
+-- RFC 1035 5.2: a zone has one SOA, at its origin
+abbrev pub no_soa : Check
+no_soa z n = is_origin z n && not (owns z n type_soa)
+
+abbrev pub many_soa : Check
+many_soa z n = is_origin z n && nat_lt 1 (count z n type_soa)
+
+abbrev pub soa_elsewhere : Check
+soa_elsewhere z n = not (is_origin z n) && owns z n type_soa
+
+-- RFC 1034 4.2.1: a zone names its servers at its origin
+abbrev pub no_ns : Check
+no_ns z n = is_origin z n && not (owns z n type_ns)
+
+-- RFC 1034 4.2: the zone holds names at or below its origin
+abbrev pub outside : Check
+outside z n = not (at_or_below n z.origin)
+
+-- RFC 1034 3.6.2: a name with a CNAME has no other data
+abbrev pub cname_and_other : Check
+cname_and_other z n = owns z n type_cname && owns_such z n (λ t. not (t == type_cname))
+
+-- RFC 2181 10.1: and one CNAME alone
+abbrev pub many_cname : Check
+many_cname z n = nat_lt 1 (count z n type_cname)
+
+-- RFC 2181 5.2: the records of an RRset have one TTL
+abbrev pub ttls_differ : Check
+ttls_differ z n =
+    list_any (λ (r : ResourceRecord). list_any (λ (s : ResourceRecord). r.rtype == s.rtype && not (r.ttl == s.ttl)) (at z n)) (at z n)
+
+-- RFC 2181 10.3: the target of NS is no alias
+abbrev pub ns_target_alias : Check
+ns_target_alias z n = has_target z n (λ t. t == type_ns) (λ m. owns z m type_cname)
+
+-- RFC 1034 4.2.1: a server of the zone has an address in it, and a server below the cut that it serves has glue. A
+-- server below another cut has its address there.
+abbrev pub lacks_address : ZoneContents → DomainName → DomainName → Bool
+lacks_address z n m = not (has_address z m) && (not (at_or_below_cut z m) || is_cut z n && at_or_below m n)
+
+abbrev pub ns_target_lost : Check
+ns_target_lost z n = has_target z n (λ t. t == type_ns) (lacks_address z n)
+
+-- RFC 2181 10.3, RFC 2782: the target of MX and SRV is no alias
+abbrev pub mx_target_alias : Check
+mx_target_alias z n = has_target z n (λ t. t == type_mx || t == type_srv) (λ m. owns z m type_cname)
+
+-- RFC 1034 4.2.1: at a cut stand its NS records and addresses, and below it only glue
+abbrev pub data_at_cut : Check
+data_at_cut z n =
+    is_cut z n && owns_such z n (λ t. not (t == type_ns || is_address_type t))
+    || below_cut z n && owns_such z n (λ t. not (is_address_type t))
+
+-- RFC 4592 4.2: NS at a wildcard has no settled meaning
+abbrev pub first_is_asterisk : DomainName → Bool
+first_is_asterisk [] = false
+first_is_asterisk (l ∷ n) = octets_equal l asterisk
+
+abbrev pub wildcard_ns : Check
+wildcard_ns z n = first_is_asterisk n && owns z n type_ns
+
+-- limits of this project: 64 records in an RRset, 32 RRsets at a name
+abbrev pub large_set : Check
+large_set z n = list_any (λ (r : ResourceRecord). nat_lt 64 (count z n r.rtype)) (at z n)
+
+abbrev pub many_sets : Check
+many_sets z n = nat_lt 32 (length (distinct ◌==◌ (map (λ (r : ResourceRecord). r.rtype) (at z n))))
+
+-- the checks by their codes, Z01 to Z15
+abbrev pub checks : List (ℕ × Check)
+checks =
+    (1, no_soa) ∷ (2, many_soa) ∷ (3, soa_elsewhere) ∷ (4, no_ns) ∷ (5, outside)
+    ∷ (6, cname_and_other) ∷ (7, many_cname) ∷ (8, ttls_differ) ∷ (9, ns_target_alias) ∷ (10, ns_target_lost)
+    ∷ (11, mx_target_alias) ∷ (12, data_at_cut) ∷ (13, wildcard_ns) ∷ (14, large_set) ∷ (15, many_sets) ∷ []
+
+-- a name of the zone, in lower case, and the code of a check
+pub record Fault : Type 0 where
+  pub owner : DomainName
+  pub code : ℕ
+
+abbrev pub faults_at : ZoneContents → DomainName → List Fault
+faults_at z n = map (λ c. record { owner = n; code = c.0 }) (filter (λ c. c.1 z n) checks)
+
+-- the names that a fault is told of: the origin and all owners, in canonical order
+abbrev pub told_names : ZoneContents → List DomainName
+told_names z =
+    sort_by name_order (distinct same (folded z.origin ∷ map (λ (r : ResourceRecord). folded r.owner) z.records))
+
+-- each fault once, by the order of owners, then by code
+unfoldable pub faults : ZoneContents → List Fault
+faults z = flat_map (faults_at z) (told_names z)
+
+-- a zone that may be served
+abbrev pub Passes : ZoneContents → Type 0
+Passes z = faults z ≡ []

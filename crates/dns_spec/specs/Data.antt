@@ -1,0 +1,175 @@
+-- What a reader learns here: of which pieces the data of each type is made, and with that which octets are data of a
+-- type, how they read in lower case, and which names stand in them.
+use Rattle.std.specs.Prelude.{◌≡◌, ℕ, ◌+◌, ◌-◌, ◌*◌, ◌^◌, Bool, true, false, ◌&&◌, ◌||◌, not, List, [], ◌∷◌, ◌++◌, map, length, take, drop, nat_le, ◌==◌, IsTrue, if◌then◌else◌, zero, suc}
+use Rattle.std.specs.Prelude.{Option, None, Some}
+use Rattle.std.specs.Option.{option_map, option_and_then, unwrap_or, is_some}
+use Rattle.std.specs.List.{list_any, find, flat_map}
+use Rattle.dns_spec.specs.Names.{Octets, DomainName, wire, folded, name_of}
+
+-- RFC 1035 3.2.2, RFC 3596 2.1, RFC 2782: the type numbers
+abbrev pub type_a : ℕ
+type_a = 1
+
+abbrev pub type_ns : ℕ
+type_ns = 2
+
+abbrev pub type_cname : ℕ
+type_cname = 5
+
+abbrev pub type_soa : ℕ
+type_soa = 6
+
+abbrev pub type_ptr : ℕ
+type_ptr = 12
+
+abbrev pub type_hinfo : ℕ
+type_hinfo = 13
+
+abbrev pub type_mx : ℕ
+type_mx = 15
+
+abbrev pub type_txt : ℕ
+type_txt = 16
+
+abbrev pub type_aaaa : ℕ
+type_aaaa = 28
+
+abbrev pub type_srv : ℕ
+type_srv = 33
+
+-- RFC 1035 3.2.3: a QTYPE that asks for all types
+abbrev pub qtype_any : ℕ
+qtype_any = 255
+
+abbrev pub class_in : ℕ
+class_in = 1
+
+-- A piece of data: so many octets (numbers or an address), a domain name, a character-string, one character-string or
+-- more, or any octets.
+pub data Piece : Type 0 where
+  fixed : ℕ → Piece
+  domain : Piece
+  string : Piece
+  strings : Piece
+  anything : Piece
+
+-- A type that has a name: of which pieces its data is made, and whether names in it take part in compression.
+pub record TypeRow : Type 0 where
+  pub number : ℕ
+  pub pieces : List Piece
+  pub compresses : Bool
+
+-- RFC 1035 3.3 and 3.4, RFC 3596 2.2, RFC 2782: the data of each type. RFC 3597 section 4: only names in data of the
+-- types of RFC 1035 are compressed, and RFC 2782 forbids it for the target of SRV.
+abbrev pub type_table : List TypeRow
+type_table =
+    record { number = type_a; pieces = fixed 4 ∷ []; compresses = false }
+    ∷ record { number = type_ns; pieces = domain ∷ []; compresses = true }
+    ∷ record { number = type_cname; pieces = domain ∷ []; compresses = true }
+    ∷ record { number = type_soa; pieces = domain ∷ domain ∷ fixed 20 ∷ []; compresses = true }
+    ∷ record { number = type_ptr; pieces = domain ∷ []; compresses = true }
+    ∷ record { number = type_hinfo; pieces = string ∷ string ∷ []; compresses = false }
+    ∷ record { number = type_mx; pieces = fixed 2 ∷ domain ∷ []; compresses = true }
+    ∷ record { number = type_txt; pieces = strings ∷ []; compresses = false }
+    ∷ record { number = type_aaaa; pieces = fixed 16 ∷ []; compresses = false }
+    ∷ record { number = type_srv; pieces = fixed 6 ∷ domain ∷ []; compresses = false }
+    ∷ []
+
+-- RFC 3597 section 3: data of every other type is octets
+abbrev pub other_type : TypeRow
+other_type = record { number = 0; pieces = anything ∷ []; compresses = false }
+
+abbrev pub type_row : ℕ → TypeRow
+type_row t = unwrap_or (find (λ (row : TypeRow). row.number == t) type_table) other_type
+
+abbrev pub pieces_of : ℕ → List Piece
+pieces_of t = (type_row t).pieces
+
+abbrev pub compresses : ℕ → Bool
+compresses t = (type_row t).compresses
+
+-- Octets as they stand in the data, or a domain name.
+pub data Part : Type 0 where
+  octets : Octets → Part
+  name : DomainName → Part
+
+abbrev pub part_octets : Part → Octets
+part_octets (octets o) = o
+part_octets (name n) = wire n
+
+abbrev pub joined : List Part → Octets
+joined = flat_map part_octets
+
+-- RFC 1035 3.3: character-strings one behind the other, each behind its length in one octet; k octets of the string at
+-- hand are still to come
+abbrev pub are_strings : ℕ → Octets → Bool
+are_strings zero [] = true
+are_strings (suc k) [] = false
+are_strings zero (o ∷ os) = are_strings o os
+are_strings (suc k) (o ∷ os) = are_strings k os
+
+-- the first k octets, and those behind them
+abbrev pub octets_front : ℕ → Octets → Option (Part × Octets)
+octets_front k os = if nat_le k (length os) then Some (octets (take k os), drop k os) else None
+
+abbrev pub string_front : Octets → Option (Part × Octets)
+string_front [] = None
+string_front (k ∷ os) = octets_front (suc k) (k ∷ os)
+
+abbrev pub strings_front : Octets → Option (Part × Octets)
+strings_front os = if not (length os == 0) && are_strings 0 os then Some (octets os, []) else None
+
+-- the piece that the octets begin with, and the octets behind it
+abbrev pub piece_front : Piece → Octets → Option (Part × Octets)
+piece_front (fixed k) os = octets_front k os
+piece_front domain os = option_map (λ r. (name r.0, r.1)) (name_of os)
+piece_front string os = string_front os
+piece_front strings os = strings_front os
+piece_front anything os = Some (octets os, [])
+
+-- the octets cut into these pieces, where they are just such
+unfoldable pub cut : List Piece → Octets → Option (List Part)
+cut [] [] = Some []
+cut [] (o ∷ os) = None
+cut (p ∷ ps) os = elim (piece_front p os) [ None ↦ None | Some r ↦ option_map (λ xs. r.0 ∷ xs) (cut ps r.1) ]
+
+-- The octets are data of the type, names in any case. RFC 1035 3.2.1: data has at most 65,535 octets.
+abbrev pub valid : ℕ → Octets → Bool
+valid t d = nat_le (length d) 65535 && is_some (cut (pieces_of t) d)
+
+abbrev pub Valid : ℕ → Octets → Type 0
+Valid t d = IsTrue (valid t d)
+
+-- the runs of octets and the names of data, in order; joined they are the data
+abbrev pub parts : ℕ → Octets → List Part
+parts t d = unwrap_or (cut (pieces_of t) d) (octets d ∷ [])
+
+-- the data with the ASCII letters of its names in lower case
+abbrev pub part_folded : Part → Part
+part_folded (octets o) = octets o
+part_folded (name n) = name (folded n)
+
+abbrev pub lower_case : ℕ → Octets → Octets
+lower_case t d = joined (map part_folded (parts t d))
+
+-- the runs and names that a writer sees: only names that take part in compression are names to it
+abbrev pub laid_parts : ℕ → Octets → List Part
+laid_parts t d = if compresses t then parts t d else octets d ∷ []
+
+-- the first name in the data: the target of NS, CNAME, PTR, MX and SRV
+abbrev pub first_name : List Part → Option DomainName
+first_name [] = None
+first_name (octets o ∷ ps) = first_name ps
+first_name (name n ∷ ps) = Some n
+
+abbrev pub target : ℕ → Octets → Option DomainName
+target t d = first_name (parts t d)
+
+-- RFC 1035 2.3.2: the number that octets spell, the most significant first
+abbrev pub number_of : Octets → ℕ
+number_of [] = 0
+number_of (o ∷ os) = o * 256 ^ length os + number_of os
+
+-- RFC 1035 3.3.13: MINIMUM, the last 32 bits of an SOA
+abbrev pub soa_minimum : Octets → ℕ
+soa_minimum d = number_of (drop (length d - 4) d)

@@ -1,0 +1,185 @@
+-- What a reader learns here: how a reply is laid out in octets, which suffix of a name is shared with an earlier name
+-- and by which place, and the size of a layout, added up without writing it.
+use Rattle.std.specs.Prelude.{◌≡◌, ℕ, zero, suc, ◌+◌, ◌-◌, ◌*◌, ◌/◌, ◌^◌, Bool, true, false, ◌&&◌, List, [], ◌∷◌, ◌++◌, map, length, nat_le, ◌==◌, if◌then◌else◌}
+use Rattle.std.specs.Prelude.{Option, None, Some}
+use Rattle.std.specs.Option.{option_map, is_some}
+use Rattle.std.specs.List.{list_any, filter, flat_map}
+use Rattle.std.specs.Int.{bytes_high_first}
+use Rattle.dns_spec.specs.Names.{Octets, DomainName, wire, names_equal, last_labels}
+use Rattle.dns_spec.specs.Data.{class_in, Part, octets, name, laid_parts}
+use Rattle.dns_spec.specs.Records.{ResourceRecord}
+use Rattle.dns_spec.specs.Reading.{Header, MessageQuestion, MessageRecord, DnsMessage}
+
+-- RFC 1035 2.3.2: numbers of 16 and of 32 bits, the most significant octet first
+abbrev pub octets16 : ℕ → Octets
+octets16 = bytes_high_first 2
+
+abbrev pub octets32 : ℕ → Octets
+octets32 = bytes_high_first 4
+
+-- RFC 1035 4.1: the sections of a reply behind its question
+pub data Section : Type 0 where
+  answer : Section
+  authority : Section
+  additional : Section
+
+-- An RRset in a section of a reply: it is there whole or not at all.
+pub record Item : Type 0 where
+  pub section : Section
+  pub records : List ResourceRecord
+
+abbrev pub is_section : Section → Section → Bool
+is_section answer answer = true
+is_section authority authority = true
+is_section additional additional = true
+is_section _ _ = false
+
+-- the records of all sets, and those of one section
+abbrev pub records_of : List Item → List ResourceRecord
+records_of = flat_map (λ (i : Item). i.records)
+
+abbrev pub in_section : Section → List Item → List ResourceRecord
+in_section s items = records_of (filter (λ (i : Item). is_section s i.section) items)
+
+-- RFC 1035 4.1.4: a pointer to a place
+abbrev pub pointer : ℕ → Octets
+pointer p = octets16 (192 * 256 + p)
+
+-- An earlier name of the message, and the place where it begins.
+abbrev pub Placed : Type 0
+Placed = DomainName × ℕ
+
+-- the name s, octet by octet, is a suffix of n
+abbrev pub has_suffix : DomainName → DomainName → Bool
+has_suffix n s = nat_le (length s) (length n) && names_equal (last_labels (length s) n) s
+
+-- where the first label of the suffix s stands in the name n that begins at place p
+abbrev pub suffix_place : Placed → DomainName → ℕ
+suffix_place m s = m.1 + (length (wire m.0) - length (wire s))
+
+-- The place of s in the first earlier name that has it as a suffix. No name before that one has it, so it is written
+-- out there.
+abbrev pub place_of : List Placed → DomainName → Option ℕ
+place_of [] s = None
+place_of (m ∷ ms) s = if has_suffix m.0 s then Some (suffix_place m s) else place_of ms s
+
+-- RFC 1035 4.1.4: a name is written as its labels before the longest suffix that an earlier name has, and a pointer to
+-- it; without such a suffix it is written whole. The root is never shared.
+unfoldable pub shared_octets : List Placed → DomainName → Octets
+shared_octets ms [] = 0 ∷ []
+shared_octets ms (l ∷ n) = elim (place_of ms (l ∷ n)) [ None ↦ length l ∷ (l ++ shared_octets ms n) | Some p ↦ pointer p ]
+
+-- its length: the octets of the labels before that suffix and 2, or all of them
+unfoldable pub cost : List DomainName → DomainName → ℕ
+cost ms [] = 1
+cost ms (l ∷ n) = elim (list_any (λ m. has_suffix m (l ∷ n)) ms) [ true ↦ 2 | false ↦ 1 + length l + cost ms n ]
+
+-- data laid out from place p on: what is no name, or is none to a writer, stands as it is
+unfoldable pub data_octets : List Placed → ℕ → List Part → Octets
+data_octets ms p [] = []
+data_octets ms p (octets o ∷ ps) = o ++ data_octets ms (p + length o) ps
+data_octets ms p (name n ∷ ps) =
+    let w = shared_octets ms n in
+    w ++ data_octets (ms ++ (n, p) ∷ []) (p + length w) ps
+
+-- the names in it, with their places
+unfoldable pub data_names : List Placed → ℕ → List Part → List Placed
+data_names ms p [] = []
+data_names ms p (octets o ∷ ps) = data_names ms (p + length o) ps
+data_names ms p (name n ∷ ps) = (n, p) ∷ data_names (ms ++ (n, p) ∷ []) (p + length (shared_octets ms n)) ps
+
+abbrev pub parts_of : ResourceRecord → List Part
+parts_of r = laid_parts r.rtype r.rdata
+
+-- RFC 1035 4.1.3: type, class, TTL, data length and data behind an owner
+abbrev pub record_tail : ResourceRecord → Octets → Octets
+record_tail r d = octets16 r.rtype ++ octets16 class_in ++ octets32 r.ttl ++ octets16 (length d) ++ d
+
+-- the records laid out from place p on
+unfoldable pub records_octets : List Placed → ℕ → List ResourceRecord → Octets
+records_octets ms p [] = []
+records_octets ms p (r ∷ rs) =
+    let owner = shared_octets ms r.owner in
+    let behind = p + length owner + 10 in
+    let earlier = ms ++ (r.owner, p) ∷ [] in
+    let d = data_octets earlier behind (parts_of r) in
+    owner ++ record_tail r d ++ records_octets (earlier ++ data_names earlier behind (parts_of r)) (behind + length d) rs
+
+-- RFC 1035 4.1.2: the question, spelled as it was asked
+abbrev pub question_octets : MessageQuestion → Octets
+question_octets q = wire q.qname ++ octets16 q.qtype ++ octets16 q.qclass
+
+abbrev pub header_octets : Header → ℕ → ℕ → ℕ → ℕ → Octets
+header_octets h qd an ns ar = octets16 h.id ++ octets16 h.flags ++ octets16 qd ++ octets16 an ++ octets16 ns ++ octets16 ar
+
+-- the header of a reply with its counts
+abbrev pub reply_header : Header → List Item → Octets
+reply_header h items =
+    header_octets h 1 (length (in_section answer items)) (length (in_section authority items)) (length (in_section additional items))
+
+-- The layout: header, question and records. The question's name is the first of the earlier names.
+unfoldable pub layout : Header → MessageQuestion → List Item → Octets
+layout h q items =
+    reply_header h items ++ question_octets q
+    ++ records_octets ((q.qname, 12) ∷ []) (12 + length (question_octets q)) (records_of items)
+
+-- the size of data, and the earlier names behind it
+unfoldable pub data_size : List DomainName → List Part → ℕ
+data_size ms [] = 0
+data_size ms (octets o ∷ ps) = length o + data_size ms ps
+data_size ms (name n ∷ ps) = cost ms n + data_size (ms ++ n ∷ []) ps
+
+abbrev pub names_in : List Part → List DomainName
+names_in [] = []
+names_in (octets o ∷ ps) = names_in ps
+names_in (name n ∷ ps) = n ∷ names_in ps
+
+unfoldable pub records_size : List DomainName → List ResourceRecord → ℕ
+records_size ms [] = 0
+records_size ms (r ∷ rs) =
+    let earlier = ms ++ r.owner ∷ [] in
+    cost ms r.owner + 10 + data_size earlier (parts_of r) + records_size (earlier ++ names_in (parts_of r)) rs
+
+-- the length of the layout, added up without writing
+unfoldable pub size : MessageQuestion → List Item → ℕ
+size q items = 12 + length (question_octets q) + records_size (q.qname ∷ []) (records_of items)
+
+-- The plain layout: an owner that is spelled as the question's name is a pointer to it, unless it is the root. All other
+-- names are written whole.
+abbrev pub plain_owner : DomainName → DomainName → Octets
+plain_owner asked [] = wire []
+plain_owner asked (l ∷ n) = if names_equal (l ∷ n) asked then pointer 12 else wire (l ∷ n)
+
+abbrev pub plain_record : DomainName → ResourceRecord → Octets
+plain_record asked r = plain_owner asked r.owner ++ record_tail r r.rdata
+
+unfoldable pub plain_layout : Header → MessageQuestion → List Item → Octets
+plain_layout h q items =
+    reply_header h items ++ question_octets q ++ flat_map (plain_record q.qname) (records_of items)
+
+-- the length of the plain layout, added up
+abbrev pub plain_records_size : DomainName → List ResourceRecord → ℕ
+plain_records_size asked [] = 0
+plain_records_size asked (r ∷ rs) =
+    length (plain_owner asked r.owner) + 10 + length r.rdata + plain_records_size asked rs
+
+unfoldable pub plain_size : MessageQuestion → List Item → ℕ
+plain_size q items = 12 + length (question_octets q) + plain_records_size q.qname (records_of items)
+
+-- the greatest k up to n that passes the test, or 0
+abbrev pub greatest : (ℕ → Bool) → ℕ → ℕ
+greatest test zero = 0
+greatest test (suc k) = if test (suc k) then suc k else greatest test k
+
+-- The message that a layout spells.
+abbrev pub message_record : ResourceRecord → MessageRecord
+message_record r = record { owner = r.owner; rtype = r.rtype; rclass = class_in; ttl = r.ttl; rdata = r.rdata }
+
+abbrev pub message_of : Header → MessageQuestion → List Item → DnsMessage
+message_of h q items = record {
+  header = h;
+  questions = q ∷ [];
+  answers = map message_record (in_section answer items);
+  authorities = map message_record (in_section authority items);
+  additionals = map message_record (in_section additional items);
+}

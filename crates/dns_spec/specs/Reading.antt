@@ -1,0 +1,155 @@
+-- What a reader learns here: which name a place of a message spells, and which message octets spell.
+use Rattle.std.specs.Prelude.{◌≡◌, ℕ, zero, suc, ◌+◌, ◌-◌, ◌*◌, ◌<◌, ◌≤◌, Bool, true, false, ◌&&◌, ◌||◌, List, [], ◌∷◌, ◌++◌, length, take, drop, nat_lt, nat_le, ◌==◌, IsTrue, slice_get, if◌then◌else◌, MatchBool}
+use Rattle.std.specs.Prelude.{Option, None, Some}
+use Rattle.std.specs.Option.{option_map, option_and_then}
+use Rattle.std.specs.Int.{bytes_high_first}
+use Rattle.dns_spec.specs.Names.{Octets, DomainName, wire, is_name}
+use Rattle.dns_spec.specs.Data.{class_in, Piece, fixed, domain, string, strings, anything, pieces_of, are_strings, number_of}
+
+-- RFC 1035 4.1.4: the place that the two octets of a pointer tell, the first from 192 on
+abbrev pub pointer_place : ℕ → ℕ → ℕ
+pointer_place o o' = (o - 192) * 256 + o'
+
+-- RFC 1035 4.1.4: in the octets b a run of labels began at place s. From place i on it spells n, and the octets of this
+-- spelling end before place e. An octet 0 ends the run. An octet 1 to 63 has a label of so many octets behind it. An
+-- octet from 192 on gives, with the one behind it, the place where a run begins that spells the rest; this place is
+-- behind the header, and before the place where the run at hand began. Nothing else spells a name.
+pub data RunAt (b : Octets) : ℕ → ℕ → DomainName → ℕ → Type 0 where
+  ends : {s : ℕ} (i : ℕ) → slice_get b i ≡ Some 0 → RunAt b s i [] (i + 1)
+  goes_on : {s : ℕ} (i k : ℕ) (l : Octets) (n : DomainName) (e : ℕ)
+      → slice_get b i ≡ Some k → 0 < k → k < 64 → i + 1 + k ≤ length b → l ≡ take k (drop (i + 1) b)
+      → RunAt b s (i + 1 + k) n e → RunAt b s i (l ∷ n) e
+  jumps : {s : ℕ} (i o o' p : ℕ) (n : DomainName) (e : ℕ)
+      → slice_get b i ≡ Some o → 192 ≤ o → slice_get b (i + 1) ≡ Some o' → p ≡ pointer_place o o' → 12 ≤ p → p < s
+      → RunAt b p p n e → RunAt b s i n (i + 2)
+
+-- The name n is spelled at place i, by octets that end before place e. RFC 1035 2.3.4: it has at most 255 octets,
+-- whatever part of it a pointer tells.
+abbrev pub NameAt : Octets → ℕ → DomainName → ℕ → Type 0
+NameAt b i n e = RunAt b i i n e × IsTrue (is_name n)
+
+-- The same computed. A run has no more steps than there are octets, since each takes one or more; `told` has what the
+-- runs begun before place s spell.
+abbrev pub with_label : Octets → DomainName × ℕ → DomainName × ℕ
+with_label l (n, e) = (l ∷ n, e)
+
+abbrev pub jump : (ℕ → Option (DomainName × ℕ)) → ℕ → ℕ → ℕ → Option (DomainName × ℕ)
+jump told s i p = elim (nat_le 12 p && nat_lt p s) [ true ↦ option_map (λ r. (r.0, i + 2)) (told p) | false ↦ None ]
+
+unfoldable pub run : (ℕ → Option (DomainName × ℕ)) → Octets → ℕ → ℕ → ℕ → Option (DomainName × ℕ)
+run told b s zero i = None
+run told b s (suc r) i =
+    elim (slice_get b i) [
+      | None ↦ None
+      | Some o ↦ elim (o == 0) [
+        | true ↦ Some ([], i + 1)
+        | false ↦ elim (nat_lt o 64) [
+          | true ↦ elim (nat_le (i + 1 + o) (length b)) [ true ↦ option_map (with_label (take o (drop (i + 1) b))) (run told b s r (i + 1 + o)) | false ↦ None ]
+          | false ↦ elim (nat_lt o 192) [ true ↦ None | false ↦ option_and_then (λ o'. jump told s i (pointer_place o o')) (slice_get b (i + 1)) ]
+        ]
+      ]
+    ]
+
+-- what the runs begun before place k spell
+unfoldable pub runs_before : Octets → ℕ → ℕ → Option (DomainName × ℕ)
+runs_before b zero p = None
+runs_before b (suc k) p = run (runs_before b k) b p (length b) p
+
+abbrev pub name_if_short : DomainName × ℕ → Option (DomainName × ℕ)
+name_if_short (n, e) = if is_name n then Some (n, e) else None
+
+-- the name spelled at place i, and the place behind it
+unfoldable pub name_at : Octets → ℕ → Option (DomainName × ℕ)
+name_at b i = option_and_then name_if_short (runs_before b (suc i) i)
+
+-- RFC 1035 4.1.1: ID, and QR, opcode, AA, TC, RD, RA, three zero bits and RCODE as one number of 16 bits
+pub record Header : Type 0 where
+  pub id : ℕ
+  pub flags : ℕ
+
+-- RFC 1035 4.1.2
+pub record MessageQuestion : Type 0 where
+  pub qname : DomainName
+  pub qtype : ℕ
+  pub qclass : ℕ
+
+-- RFC 1035 4.1.3: a record of a message, its data uncompressed
+pub record MessageRecord : Type 0 where
+  pub owner : DomainName
+  pub rtype : ℕ
+  pub rclass : ℕ
+  pub ttl : ℕ
+  pub rdata : Octets
+
+-- RFC 1035 4.1: the counts of a message are the lengths of its lists
+pub record DnsMessage : Type 0 where
+  pub header : Header
+  pub questions : List MessageQuestion
+  pub answers : List MessageRecord
+  pub authorities : List MessageRecord
+  pub additionals : List MessageRecord
+
+-- the octets from place i up to place e are d
+pub record OctetsAt (b : Octets) (i e : ℕ) (d : Octets) : Type 0 where
+  pub ordered : i ≤ e
+  pub within : e ≤ length b
+  pub are : take (e - i) (drop i b) ≡ d
+
+-- RFC 1035 2.3.2: k octets from place i spell the number v
+pub record NumberAt (b : Octets) (i k v : ℕ) : Type 0 where
+  pub within : i + k ≤ length b
+  pub spelled : v ≡ number_of (take k (drop i b))
+
+-- Behind place i, up to place e, stands data of these pieces that reads d where it is not compressed. A name in it may
+-- go on elsewhere, but its own octets are in the data.
+abbrev pub PiecesAt : Octets → List Piece → ℕ → ℕ → Octets → Type 0
+PiecesAt b [] i e d = (i ≡ e) × (d ≡ [])
+PiecesAt b (fixed k ∷ ps) i e d =
+    (o rest : Octets) × OctetsAt b i (i + k) o × (d ≡ o ++ rest) × PiecesAt b ps (i + k) e rest
+PiecesAt b (domain ∷ ps) i e d =
+    (n : DomainName) × (j : ℕ) × (rest : Octets) × NameAt b i n j × (d ≡ wire n ++ rest) × PiecesAt b ps j e rest
+PiecesAt b (string ∷ ps) i e d =
+    (k : ℕ) × (o rest : Octets) × (slice_get b i ≡ Some k) × OctetsAt b i (i + 1 + k) o × (d ≡ o ++ rest) × PiecesAt b ps (i + 1 + k) e rest
+PiecesAt b (strings ∷ ps) i e d =
+    (o rest : Octets) × (j : ℕ) × OctetsAt b i j o × (0 < length o) × IsTrue (are_strings 0 o) × (d ≡ o ++ rest) × (j ≡ e) × PiecesAt b ps j e rest
+PiecesAt b (anything ∷ ps) i e d =
+    (o rest : Octets) × (j : ℕ) × OctetsAt b i j o × (d ≡ o ++ rest) × (j ≡ e) × PiecesAt b ps j e rest
+
+-- Data of another class than IN is octets.
+abbrev pub DataAt : Octets → ℕ → ℕ → ℕ → ℕ → Octets → Type 0
+DataAt b t c i e d = (i ≤ e) × (e ≤ length b) × PiecesAt b (if c == class_in then pieces_of t else anything ∷ []) i e d
+
+-- RFC 1035 4.1.2: questions one behind the other from place i up to place e
+abbrev pub QuestionsAt : Octets → ℕ → List MessageQuestion → ℕ → Type 0
+QuestionsAt b i [] e = i ≡ e
+QuestionsAt b i (q ∷ qs) e =
+    (j : ℕ) × NameAt b i q.qname j × NumberAt b j 2 q.qtype × NumberAt b (j + 2) 2 q.qclass × QuestionsAt b (j + 4) qs e
+
+-- RFC 1035 4.1.3: records one behind the other from place i up to place e
+pub record RecordAt (b : Octets) (i : ℕ) (r : MessageRecord) (j len : ℕ) : Type 0 where
+  pub owner : NameAt b i r.owner j
+  pub rtype : NumberAt b j 2 r.rtype
+  pub rclass : NumberAt b (j + 2) 2 r.rclass
+  pub ttl : NumberAt b (j + 4) 4 r.ttl
+  pub length : NumberAt b (j + 8) 2 len
+  pub rdata : DataAt b r.rtype r.rclass (j + 10) (j + 10 + len) r.rdata
+
+abbrev pub RecordsAt : Octets → ℕ → List MessageRecord → ℕ → Type 0
+RecordsAt b i [] e = i ≡ e
+RecordsAt b i (r ∷ rs) e = (j len : ℕ) × RecordAt b i r j len × RecordsAt b (j + 10 + len) rs e
+
+-- The octets, to their end, are the message.
+pub record Spells (b : Octets) (m : DnsMessage) : Type 0 where
+  pub id : NumberAt b 0 2 m.header.id
+  pub flags : NumberAt b 2 2 m.header.flags
+  pub qdcount : NumberAt b 4 2 (length m.questions)
+  pub ancount : NumberAt b 6 2 (length m.answers)
+  pub nscount : NumberAt b 8 2 (length m.authorities)
+  pub arcount : NumberAt b 10 2 (length m.additionals)
+  pub behind_questions : ℕ
+  pub behind_answers : ℕ
+  pub behind_authorities : ℕ
+  pub questions : QuestionsAt b 12 m.questions behind_questions
+  pub answers : RecordsAt b behind_questions m.answers behind_answers
+  pub authorities : RecordsAt b behind_answers m.authorities behind_authorities
+  pub additionals : RecordsAt b behind_authorities m.additionals (length b)

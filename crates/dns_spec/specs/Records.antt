@@ -1,0 +1,63 @@
+-- What a reader learns here: what a zone is, which records are at a name, and which of them make an RRset.
+use Rattle.std.specs.Prelude.{◌≡◌, ℕ, Bool, true, false, ◌&&◌, ◌||◌, not, List, [], ◌∷◌, ◌++◌, map, length, ◌==◌, if◌then◌else◌}
+use Rattle.std.specs.List.{list_any, filter}
+use Rattle.std.specs.Ordering.{nat_cmp, is_gt}
+use Rattle.std.specs.Cmp.Lexicographic.{slice_cmp}
+use Rattle.std.specs.declared.cmp.Ordering.{Ordering}
+use Rattle.dns_spec.specs.Names.{Octets, DomainName, folded, octets_equal, names_equal, same}
+
+-- RFC 1035 3.2.1: a record of class IN. The TTL is in seconds; the data is uncompressed.
+pub record ResourceRecord : Type 0 where
+  pub owner : DomainName
+  pub ttl : ℕ
+  pub rtype : ℕ
+  pub rdata : Octets
+
+-- equal in owner, type, data and TTL (RFC 2181 section 5)
+abbrev pub records_equal : ResourceRecord → ResourceRecord → Bool
+records_equal r s = same r.owner s.owner && r.rtype == s.rtype && octets_equal r.rdata s.rdata && r.ttl == s.ttl
+
+-- an origin in lower case, and records whose order says nothing
+pub record ZoneContents : Type 0 where
+  pub origin : DomainName
+  pub records : List ResourceRecord
+
+-- each record once: the first of its equals
+abbrev pub distinct : {X : Type 0} → (X → X → Bool) → List X → List X
+distinct eq [] = []
+distinct eq (x ∷ xs) = x ∷ filter (λ y. not (eq x y)) (distinct eq xs)
+
+-- RFC 2181 section 5: the zone of an origin and of records as they were read
+abbrev pub zone_of : DomainName → List ResourceRecord → ZoneContents
+zone_of o rs = record { origin = folded o; records = distinct records_equal rs }
+
+-- a sort: each element goes before the first that is not before it
+abbrev pub insert_by : {X : Type 0} → (X → X → Ordering) → X → List X → List X
+insert_by cmp x [] = x ∷ []
+insert_by cmp x (y ∷ ys) = if is_gt (cmp x y) then y ∷ insert_by cmp x ys else x ∷ y ∷ ys
+
+abbrev pub sort_by : {X : Type 0} → (X → X → Ordering) → List X → List X
+sort_by cmp [] = []
+sort_by cmp (x ∷ xs) = insert_by cmp x (sort_by cmp xs)
+
+-- RFC 4034 6.3: data as unsigned octets, a beginning first
+abbrev pub data_order : ResourceRecord → ResourceRecord → Ordering
+data_order r s = slice_cmp nat_cmp r.rdata s.rdata
+
+-- the records at a name
+abbrev pub at : ZoneContents → DomainName → List ResourceRecord
+at z n = filter (λ (r : ResourceRecord). same r.owner n) z.records
+
+abbrev pub of_type : ℕ → List ResourceRecord → List ResourceRecord
+of_type t rs = sort_by data_order (filter (λ (r : ResourceRecord). r.rtype == t) rs)
+
+-- RFC 2181 section 5: the RRset of a name and a type, by data octets
+abbrev pub rrset : ZoneContents → DomainName → ℕ → List ResourceRecord
+rrset z n t = of_type t (at z n)
+
+-- the name owns a record of the type
+abbrev pub owns : ZoneContents → DomainName → ℕ → Bool
+owns z n t = list_any (λ (r : ResourceRecord). same r.owner n && r.rtype == t) z.records
+
+abbrev pub with_owner : DomainName → List ResourceRecord → List ResourceRecord
+with_owner n = map (λ (r : ResourceRecord). record r { owner = n })
