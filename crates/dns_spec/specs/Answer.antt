@@ -1,11 +1,11 @@
 -- What a reader learns here: which RRsets answer a question: the names sought one after the other, the five cases of
 -- the last of them, the additional addresses, and which of all these a reply may not leave out.
-use Rattle.std.specs.Prelude.{◌≡◌, ℕ, zero, suc, ◌+◌, min, Bool, true, false, ◌&&◌, ◌||◌, not, List, [], ◌∷◌, ◌++◌, map, length, nat_lt, ◌==◌, if◌then◌else◌}
+use Rattle.std.specs.Prelude.{ℕ, zero, suc, min, Bool, ◌&&◌, ◌||◌, not, List, [], ◌∷◌, ◌++◌, map, length, ◌==◌, if◌then◌else◌}
 use Rattle.std.specs.Prelude.{Option, None, Some}
 use Rattle.std.specs.Option.{option_map, option_and_then, is_some, unwrap_or, option_to_list}
 use Rattle.std.specs.List.{list_any, filter, filter_map, flat_map}
 use Rattle.std.specs.Ordering.{nat_cmp}
-use Rattle.dns_spec.specs.Names.{DomainName, folded, same, at_or_below}
+use Rattle.dns_spec.specs.Names.{DomainName, same, at_or_below}
 use Rattle.dns_spec.specs.Data.{type_a, type_ns, type_cname, type_soa, type_mx, type_aaaa, type_srv, qtype_any, target, soa_minimum}
 use Rattle.dns_spec.specs.Records.{ResourceRecord, ZoneContents, rrset, of_type, distinct, sort_by, with_owner}
 use Rattle.dns_spec.specs.Tree.{cut_of, found}

@@ -1,7 +1,6 @@
 -- What a reader learns here: the fifteen faults that keep a zone from being served. Each is a condition of its own
 -- over the whole list of records, so one record may give several. Which conditions are faults is this project's choice.
-use Rattle.std.specs.Prelude.{◌≡◌, ℕ, Bool, true, false, ◌&&◌, ◌||◌, not, List, [], ◌∷◌, ◌++◌, map, length, nat_lt, nat_le, ◌==◌, IsTrue}
-use Rattle.std.specs.Prelude.{Option, None, Some}
+use Rattle.std.specs.Prelude.{◌≡◌, ℕ, Bool, false, ◌&&◌, ◌||◌, not, List, [], ◌∷◌, map, length, nat_lt, ◌==◌}
 use Rattle.std.specs.Option.{option_map_or}
 use Rattle.std.specs.List.{list_any, filter, flat_map}
 use Rattle.dns_spec.specs.Names.{DomainName, folded, same, octets_equal, at_or_below, suffixes, name_order}

@@ -1,9 +1,9 @@
 -- What a reader learns here: of which pieces the data of each type is made, and with that which octets are data of a
 -- type, how they read in lower case, and which names stand in them.
-use Rattle.std.specs.Prelude.{◌≡◌, ℕ, ◌+◌, ◌-◌, ◌*◌, ◌^◌, Bool, true, false, ◌&&◌, ◌||◌, not, List, [], ◌∷◌, ◌++◌, map, length, take, drop, nat_le, ◌==◌, IsTrue, if◌then◌else◌, zero, suc}
+use Rattle.std.specs.Prelude.{ℕ, ◌+◌, ◌-◌, ◌*◌, ◌^◌, Bool, true, false, ◌&&◌, not, List, [], ◌∷◌, map, length, take, drop, nat_le, ◌==◌, IsTrue, if◌then◌else◌, zero, suc}
 use Rattle.std.specs.Prelude.{Option, None, Some}
-use Rattle.std.specs.Option.{option_map, option_and_then, unwrap_or, is_some}
-use Rattle.std.specs.List.{list_any, find, flat_map}
+use Rattle.std.specs.Option.{option_map, unwrap_or, is_some}
+use Rattle.std.specs.List.{find, flat_map}
 use Rattle.dns_spec.specs.Names.{Octets, DomainName, wire, folded, name_of}
 
 -- RFC 1035 3.2.2, RFC 3596 2.1, RFC 2782: the type numbers

@@ -1,8 +1,7 @@
 -- What a reader learns here: how a reply is laid out in octets, which suffix of a name is shared with an earlier name
 -- and by which place, and the size of a layout, added up without writing it.
-use Rattle.std.specs.Prelude.{◌≡◌, ℕ, zero, suc, ◌+◌, ◌-◌, ◌*◌, ◌/◌, ◌^◌, Bool, true, false, ◌&&◌, List, [], ◌∷◌, ◌++◌, map, length, nat_le, ◌==◌, if◌then◌else◌}
+use Rattle.std.specs.Prelude.{ℕ, zero, suc, ◌+◌, ◌-◌, ◌*◌, Bool, true, false, ◌&&◌, List, [], ◌∷◌, ◌++◌, map, length, nat_le, if◌then◌else◌}
 use Rattle.std.specs.Prelude.{Option, None, Some}
-use Rattle.std.specs.Option.{option_map, is_some}
 use Rattle.std.specs.List.{list_any, filter, flat_map}
 use Rattle.std.specs.Int.{bytes_high_first}
 use Rattle.dns_spec.specs.Names.{Octets, DomainName, wire, names_equal, last_labels}

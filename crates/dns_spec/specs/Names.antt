@@ -2,7 +2,7 @@
 -- when one is at or below another, and which of two comes first.
 --
 -- An octet is a number below 256. The lists of octets here are those of a program, so this is said nowhere again.
-use Rattle.std.specs.Prelude.{ℕ, zero, suc, ◌+◌, ◌-◌, Bool, true, false, ◌&&◌, ◌||◌, List, [], ◌∷◌, ◌++◌, map, reverse, length, drop, nat_lt, nat_le, ◌==◌, IsTrue, if◌then◌else◌, Option, None, Some}
+use Rattle.std.specs.Prelude.{ℕ, zero, suc, ◌-◌, Bool, ◌&&◌, List, [], ◌∷◌, ◌++◌, map, reverse, length, drop, nat_lt, nat_le, ◌==◌, if◌then◌else◌, Option, None, Some}
 use Rattle.std.specs.Option.{option_map, option_and_then}
 use Rattle.std.specs.List.{list_all}
 use Rattle.std.specs.Cmp.Lexicographic.{pointwise, slice_cmp}

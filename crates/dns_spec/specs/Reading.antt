@@ -1,8 +1,7 @@
 -- What a reader learns here: which name a place of a message spells, and which message octets spell.
-use Rattle.std.specs.Prelude.{◌≡◌, ℕ, zero, suc, ◌+◌, ◌-◌, ◌*◌, ◌<◌, ◌≤◌, Bool, true, false, ◌&&◌, ◌||◌, List, [], ◌∷◌, ◌++◌, length, take, drop, nat_lt, nat_le, ◌==◌, IsTrue, slice_get, if◌then◌else◌, MatchBool}
+use Rattle.std.specs.Prelude.{◌≡◌, ℕ, zero, suc, ◌+◌, ◌-◌, ◌*◌, ◌<◌, ◌≤◌, true, false, ◌&&◌, List, [], ◌∷◌, ◌++◌, length, take, drop, nat_lt, nat_le, ◌==◌, IsTrue, slice_get, if◌then◌else◌}
 use Rattle.std.specs.Prelude.{Option, None, Some}
 use Rattle.std.specs.Option.{option_map, option_and_then}
-use Rattle.std.specs.Int.{bytes_high_first}
 use Rattle.dns_spec.specs.Names.{Octets, DomainName, wire, is_name}
 use Rattle.dns_spec.specs.Data.{class_in, Piece, fixed, domain, string, strings, anything, pieces_of, are_strings, number_of}
 

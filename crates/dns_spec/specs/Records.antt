@@ -1,10 +1,10 @@
 -- What a reader learns here: what a zone is, which records are at a name, and which of them make an RRset.
-use Rattle.std.specs.Prelude.{◌≡◌, ℕ, Bool, true, false, ◌&&◌, ◌||◌, not, List, [], ◌∷◌, ◌++◌, map, length, ◌==◌, if◌then◌else◌}
+use Rattle.std.specs.Prelude.{ℕ, Bool, ◌&&◌, not, List, [], ◌∷◌, map, ◌==◌, if◌then◌else◌}
 use Rattle.std.specs.List.{list_any, filter}
 use Rattle.std.specs.Ordering.{nat_cmp, is_gt}
 use Rattle.std.specs.Cmp.Lexicographic.{slice_cmp}
 use Rattle.std.specs.declared.cmp.Ordering.{Ordering}
-use Rattle.dns_spec.specs.Names.{Octets, DomainName, folded, octets_equal, names_equal, same}
+use Rattle.dns_spec.specs.Names.{Octets, DomainName, folded, octets_equal, same}
 
 -- RFC 1035 3.2.1: a record of class IN. The TTL is in seconds; the data is uncompressed.
 pub record ResourceRecord : Type 0 where

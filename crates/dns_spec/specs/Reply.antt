@@ -1,14 +1,14 @@
 -- What a reader learns here: what is made of a datagram, step by step, and the reply: its header, its question, and the
 -- longest beginning of RRsets that fits.
-use Rattle.std.specs.Prelude.{◌≡◌, ℕ, zero, suc, ◌+◌, ◌*◌, ◌/◌, ◌%◌, ◌^◌, Bool, true, false, ◌&&◌, ◌||◌, not, List, [], ◌∷◌, ◌++◌, length, take, drop, nat_lt, nat_le, ◌==◌, if◌then◌else◌}
+use Rattle.std.specs.Prelude.{ℕ, ◌+◌, ◌*◌, ◌/◌, ◌%◌, ◌^◌, Bool, false, ◌&&◌, ◌||◌, not, List, [], length, take, drop, nat_lt, nat_le, ◌==◌, if◌then◌else◌}
 use Rattle.std.specs.Prelude.{Option, None, Some}
 use Rattle.std.specs.Option.{option_map}
 use Rattle.dns_spec.specs.Names.{Octets, DomainName, at_or_below}
 use Rattle.dns_spec.specs.Data.{class_in, type_a, number_of}
 use Rattle.dns_spec.specs.Records.{ZoneContents}
 use Rattle.dns_spec.specs.Reading.{Header, MessageQuestion, DnsMessage, name_at}
-use Rattle.dns_spec.specs.Layout.{Item, layout, size, plain_layout, plain_size, header_octets, message_of, greatest}
-use Rattle.dns_spec.specs.Answer.{format_error, not_implemented, refused, Outcome, outcome, items, main_items, required, is_authoritative}
+use Rattle.dns_spec.specs.Layout.{Item, layout, size, plain_size, header_octets, message_of, greatest}
+use Rattle.dns_spec.specs.Answer.{format_error, not_implemented, refused, outcome, items, main_items, required, is_authoritative}
 
 -- What is kept of a list of sets: the longest beginning whose size is at most the limit.
 abbrev pub kept : (List Item → ℕ) → ℕ → List Item → List Item

@@ -1,6 +1,6 @@
 -- What a reader learns here: which names exist, where a zone is cut, which name encloses a missing one, and which
 -- records are found for a name, by a wildcard too.
-use Rattle.std.specs.Prelude.{◌≡◌, ℕ, Bool, true, false, ◌&&◌, not, List, [], ◌∷◌, map, reverse, length, ◌==◌, if◌then◌else◌}
+use Rattle.std.specs.Prelude.{Bool, ◌&&◌, List, [], ◌∷◌, reverse, if◌then◌else◌}
 use Rattle.std.specs.Prelude.{Option, None, Some}
 use Rattle.std.specs.Option.{option_map, option_and_then}
 use Rattle.std.specs.List.{list_any, find}

@@ -1,0 +1,3 @@
+pub mod Examples
+mod Rows
+mod PlainRows
