@@ -1,0 +1,160 @@
+-- The wire form and the labels that it spells give one another back.
+use Rattle.std.proofs.Common.{◌≡◌, ℕ, zero, suc, ◌+◌, ◌-◌, ◌<◌, ◌≤◌, true, [], ◌∷◌, ◌++◌, length, take, drop, refl, sym, ◌∙◌, ap, arith, length-append}
+use Rattle.std.proofs.lemmas.List.{take_at, drop_at, append_assoc, append-nil, nil_from_length}
+use Rattle.std.proofs.lemmas.Bool.{and_parts, and_from, leb-true, le-leb, ltb-true, lt-ltb}
+use Rattle.std.specs.List.{list_all}
+use Rattle.dns_spec.specs.Names.{Octets, DomainName, wire, is_label, is_name}
+use Rattle.dns_name.specs.WireForm.{labels_up_to, labels_of, IsWireForm}
+
+-- what a label's test says
+pub record IsLabel (l : Octets) : Type 0 where
+  pub some : 0 < length l
+  pub fits : length l ≤ 63
+
+pub IsLabel-is_label : (l : Octets) → is_label l ≡ true → IsLabel l
+IsLabel-is_label l ok =
+    let parts = and_parts _ _ ok in
+    record { some = ltb-true _ _ parts.0; fits = leb-true _ _ parts.1 }
+
+pub is_label-IsLabel : (l : Octets) → 0 < length l → length l ≤ 63 → is_label l ≡ true
+is_label-IsLabel l some fits = and_from _ _ (lt-ltb _ _ some) (le-leb _ _ fits)
+
+-- what a name's test says
+pub record IsName (n : DomainName) : Type 0 where
+  pub labels : list_all is_label n ≡ true
+  pub fits : length (wire n) ≤ 255
+
+pub IsName-is_name : (n : DomainName) → is_name n ≡ true → IsName n
+IsName-is_name n ok =
+    let parts = and_parts (list_all is_label n) _ ok in
+    record { labels = parts.0; fits = leb-true _ _ parts.1 }
+
+pub is_name-IsName : (n : DomainName) → list_all is_label n ≡ true → length (wire n) ≤ 255 → is_name n ≡ true
+is_name-IsName n labels fits = and_from _ _ labels (le-leb _ _ fits)
+
+labels_up_to-wire : (n : DomainName) (most : ℕ) → list_all is_label n ≡ true → length (wire n) ≤ most → labels_up_to most (wire n) ≡ n
+labels_up_to-wire [] zero ok fits = absurd (omega arith)
+labels_up_to-wire [] (suc most) ok fits = refl
+labels_up_to-wire ([] ∷ n) most ok fits = cc
+labels_up_to-wire ((x ∷ l) ∷ n) zero ok fits = absurd (omega arith)
+labels_up_to-wire ((x ∷ l) ∷ n) (suc most) ok fits =
+    let parts = and_parts (is_label (x ∷ l)) _ ok in
+    let shorter : length (wire n) ≤ most = omega (arith, length-append l (wire n)) in
+    rw (take_at (x ∷ l) (wire n) (length (x ∷ l)) refl, drop_at (x ∷ l) (wire n) (length (x ∷ l)) refl)
+    (ap (λ m. (x ∷ l) ∷ m) (labels_up_to-wire n most parts.1 shorter))
+
+-- a name's wire form spells its labels
+pub labels_of-wire : (n : DomainName) → is_name n ≡ true → labels_of (wire n) ≡ n
+unfolding labels_of
+labels_of-wire n ok = labels_up_to-wire n _ (IsName-is_name n ok).labels (omega arith)
+
+-- octets that are a name's wire form spell its labels
+pub labels_of_spelled : (xs : Octets) (n : DomainName) → xs ≡ wire n → is_name n ≡ true → labels_of xs ≡ n
+labels_of_spelled xs n e ok = ap labels_of e ∙ labels_of-wire n ok
+
+-- and are a wire form
+pub IsWireForm-wire : (xs : Octets) (n : DomainName) → xs ≡ wire n → is_name n ≡ true → IsWireForm xs
+IsWireForm-wire xs n e ok =
+    let spelled : labels_of xs ≡ n = labels_of_spelled xs n e ok in
+    record { wire_is = ap wire spelled ∙ sym e; is_name = ap is_name spelled ∙ ok }
+
+-- octets xs are a first label's length x and ys: its octets, and the wire form behind it
+pub record BeginsWithLabel (xs : Octets) (x : ℕ) (ys : Octets) : Type 0 where
+  pub fits : x ≤ length ys
+  pub label : is_label (take x ys) ≡ true
+  pub rest : IsWireForm (drop x ys)
+  pub labels : labels_of xs ≡ take x ys ∷ labels_of (drop x ys)
+
+-- a name without its first label is a name
+pub is_name-tail : (l : Octets) (n : DomainName) → is_name (l ∷ n) ≡ true → is_name n ≡ true
+is_name-tail l n ok =
+    let name = IsName-is_name (l ∷ n) ok in
+    is_name-IsName n (and_parts (is_label l) _ name.labels).1 (omega (arith, length-append l (wire n)))
+
+label_first : (l : Octets) (n : DomainName) (xs : Octets) (x : ℕ) (ys : Octets) → wire (l ∷ n) ≡ xs → length l ≡ x → l ++ wire n ≡ ys → is_name (l ∷ n) ≡ true → BeginsWithLabel xs x ys
+label_first l n xs x ys w e f ok =
+    let is_l : is_label l ≡ true = (and_parts (is_label l) _ (IsName-is_name (l ∷ n) ok).labels).0 in
+    let front : take x ys ≡ l = ap (take x) (sym f) ∙ take_at l (wire n) x e in
+    let back : drop x ys ≡ wire n = ap (drop x) (sym f) ∙ drop_at l (wire n) x e in
+    let spelled : labels_of xs ≡ l ∷ n = labels_of_spelled xs (l ∷ n) (sym w) ok in
+    let others : labels_of (drop x ys) ≡ n = labels_of_spelled (drop x ys) n back (is_name-tail l n ok) in
+    record {
+      fits = omega (arith, ap length f, length-append l (wire n));
+      label = ap is_label front ∙ is_l;
+      rest = IsWireForm-wire (drop x ys) n back (is_name-tail l n ok);
+      labels = cc;
+    }
+
+first_by_cases : (n : DomainName) (xs : Octets) (x : ℕ) (ys : Octets) → wire n ≡ xs → xs ≡ x ∷ ys → is_name n ≡ true → (x ≡ 0 → ⊥) → BeginsWithLabel xs x ys
+first_by_cases [] xs x ys w e ok some = absurd (some cc)
+first_by_cases (l ∷ n) xs x ys w e ok some = label_first l n xs x ys w (cc) (cc) ok
+
+pub BeginsWithLabel-IsWireForm : (xs : Octets) (x : ℕ) (ys : Octets) → IsWireForm xs → xs ≡ x ∷ ys → (x ≡ 0 → ⊥) → BeginsWithLabel xs x ys
+BeginsWithLabel-IsWireForm xs x ys form e some = first_by_cases _ xs x ys form.wire_is e form.is_name some
+
+none_by_cases : (n : DomainName) (xs ys : Octets) (x : ℕ) → wire n ≡ xs → xs ≡ x ∷ ys → x ≡ 0 → is_name n ≡ true → n ≡ []
+none_by_cases [] xs ys x w e f ok = refl
+none_by_cases (l ∷ n) xs ys x w e f ok =
+    let no_octets : length l ≡ 0 = cc in
+    let is_l = IsLabel-is_label l (and_parts (is_label l) _ (IsName-is_name (l ∷ n) ok).labels).0 in
+    absurd (omega arith)
+
+-- octets that begin with 0 spell the root
+pub labels_of-zero : (xs ys : Octets) (x : ℕ) → IsWireForm xs → xs ≡ x ∷ ys → x ≡ 0 → labels_of xs ≡ []
+labels_of-zero xs ys x form e f = none_by_cases _ xs ys x form.wire_is e f form.is_name
+
+empty_by_cases : (n : DomainName) → wire n ≡ [] → ⊥
+empty_by_cases [] e = cc
+empty_by_cases (l ∷ n) e = cc
+
+-- a wire form has an octet or more
+pub IsWireForm-nil : (xs : Octets) → IsWireForm xs → length xs ≡ 0 → ⊥
+IsWireForm-nil xs form e = empty_by_cases _ (form.wire_is ∙ nil_from_length xs e)
+
+-- the wire form up to the root's length
+front : DomainName → Octets
+front [] = []
+front (l ∷ n) = length l ∷ (l ++ front n)
+
+wire-front : (n : DomainName) → wire n ≡ front n ++ 0 ∷ []
+unfolding front
+wire-front [] = refl
+wire-front (l ∷ n) =
+    ap (λ xs. length l ∷ (l ++ xs)) (wire-front n) ∙ ap (λ xs. length l ∷ xs) (sym (append_assoc l (front n) (0 ∷ [])))
+
+front-push : (n : DomainName) (l : Octets) → front (n ++ l ∷ []) ≡ front n ++ length l ∷ l
+unfolding front
+front-push [] l = ap (λ xs. length l ∷ xs) (append-nil l)
+front-push (k ∷ n) l =
+    ap (λ xs. length k ∷ (k ++ xs)) (front-push n l)
+    ∙ ap (λ xs. length k ∷ xs) (sym (append_assoc k (front n) (length l ∷ l)))
+
+front_taken : (n : DomainName) → take (length (wire n) - 1) (wire n) ≡ front n
+front_taken n =
+    let e = wire-front n in
+    let k : length (front n) ≡ length (wire n) - 1 = omega (arith, ap length e, length-append (front n) (0 ∷ [])) in
+    ap (take (length (wire n) - 1)) e ∙ take_at (front n) (0 ∷ []) _ k
+
+-- one label more, next to the root: what stands before the root's length stays
+pub wire-push : (n : DomainName) (l xs : Octets) → xs ≡ take (length (wire n) - 1) (wire n) → ((xs ++ length l ∷ []) ++ l) ++ 0 ∷ [] ≡ wire (n ++ l ∷ [])
+wire-push n l xs e =
+    let same_front : xs ≡ front n = e ∙ front_taken n in
+    let longer : (xs ++ length l ∷ []) ++ l ≡ front (n ++ l ∷ []) =
+    append_assoc xs (length l ∷ []) l ∙ ap (λ ys. ys ++ length l ∷ l) same_front ∙ sym (front-push n l)
+    in
+    ap (λ ys. ys ++ 0 ∷ []) longer ∙ sym (wire-front (n ++ l ∷ []))
+
+pub length-wire-push : (n : DomainName) (l : Octets) → length (wire (n ++ l ∷ [])) ≡ length (wire n) + 1 + length l
+length-wire-push [] l = omega (arith, length-append l (0 ∷ []))
+length-wire-push (k ∷ n) l =
+    omega (arith, length-wire-push n l, length-append k (wire n), length-append k (wire (n ++ l ∷ [])))
+
+-- a label more is a name, where there is room
+pub is_name-push : (n : DomainName) (l : Octets) → is_name n ≡ true → is_label l ≡ true → length (wire (n ++ l ∷ [])) ≤ 255 → is_name (n ++ l ∷ []) ≡ true
+is_name-push n l ok is_l fits = is_name-IsName (n ++ l ∷ []) (all_push n l (IsName-is_name n ok).labels is_l) fits
+  where
+    all_push : (n : DomainName) (l : Octets) → list_all is_label n ≡ true → is_label l ≡ true → list_all is_label (n ++ l ∷ []) ≡ true
+    all_push [] l ok is_l = and_from _ _ is_l refl
+    all_push (k ∷ n) l ok is_l =
+        let parts = and_parts (is_label k) _ ok in
+        and_from _ _ parts.0 (all_push n l parts.1 is_l)
