@@ -1,36 +1,12 @@
 -- The wire form and the labels that it spells give one another back.
-use Rattle.std.proofs.Common.{◌≡◌, ℕ, zero, suc, ◌+◌, ◌-◌, ◌<◌, ◌≤◌, true, [], ◌∷◌, ◌++◌, length, take, drop, refl, sym, ◌∙◌, ap, arith, length-append}
+use Rattle.std.proofs.Common.{Bool, map, ◌↔◌, ◌≡◌, ℕ, zero, suc, ◌-◌, ◌≤◌, true, [], ◌∷◌, ◌++◌, length, take, drop, refl, sym, ◌∙◌, ap, arith, length-append}
 use Rattle.std.proofs.lemmas.List.{take_at, drop_at, append_assoc, append-nil, nil_from_length}
-use Rattle.std.proofs.lemmas.Bool.{and_parts, and_from, leb-true, le-leb, ltb-true, lt-ltb}
+use Rattle.std.proofs.lemmas.Bool.{and_parts}
 use Rattle.std.specs.List.{list_all}
-use Rattle.dns_spec.specs.Names.{Octets, DomainName, wire, is_label, is_name}
+use Rattle.std.specs.Char.{to_ascii_lowercase}
+use Rattle.dns_spec.proofs.NameLaws.{same_tests, same-wire, wire-injective, octets_equal-decides, names_equal-decides, map-lowercase-wire, IsLabel-is_label, IsName-is_name, is_name-tail}
+use Rattle.dns_spec.specs.Names.{folded, same, octets_equal, names_equal, Octets, DomainName, wire, is_label, is_name}
 use Rattle.dns_name.specs.WireForm.{labels_up_to, labels_of, IsWireForm}
-
--- what a label's test says
-pub record IsLabel (l : Octets) : Type 0 where
-  pub some : 0 < length l
-  pub fits : length l ≤ 63
-
-pub IsLabel-is_label : (l : Octets) → is_label l ≡ true → IsLabel l
-IsLabel-is_label l ok =
-    let parts = and_parts _ _ ok in
-    record { some = ltb-true _ _ parts.0; fits = leb-true _ _ parts.1 }
-
-pub is_label-IsLabel : (l : Octets) → 0 < length l → length l ≤ 63 → is_label l ≡ true
-is_label-IsLabel l some fits = and_from _ _ (lt-ltb _ _ some) (le-leb _ _ fits)
-
--- what a name's test says
-pub record IsName (n : DomainName) : Type 0 where
-  pub labels : list_all is_label n ≡ true
-  pub fits : length (wire n) ≤ 255
-
-pub IsName-is_name : (n : DomainName) → is_name n ≡ true → IsName n
-IsName-is_name n ok =
-    let parts = and_parts (list_all is_label n) _ ok in
-    record { labels = parts.0; fits = leb-true _ _ parts.1 }
-
-pub is_name-IsName : (n : DomainName) → list_all is_label n ≡ true → length (wire n) ≤ 255 → is_name n ≡ true
-is_name-IsName n labels fits = and_from _ _ labels (le-leb _ _ fits)
 
 labels_up_to-wire : (n : DomainName) (most : ℕ) → list_all is_label n ≡ true → length (wire n) ≤ most → labels_up_to most (wire n) ≡ n
 labels_up_to-wire [] zero ok fits = absurd (omega arith)
@@ -64,12 +40,6 @@ pub record BeginsWithLabel (xs : Octets) (x : ℕ) (ys : Octets) : Type 0 where
   pub label : is_label (take x ys) ≡ true
   pub rest : IsWireForm (drop x ys)
   pub labels : labels_of xs ≡ take x ys ∷ labels_of (drop x ys)
-
--- a name without its first label is a name
-pub is_name-tail : (l : Octets) (n : DomainName) → is_name (l ∷ n) ≡ true → is_name n ≡ true
-is_name-tail l n ok =
-    let name = IsName-is_name (l ∷ n) ok in
-    is_name-IsName n (and_parts (is_label l) _ name.labels).1 (omega (arith, length-append l (wire n)))
 
 label_first : (l : Octets) (n : DomainName) (xs : Octets) (x : ℕ) (ys : Octets) → wire (l ∷ n) ≡ xs → length l ≡ x → l ++ wire n ≡ ys → is_name (l ∷ n) ≡ true → BeginsWithLabel xs x ys
 label_first l n xs x ys w e f ok =
@@ -144,17 +114,27 @@ wire-push n l xs e =
     in
     ap (λ ys. ys ++ 0 ∷ []) longer ∙ sym (wire-front (n ++ l ∷ []))
 
-pub length-wire-push : (n : DomainName) (l : Octets) → length (wire (n ++ l ∷ [])) ≡ length (wire n) + 1 + length l
-length-wire-push [] l = omega (arith, length-append l (0 ∷ []))
-length-wire-push (k ∷ n) l =
-    omega (arith, length-wire-push n l, length-append k (wire n), length-append k (wire (n ++ l ∷ [])))
+-- octets answer whether the names that they spell are the same
+pub same_from_octets : (b : Bool) (xs ys : Octets) (n m : DomainName) → xs ≡ wire n → ys ≡ wire m → is_name n ≡ true → is_name m ≡ true → ((b ≡ true) ↔ (map to_ascii_lowercase xs ≡ map to_ascii_lowercase ys)) → b ≡ same n m
+same_from_octets b xs ys n m e f p q test =
+    let law = same-wire n m p q in
+    let lower : Octets → Octets = map to_ascii_lowercase in
+    same_tests b (same n m)
+    (λ h. law.1 (ap lower (sym e) ∙ test.0 h ∙ ap lower f))
+    (λ h. test.1 (ap lower e ∙ law.0 h ∙ ap lower (sym f)))
 
--- a label more is a name, where there is room
-pub is_name-push : (n : DomainName) (l : Octets) → is_name n ≡ true → is_label l ≡ true → length (wire (n ++ l ∷ [])) ≤ 255 → is_name (n ++ l ∷ []) ≡ true
-is_name-push n l ok is_l fits = is_name-IsName (n ++ l ∷ []) (all_push n l (IsName-is_name n ok).labels is_l) fits
-  where
-    all_push : (n : DomainName) (l : Octets) → list_all is_label n ≡ true → is_label l ≡ true → list_all is_label (n ++ l ∷ []) ≡ true
-    all_push [] l ok is_l = and_from _ _ is_l refl
-    all_push (k ∷ n) l ok is_l =
-        let parts = and_parts (is_label k) _ ok in
-        and_from _ _ parts.0 (all_push n l parts.1 is_l)
+-- and whether they are equal, octet by octet
+pub names_equal_from_octets : (b : Bool) (xs ys : Octets) (n m : DomainName) → xs ≡ wire n → ys ≡ wire m → is_name n ≡ true → is_name m ≡ true → b ≡ octets_equal xs ys → b ≡ names_equal n m
+names_equal_from_octets b xs ys n m e f p q test =
+    let octets = octets_equal-decides xs ys in
+    let names = names_equal-decides n m in
+    same_tests b (names_equal n m)
+    (λ h. names.1 (wire-injective n m p q (sym e ∙ octets.0 (sym test ∙ h) ∙ f)))
+    (λ h. test ∙ octets.1 (e ∙ ap wire (names.0 h) ∙ sym f))
+
+-- octets in lower case are the wire form of the folded name
+pub map-lowercase-octets : (xs : Octets) (n : DomainName) → IsWireForm xs → labels_of xs ≡ n → map to_ascii_lowercase xs ≡ wire (folded n)
+map-lowercase-octets xs n form e =
+    let w : xs ≡ wire n = sym form.wire_is ∙ ap wire e in
+    let ok : is_name n ≡ true = ap is_name (sym e) ∙ form.is_name in
+    ap (map to_ascii_lowercase) w ∙ map-lowercase-wire n (IsName-is_name n ok).labels

@@ -1,13 +1,17 @@
 //! Domain names in their wire form.
-ghost use Rattle.std.specs.Prelude.{◌≡◌, ℕ, ◌+◌, ◌≤◌, ◌↔◌, List, [], ◌∷◌, ◌++◌, length, IsTrue, MatchOption};
+ghost use Rattle.std.specs.Prelude.{⊤, ◌≡◌, ℕ, ◌+◌, ◌≤◌, ◌↔◌, List, [], ◌∷◌, ◌++◌, length, map, IsTrue, MatchOption};
 ghost use Rattle.std.specs.Bool.{OnTrue, OnFalse};
+ghost use Rattle.std.specs.Char.{to_ascii_lowercase};
+ghost use Rattle.std.specs.Cmp.{nat_eq_equiv, partial_equiv_from_equiv};
+ghost use Rattle.std.specs.Cmp.Lexicographic.{lists_per, lists_equiv};
 ghost use Rattle.std.specs.Iterator.{YieldsFirst, item_count};
 ghost use Rattle.arrayvec.specs.ArrayVec.{array_vec_len};
-ghost use Rattle.dns_spec.specs.Names.{is_name, wire};
+ghost use Rattle.dns_spec.specs.Names.{is_name, wire, folded, same, at_or_below, names_equal};
 ghost use Rattle.dns_name.specs.WireForm.{labels_of, IsWireForm};
 
 use crate::label::Label;
 use arrayvec::ArrayVec;
+use std::alloc::AllocError;
 use std::marker::Model;
 
 const MAX_OCTETS: usize = 255;
@@ -67,15 +71,96 @@ impl Name {
         self.octets.as_slice()
     }
 
+    /// How many labels there are, without the root: 2 of `www.example.`
+    pub fn label_count(&self) -> usize
+        ensures { result ≡ length self.now }
+    {
+        self.labels().count()
+    }
+
     /// The labels in order, the nearest to the root last.
+    ///
+    /// There are at most 127, since each has two octets or more on the wire.
     pub fn labels(&self) -> Labels<'_>
         ensures labels { result ≡ self.now }
         ensures is_name { IsTrue (is_name self.now) }
+        ensures count { length self.now ≤ 127 }
     {
         Labels {
             octets: self.octets.as_slice(),
         }
     }
+}
+
+/// How names are compared (RFC 1035 2.3.3).
+impl Name {
+    /// The name in lower case: `WWW.Example.` gives `www.example.` Only ASCII letters have a case.
+    ///
+    /// The name itself keeps its spelling, which replies repeat.
+    pub fn fold(&self) -> Name
+        ensures { result ≡ folded self.now }
+    {
+        let mut folded = self.copied();
+        lower_case(&mut folded.octets);
+        folded
+    }
+
+    /// Whether the names are the same, without regard to the case of ASCII letters.
+    pub fn same(&self, other: &Name) -> bool
+        ensures { result ≡ same self.now other.now }
+    {
+        same_octets(self.octets(), other.octets())
+    }
+
+    /// Whether the name is `ancestor` or a name below it: whether its last labels are those of `ancestor`,
+    /// without regard to the case of ASCII letters (RFC 1034 3.1).
+    pub fn at_or_below(&self, ancestor: &Name) -> bool
+        ensures { result ≡ at_or_below self.now ancestor.now }
+    {
+        let target = ancestor.octets();
+        let mut suffix = self.octets();
+        'labels: while suffix.len() > target.len() {
+            let Some((_, rest)) = first_label(suffix) else {
+                return false;
+            };
+            suffix = rest;
+        }
+        same_octets(suffix, target)
+    }
+
+    /// A second name with the same octets. It takes no memory.
+    pub fn copied(&self) -> Name
+        ensures { result ≡ self.now }
+    {
+        let mut octets = ArrayVec::new();
+        append(&mut octets, self.octets());
+        Name { octets }
+    }
+}
+
+impl Clone for Name {
+    ghost is_clone = { λ name clone. clone ≡ name };
+
+    ghost is_infallible = { λ _. ⊤ };
+
+    fn clone(&self) -> Result<Name, AllocError> {
+        Ok(self.copied())
+    }
+}
+
+/// Octet by octet, so that names which differ in case are different: `same` has no regard to case.
+impl PartialEq for Name {
+    ghost eq = { names_equal };
+
+    ghost laws = { lists_per (lists_per (partial_equiv_from_equiv nat_eq_equiv)) };
+
+    fn eq(&self, other: &Name) -> bool {
+        self.octets() == other.octets()
+    }
+}
+
+impl Eq for Name {
+    ghost laws = { lists_equiv (lists_equiv nat_eq_equiv) };
 }
 
 /// The labels of a name that are still to come.
@@ -132,4 +217,17 @@ fn append(octets: &mut ArrayVec<u8, MAX_OCTETS>, part: &[u8])
     if octets.try_extend_from_slice(part).is_err() {
         unreachable!();
     }
+}
+
+// Folds wire octets in place. Lengths are at most 63, so none of them is taken for a letter.
+fn lower_case(octets: &mut ArrayVec<u8, MAX_OCTETS>)
+    ensures { octets.new.items ≡ map to_ascii_lowercase octets.old.items }
+{
+    octets.as_mut_slice().make_ascii_lowercase();
+}
+
+fn same_octets(left: &[u8], right: &[u8]) -> bool
+    ensures { IsTrue result ↔ (map to_ascii_lowercase left.now ≡ map to_ascii_lowercase right.now) }
+{
+    left.eq_ignore_ascii_case(right)
 }

@@ -1,3 +1,4 @@
+pub mod NameLaws
 pub mod Examples
 mod Rows
 mod PlainRows
