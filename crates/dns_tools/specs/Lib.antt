@@ -1,0 +1,2 @@
+pub mod ListZone
+pub mod Decided

@@ -1,0 +1,19 @@
+-- What the list of records of a served zone keeps.
+use Rattle.std.specs.Prelude.{◌≡◌, ℕ, ◌^◌, Bool, true, ◌&&◌, ◌||◌, not, List, length, nat_lt, ◌==◌, IsTrue}
+use Rattle.std.specs.List.{list_all}
+use Rattle.dns_spec.specs.Names.{DomainName, same}
+use Rattle.dns_spec.specs.Data.{type_a, type_ns, type_soa, valid}
+use Rattle.dns_spec.specs.Records.{ResourceRecord, ZoneContents, owns, sort_by, data_order}
+use Rattle.dns_spec.specs.Checks.{first_is_asterisk}
+
+-- an A record, or an SOA or NS record at the origin
+abbrev pub is_listed : DomainName → ResourceRecord → Bool
+is_listed origin r = r.rtype == type_a || (r.rtype == type_ns || r.rtype == type_soa) && same r.owner origin
+
+-- SOA and NS at the origin and A records, none of them at a wildcard, in the order of their data
+pub record IsListZone (z : ZoneContents) : Type 0 where
+  pub kinds : list_all (is_listed z.origin) z.records ≡ true
+  pub valid_data : list_all (λ (r : ResourceRecord). valid r.rtype r.rdata) z.records ≡ true
+  pub no_wildcard : list_all (λ (r : ResourceRecord). not (first_is_asterisk r.owner)) z.records ≡ true
+  pub ordered : sort_by data_order z.records ≡ z.records
+  pub soa : owns z z.origin type_soa ≡ true

@@ -1,0 +1,158 @@
+//! What is made of a datagram: taken apart, and judged (RFC 1035 4.1).
+ghost use Rattle.std.specs.Prelude.{◌≡◌, ℕ, ◌+◌, ◌≤◌, length, IsTrue};
+ghost use Rattle.dns_spec.specs.Reading.{name_at};
+ghost use Rattle.dns_tools.specs.Decided.{decision_of};
+ghost use Rattle.dns_spec.specs.Reply.{field16, is_ignored, counts_are_one_question, question_at, is_meta_type, decide, decide_question};
+
+use crate::list::Zone;
+use byteorder::{BigEndian, ByteOrder};
+use dns_name::{Label, Name};
+use std::marker::Model;
+
+pub(crate) const HEADER_OCTETS: usize = 12;
+
+const CLASS_IN: u16 = 1;
+
+/// A question: the name as it was spelled, and the numbers of the type and the class asked for (RFC 1035 4.1.2).
+#[derive(Drop)]
+pub(crate) struct Question {
+    pub(crate) name: Name,
+    pub(crate) qtype: u16,
+    pub(crate) qclass: u16,
+}
+
+impl Model for Question {
+    ghost use Rattle.dns_spec.specs.Reading.{MessageQuestion};
+
+    ghost Value = { MessageQuestion };
+
+    ghost view = { λ q. record { qname = q.name; qtype = q.qtype; qclass = q.qclass } };
+}
+
+/// Why a question is not answered (RFC 1035 4.1.1).
+#[derive(Clone, Copy)]
+pub(crate) enum Rcode {
+    NoError = 0,
+    FormatError = 1,
+    NameError = 3,
+    NotImplemented = 4,
+    Refused = 5,
+}
+
+/// What is made of a datagram.
+#[derive(Drop)]
+pub(crate) enum Decision {
+    /// Nothing is sent.
+    Silence,
+    /// The header is sent alone.
+    HeaderAlone(Rcode),
+    /// The header and the question are sent.
+    QuestionAlone(Question, Rcode),
+    /// The question is answered.
+    Answered(Question),
+}
+
+/// The 16 bits at a place (RFC 1035 2.3.2).
+pub(crate) fn field(datagram: &[u8], at: usize) -> u16
+    requires { at + 2 ≤ length datagram.now }
+    ensures { result ≡ field16 datagram.now at }
+{
+    BigEndian::read_u16(&datagram[at..])
+}
+
+// Nothing is owed to what is shorter than a header, or is a reply itself.
+fn is_ignored(datagram: &[u8]) -> bool
+    ensures { result ≡ is_ignored datagram.now }
+{
+    datagram.len() < HEADER_OCTETS || field(datagram, 2) / 0x8000 >= 1
+}
+
+// One question and no record.
+fn counts_are_one_question(datagram: &[u8]) -> bool
+    requires { 12 ≤ length datagram.now }
+    ensures { result ≡ counts_are_one_question datagram.now }
+{
+    field(datagram, 4) == 1
+        && field(datagram, 6) == 0
+        && field(datagram, 8) == 0
+        && field(datagram, 10) == 0
+}
+
+// The name at the first place behind the header, and the place behind it. No pointer is lawful there, since it would
+// have to tell a place before it and behind the header (RFC 1035 4.1.4).
+fn read_name(datagram: &[u8]) -> Option<(Name, usize)>
+    ensures { result ≡ name_at datagram.now 12 }
+{
+    let mut name = Name::root();
+    let mut at = HEADER_OCTETS;
+    'labels: while at < datagram.len() {
+        let length = datagram[at] as usize;
+        at += 1;
+        if length == 0 {
+            return Some((name, at));
+        }
+        if length > datagram.len() - at {
+            return None;
+        }
+        let label = Label::new(&datagram[at..at + length])?;
+        if !name.push(label) {
+            return None;
+        }
+        at += length;
+    }
+    None
+}
+
+// The question that is all that stands behind the header.
+fn read_question(datagram: &[u8]) -> Option<Question>
+    ensures { result ≡ question_at datagram.now }
+{
+    let (name, at) = read_name(datagram)?;
+    if datagram.len() != at + 4 {
+        return None;
+    }
+    let qtype = field(datagram, at);
+    let qclass = field(datagram, at + 2);
+    Some(Question { name, qtype, qclass })
+}
+
+// A type that no record has: 0, OPT, and 128 to 254 (RFC 6895 3.1).
+fn is_meta_type(qtype: u16) -> bool
+    ensures { result ≡ is_meta_type qtype }
+{
+    qtype == 0 || qtype == 41 || (128 <= qtype && qtype <= 254)
+}
+
+/// What a zone makes of a datagram, of any octets.
+pub(crate) fn decide(zone: &Zone, datagram: &[u8]) -> Decision
+    ensures { decision_of result ≡ decide zone.now datagram.now }
+{
+    if is_ignored(datagram) {
+        return Decision::Silence;
+    }
+    if field(datagram, 2) / 0x800 % 16 != 0 {
+        return Decision::HeaderAlone(Rcode::NotImplemented);
+    }
+    if !counts_are_one_question(datagram) {
+        return Decision::HeaderAlone(Rcode::FormatError);
+    }
+    match read_question(datagram) {
+        None => Decision::HeaderAlone(Rcode::FormatError),
+        Some(question) => decide_question(zone, question),
+    }
+}
+
+// A question is judged by its class, then its type, then its name.
+fn decide_question(zone: &Zone, question: Question) -> Decision
+    ensures { decision_of result ≡ decide_question zone.now question }
+{
+    if question.qclass != CLASS_IN {
+        Decision::QuestionAlone(question, Rcode::Refused)
+    } else if is_meta_type(question.qtype) {
+        Decision::QuestionAlone(question, Rcode::NotImplemented)
+    } else if !question.name.at_or_below(zone.origin()) {
+        Decision::QuestionAlone(question, Rcode::Refused)
+    } else {
+        Decision::Answered(question)
+    }
+}
