@@ -1,4 +1,5 @@
 pub mod NameLaws
+pub mod NameReading
 pub mod Examples
 mod Rows
 mod PlainRows

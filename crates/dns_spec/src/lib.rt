@@ -1,2 +1,4 @@
 // The definitions that every contract of the product speaks of, and the laws about them.
 #![tactic(auto)]
+
+pub mod reading;

@@ -1,0 +1,15 @@
+//! Laws of reading: what `name_at` computes, and that a place spells at most one name.
+
+ghost use Rattle.std.specs.Prelude.{◌≡◌, ℕ, Some, ◌↔◌};
+ghost use Rattle.dns_spec.specs.Names.{Octets, DomainName};
+ghost use Rattle.dns_spec.specs.Reading.{NameAt, name_at};
+
+/// The computed reader of names gives a name and the place behind it exactly where they are spelled (RFC 1035 4.1.4).
+pub fn name_at_computes_the_relation()
+    ensures { (b : Octets) (i : ℕ) (n : DomainName) (e : ℕ) → (name_at b i ≡ Some (n, e)) ↔ NameAt b i n e }
+{}
+
+/// A place of a message spells at most one name, with one end.
+pub fn place_spells_one_name()
+    ensures { (b : Octets) (i : ℕ) (n m : DomainName) (e f : ℕ) → NameAt b i n e → NameAt b i m f → (n ≡ m) × (e ≡ f) }
+{}
