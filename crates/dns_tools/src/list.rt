@@ -61,6 +61,8 @@ impl Zone {
     pub fn exists(&self, name: &Name) -> bool
         ensures { result ≡ exists self.now name.now }
     {
-        self.records.iter().any(|record| record.owner.at_or_below(name))
+        self.records
+            .iter()
+            .any(|record| record.owner.at_or_below(name))
     }
 }

@@ -1,5 +1,5 @@
 //! What is made of a datagram: taken apart, and judged (RFC 1035 4.1).
-ghost use Rattle.std.specs.Prelude.{◌≡◌, ℕ, ◌+◌, ◌≤◌, length, IsTrue};
+ghost use Rattle.std.specs.Prelude.{◌≡◌, ℕ, ◌+◌, ◌≤◌, length, IsTrue, IfSome};
 ghost use Rattle.dns_spec.specs.Reading.{name_at};
 ghost use Rattle.dns_tools.specs.Decided.{decision_of};
 ghost use Rattle.dns_spec.specs.Reply.{field16, is_ignored, counts_are_one_question, question_at, is_meta_type, decide, decide_question};
@@ -81,7 +81,8 @@ fn counts_are_one_question(datagram: &[u8]) -> bool
 // The name at the first place behind the header, and the place behind it. No pointer is lawful there, since it would
 // have to tell a place before it and behind the header (RFC 1035 4.1.4).
 fn read_name(datagram: &[u8]) -> Option<(Name, usize)>
-    ensures { result ≡ name_at datagram.now 12 }
+    ensures name { result ≡ name_at datagram.now 12 }
+    ensures within { IfSome result (λ r. r.1 ≤ length datagram.now) }
 {
     let mut name = Name::root();
     let mut at = HEADER_OCTETS;
@@ -94,7 +95,9 @@ fn read_name(datagram: &[u8]) -> Option<(Name, usize)>
         if length > datagram.len() - at {
             return None;
         }
-        let label = Label::new(&datagram[at..at + length])?;
+        let Some(label) = Label::new(&datagram[at..at + length]) else {
+            return None;
+        };
         if !name.push(label) {
             return None;
         }
@@ -104,6 +107,7 @@ fn read_name(datagram: &[u8]) -> Option<(Name, usize)>
 }
 
 // The question that is all that stands behind the header.
+#[tactic(auto, unfolding(dns_spec::specs::Reply::question_at))]
 fn read_question(datagram: &[u8]) -> Option<Question>
     ensures { result ≡ question_at datagram.now }
 {
@@ -113,7 +117,11 @@ fn read_question(datagram: &[u8]) -> Option<Question>
     }
     let qtype = field(datagram, at);
     let qclass = field(datagram, at + 2);
-    Some(Question { name, qtype, qclass })
+    Some(Question {
+        name,
+        qtype,
+        qclass,
+    })
 }
 
 // A type that no record has: 0, OPT, and 128 to 254 (RFC 6895 3.1).
@@ -124,6 +132,7 @@ fn is_meta_type(qtype: u16) -> bool
 }
 
 /// What a zone makes of a datagram, of any octets.
+#[tactic(auto, unfolding(dns_spec::specs::Reply::decide))]
 pub(crate) fn decide(zone: &Zone, datagram: &[u8]) -> Decision
     ensures { decision_of result ≡ decide zone.now datagram.now }
 {
