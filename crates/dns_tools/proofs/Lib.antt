@@ -1,1 +1,2 @@
 pub mod NameLoop
+pub mod BodyLaws

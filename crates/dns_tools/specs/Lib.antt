@@ -1,2 +1,3 @@
 pub mod ListZone
 pub mod Decided
+pub mod Body

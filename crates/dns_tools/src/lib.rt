@@ -3,5 +3,6 @@
 
 mod list;
 mod query;
+mod reply;
 
 pub use list::{Record, Zone};
