@@ -157,10 +157,12 @@ plain_layout h q items =
     reply_header h items ++ question_octets q ++ flat_map (plain_record q.qname) (records_of items)
 
 -- the length of the plain layout, added up
+abbrev pub plain_record_size : DomainName → ResourceRecord → ℕ
+plain_record_size asked r = length (plain_owner asked r.owner) + 10 + length r.rdata
+
 abbrev pub plain_records_size : DomainName → List ResourceRecord → ℕ
 plain_records_size asked [] = 0
-plain_records_size asked (r ∷ rs) =
-    length (plain_owner asked r.owner) + 10 + length r.rdata + plain_records_size asked rs
+plain_records_size asked (r ∷ rs) = plain_record_size asked r + plain_records_size asked rs
 
 unfoldable pub plain_size : MessageQuestion → List Item → ℕ
 plain_size q items = 12 + length (question_octets q) + plain_records_size q.qname (records_of items)

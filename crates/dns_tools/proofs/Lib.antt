@@ -1,2 +1,3 @@
 pub mod NameLoop
 pub mod BodyLaws
+pub mod SetLoop

@@ -1,5 +1,5 @@
 -- What the list of records of a served zone keeps.
-use Rattle.std.specs.Prelude.{◌≡◌, ℕ, ◌^◌, Bool, true, ◌&&◌, ◌||◌, not, List, length, nat_lt, ◌==◌, IsTrue}
+use Rattle.std.specs.Prelude.{◌≡◌, ℕ, ◌^◌, Bool, true, ◌&&◌, ◌||◌, not, List, [], ◌∷◌, length, if◌then◌else◌, nat_lt, ◌==◌, IsTrue}
 use Rattle.std.specs.List.{list_all}
 use Rattle.dns_spec.specs.Names.{DomainName, same}
 use Rattle.dns_spec.specs.Data.{type_a, type_ns, type_soa, valid}
@@ -17,3 +17,8 @@ pub record IsListZone (z : ZoneContents) : Type 0 where
   pub no_wildcard : list_all (λ (r : ResourceRecord). not (first_is_asterisk r.owner)) z.records ≡ true
   pub ordered : sort_by data_order z.records ≡ z.records
   pub soa : owns z z.origin type_soa ≡ true
+
+-- the records of a type at the name asked for, which is shown as their owner
+abbrev pub asked_records : DomainName → ℕ → List ResourceRecord → List ResourceRecord
+asked_records q t [] = []
+asked_records q t (r ∷ rs) = if r.rtype == t && same r.owner q then record r { owner = q } ∷ asked_records q t rs else asked_records q t rs

@@ -3,9 +3,12 @@
 ghost use Rattle.std.specs.Prelude.{◌≡◌, ◌+◌, ◌++◌, ◌≤◌, ◌<◌, ◌^◌, ◌↔◌, length, drop, IsTrue, IsSome, IfSome, IfNone};
 ghost use Rattle.std.specs.Int.{bytes_high_first};
 ghost use Rattle.dns_spec.specs.Names.{wire, names_equal};
-ghost use Rattle.dns_spec.specs.Layout.{octets16, octets32, question_octets, header_octets, plain_owner, plain_record};
+ghost use Rattle.dns_spec.specs.Layout.{octets16, octets32, question_octets, header_octets, plain_owner, plain_record, plain_record_size, plain_records_size};
+ghost use Rattle.dns_tools.specs.ListZone.{asked_records};
+ghost use Rattle.std.specs.List.{flat_map};
 ghost use Rattle.dns_tools.specs.Body.{body};
 
+use crate::list::Record;
 use crate::query::Question;
 use byteorder::{BigEndian, ByteOrder};
 use dns_name::Name;
@@ -15,7 +18,7 @@ use std::marker::Model;
 pub(crate) const HEADER_OCTETS: usize = 12;
 
 // A pointer to place 12, where the question's name begins (RFC 1035 4.1.4).
-const QUESTION_POINTER: u16 = 0xc00c;
+const QUESTION_POINTER: [u8; 2] = [0xc0, 0x0c];
 
 const CLASS_IN: u16 = 1;
 
@@ -103,4 +106,77 @@ pub(crate) fn put_question(out: &mut [u8], question: &Question) -> usize
     let at = append(out, HEADER_OCTETS, question.name.octets());
     let at = append_u16(out, at, question.qtype);
     append_u16(out, at, question.qclass)
+}
+
+// How an owner is written: as the pointer where it is spelled as the question's name, unless it is the root.
+fn owner_octets<'a>(asked: &Name, owner: &'a Name) -> &'a [u8]
+    ensures value { result.now ≡ plain_owner asked.now owner.now }
+    ensures bound { length result.now ≤ 255 }
+{
+    if owner.label_count() > 0 && owner == asked {
+        &QUESTION_POINTER
+    } else {
+        owner.octets()
+    }
+}
+
+/// Writes a record at a place behind the header, and answers the place behind it.
+///
+/// `None`, with nothing written, where there is no room for it.
+pub(crate) fn put_record(out: &mut [u8], at: usize, asked: &Name, shown: &Shown<'_>) -> Option<usize>
+    requires behind_header { 12 ≤ at }
+    requires inside { at ≤ length out.old }
+    requires short { length out.old < 2 ^ 16 }
+    ensures room { IsSome result ↔ (at + plain_record_size asked.now shown.now ≤ length out.old) }
+    ensures end { IfSome result (λ end. end ≡ at + plain_record_size asked.now shown.now) }
+    ensures body { IfSome result (λ end. body out.new end ≡ body out.old at ++ plain_record asked.now shown.now) }
+    ensures none { IfNone result (out.new ≡ out.old) }
+{
+    let owner = owner_octets(asked, shown.owner);
+    let rdata = shown.rdata;
+    if out.len() - at < owner.len() + 10 + rdata.len() {
+        return None;
+    }
+    let at = append(out, at, owner);
+    let at = append_u16(out, at, shown.rtype);
+    let at = append_u16(out, at, CLASS_IN);
+    let at = append_u32(out, at, shown.ttl);
+    let at = append_u16(out, at, rdata.len() as u16);
+    Some(append(out, at, rdata))
+}
+
+/// An RRset that was written: the place behind it, and how many records it has.
+#[derive(Clone, Copy)]
+pub(crate) struct Put {
+    pub(crate) end: usize,
+    pub(crate) records: u16,
+}
+
+/// Writes the records of a type at the name asked for, and answers the place behind them and how many there are.
+///
+/// `None` where there is no room for all of them: what was written before them stays.
+pub(crate) fn put_set(out: &mut [u8], at: usize, asked: &Name, rtype: u16, records: &[Record]) -> Option<Put>
+    requires behind_header { 12 ≤ at }
+    requires inside { at ≤ length out.old }
+    requires short { length out.old < 2 ^ 16 }
+    ensures room { IsSome result ↔ (at + plain_records_size asked.now (asked_records asked.now rtype records.now) ≤ length out.old) }
+    ensures end { IfSome result (λ put. put.end ≡ at + plain_records_size asked.now (asked_records asked.now rtype records.now)) }
+    ensures count { IfSome result (λ put. put.records ≡ length (asked_records asked.now rtype records.now)) }
+    ensures body { IfSome result (λ put. body out.new put.end ≡ body out.old at ++ flat_map (plain_record asked.now) (asked_records asked.now rtype records.now)) }
+    ensures none { IfNone result (body out.new at ≡ body out.old at) }
+{
+    let mut put = Put { end: at, records: 0 };
+    'records: for listed in records {
+        if listed.rtype == rtype && listed.owner.same(asked) {
+            let shown = Shown {
+                owner: asked,
+                ttl: listed.ttl,
+                rtype,
+                rdata: listed.rdata.as_slice(),
+            };
+            put.end = put_record(out, put.end, asked, &shown)?;
+            put.records += 1;
+        }
+    }
+    Some(put)
 }
