@@ -1,3 +1,4 @@
 pub mod NameLoop
 pub mod BodyLaws
 pub mod SetLoop
+pub mod Ancestors

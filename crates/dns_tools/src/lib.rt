@@ -2,7 +2,10 @@
 #![tactic(auto)]
 
 mod list;
+mod lookup;
 mod query;
+mod layout;
 mod reply;
 
 pub use list::{Record, Zone};
+pub use reply::{Limit, Steps, respond};

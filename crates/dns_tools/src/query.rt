@@ -1,7 +1,7 @@
 //! What is made of a datagram: taken apart, and judged (RFC 1035 4.1).
 ghost use Rattle.std.specs.Prelude.{◌≡◌, ℕ, ◌+◌, ◌≤◌, length, IsTrue, IfSome};
 ghost use Rattle.dns_spec.specs.Reading.{name_at};
-ghost use Rattle.dns_tools.specs.Decided.{decision_of};
+ghost use Rattle.dns_tools.specs.Decided.{code_of, decision_of, HasHeader};
 ghost use Rattle.dns_spec.specs.Reply.{field16, is_ignored, counts_are_one_question, question_at, is_meta_type, decide, decide_question};
 
 use crate::list::Zone;
@@ -12,6 +12,8 @@ use std::marker::Model;
 pub(crate) const HEADER_OCTETS: usize = 12;
 
 const CLASS_IN: u16 = 1;
+
+pub(crate) const TYPE_A: u16 = 1;
 
 /// A question: the name as it was spelled, and the numbers of the type and the class asked for (RFC 1035 4.1.2).
 #[derive(Drop)]
@@ -37,6 +39,15 @@ pub(crate) enum Rcode {
     NameError = 3,
     NotImplemented = 4,
     Refused = 5,
+}
+
+impl Rcode {
+    /// Its number in the header.
+    pub(crate) fn code(self) -> u16
+        ensures { result ≡ code_of self }
+    {
+        self as u16
+    }
 }
 
 /// What is made of a datagram.
@@ -134,7 +145,8 @@ fn is_meta_type(qtype: u16) -> bool
 /// What a zone makes of a datagram, of any octets.
 #[tactic(auto, unfolding(dns_spec::specs::Reply::decide))]
 pub(crate) fn decide(zone: &Zone, datagram: &[u8]) -> Decision
-    ensures { decision_of result ≡ decide zone.now datagram.now }
+    ensures decision { decision_of result ≡ decide zone.now datagram.now }
+    ensures header { HasHeader result (length datagram.now) }
 {
     if is_ignored(datagram) {
         return Decision::Silence;

@@ -1,5 +1,5 @@
 use Rattle.dns_tools.proofs.SetLoop.{SoFar}
-use Rattle.dns_tools.proofs.reply.put_set.Given as goal
+use Rattle.dns_tools.proofs.layout.put_set.Given as goal
 
 -- what is written and what is to come are the set
 abbrev pub invariant-records : goal.invariant-records

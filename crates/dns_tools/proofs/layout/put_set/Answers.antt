@@ -2,8 +2,8 @@ use Rattle.std.proofs.Common.{◌≡◌, ◌∙◌, refl, sym, ap, arith}
 use Rattle.dns_spec.specs.Names.{same}
 use Rattle.dns_spec.specs.Records.{ResourceRecord}
 use Rattle.dns_tools.proofs.SetLoop.{SoFar-picked, SoFar-other_type, SoFar-other_owner}
-use Rattle.dns_tools.proofs.reply.put_set.Goals as goal
-use Rattle.dns_tools.proofs.reply.put_set.Goals.{then-listed-rtype+then-same+in_ok-put, else-listed-rtype, else-listed-rtype-via-then-listed-rtype+else-same, else-listed-rtype-via-else-listed-rtype}
+use Rattle.dns_tools.proofs.layout.put_set.Goals as goal
+use Rattle.dns_tools.proofs.layout.put_set.Goals.{then-listed-rtype+then-same+in_ok-put, else-listed-rtype, else-listed-rtype-via-then-listed-rtype+else-same, else-listed-rtype-via-else-listed-rtype}
 
 pub records-preserved : goal.records-preserved
 records-preserved c =

@@ -1,5 +1,5 @@
 use Rattle.dns_tools.proofs.BodyLaws.{body-write}
-use Rattle.dns_tools.proofs.reply.append.Goals as goal
+use Rattle.dns_tools.proofs.layout.append.Goals as goal
 
 pub returns-clause-body : goal.returns-clause-body
 returns-clause-body c =

@@ -1,7 +1,7 @@
 use Rattle.std.proofs.Common.{◌≡◌, ◌≤◌, length, arith, refl}
 use Rattle.dns_spec.specs.Layout.{question_octets}
 use Rattle.dns_tools.proofs.BodyLaws.{body-start}
-use Rattle.dns_tools.proofs.reply.put_question.Goals as goal
+use Rattle.dns_tools.proofs.layout.put_question.Goals as goal
 
 pub returns-clause-body : goal.returns-clause-body
 returns-clause-body c =
