@@ -1,1 +1,3 @@
 pub mod NameReading
+pub mod Places
+pub mod PlainLayout

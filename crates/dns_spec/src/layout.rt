@@ -1,0 +1,18 @@
+//! Laws of layouts: the octets laid out are the message, and their number is the size added up.
+
+ghost use Rattle.std.specs.Prelude.{ℕ, List, [], ◌<◌, ◌^◌, All};
+ghost use Rattle.dns_spec.specs.Reading.{Header, MessageQuestion, Spells};
+ghost use Rattle.dns_spec.specs.Layout.{Item, records_of, header_octets, plain_layout, message_of};
+ghost use Rattle.dns_spec.specs.Laws.{IsAddressRecord, HasRoom};
+
+/// The plain layout of a question and of addresses spells their message (RFC 1035 4.1).
+pub fn plain_addresses_are_spelled()
+    ensures { (h : Header) (q : MessageQuestion) (items : List Item) → HasRoom h q items → All IsAddressRecord (records_of items)
+        → Spells (plain_layout h q items) (message_of h q items) }
+{}
+
+/// The octets of a header alone spell a message without questions and records (RFC 1035 4.1.1).
+pub fn header_is_spelled()
+    ensures { (h : Header) → h.id < 2 ^ 16 → h.flags < 2 ^ 16
+        → Spells (header_octets h 0 0 0 0) (record { header = h; questions = []; answers = []; authorities = []; additionals = [] }) }
+{}
