@@ -1,3 +1,4 @@
 pub mod NameReading
 pub mod Places
+pub mod WrittenData
 pub mod PlainLayout

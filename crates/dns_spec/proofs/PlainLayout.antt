@@ -1,5 +1,5 @@
 -- The plain layout spells its message.
-use Rattle.std.proofs.Common.{◌≡◌, ℕ, zero, suc, ◌+◌, ◌-◌, ◌*◌, ◌^◌, ◌<◌, ◌≤◌, Bool, true, false, ◌&&◌, cond, nat_le, List, [], ◌∷◌, ◌++◌, map, length, take, drop, IsTrue, Option, None, Some, All, filter, flat_map, refl, sym, ap, ◌∙◌, subst, arith, append_assoc, append-nil, length-append, zero-add}
+use Rattle.std.proofs.Common.{◌≡◌, ℕ, zero, suc, ◌+◌, ◌-◌, ◌*◌, ◌^◌, ◌<◌, ◌≤◌, Bool, true, false, ◌&&◌, cond, nat_le, List, [], ◌∷◌, ◌++◌, map, length, take, drop, IsTrue, Option, None, Some, is_some, All, filter, flat_map, refl, sym, ap, ◌∙◌, subst, arith, append_assoc, append-nil, length-append, zero-add}
 use Rattle.std.proofs.lemmas.Bool.{and_parts, leb-true, false≢true}
 use Rattle.std.proofs.lemmas.List.{length-map, take_at, drop_at}
 use Rattle.std.proofs.lemmas.List.Elements.{All-head, All-tail, All-same, All-take, All-drop, All-weaker}
@@ -7,12 +7,13 @@ use Rattle.std.proofs.lemmas.List.Concat.{flat_map-append}
 use Rattle.std.specs.Cmp.Lexicographic.{pointwise, bytes_decides}
 use Rattle.std.specs.List.{list_all}
 use Rattle.dns_spec.specs.Names.{Octets, DomainName, wire, is_name, octets_equal, names_equal}
-use Rattle.dns_spec.specs.Data.{class_in, type_a, pieces_of, valid}
+use Rattle.dns_spec.specs.Data.{class_in, type_a, pieces_of, cut, valid}
 use Rattle.dns_spec.specs.Records.{ResourceRecord}
 use Rattle.dns_spec.specs.Reading.{Header, MessageQuestion, MessageRecord, DnsMessage, NameAt, OctetsAt, NumberAt, PiecesAt, DataAt, QuestionsAt, RecordAt, RecordsAt, Spells}
 use Rattle.dns_spec.specs.Layout.{octets16, octets32, pointer, Section, answer, authority, additional, Item, is_section, records_of, in_section, record_tail, question_octets, header_octets, reply_header, plain_owner, plain_record, plain_layout, message_record, message_of}
 use Rattle.dns_spec.specs.Laws.{section_rank, sections_in_order, IsWritable, IsAddressRecord, HasRoom}
 use Rattle.dns_spec.proofs.Places.{Stands, stands_front, stands_rest, stands_behind, stands_all, stands_within, number_at, octets_at, name_written, name_pointed}
+use Rattle.dns_spec.proofs.WrittenData.{data_written}
 
 -- names that compare equal octet by octet are one name
 pub same_name : (n m : DomainName) → names_equal n m ≡ true → n ≡ m
@@ -282,3 +283,22 @@ unfolding plain_layout
 plain_addresses_spell h q items ok addresses =
     let b = plain_layout h q items in
     spells_where b h q items ok (All-weaker IsAddressRecord (IsReadable b) (address_readable b) (records_of items) addresses) refl
+
+writable_readable : (b : Octets) (r : ResourceRecord) → IsWritable r → IsReadable b r
+writable_readable b r ok = record {
+  owner = ok.owner;
+  rtype = ok.rtype;
+  ttl = ok.ttl;
+  rdata =
+      let low = leb-true (length r.rdata) 65535 (and_parts (nat_le (length r.rdata) 65535) (is_some (cut (pieces_of r.rtype) r.rdata)) ok.rdata).0 in
+      omega arith;
+  data_at = λ i at. data_written r.rtype r.rdata ok.rdata at;
+}
+
+-- The plain layout spells its message.
+pub plain_spells : (h : Header) (q : MessageQuestion) (items : List Item) → HasRoom h q items → All IsWritable (records_of items)
+    → Spells (plain_layout h q items) (message_of h q items)
+unfolding plain_layout
+plain_spells h q items ok writable =
+    let b = plain_layout h q items in
+    spells_where b h q items ok (All-weaker IsWritable (IsReadable b) (writable_readable b) (records_of items) writable) refl
