@@ -2,3 +2,5 @@ pub mod NameReading
 pub mod Places
 pub mod WrittenData
 pub mod PlainLayout
+pub mod LayoutSize
+pub mod Question
