@@ -4,3 +4,4 @@ pub mod WrittenData
 pub mod PlainLayout
 pub mod LayoutSize
 pub mod Question
+pub mod OneMessage

@@ -2,7 +2,7 @@
 
 ghost use Rattle.std.specs.Prelude.{◌≡◌, ℕ, ◌≤◌, Some, ◌↔◌, length};
 ghost use Rattle.dns_spec.specs.Names.{Octets, DomainName};
-ghost use Rattle.dns_spec.specs.Reading.{MessageQuestion, NameAt, name_at};
+ghost use Rattle.dns_spec.specs.Reading.{MessageQuestion, DnsMessage, NameAt, name_at, Spells};
 ghost use Rattle.dns_spec.specs.Reply.{question_at};
 
 /// The computed reader of names gives a name and the place behind it exactly where they are spelled (RFC 1035 4.1.4).
@@ -19,4 +19,9 @@ pub fn place_spells_one_name()
 /// type and class (RFC 1035 4.1.2).
 pub fn question_ends_by_octet_271()
     ensures { (d : Octets) (q : MessageQuestion) → question_at d ≡ Some q → length d ≤ 271 }
+{}
+
+/// Octets spell at most one message (RFC 1035 4.1).
+pub fn octets_spell_one_message()
+    ensures { (b : Octets) (m n : DnsMessage) → Spells b m → Spells b n → m ≡ n }
 {}
