@@ -1,5 +1,11 @@
 pub mod NameLaws
 pub mod NameReading
+pub mod Places
+pub mod WrittenData
+pub mod PlainLayout
+pub mod LayoutSize
+pub mod Question
+pub mod OneMessage
 pub mod Examples
 mod Rows
 mod PlainRows

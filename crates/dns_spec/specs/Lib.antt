@@ -8,3 +8,4 @@ pub mod Reading
 pub mod Layout
 pub mod Answer
 pub mod Reply
+pub mod Laws

@@ -1,4 +1,5 @@
 // The definitions that every contract of the product speaks of, and the laws about them.
 #![tactic(auto)]
 
+pub mod layout;
 pub mod reading;

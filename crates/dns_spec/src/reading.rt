@@ -1,8 +1,9 @@
 //! Laws of reading: what `name_at` computes, and that a place spells at most one name.
 
-ghost use Rattle.std.specs.Prelude.{◌≡◌, ℕ, Some, ◌↔◌};
+ghost use Rattle.std.specs.Prelude.{◌≡◌, ℕ, ◌≤◌, Some, ◌↔◌, length};
 ghost use Rattle.dns_spec.specs.Names.{Octets, DomainName};
-ghost use Rattle.dns_spec.specs.Reading.{NameAt, name_at};
+ghost use Rattle.dns_spec.specs.Reading.{MessageQuestion, DnsMessage, NameAt, name_at, Spells};
+ghost use Rattle.dns_spec.specs.Reply.{question_at};
 
 /// The computed reader of names gives a name and the place behind it exactly where they are spelled (RFC 1035 4.1.4).
 pub fn name_at_computes_the_relation()
@@ -12,4 +13,15 @@ pub fn name_at_computes_the_relation()
 /// A place of a message spells at most one name, with one end.
 pub fn place_spells_one_name()
     ensures { (b : Octets) (i : ℕ) (n m : DomainName) (e f : ℕ) → NameAt b i n e → NameAt b i m f → (n ≡ m) × (e ≡ f) }
+{}
+
+/// A question ends at most 271 octets from the beginning of its message: 12 of the header, 255 of its name, 4 of its
+/// type and class (RFC 1035 4.1.2).
+pub fn question_ends_by_octet_271()
+    ensures { (d : Octets) (q : MessageQuestion) → question_at d ≡ Some q → length d ≤ 271 }
+{}
+
+/// Octets spell at most one message (RFC 1035 4.1).
+pub fn octets_spell_one_message()
+    ensures { (b : Octets) (m n : DnsMessage) → Spells b m → Spells b n → m ≡ n }
 {}

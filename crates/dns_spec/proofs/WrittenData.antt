@@ -1,0 +1,203 @@
+-- Data of a type, written without compression, is read back as data of that type.
+use Rattle.std.proofs.Common.{◌≡◌, ℕ, zero, suc, ◌+◌, ◌-◌, ◌<◌, ◌≤◌, Bool, true, false, ◌&&◌, not, cond, eqb, nat_le, ◌==◌, List, [], ◌∷◌, ◌++◌, length, take, drop, IsTrue, Option, None, Some, is_some, option_map, option_and_then, refl, sym, ap, ◌∙◌, subst, arith, append_assoc, append-nil, length-append, length-drop, take-append-drop, add-zero}
+use Rattle.std.proofs.lemmas.Bool.{and_parts, leb-true, not-true, eqb-false, false≢true}
+use Rattle.std.proofs.lemmas.Option.{none-some, same_Some, cond_some, option_and_then_some, some_pair_parts}
+use Rattle.std.proofs.lemmas.List.{length-take-le, nil_from_length}
+use Rattle.dns_spec.specs.Names.{Octets, DomainName, wire, is_name, with_octet, labels_from, name_if_valid, name_of}
+use Rattle.dns_spec.specs.Data.{class_in, Piece, fixed, domain, string, strings, anything, pieces_of, Part, octets, name, part_octets, joined, are_strings, octets_front, string_front, strings_front, piece_front, cut, valid}
+use Rattle.dns_spec.specs.Reading.{NameAt, OctetsAt, PiecesAt, DataAt}
+use Rattle.dns_spec.proofs.Places.{Stands, stands_front, stands_rest, stands_within, stands_get, octets_at, name_written}
+
+-- what `labels_from` has read: the label at hand, the labels behind it in wire form, and the octets behind the name
+record Labels (k : ℕ) (os : Octets) (r : DomainName × Octets) : Type 0 where
+  first : Octets
+  others : DomainName
+  names : r.0 ≡ first ∷ others
+  long : length first ≡ k
+  whole : os ≡ first ++ (wire others ++ r.1)
+
+labels_read : (k : ℕ) (os : Octets) (r : DomainName × Octets) → labels_from k os ≡ Some r → Labels k os r
+unfolding labels_from
+labels_read zero [] r h = absurd (none-some r h)
+labels_read (suc k) [] r h = absurd (none-some r h)
+labels_read zero (zero ∷ os) r h =
+    let e = same_Some ([] ∷ [], os) r h in
+    record { first = []; others = []; names = ap (λ x. x.0) (sym e); long = refl; whole = ap (λ x. 0 ∷ x.1) e }
+labels_read zero (suc k ∷ os) r h = go (labels_from (suc k) os) (λ x e. labels_read (suc k) os x e) h
+  where
+    go : (y : Option (DomainName × Octets)) → ((x : DomainName × Octets) → y ≡ Some x → Labels (suc k) os x)
+        → option_map (λ (x : DomainName × Octets). ([] ∷ x.0, x.1)) y ≡ Some r → Labels zero (suc k ∷ os) r
+    go None again e = absurd (none-some r e)
+    go (Some x) again e =
+        let p = same_Some ([] ∷ x.0, x.1) r e in
+        let q = again x refl in
+        record {
+          first = [];
+          others = x.0;
+          names = ap (λ z. z.0) (sym p);
+          long = refl;
+          whole =
+              ap (λ z. suc k ∷ z) q.whole ∙ ap (λ z. suc k ∷ (q.first ++ (wire q.others ++ z))) (ap (λ z. z.1) p)
+              ∙ ap (λ z. z ∷ (q.first ++ (wire q.others ++ r.1))) (sym q.long)
+              ∙ ap (λ z. length q.first ∷ z) (sym (append_assoc q.first (wire q.others) r.1))
+              ∙ ap (λ z. wire z ++ r.1) (sym q.names);
+        }
+labels_read (suc k) (o ∷ os) r h = go (labels_from k os) (λ x e. labels_read k os x e) h
+  where
+    with_first : (x : DomainName × Octets) → Labels k os x → with_octet o x ≡ r → Labels (suc k) (o ∷ os) r
+    with_first x q e =
+        let shape : with_octet o x ≡ ((o ∷ q.first) ∷ q.others, x.1) = ap (λ z. with_octet o (z, x.1)) q.names in
+        let p = sym shape ∙ e in
+        record {
+          first = o ∷ q.first;
+          others = q.others;
+          names = ap (λ z. z.0) (sym p);
+          long = ap suc q.long;
+          whole = ap (λ z. o ∷ z) q.whole ∙ ap (λ z. o ∷ (q.first ++ (wire q.others ++ z))) (ap (λ z. z.1) p);
+        }
+
+    go : (y : Option (DomainName × Octets)) → ((x : DomainName × Octets) → y ≡ Some x → Labels k os x)
+        → option_map (with_octet o) y ≡ Some r → Labels (suc k) (o ∷ os) r
+    go None again e = absurd (none-some r e)
+    go (Some x) again e = with_first x (again x refl) (same_Some (with_octet o x) r e)
+
+pub name_read : (os : Octets) (n : DomainName) (rest : Octets) → name_of os ≡ Some (n, rest) → (is_name n ≡ true) × (os ≡ wire n ++ rest)
+name_read os n rest h = option_and_then_some name_if_valid (labels_from 0 os) (n, rest) h (λ x e v.
+    let q = labels_read 0 os x e in
+    let empty : q.first ≡ [] = nil_from_length q.first q.long in
+    let shape : x ≡ ([] ∷ q.others, x.1) = ap (λ z. (z, x.1)) (q.names ∙ ap (λ z. z ∷ q.others) empty) in
+    let c = cond_some (is_name q.others) (q.others, x.1) (n, rest) (sym (ap name_if_valid shape) ∙ v) in (
+      sym (ap (λ z. is_name z.0) c.1) ∙ c.0,
+      q.whole ∙ ap (λ z. z ++ (wire q.others ++ x.1)) empty ∙ ap (λ z. wire z.0 ++ z.1) c.1,
+    ))
+
+-- data that is cut begins with its first piece, and the rest is cut
+record FirstCut (p : Piece) (ps : List Piece) (os : Octets) : Type 0 where
+  part : Part
+  rest : Octets
+  front : piece_front p os ≡ Some (part, rest)
+  others : is_some (cut ps rest) ≡ true
+
+first_cut : (p : Piece) (ps : List Piece) (os : Octets) → is_some (cut (p ∷ ps) os) ≡ true → FirstCut p ps os
+unfolding cut
+first_cut p ps os h = go (piece_front p os) refl h
+  where
+    some_mapped : (x : Part) (y : Option (List Part)) → is_some (option_map (λ (xs : List Part). x ∷ xs) y) ≡ true → is_some y ≡ true
+    some_mapped x None e = e
+    some_mapped x (Some y) e = refl
+
+    go : (y : Option (Part × Octets)) → piece_front p os ≡ y
+        → is_some {T = List Part} (elim y [ None ↦ None | Some r ↦ option_map (λ xs. r.0 ∷ xs) (cut ps r.1) ]) ≡ true → FirstCut p ps os
+    go None e c = absurd (false≢true c)
+    go (Some r) e c = record { part = r.0; rest = r.1; front = e; others = some_mapped r.0 (cut ps r.1) c }
+
+-- the octets of data from place i on, and what is behind its first part
+module _ {b : Octets} {i : ℕ} (os x rest : Octets) (whole : os ≡ x ++ rest) (at : Stands b i os) where
+  stands_part : Stands b i x
+  stands_part = stands_front x rest (subst (Stands b i) whole at)
+
+  stands_others : Stands b (i + length x) rest
+  stands_others = stands_rest x rest (subst (Stands b i) whole at)
+
+  ends_alike : i + length x + length rest ≡ i + length os
+  ends_alike = omega (arith, ap length whole, length-append x rest)
+
+front_taken : (k : ℕ) (os : Octets) (part : Part) (rest : Octets) → octets_front k os ≡ Some (part, rest)
+    → (os ≡ take k os ++ rest) × (length (take k os) ≡ k)
+front_taken k os part rest h =
+    let c = cond_some (nat_le k (length os)) (octets (take k os), drop k os) (part, rest) h in
+    (sym (take-append-drop k os) ∙ ap (λ z. take k os ++ z.1) c.1, length-take-le k os (leb-true k (length os) c.0))
+
+named : {part : Part} {rest : Octets} (y : Option (DomainName × Octets)) → option_map {T = DomainName × Octets} {U = Part × Octets} (λ r. (name r.0, r.1)) y ≡ Some (part, rest)
+    → (n : DomainName) × (y ≡ Some (n, rest))
+named {part} {rest} None h = absurd (none-some (part, rest) h)
+named {part} {rest} (Some (n, os)) h = (n, ap (λ x. Some (n, x)) (some_pair_parts (name n) part os rest h).1)
+
+nothing_behind : {b : Octets} {i : ℕ} (os : Octets) → Stands b i os → Stands b (i + length os) []
+nothing_behind {b} {i} os at = stands_rest os [] (subst (Stands b i) (sym (append-nil os)) at)
+
+pub pieces_written : {b : Octets} (ps : List Piece) (os : Octets) (i : ℕ) → is_some (cut ps os) ≡ true → Stands b i os → PiecesAt b ps i (i + length os) os
+unfolding cut
+pieces_written [] [] i h at = (sym (add-zero i), refl)
+pieces_written [] (o ∷ os) i h at = absurd (false≢true h)
+pieces_written {b} (fixed k ∷ ps) os i h at =
+    let c = first_cut (fixed k) ps os h in
+    let t = front_taken k os c.part c.rest c.front in
+    let x = take k os in
+    let place : i + length x ≡ i + k = ap (λ z. i + z) t.1 in
+    let end : i + k + length c.rest ≡ i + length os = omega (arith, ends_alike os x c.rest t.0 at, place) in (
+      x,
+      c.rest,
+      subst (λ z. OctetsAt b i (i + z) x) t.1 (octets_at x (stands_part os x c.rest t.0 at)),
+      t.0,
+      subst (λ e. PiecesAt b ps (i + k) e c.rest) end
+          (pieces_written ps c.rest (i + k) c.others (subst (λ z. Stands b z c.rest) place (stands_others os x c.rest t.0 at))),
+    )
+pieces_written {b} (domain ∷ ps) os i h at =
+    let c = first_cut domain ps os h in
+    let m = named (name_of os) c.front in
+    let r = name_read os m.0 c.rest m.1 in
+    let x = wire m.0 in (
+      m.0,
+      i + length x,
+      c.rest,
+      name_written m.0 r.0 (stands_part os x c.rest r.1 at),
+      r.1,
+      subst (λ e. PiecesAt b ps (i + length x) e c.rest) (ends_alike os x c.rest r.1 at)
+          (pieces_written ps c.rest (i + length x) c.others (stands_others os x c.rest r.1 at)),
+    )
+pieces_written {b} (string ∷ ps) [] i h at = absurd (false≢true h)
+pieces_written {b} (string ∷ ps) (k ∷ os) i h at =
+    let c = first_cut string ps (k ∷ os) h in
+    let t = front_taken (suc k) (k ∷ os) c.part c.rest c.front in
+    let x = take (suc k) (k ∷ os) in
+    let place : i + length x ≡ i + 1 + k = omega (arith, t.1) in
+    let end : i + 1 + k + length c.rest ≡ i + length (k ∷ os) = omega (arith, ends_alike (k ∷ os) x c.rest t.0 at, place) in (
+      k,
+      x,
+      c.rest,
+      stands_get k os at,
+      subst (λ z. OctetsAt b i z x) place (octets_at x (stands_part (k ∷ os) x c.rest t.0 at)),
+      t.0,
+      subst (λ e. PiecesAt b ps (i + 1 + k) e c.rest) end
+          (pieces_written ps c.rest (i + 1 + k) c.others (subst (λ z. Stands b z c.rest) place (stands_others (k ∷ os) x c.rest t.0 at))),
+    )
+pieces_written {b} (strings ∷ ps) os i h at =
+    let c = first_cut strings ps os h in
+    let t = cond_some (not (length os == 0) && are_strings 0 os) (octets os, []) (c.part, c.rest) c.front in
+    let q = and_parts (not (length os == 0)) (are_strings 0 os) t.0 in
+    let ne = eqb-false (length os) 0 (not-true (length os == 0) q.0) in
+    let none : c.rest ≡ [] = sym (ap (λ z. z.1) t.1) in
+    let e = i + length os in (
+      os,
+      [],
+      e,
+      octets_at os at,
+      pos (length os) ne,
+      q.1,
+      sym (append-nil os),
+      refl,
+      subst (λ z. PiecesAt b ps e z []) (add-zero e) (pieces_written ps [] e (subst (λ z. is_some (cut ps z) ≡ true) none c.others) (nothing_behind os at)),
+    )
+  where
+    pos : (n : ℕ) → (n ≡ 0 → ⊥) → 0 < n
+    pos zero ne = absurd (ne refl)
+    pos (suc n) ne = omega arith
+pieces_written {b} (anything ∷ ps) os i h at =
+    let c = first_cut anything ps os h in
+    let t = same_Some (octets os, []) (c.part, c.rest) c.front in
+    let none : c.rest ≡ [] = sym (ap (λ z. z.1) t) in
+    let e = i + length os in (
+      os,
+      [],
+      e,
+      octets_at os at,
+      sym (append-nil os),
+      refl,
+      subst (λ z. PiecesAt b ps e z []) (add-zero e) (pieces_written ps [] e (subst (λ z. is_some (cut ps z) ≡ true) none c.others) (nothing_behind os at)),
+    )
+
+-- Valid data of class IN, written as it is, is read back.
+pub data_written : {b : Octets} {i : ℕ} (t : ℕ) (d : Octets) → valid t d ≡ true → Stands b i d → DataAt b t class_in i (i + length d) d
+data_written {b} {i} t d h at =
+    (omega arith, stands_within d at, pieces_written (pieces_of t) d i (and_parts (nat_le (length d) 65535) (is_some (cut (pieces_of t) d)) h).1 at)

@@ -1,0 +1,46 @@
+-- What a reader learns here: on what terms the laws of layouts hold.
+use Rattle.std.specs.Prelude.{◌≡◌, ℕ, ◌<◌, ◌^◌, Bool, true, false, ◌&&◌, List, [], ◌∷◌, length, nat_le, IsTrue}
+use Rattle.std.specs.List.{list_all}
+use Rattle.dns_spec.specs.Names.{is_name}
+use Rattle.dns_spec.specs.Data.{type_a, Valid}
+use Rattle.dns_spec.specs.Records.{ResourceRecord}
+use Rattle.dns_spec.specs.Reading.{Header, MessageQuestion}
+use Rattle.dns_spec.specs.Layout.{Section, answer, authority, additional, Item, in_section}
+
+-- RFC 1035 4.1: the sections in the order of a message
+abbrev pub section_rank : Section → ℕ
+section_rank answer = 0
+section_rank authority = 1
+section_rank additional = 2
+
+-- no set stands behind one of a later section
+abbrev pub sections_in_order : List Item → Bool
+sections_in_order [] = true
+sections_in_order (i ∷ is) =
+    list_all (λ (j : Item). nat_le (section_rank i.section) (section_rank j.section)) is && sections_in_order is
+
+-- RFC 1035 3.2.1: the record fits the fields of a message, and its data is of its type
+pub record IsWritable (r : ResourceRecord) : Type 0 where
+  pub owner : IsTrue (is_name r.owner)
+  pub rtype : r.rtype < 2 ^ 16
+  pub ttl : r.ttl < 2 ^ 32
+  pub rdata : Valid r.rtype r.rdata
+
+-- RFC 1035 3.4.1: the same of a record of an address
+pub record IsAddressRecord (r : ResourceRecord) : Type 0 where
+  pub owner : IsTrue (is_name r.owner)
+  pub rtype : r.rtype ≡ type_a
+  pub ttl : r.ttl < 2 ^ 32
+  pub rdata : length r.rdata ≡ 4
+
+-- RFC 1035 4.1: header, question and counts fit the fields of a message, and the sets stand in the order of its sections
+pub record HasRoom (h : Header) (q : MessageQuestion) (items : List Item) : Type 0 where
+  pub id : h.id < 2 ^ 16
+  pub flags : h.flags < 2 ^ 16
+  pub qname : IsTrue (is_name q.qname)
+  pub qtype : q.qtype < 2 ^ 16
+  pub qclass : q.qclass < 2 ^ 16
+  pub answers : length (in_section answer items) < 2 ^ 16
+  pub authorities : length (in_section authority items) < 2 ^ 16
+  pub additionals : length (in_section additional items) < 2 ^ 16
+  pub in_order : IsTrue (sections_in_order items)

@@ -1,0 +1,34 @@
+//! Laws of layouts: the octets laid out are the message, and their number is the size added up.
+
+ghost use Rattle.std.specs.Prelude.{◌≡◌, ℕ, List, [], ◌<◌, ◌^◌, All, length};
+ghost use Rattle.dns_spec.specs.Reading.{Header, MessageQuestion, Spells};
+ghost use Rattle.dns_spec.specs.Layout.{Item, records_of, header_octets, layout, size, plain_layout, plain_size, message_of};
+ghost use Rattle.dns_spec.specs.Laws.{IsWritable, IsAddressRecord, HasRoom};
+
+/// The plain layout of a question and of sets spells their message (RFC 1035 4.1).
+pub fn plain_layout_is_spelled()
+    ensures { (h : Header) (q : MessageQuestion) (items : List Item) → HasRoom h q items → All IsWritable (records_of items)
+        → Spells (plain_layout h q items) (message_of h q items) }
+{}
+
+/// The plain layout of a question and of addresses spells their message (RFC 1035 4.1).
+pub fn plain_addresses_are_spelled()
+    ensures { (h : Header) (q : MessageQuestion) (items : List Item) → HasRoom h q items → All IsAddressRecord (records_of items)
+        → Spells (plain_layout h q items) (message_of h q items) }
+{}
+
+/// The octets of a header alone spell a message without questions and records (RFC 1035 4.1.1).
+pub fn header_is_spelled()
+    ensures { (h : Header) → h.id < 2 ^ 16 → h.flags < 2 ^ 16
+        → Spells (header_octets h 0 0 0 0) (record { header = h; questions = []; answers = []; authorities = []; additionals = [] }) }
+{}
+
+/// The plain layout is as long as its size, which is added up without writing it.
+pub fn plain_layout_has_its_size()
+    ensures { (h : Header) (q : MessageQuestion) (items : List Item) → length (plain_layout h q items) ≡ plain_size q items }
+{}
+
+/// The layout is as long as its size, which is added up without writing it.
+pub fn layout_has_its_size()
+    ensures { (h : Header) (q : MessageQuestion) (items : List Item) → length (layout h q items) ≡ size q items }
+{}
