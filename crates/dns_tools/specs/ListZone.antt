@@ -13,6 +13,7 @@ is_listed origin r = r.rtype == type_a || (r.rtype == type_ns || r.rtype == type
 -- SOA and NS at the origin and A records, none of them at a wildcard, in the order of their data
 pub record IsListZone (z : ZoneContents) : Type 0 where
   pub kinds : list_all (is_listed z.origin) z.records ≡ true
+  pub ttls : list_all (λ (r : ResourceRecord). nat_lt r.ttl (2 ^ 32)) z.records ≡ true
   pub valid_data : list_all (λ (r : ResourceRecord). valid r.rtype r.rdata) z.records ≡ true
   pub no_wildcard : list_all (λ (r : ResourceRecord). not (first_is_asterisk r.owner)) z.records ≡ true
   pub ordered : sort_by data_order z.records ≡ z.records
