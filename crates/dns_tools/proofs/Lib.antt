@@ -5,3 +5,4 @@ pub mod Ancestors
 pub mod Ordered
 pub mod ListTree
 pub mod ListAnswer
+pub mod ListReply

@@ -209,8 +209,15 @@ module _ (z : ZoneContents) (ok : IsListZone z) where
   puts_some q t = rw (outcome-is q t) (listed_puts q t (found z q) (found_as q))
 
   -- the sets of one type
-  listed_sets : (q : DomainName) (t : ℕ) (x : Option (List ResourceRecord)) → (t == qtype_any) ≡ false → FoundAs z q x
+  pub listed_sets : (q : DomainName) (t : ℕ) (x : Option (List ResourceRecord)) → (t == qtype_any) ≡ false → FoundAs z q x
       → (listed_outcome t x).answers ≡ (or_empty z (item answer (asked_records q t z.records))).answers
   listed_sets q t x one there = rw (no_alias_answer t (with_owner q (at z q)) (no_alias z ok q q), one, set_is q t) refl
   listed_sets q t x one (below_wildcard none) = rw (no_alias_answer t [] refl, one, none_asked z ok q t none) refl
   listed_sets q t x one (missing none) = rw (none_asked z ok q t none) refl
+
+  -- the sets of the answer and authority sections
+  pub listed_main : (q : DomainName) (t : ℕ) (x : Option (List ResourceRecord)) → (t == qtype_any) ≡ false → FoundAs z q x
+      → main_items (listed_outcome t x) ≡ main_items (or_empty z (item answer (asked_records q t z.records)))
+  listed_main q t x one there = rw (no_alias_answer t (with_owner q (at z q)) (no_alias z ok q q), one, set_is q t) refl
+  listed_main q t x one (below_wildcard none) = rw (no_alias_answer t [] refl, one, none_asked z ok q t none) refl
+  listed_main q t x one (missing none) = rw (none_asked z ok q t none) refl

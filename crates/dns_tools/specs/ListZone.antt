@@ -1,10 +1,12 @@
 -- What the list of records of a served zone keeps.
-use Rattle.std.specs.Prelude.{◌≡◌, ℕ, ◌^◌, Bool, true, ◌&&◌, ◌||◌, not, List, [], ◌∷◌, length, if◌then◌else◌, nat_lt, ◌==◌, IsTrue}
+use Rattle.std.specs.Prelude.{◌≡◌, ℕ, ◌+◌, ◌^◌, Bool, true, ◌&&◌, ◌||◌, not, List, [], ◌∷◌, length, if◌then◌else◌, nat_lt, nat_le, ◌==◌, IsTrue}
 use Rattle.std.specs.List.{list_all}
 use Rattle.dns_spec.specs.Names.{DomainName, same}
 use Rattle.dns_spec.specs.Data.{type_a, type_ns, type_soa, valid}
 use Rattle.dns_spec.specs.Records.{ResourceRecord, ZoneContents, owns, sort_by, data_order}
 use Rattle.dns_spec.specs.Checks.{first_is_asterisk}
+use Rattle.dns_spec.specs.Reading.{MessageQuestion}
+use Rattle.dns_spec.specs.Layout.{question_octets, plain_records_size}
 
 -- an A record, or an SOA or NS record at the origin
 abbrev pub is_listed : DomainName → ResourceRecord → Bool
@@ -23,3 +25,13 @@ pub record IsListZone (z : ZoneContents) : Type 0 where
 abbrev pub asked_records : DomainName → ℕ → List ResourceRecord → List ResourceRecord
 asked_records q t [] = []
 asked_records q t (r ∷ rs) = if r.rtype == t && same r.owner q then record r { owner = q } ∷ asked_records q t rs else asked_records q t rs
+
+-- the size of a reply with records behind its question, laid out plainly
+abbrev pub size_with : MessageQuestion → List ResourceRecord → ℕ
+size_with q rs = 12 + length (question_octets q) + plain_records_size q.qname rs
+
+-- the A records asked for, where they fit 512 octets
+abbrev pub kept_records : ZoneContents → MessageQuestion → List ResourceRecord
+kept_records z q =
+    let rs = asked_records q.qname type_a z.records in
+    if q.qtype == type_a && nat_le (size_with q rs) 512 then rs else []

@@ -1,8 +1,11 @@
 //! The reply to a datagram, over a zone kept as a list.
-ghost use Rattle.std.specs.Prelude.{◌≡◌, ◌≤◌, ◌↔◌, length, take, true, false, if◌then◌else◌, IsTrue, IsNone, IfSome};
+ghost use Rattle.std.specs.Prelude.{◌≡◌, ◌+◌, ◌≤◌, ◌↔◌, ◌++◌, length, take, true, false, if◌then◌else◌, IsTrue, IsNone, IfSome};
 ghost use Rattle.std.specs.Option.{option_map};
 ghost use Rattle.dns_spec.specs.Reading.{Spells};
-ghost use Rattle.dns_spec.specs.Layout.{plain_layout};
+ghost use Rattle.std.specs.List.{flat_map};
+ghost use Rattle.dns_spec.specs.Layout.{question_octets, plain_record, plain_layout};
+ghost use Rattle.dns_tools.specs.Body.{body};
+ghost use Rattle.dns_tools.specs.ListZone.{kept_records};
 ghost use Rattle.dns_spec.specs.Reply.{is_ignored, reply_head, reply_with, answer_with, keep_addresses, octets_by, reply_message};
 ghost use Rattle.dns_tools.specs.Decided.{code_of, limit_of};
 
@@ -96,15 +99,25 @@ fn answer(zone: &Zone, datagram: &[u8], question: &Question, out: &mut [u8]) -> 
     put.end
 }
 
-// Writes the A records asked for, where they fit. Behind the question nothing is written where they do not, or where
-// another type is asked for.
+// Writes the A records asked for behind the question, where they fit. Else, and where another type is asked for, nothing
+// is written.
 fn put_addresses(zone: &Zone, question: &Question, out: &mut [u8], end: usize) -> Put
+    requires end { end ≡ 12 + length (question_octets question.now) }
+    requires inside { end ≤ 512 }
+    requires room { length out.old ≡ 512 }
+    ensures body { body out.new result.end ≡ body out.old end ++ flat_map (plain_record question.now.qname) (kept_records zone.now question.now) }
+    ensures count { result.records ≡ length (kept_records zone.now question.now) }
+    ensures end { end ≤ result.end }
+    ensures inside { result.end ≤ 512 }
 {
     let nothing = Put { end, records: 0 };
     if question.qtype != TYPE_A {
         return nothing;
     }
-    put_set(out, end, &question.name, TYPE_A, zone.records()).unwrap_or(nothing)
+    match put_set(out, end, &question.name, TYPE_A, zone.records()) {
+        Some(put) => put,
+        None => nothing,
+    }
 }
 
 // ID, opcode and RD of the query, QR set, and counts of one section of records.
