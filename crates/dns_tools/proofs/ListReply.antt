@@ -1,5 +1,5 @@
 -- What is kept of the answer over a list zone: the A records asked for, where they fit.
-use Rattle.std.proofs.Common.{Bool, true, false, cond, ◌&&◌, not, ◌≡◌, ℕ, zero, suc, ◌+◌, ◌<◌, ◌≤◌, List, [], ◌∷◌, ◌++◌, length, take, refl, sym, ◌∙◌, ap, arith, Option, None, Some, nat_lt, nat_le}
+use Rattle.std.proofs.Common.{Bool, true, false, cond, ◌&&◌, not, ◌≡◌, ℕ, zero, suc, ◌+◌, ◌<◌, ◌≤◌, List, [], ◌∷◌, ◌++◌, length, take, drop, refl, sym, ◌∙◌, ap, arith, Option, None, Some, nat_lt, nat_le}
 use Rattle.std.proofs.lemmas.Bool.{true≢false, false≢true, and_parts, eqb-true, eqb-false, lt-ltb, le-ltb, le-leb, lt-leb, eq-eqb, ne_eqb}
 use Rattle.std.proofs.lemmas.List.{append-nil, append_assoc}
 use Rattle.std.specs.Prelude.{◌==◌, if◌then◌else◌}
@@ -12,7 +12,9 @@ use Rattle.dns_spec.specs.Tree.{found}
 use Rattle.dns_spec.specs.Reading.{Header, MessageQuestion}
 use Rattle.dns_spec.specs.Layout.{Section, answer, authority, additional, Item, records_of, in_section, question_octets, plain_records_size, plain_size, greatest, header_octets, plain_layout, plain_record}
 use Rattle.dns_spec.specs.Answer.{item, Outcome, or_empty, positive, outcome, main_items, extra, targets_inside, required, is_authoritative, no_error, name_error, negative}
-use Rattle.dns_spec.specs.Reply.{kept, truncated, keep_addresses}
+use Rattle.dns_spec.specs.Reply.{kept, truncated, keep_addresses, reply_head, answer_with, octets_by}
+use Rattle.dns_tools.specs.Body.{body}
+use Rattle.dns_tools.proofs.BodyLaws.{take-header}
 use Rattle.dns_tools.specs.ListZone.{IsListZone, asked_records, kept_records, size_with}
 use Rattle.dns_tools.proofs.ListAnswer.{PutsSome, puts_some, rcode_of, listed_outcome, listed_sets, listed_main, found_as, outcome-is}
 
@@ -123,3 +125,22 @@ unfolding plain_layout
 laid-is h q rs =
     rw (answers_of-item rs, authorities_of-item rs, additionals_of-item rs, records_of-item rs)
     (append_assoc (header_octets h 1 (length rs) 0 0) (question_octets q) (flat_map (plain_record q.qname) rs))
+
+-- what stands in the buffer is the reply
+module _ (z : ZoneContents) (ok : IsListZone z) (q : MessageQuestion) (d out : Octets) (end id flags questions answers authorities rcode : ℕ) (tc : Bool) where
+  answer_head : tc ≡ (length (kept_records z q) == 0) → rcode ≡ rcode_of (found z q.qname)
+      → reply_head d true tc rcode ≡ reply_head d (is_authoritative (outcome z q.qname q.qtype)) (truncated z q (keep_addresses z 512 q)) (outcome z q.qname q.qtype).rcode
+  answer_head t r = rw (authoritative z ok q, truncated-is z ok q, rcode-is z ok q, t, r) refl
+
+  pub answer-octets : 12 ≤ end → body out end ≡ question_octets q ++ flat_map (plain_record q.qname) (kept_records z q)
+      → id ≡ (reply_head d true tc rcode).id → flags ≡ (reply_head d true tc rcode).flags
+      → questions ≡ 1 → answers ≡ length (kept_records z q) → authorities ≡ 0
+      → tc ≡ (length (kept_records z q) == 0) → rcode ≡ rcode_of (found z q.qname)
+      → take end (header_octets (record { id = id; flags = flags }) questions answers authorities 0 ++ drop 12 out) ≡ octets_by plain_layout (answer_with z d q (keep_addresses z 512 q))
+  answer-octets behind is_body is_id is_flags one count none t r =
+      let h : Header = reply_head d true tc rcode in
+      take-header (header_octets (record { id = id; flags = flags }) questions answers authorities 0) out end refl behind
+      ∙ ap (λ x. header_octets (record { id = id; flags = flags }) questions answers authorities 0 ++ x) is_body
+      ∙ (λ i. header_octets (record { id = is_id i; flags = is_flags i }) (one i) (count i) (none i) 0 ++ (question_octets q ++ flat_map (plain_record q.qname) (kept_records z q)))
+      ∙ sym (laid-is h q (kept_records z q))
+      ∙ (λ i. plain_layout (answer_head t r i) q (sym (keep-is z ok q) i))

@@ -5,7 +5,7 @@ ghost use Rattle.dns_spec.specs.Reading.{Spells};
 ghost use Rattle.std.specs.List.{flat_map};
 ghost use Rattle.dns_spec.specs.Layout.{question_octets, plain_record, plain_layout};
 ghost use Rattle.dns_tools.specs.Body.{body};
-ghost use Rattle.dns_tools.specs.ListZone.{kept_records};
+ghost use Rattle.dns_tools.specs.ListZone.{IsListZone, kept_records};
 ghost use Rattle.dns_spec.specs.Reply.{is_ignored, reply_head, reply_with, answer_with, keep_addresses, octets_by, reply_message};
 ghost use Rattle.dns_tools.specs.Decided.{code_of, limit_of};
 
@@ -109,12 +109,14 @@ fn put_addresses(zone: &Zone, question: &Question, out: &mut [u8], end: usize) -
     ensures count { result.records ≡ length (kept_records zone.now question.now) }
     ensures end { end ≤ result.end }
     ensures inside { result.end ≤ 512 }
+    ensures list { IsListZone zone.now }
 {
+    let records = zone.records();
     let nothing = Put { end, records: 0 };
     if question.qtype != TYPE_A {
         return nothing;
     }
-    match put_set(out, end, &question.name, TYPE_A, zone.records()) {
+    match put_set(out, end, &question.name, TYPE_A, records) {
         Some(put) => put,
         None => nothing,
     }
