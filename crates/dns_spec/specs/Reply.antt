@@ -102,15 +102,15 @@ answer_with z d q sets =
     let o = outcome z q.qname q.qtype in
     record { header = reply_head d (is_authoritative o) (truncated z q sets) o.rcode; question = Some q; sets = sets }
 
--- The reply to a datagram, where `keep` says which beginning of the sets of a question is kept.
+-- The reply that a decision makes, where `keep` says which beginning of the sets of a question is kept.
+abbrev pub reply_of : (MessageQuestion → List Item) → ZoneContents → Octets → Decision → Option Reply
+reply_of keep z d silence = None
+reply_of keep z d (header_alone rcode) = Some (record { header = reply_head d false false rcode; question = None; sets = [] })
+reply_of keep z d (question_alone q rcode) = Some (record { header = reply_head d false false rcode; question = Some q; sets = [] })
+reply_of keep z d (answered q) = Some (answer_with z d q (keep q))
+
 unfoldable pub reply_with : (MessageQuestion → List Item) → ZoneContents → Octets → Option Reply
-reply_with keep z d =
-    elim (decide z d) [
-      | silence ↦ None
-      | header_alone rcode ↦ Some (record { header = reply_head d false false rcode; question = None; sets = [] })
-      | question_alone q rcode ↦ Some (record { header = reply_head d false false rcode; question = Some q; sets = [] })
-      | answered q ↦ Some (answer_with z d q (keep q))
-    ]
+reply_with keep z d = reply_of keep z d (decide z d)
 
 -- the longest beginning of all sets that fits the limit
 abbrev pub keep_longest : ZoneContents → ℕ → MessageQuestion → List Item

@@ -6,3 +6,5 @@ pub mod Ordered
 pub mod ListTree
 pub mod ListAnswer
 pub mod ListReply
+pub mod Decisions
+pub mod RespondCases
