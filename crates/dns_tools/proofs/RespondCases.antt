@@ -1,6 +1,7 @@
 -- What stands in the buffer is the reply that the definitions state, for each decision.
 use Rattle.std.proofs.Common.{Bool, true, false, cond, ◌&&◌, ◌↔◌, ◌≡◌, ℕ, zero, suc, ◌+◌, ◌*◌, ◌^◌, ◌<◌, ◌≤◌, List, [], ◌∷◌, ◌++◌, length, take, drop, get_or, refl, sym, subst, ◌∙◌, ap, arith, Option, None, Some, nat_lt, nat_le, IsTrue, IsNone, IfSome, All}
 use Rattle.std.proofs.lemmas.Bool.{true≢false, false≢true, and_parts, eqb-true, leb-true, ltb-true}
+use Rattle.std.proofs.lemmas.List.{append-nil}
 use Rattle.std.proofs.lemmas.List.Elements.{All-from_recursion, recursion_from_All}
 use Rattle.std.specs.Prelude.{◌==◌, if◌then◌else◌}
 use Rattle.std.specs.Bool.{⊤}
@@ -17,8 +18,15 @@ use Rattle.dns_spec.specs.Laws.{IsWritable, HasRoom, sections_in_order}
 use Rattle.dns_spec.specs.Reply.{Decision, silence, header_alone, question_alone, answered, Reply, is_ignored, field16, reply_head, answer_with, keep_addresses, reply_with, reply_of, octets_by, reply_message, truncated, decide, question_at}
 use Rattle.dns_spec.proofs.PlainLayout.{header_spells, plain_spells}
 use Rattle.dns_tools.specs.ListZone.{IsListZone, asked_records, kept_records, size_with}
+use Rattle.dns_tools.specs.Body.{body}
+use Rattle.dns_tools.specs.Decided.{code_of, limit_of}
+use Rattle.dns_tools.specs.declared.reply.Limit.{Limit}
+use Rattle.dns_tools.specs.declared.reply.Limit.TheVariants.{Udp}
+use Rattle.dns_tools.specs.declared.query.Rcode.{Rcode}
+use Rattle.dns_tools.specs.declared.query.Rcode.TheVariants.{NoError, FormatError, NameError, NotImplemented, Refused}
+use Rattle.dns_tools.proofs.BodyLaws.{take-header}
 use Rattle.dns_tools.proofs.ListAnswer.{rcode_of}
-use Rattle.dns_tools.proofs.ListReply.{records_of-item, answers_of-item, authorities_of-item, additionals_of-item, keep-is, rcode-is}
+use Rattle.dns_tools.proofs.ListReply.{records_of-item, answers_of-item, authorities_of-item, additionals_of-item, keep-is, rcode-is, laid-is}
 use Rattle.dns_tools.proofs.Decisions.{asked_of, Sound, decide-sound, field16-fits, flags-fit, FitsMessage, question-fits}
 
 -- the reply as it is sent
@@ -160,3 +168,31 @@ module _ (z : ZoneContents) (d out : Octets) (octets : AreOctets d) where
         octets = subst (told (Some end)) (sym (sent-is (answered q) e)) (ap (λ b. Some b) is);
         spells = subst (spelled (take end out)) (sym (sent-is (answered q) e)) (rw is (kept_spells z ok q fits h (field16-fits d 0 octets) (flags-fit d (is_authoritative o) (truncated z q (keep_addresses z 512 q)) o.rcode low)));
       }
+
+-- a code fits its four bits
+pub code_low : (rcode : Rcode) → code_of rcode < 16
+code_low NoError = omega arith
+code_low FormatError = omega arith
+code_low NameError = omega arith
+code_low NotImplemented = omega arith
+code_low Refused = omega arith
+
+module _ (d out : Octets) (rcode id flags questions answers authorities : ℕ)
+    (is_id : id ≡ (reply_head d false false rcode).id) (is_flags : flags ≡ (reply_head d false false rcode).flags) (none : answers ≡ 0) (nothing : authorities ≡ 0) where
+  -- the header alone at the front of the buffer
+  pub header_laid : questions ≡ 0
+      → take 12 (header_octets (record { id = id; flags = flags }) questions answers authorities 0 ++ drop 12 out) ≡ header_octets (reply_head d false false rcode) 0 0 0 0
+  header_laid zero_questions = λ i. header_octets (record { id = is_id i; flags = is_flags i }) (zero_questions i) (none i) (nothing i) 0
+
+  -- the header in front of the question
+  pub question_laid : (q : MessageQuestion) (end : ℕ) → questions ≡ 1 → 12 ≤ end → body out end ≡ question_octets q
+      → take end (header_octets (record { id = id; flags = flags }) questions answers authorities 0 ++ drop 12 out) ≡ plain_layout (reply_head d false false rcode) q []
+  question_laid q end one behind is_body =
+      take-header (header_octets (record { id = id; flags = flags }) questions answers authorities 0) out end refl behind
+      ∙ (λ i. header_octets (record { id = is_id i; flags = is_flags i }) (one i) (none i) (nothing i) 0 ++ is_body i)
+      ∙ ap (λ x. header_octets (reply_head d false false rcode) 1 0 0 0 ++ x) (sym (append-nil (question_octets q)))
+      ∙ sym (laid-is (reply_head d false false rcode) q [])
+
+-- the one limit
+pub limit_is : (limit : Limit) → limit_of limit ≡ 512
+limit_is Udp = refl

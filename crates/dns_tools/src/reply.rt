@@ -64,6 +64,7 @@ pub fn respond(steps: &mut Steps<'_>, datagram: &[u8], limit: Limit, out: &mut [
     ensures steps { steps.new ≡ steps.old }
 {
     let zone = steps.zone;
+    let _records = zone.records();
     match decide(zone, datagram) {
         Decision::Silence => None,
         Decision::HeaderAlone(rcode) => {
