@@ -81,6 +81,7 @@ impl Name {
     /// The wire form: each label behind its length, and the length 0 of the root (RFC 1035 3.1).
     pub fn octets(&self) -> &[u8]
         ensures value { result.now ≡ wire self.now }
+        ensures bound { length result.now ≤ 255 }
         ensures is_name { IsTrue (is_name self.now) }
     {
         self.octets.as_slice()
