@@ -1,5 +1,5 @@
 //! One label of a domain name.
-ghost use Rattle.std.specs.Prelude.{◌≡◌, ◌↔◌, IsTrue, IsSome, IfSome};
+ghost use Rattle.std.specs.Prelude.{◌≡◌, ◌<◌, ◌≤◌, ◌↔◌, length, IsTrue, IsSome, IfSome};
 ghost use Rattle.dns_spec.specs.Names.{is_label};
 
 use std::marker::Model;
@@ -37,6 +37,8 @@ impl<'a> Label<'a> {
     pub fn octets(&self) -> &'a [u8]
         ensures value { result.now ≡ self.now }
         ensures is_label { IsTrue (is_label self.now) }
+        ensures some { 0 < length result.now }
+        ensures bound { length result.now ≤ 63 }
     {
         self.octets
     }
