@@ -6,6 +6,8 @@ pub mod PlainLayout
 pub mod LayoutSize
 pub mod Question
 pub mod OneMessage
+pub mod SortedOnce
+pub mod FaultOrder
 pub mod Examples
 mod Rows
 mod PlainRows
