@@ -1,22 +1,22 @@
 -- The faults of a list of records do not depend on its order.
-use Rattle.std.proofs.Common.{◌≡◌, ℕ, zero, suc, ◌+◌, ◌<◌, ◌≤◌, Bool, true, false, ◌&&◌, ◌||◌, not, cond, eqb, nat_lt, nat_le, ◌==◌, ◌⊎◌, inl, inr, List, [], ◌∷◌, ◌++◌, map, reverse, length, Option, None, Some, refl, sym, ap, ap₂, ◌∙◌, subst, arith, filter, flat_map, IsPermutation, is_eq, nat_cmp, Ordering, Less, Equal, Greater}
+use Rattle.std.proofs.Common.{◌≡◌, ℕ, suc, Bool, true, false, ◌&&◌, ◌||◌, not, cond, eqb, nat_lt, ◌==◌, ◌⊎◌, inl, inr, List, [], ◌∷◌, map, reverse, length, refl, sym, ap, ap₂, ◌∙◌, arith, filter, flat_map, IsPermutation, is_eq, nat_cmp, Less, Equal, Greater}
 use Rattle.std.proofs.lemmas.Bool.{false≢true, lt-ltb, eqb-true, eq-eqb, ne_eqb, ltb-true}
 use Rattle.std.proofs.lemmas.List.{reverse-reverse}
 use Rattle.std.proofs.lemmas.List.Sums.{length-filter}
 use Rattle.std.proofs.lemmas.List.Sorted.{sum_by-IsPermutation}
-use Rattle.std.proofs.lemmas.Cmp.{nat_cmp_total, nat_list_cmp_total, lists_total, on_total, tied_itself}
+use Rattle.std.proofs.lemmas.Cmp.{nat_cmp_total, nat_list_cmp_total, lists_total, on_total}
 use Rattle.std.proofs.lemmas.Str.Ascii.{lowercase-lowercase}
 use Rattle.std.specs.List.{list_any}
 use Rattle.std.specs.Option.{option_map_or}
 use Rattle.std.specs.Cmp.{IsTotalOrder}
-use Rattle.std.specs.Cmp.Lexicographic.{pointwise, slice_cmp, pointwise_decides, bytes_decides, lists_ties}
+use Rattle.std.specs.Cmp.Lexicographic.{pointwise_decides, bytes_decides, lists_ties}
 use Rattle.std.specs.Char.{to_ascii_lowercase}
 use Rattle.dns_spec.specs.Names.{Octets, DomainName, folded, same, octets_equal, names_equal, at_or_below, below, suffixes, label_order, name_order}
 use Rattle.dns_spec.specs.Data.{type_a, type_ns, type_cname, type_soa, type_mx, type_aaaa, type_srv, target}
-use Rattle.dns_spec.specs.Records.{ResourceRecord, ZoneContents, at, owns, distinct, sort_by}
+use Rattle.dns_spec.specs.Records.{ResourceRecord, ZoneContents, at, owns, distinct}
 use Rattle.dns_spec.specs.Tree.{is_cut, without_first}
-use Rattle.dns_spec.specs.Checks.{Check, is_origin, count, owns_such, has_target, at_or_below_cut, below_cut, has_address, is_address_type, no_soa, many_soa, soa_elsewhere, no_ns, outside, cname_and_other, many_cname, ttls_differ, ns_target_alias, lacks_address, ns_target_lost, mx_target_alias, data_at_cut, first_is_asterisk, wildcard_ns, large_set, many_sets, checks, Fault, faults_at, told_names, faults}
-use Rattle.dns_spec.proofs.SortedOnce.{Each, Among, each_at, length-sort_by, same_sorted}
+use Rattle.dns_spec.specs.Checks.{Check, count, has_target, at_or_below_cut, below_cut, has_address, is_address_type, no_soa, many_soa, soa_elsewhere, no_ns, outside, cname_and_other, many_cname, ttls_differ, ns_target_alias, lacks_address, ns_target_lost, mx_target_alias, data_at_cut, first_is_asterisk, wildcard_ns, large_set, many_sets, checks, Fault, faults_at, told_names, faults}
+use Rattle.dns_spec.proofs.SortedOnce.{Each, Among, length-sort_by, same_sorted}
 
 -- two lists of which each test passes as many
 abbrev SameCounts : {X : Type 0} → List X → List X → Type 0

@@ -11,3 +11,6 @@ pub mod FaultOrder
 pub mod Examples
 mod Rows
 mod PlainRows
+mod CheckRows
+mod AnswerRows
+mod ReadingRows

@@ -102,7 +102,7 @@ map-lowercase-wire (l ∷ n) ok =
     let is_l = IsLabel-is_label l parts.0 in
     let len : to_ascii_lowercase (length l) ≡ length (map to_ascii_lowercase l) = lowercase_below (length l) (omega arith) ∙ sym (length-map l to_ascii_lowercase) in
     let rest : map to_ascii_lowercase (l ++ wire n) ≡ map to_ascii_lowercase l ++ wire (folded n) =
-        map-append to_ascii_lowercase l (wire n) ∙ ap (λ xs. map to_ascii_lowercase l ++ xs) (map-lowercase-wire n parts.1)
+    map-append to_ascii_lowercase l (wire n) ∙ ap (λ xs. map to_ascii_lowercase l ++ xs) (map-lowercase-wire n parts.1)
     in
     cc
 
@@ -130,9 +130,10 @@ pub same-wire : (n m : DomainName) → is_name n ≡ true → is_name m ≡ true
 same-wire n m p q =
     let e = map-lowercase-wire n (IsName-is_name n p).labels in
     let f = map-lowercase-wire m (IsName-is_name m q).labels in
-    let decides = names_equal-decides (folded n) (folded m) in
-    ( λ h. e ∙ ap wire (decides.0 h) ∙ sym f
-    , λ h. decides.1 (wire-injective (folded n) (folded m) (is_name-folded n p) (is_name-folded m q) (sym e ∙ h ∙ f)) )
+    let decides = names_equal-decides (folded n) (folded m) in (
+      λ h. e ∙ ap wire (decides.0 h) ∙ sym f,
+      λ h. decides.1 (wire-injective (folded n) (folded m) (is_name-folded n p) (is_name-folded m q) (sym e ∙ h ∙ f)),
+    )
 
 pub same-length : (n m : DomainName) → same n m ≡ true → length n ≡ length m
 same-length n m h =

@@ -1,5 +1,5 @@
 -- What a reader learns here: on what terms the laws of layouts hold.
-use Rattle.std.specs.Prelude.{◌≡◌, ℕ, ◌<◌, ◌^◌, Bool, true, false, ◌&&◌, List, [], ◌∷◌, length, nat_le, IsTrue}
+use Rattle.std.specs.Prelude.{◌≡◌, ℕ, ◌<◌, ◌^◌, Bool, true, ◌&&◌, List, [], ◌∷◌, length, nat_le, IsTrue}
 use Rattle.std.specs.List.{list_all}
 use Rattle.dns_spec.specs.Names.{is_name}
 use Rattle.dns_spec.specs.Data.{type_a, Valid}
