@@ -8,6 +8,9 @@ pub mod Question
 pub mod OneMessage
 pub mod SortedOnce
 pub mod FaultOrder
+pub mod WritableItems
+pub mod Kept
+pub mod ReplySpelled
 pub mod Examples
 mod Rows
 mod PlainRows

@@ -97,7 +97,7 @@ other_section additional answer h = absurd (omega arith)
 other_section additional authority h = absurd (omega arith)
 other_section additional additional h = absurd (omega arith)
 
-section_with : (s : Section) (i : Item) (is : List Item) (t : Bool) → is_section s i.section ≡ t
+pub section_with : (s : Section) (i : Item) (is : List Item) (t : Bool) → is_section s i.section ≡ t
     → in_section s (i ∷ is) ≡ cond t (i.records ++ in_section s is) (in_section s is)
 section_with s i is t e = ap (λ x. records_of (cond x (i ∷ filter (λ (j : Item). is_section s j.section) is) (filter (λ (j : Item). is_section s j.section) is))) e ∙ go t
   where

@@ -103,7 +103,7 @@ module _ {X : Type 0} (cmp : X → X → Ordering) where
       go true f = (e.0, f)
       go false f = (p, (e.0, e.1))
 
-  each_sort : (P : X → Type 0) (xs : List X) → Each P xs → Each P (sort_by cmp xs)
+  pub each_sort : (P : X → Type 0) (xs : List X) → Each P xs → Each P (sort_by cmp xs)
   each_sort P [] e = tt
   each_sort P (x ∷ xs) e = each_insert P x (sort_by cmp xs) e.0 (each_sort P xs e.1)
 

@@ -4,3 +4,4 @@
 pub mod checks;
 pub mod layout;
 pub mod reading;
+pub mod reply;
