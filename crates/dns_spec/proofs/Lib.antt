@@ -6,6 +6,14 @@ pub mod PlainLayout
 pub mod LayoutSize
 pub mod Question
 pub mod OneMessage
+pub mod SortedOnce
+pub mod FaultOrder
+pub mod WritableItems
+pub mod Kept
+pub mod ReplySpelled
 pub mod Examples
 mod Rows
 mod PlainRows
+mod CheckRows
+mod AnswerRows
+mod ReadingRows

@@ -1,5 +1,5 @@
 -- The computed reader of names spells what the relation spells, and a place spells at most one name.
-use Rattle.std.proofs.Common.{◌≡◌, ℕ, zero, suc, ◌+◌, ◌-◌, ◌*◌, ◌<◌, ◌≤◌, Bool, true, false, ◌&&◌, ◌↔◌, ◌⊎◌, inl, inr, List, [], ◌∷◌, length, take, drop, nat_lt, nat_le, ◌==◌, IsTrue, Option, None, Some, slice_get, option_map, option_and_then, refl, sym, ap, ◌∙◌, subst, subst₂, arith, lt-ltb, le-ltb, le-leb, leb-false, leb-true, ltb-true, ltb-false, eq-eqb, ne_eqb}
+use Rattle.std.proofs.Common.{◌≡◌, ℕ, zero, suc, ◌+◌, ◌-◌, ◌<◌, ◌≤◌, Bool, true, false, ◌&&◌, ◌↔◌, inl, inr, [], ◌∷◌, length, take, drop, nat_lt, nat_le, ◌==◌, Option, None, Some, slice_get, option_map, option_and_then, refl, sym, ap, ◌∙◌, subst, subst₂, arith, lt-ltb, le-ltb, le-leb, ne_eqb}
 use Rattle.std.proofs.lemmas.Bool.{cases_lt, lt-leb, and_from, and_left, and_right, cond-true}
 use Rattle.std.proofs.lemmas.Option.{none-some, same_Some, slice_get_past, slice_get_within, cond_some, option_and_then_some, some_pair_parts}
 use Rattle.dns_spec.specs.Names.{Octets, DomainName, is_name}

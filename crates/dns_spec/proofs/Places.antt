@@ -1,5 +1,5 @@
 -- What stands at a place of a message is read there: numbers, octets, and names that are written whole or by a pointer.
-use Rattle.std.proofs.Common.{◌≡◌, ℕ, zero, suc, ◌+◌, ◌-◌, ◌*◌, ◌/◌, ◌%◌, ◌^◌, ◌<◌, ◌≤◌, Bool, true, false, ◌&&◌, nat_lt, nat_le, List, [], ◌∷◌, ◌++◌, length, take, drop, IsTrue, Option, None, Some, slice_get, refl, sym, ap, ◌∙◌, subst, arith, append_assoc, append-nil, take_at, drop_at, length-append, add_assoc, pow-suc, mul_comm, mod-eq_of_lt}
+use Rattle.std.proofs.Common.{◌≡◌, ℕ, zero, suc, ◌+◌, ◌-◌, ◌*◌, ◌%◌, ◌^◌, ◌<◌, ◌≤◌, true, nat_lt, nat_le, [], ◌∷◌, ◌++◌, length, take, drop, IsTrue, Some, slice_get, refl, sym, ap, ◌∙◌, subst, arith, append_assoc, append-nil, take_at, drop_at, length-append, pow-suc, mul_comm, mod-eq_of_lt}
 use Rattle.std.proofs.Math.Nat.{pow-le-pow_right}
 use Rattle.std.proofs.Math.Arith.{mod-mul}
 use Rattle.std.proofs.lemmas.Bool.{and_parts, leb-true, ltb-true}
@@ -7,9 +7,9 @@ use Rattle.std.specs.Int.{byte_at, bytes_high_first}
 use Rattle.std.specs.List.{list_all}
 use Rattle.dns_spec.specs.Names.{Octets, DomainName, wire, is_label, is_name}
 use Rattle.dns_spec.specs.Data.{number_of}
-use Rattle.dns_spec.specs.Reading.{pointer_place, RunAt, NameAt, OctetsAt, NumberAt}
+use Rattle.dns_spec.specs.Reading.{RunAt, NameAt, OctetsAt, NumberAt}
 use Rattle.dns_spec.specs.Reading.RunAt.{ends, goes_on, jumps}
-use Rattle.dns_spec.specs.Layout.{pointer, octets16, octets32}
+use Rattle.dns_spec.specs.Layout.{pointer}
 
 pub length-bytes_high_first : (k n : ℕ) → length (bytes_high_first k n) ≡ k
 length-bytes_high_first zero n = refl

@@ -1,15 +1,15 @@
 -- The plain layout spells its message.
-use Rattle.std.proofs.Common.{◌≡◌, ℕ, zero, suc, ◌+◌, ◌-◌, ◌*◌, ◌^◌, ◌<◌, ◌≤◌, Bool, true, false, ◌&&◌, cond, nat_le, List, [], ◌∷◌, ◌++◌, map, length, take, drop, IsTrue, Option, None, Some, is_some, All, filter, flat_map, refl, sym, ap, ◌∙◌, subst, arith, append_assoc, append-nil, length-append, zero-add}
+use Rattle.std.proofs.Common.{◌≡◌, ℕ, ◌+◌, ◌^◌, ◌<◌, Bool, true, false, cond, nat_le, List, [], ◌∷◌, ◌++◌, map, length, take, drop, is_some, All, filter, flat_map, refl, sym, ap, ◌∙◌, subst, arith, append_assoc, append-nil, length-append, zero-add}
 use Rattle.std.proofs.lemmas.Bool.{and_parts, leb-true, false≢true}
 use Rattle.std.proofs.lemmas.List.{length-map, take_at, drop_at}
 use Rattle.std.proofs.lemmas.List.Elements.{All-head, All-tail, All-same, All-take, All-drop, All-weaker}
 use Rattle.std.proofs.lemmas.List.Concat.{flat_map-append}
-use Rattle.std.specs.Cmp.Lexicographic.{pointwise, bytes_decides}
+use Rattle.std.specs.Cmp.Lexicographic.{bytes_decides}
 use Rattle.std.specs.List.{list_all}
 use Rattle.dns_spec.specs.Names.{Octets, DomainName, wire, is_name, octets_equal, names_equal}
-use Rattle.dns_spec.specs.Data.{class_in, type_a, pieces_of, cut, valid}
+use Rattle.dns_spec.specs.Data.{class_in, type_a, pieces_of, cut}
 use Rattle.dns_spec.specs.Records.{ResourceRecord}
-use Rattle.dns_spec.specs.Reading.{Header, MessageQuestion, MessageRecord, DnsMessage, NameAt, OctetsAt, NumberAt, PiecesAt, DataAt, QuestionsAt, RecordAt, RecordsAt, Spells}
+use Rattle.dns_spec.specs.Reading.{Header, MessageQuestion, NameAt, OctetsAt, NumberAt, DataAt, QuestionsAt, RecordAt, RecordsAt, Spells}
 use Rattle.dns_spec.specs.Layout.{octets16, octets32, pointer, Section, answer, authority, additional, Item, is_section, records_of, in_section, record_tail, question_octets, header_octets, reply_header, plain_owner, plain_record, plain_layout, message_record, message_of}
 use Rattle.dns_spec.specs.Laws.{section_rank, sections_in_order, IsWritable, IsAddressRecord, HasRoom}
 use Rattle.dns_spec.proofs.Places.{Stands, stands_front, stands_rest, stands_behind, stands_all, stands_within, number_at, octets_at, name_written, name_pointed}
@@ -97,7 +97,7 @@ other_section additional answer h = absurd (omega arith)
 other_section additional authority h = absurd (omega arith)
 other_section additional additional h = absurd (omega arith)
 
-section_with : (s : Section) (i : Item) (is : List Item) (t : Bool) → is_section s i.section ≡ t
+pub section_with : (s : Section) (i : Item) (is : List Item) (t : Bool) → is_section s i.section ≡ t
     → in_section s (i ∷ is) ≡ cond t (i.records ++ in_section s is) (in_section s is)
 section_with s i is t e = ap (λ x. records_of (cond x (i ∷ filter (λ (j : Item). is_section s j.section) is) (filter (λ (j : Item). is_section s j.section) is))) e ∙ go t
   where

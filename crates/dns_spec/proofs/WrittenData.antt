@@ -1,11 +1,11 @@
 -- Data of a type, written without compression, is read back as data of that type.
-use Rattle.std.proofs.Common.{◌≡◌, ℕ, zero, suc, ◌+◌, ◌-◌, ◌<◌, ◌≤◌, Bool, true, false, ◌&&◌, not, cond, eqb, nat_le, ◌==◌, List, [], ◌∷◌, ◌++◌, length, take, drop, IsTrue, Option, None, Some, is_some, option_map, option_and_then, refl, sym, ap, ◌∙◌, subst, arith, append_assoc, append-nil, length-append, length-drop, take-append-drop, add-zero}
+use Rattle.std.proofs.Common.{◌≡◌, ℕ, zero, suc, ◌+◌, ◌<◌, true, ◌&&◌, not, nat_le, ◌==◌, List, [], ◌∷◌, ◌++◌, length, take, drop, Option, None, Some, is_some, option_map, refl, sym, ap, ◌∙◌, subst, arith, append_assoc, append-nil, length-append, take-append-drop, add-zero}
 use Rattle.std.proofs.lemmas.Bool.{and_parts, leb-true, not-true, eqb-false, false≢true}
 use Rattle.std.proofs.lemmas.Option.{none-some, same_Some, cond_some, option_and_then_some, some_pair_parts}
 use Rattle.std.proofs.lemmas.List.{length-take-le, nil_from_length}
 use Rattle.dns_spec.specs.Names.{Octets, DomainName, wire, is_name, with_octet, labels_from, name_if_valid, name_of}
-use Rattle.dns_spec.specs.Data.{class_in, Piece, fixed, domain, string, strings, anything, pieces_of, Part, octets, name, part_octets, joined, are_strings, octets_front, string_front, strings_front, piece_front, cut, valid}
-use Rattle.dns_spec.specs.Reading.{NameAt, OctetsAt, PiecesAt, DataAt}
+use Rattle.dns_spec.specs.Data.{class_in, Piece, fixed, domain, string, strings, anything, pieces_of, Part, octets, name, are_strings, octets_front, piece_front, cut, valid}
+use Rattle.dns_spec.specs.Reading.{OctetsAt, PiecesAt, DataAt}
 use Rattle.dns_spec.proofs.Places.{Stands, stands_front, stands_rest, stands_within, stands_get, octets_at, name_written}
 
 -- what `labels_from` has read: the label at hand, the labels behind it in wire form, and the octets behind the name

@@ -1,11 +1,12 @@
 -- What a reader learns here: on what terms the laws of layouts hold.
-use Rattle.std.specs.Prelude.{◌≡◌, ℕ, ◌<◌, ◌^◌, Bool, true, false, ◌&&◌, List, [], ◌∷◌, length, nat_le, IsTrue}
+use Rattle.std.specs.Prelude.{◌≡◌, ℕ, ◌<◌, ◌^◌, Bool, true, ◌&&◌, List, [], ◌∷◌, length, take, nat_le, IsTrue}
 use Rattle.std.specs.List.{list_all}
 use Rattle.dns_spec.specs.Names.{is_name}
 use Rattle.dns_spec.specs.Data.{type_a, Valid}
-use Rattle.dns_spec.specs.Records.{ResourceRecord}
+use Rattle.dns_spec.specs.Records.{ResourceRecord, ZoneContents}
 use Rattle.dns_spec.specs.Reading.{Header, MessageQuestion}
-use Rattle.dns_spec.specs.Layout.{Section, answer, authority, additional, Item, in_section}
+use Rattle.dns_spec.specs.Layout.{Section, answer, authority, additional, Item, in_section, plain_size}
+use Rattle.dns_spec.specs.Answer.{items}
 
 -- RFC 1035 4.1: the sections in the order of a message
 abbrev pub section_rank : Section → ℕ
@@ -44,3 +45,8 @@ pub record HasRoom (h : Header) (q : MessageQuestion) (items : List Item) : Type
   pub authorities : length (in_section authority items) < 2 ^ 16
   pub additionals : length (in_section additional items) < 2 ^ 16
   pub in_order : IsTrue (sections_in_order items)
+
+-- `keep` keeps a beginning of the sets of each question, of which a message has room for the plain layout
+abbrev pub KeepsBeginning : ZoneContents → (MessageQuestion → List Item) → Type 0
+KeepsBeginning z keep =
+    (q : MessageQuestion) → IsTrue (is_name q.qname) → (k : ℕ) × (keep q ≡ take k (items z q.qname q.qtype)) × (plain_size q (keep q) < 2 ^ 16)

@@ -1,5 +1,7 @@
 // The definitions that every contract of the product speaks of, and the laws about them.
 #![tactic(auto)]
 
+pub mod checks;
 pub mod layout;
 pub mod reading;
+pub mod reply;

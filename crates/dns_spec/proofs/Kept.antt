@@ -1,0 +1,52 @@
+-- What is kept of a list of sets is its longest beginning that fits.
+use Rattle.std.proofs.Common.{◌≡◌, ℕ, zero, suc, ◌<◌, ◌≤◌, Bool, true, false, cond, nat_le, ◌⊎◌, inl, inr, List, [], length, take, refl, sym, ap, ◌∙◌, subst, arith, le-leb, leb-true, eq-or-lt_of_le}
+use Rattle.std.proofs.lemmas.Bool.{false≢true}
+use Rattle.std.proofs.lemmas.List.{length-take-le}
+use Rattle.dns_spec.specs.Layout.{Item, greatest}
+use Rattle.dns_spec.specs.Reply.{kept}
+
+pub greatest_bound : (test : ℕ → Bool) (n : ℕ) → greatest test n ≤ n
+greatest_bound test zero = omega arith
+greatest_bound test (suc k) = go (test (suc k)) (greatest_bound test k)
+  where
+    go : (t : Bool) → greatest test k ≤ k → cond t (suc k) (greatest test k) ≤ suc k
+    go true h = omega arith
+    go false h = omega arith
+
+pub greatest_passes : (test : ℕ → Bool) (n : ℕ) → test 0 ≡ true → test (greatest test n) ≡ true
+greatest_passes test zero h = h
+greatest_passes test (suc k) h = go (test (suc k)) refl (greatest_passes test k h)
+  where
+    go : (t : Bool) → test (suc k) ≡ t → test (greatest test k) ≡ true → test (cond t (suc k) (greatest test k)) ≡ true
+    go true e f = e
+    go false e f = f
+
+pub greatest_most : (test : ℕ → Bool) (n k : ℕ) → k ≤ n → test k ≡ true → k ≤ greatest test n
+greatest_most test zero k h e = h
+greatest_most test (suc n) k h e = go (test (suc n)) refl (λ l. greatest_most test n k l e)
+  where
+    go : (t : Bool) → test (suc n) ≡ t → (k ≤ n → k ≤ greatest test n) → k ≤ cond t (suc n) (greatest test n)
+    go true q f = h
+    go false q f = f (below (eq-or-lt_of_le h))
+      where
+        below : (k ≡ suc n) ⊎ (k < suc n) → k ≤ n
+        below (inl p) = absurd (false≢true (sym q ∙ ap test (sym p) ∙ e))
+        below (inr l) = omega arith
+
+module _ (size_of : List Item → ℕ) (limit : ℕ) (sets : List Item) where
+  how_many : ℕ
+  how_many = greatest (λ k. nat_le (size_of (take k sets)) limit) (length sets)
+
+  -- it fits where nothing does
+  pub kept_fits : size_of [] ≤ limit → size_of (kept size_of limit sets) ≤ limit
+  unfolding how_many
+  kept_fits h = leb-true (size_of (take how_many sets)) limit (greatest_passes (λ k. nat_le (size_of (take k sets)) limit) (length sets) (le-leb (size_of []) limit h))
+
+  pub length-kept : length (kept size_of limit sets) ≡ greatest (λ k. nat_le (size_of (take k sets)) limit) (length sets)
+  length-kept = length-take-le (greatest (λ k. nat_le (size_of (take k sets)) limit) (length sets)) sets (greatest_bound (λ k. nat_le (size_of (take k sets)) limit) (length sets))
+
+  -- and no longer beginning does
+  pub kept_longest : (k : ℕ) → k ≤ length sets → size_of (take k sets) ≤ limit → k ≤ length (kept size_of limit sets)
+  kept_longest k h fits =
+      let most = greatest_most (λ n. nat_le (size_of (take n sets)) limit) (length sets) k h (le-leb (size_of (take k sets)) limit fits) in
+      subst (λ n. k ≤ n) (sym length-kept) most

@@ -1,0 +1,204 @@
+-- The octets of a reply, laid out plainly, spell it.
+use Rattle.std.proofs.Common.{◌≡◌, ℕ, ◌+◌, ◌/◌, ◌^◌, ◌<◌, ◌≤◌, Bool, true, false, not, cond, nat_le, ◌==◌, List, [], ◌∷◌, ◌++◌, length, take, drop, Option, None, Some, All, refl, sym, ap, ◌∙◌, subst, arith, length-append, length-take, mod-lt, append_assoc, append-nil}
+use Rattle.std.proofs.lemmas.Bool.{cond_both, and_parts, leb-true}
+use Rattle.std.proofs.lemmas.Option.{none-some, same_Some, cond_some}
+use Rattle.std.proofs.lemmas.List.{take-append-le}
+use Rattle.std.proofs.lemmas.List.Elements.{All-nil, All-take, All-drop}
+use Rattle.std.specs.List.{list_all}
+use Rattle.dns_spec.specs.Names.{Octets, DomainName, wire, is_label, is_name, at_or_below}
+use Rattle.dns_spec.specs.Data.{class_in, type_a, number_of}
+use Rattle.dns_spec.specs.Records.{ResourceRecord, ZoneContents}
+use Rattle.dns_spec.specs.Reading.{Header, MessageQuestion, name_at, Spells}
+use Rattle.dns_spec.specs.Layout.{Section, answer, authority, additional, Item, greatest, is_section, records_of, in_section, plain_records_size, plain_size, plain_layout}
+use Rattle.dns_spec.specs.Answer.{format_error, not_implemented, refused, Outcome, outcome, main_items, extra, targets, items, is_authoritative}
+use Rattle.dns_spec.specs.Reply.{kept, field16, opcode, recursion_desired, bit, truncated, reply_head, question_of, question_at, Decision, silence, header_alone, question_alone, answered, is_meta_type, decide_question, decide_asked, counts_are_one_question, is_ignored, decide, Reply, answer_with, reply_with, octets_by, reply_message, keep_plain, keep_addresses}
+use Rattle.dns_spec.specs.Laws.{sections_in_order, IsWritable, HasRoom, KeepsBeginning}
+use Rattle.dns_spec.proofs.SortedOnce.{Each}
+use Rattle.dns_spec.proofs.NameReading.{name_at_computes}
+use Rattle.dns_spec.proofs.PlainLayout.{section_with, length-question_octets, header_spells, plain_spells}
+use Rattle.dns_spec.proofs.WritableItems.{each_from_all, items_in_order, items_writable, outcome_rcode}
+use Rattle.dns_spec.proofs.Kept.{greatest_bound, kept_fits}
+
+-- there are no more records than octets
+records_bound : (asked : DomainName) (rs : List ResourceRecord) → length rs ≤ plain_records_size asked rs
+records_bound asked [] = omega arith
+records_bound asked (r ∷ rs) = omega (arith, records_bound asked rs)
+
+section_bound : (s : Section) (is : List Item) → length (in_section s is) ≤ length (records_of is)
+section_bound s [] = omega arith
+section_bound s (i ∷ is) = go (is_section s i.section) refl (section_bound s is)
+  where
+    go : (t : Bool) → is_section s i.section ≡ t → length (in_section s is) ≤ length (records_of is) → length (in_section s (i ∷ is)) ≤ length (i.records ++ records_of is)
+    go true e h = let q = ap length (section_with s i is true e) in omega (arith, h, q, length-append i.records (in_section s is), length-append i.records (records_of is))
+    go false e h = let q = ap length (section_with s i is false e) in omega (arith, h, q, length-append i.records (records_of is))
+
+count_bound : (q : MessageQuestion) (s : Section) (is : List Item) → length (in_section s is) ≤ plain_size q is
+unfolding plain_size
+count_bound q s is = let a = section_bound s is in let b = records_bound q.qname (records_of is) in omega (arith, a, b)
+
+-- a field of 16 bits of octets
+two_bound : (os : Octets) → length os ≤ 2 → Each (λ o. o < 256) os → number_of os < 2 ^ 16
+two_bound [] h e = omega arith
+two_bound (a ∷ []) h e = let p = e.0 in omega (arith, p)
+two_bound (a ∷ b ∷ []) h e = let p = e.0 in let q = e.1.0 in omega (arith, p, q)
+two_bound (a ∷ b ∷ c ∷ os) h e = absurd (omega arith)
+
+field_bound : (d : Octets) (i : ℕ) → All (λ o. o < 256) d → field16 d i < 2 ^ 16
+field_bound d i e =
+    two_bound (take 2 (drop i d)) (omega (arith, length-take 2 (drop i d)))
+    (each_from_all (λ o. o < 256) (take 2 (drop i d)) (All-take (λ o. o < 256) 2 (drop i d) (All-drop (λ o. o < 256) i d e)))
+
+-- the header of a reply fits its fields
+bit_bound : (b : Bool) → bit b ≤ 1
+bit_bound true = omega arith
+bit_bound false = omega arith
+
+flags_bound : (d : Octets) (aa tc : Bool) (rcode : ℕ) → rcode < 16 → (reply_head d aa tc rcode).flags < 2 ^ 16
+flags_bound d aa tc rcode low =
+    let o : opcode (field16 d 2) < 16 = mod-lt (field16 d 2 / 2 ^ 11) (omega arith) in
+    let r : recursion_desired (field16 d 2) < 2 = mod-lt (field16 d 2 / 2 ^ 8) (omega arith) in
+    let a = bit_bound aa in
+    let t = bit_bound tc in
+    omega (arith, o, r, a, t)
+
+-- a question that was read fits its fields
+record Askable (q : MessageQuestion) : Type 0 where
+  qname : is_name q.qname ≡ true
+  qtype : q.qtype < 2 ^ 16
+  qclass : q.qclass < 2 ^ 16
+
+askable : (d : Octets) (q : MessageQuestion) → All (λ o. o < 256) d → question_at d ≡ Some q → Askable q
+unfolding question_at
+askable d q low h = go (name_at d 12) refl h
+  where
+    go : (x : Option (DomainName × ℕ)) → name_at d 12 ≡ x
+        → ◌≡◌ {A = Option MessageQuestion} (elim x [ None ↦ None | Some r ↦ question_of d r ]) (Some q) → Askable q
+    go None e f = absurd (none-some q f)
+    go (Some (n, e)) is f =
+        let c = cond_some (length d == e + 4) (record { qname = n; qtype = field16 d e; qclass = field16 d (e + 2) }) q f in
+        subst Askable c.1 (record { qname = ((name_at_computes d 12 n e).0 is).1; qtype = field_bound d e low; qclass = field_bound d (e + 2) low })
+
+-- what a decision says of its question and RCODE
+abbrev Decided : Octets → Decision → Type 0
+Decided d silence = Unit {0}
+Decided d (header_alone rcode) = rcode < 16
+Decided d (question_alone q rcode) = (question_at d ≡ Some q) × (rcode < 16)
+Decided d (answered q) = question_at d ≡ Some q
+
+decided_question : (z : ZoneContents) (d : Octets) (q : MessageQuestion) → question_at d ≡ Some q → Decided d (decide_question z q)
+decided_question z d q e =
+    cond_both (not (q.qclass == class_in)) (question_alone q refused)
+    (cond (is_meta_type q.qtype) (question_alone q not_implemented) (cond (not (at_or_below q.qname z.origin)) (question_alone q refused) (answered q)))
+    (Decided d) (λ _. (e, omega arith)) (λ _.
+    cond_both (is_meta_type q.qtype) (question_alone q not_implemented) (cond (not (at_or_below q.qname z.origin)) (question_alone q refused) (answered q))
+    (Decided d) (λ _. (e, omega arith)) (λ _.
+    cond_both (not (at_or_below q.qname z.origin)) (question_alone q refused) (answered q) (Decided d) (λ _. (e, omega arith)) (λ _. e)))
+
+decided_asked : (z : ZoneContents) (d : Octets) (y : Option MessageQuestion) → question_at d ≡ y → Decided d (decide_asked z y)
+decided_asked z d None e = omega arith
+decided_asked z d (Some q) e = decided_question z d q e
+
+decided : (z : ZoneContents) (d : Octets) → Decided d (decide z d)
+unfolding decide
+decided z d =
+    let asked = decide_asked z (question_at d) in
+    cond_both (is_ignored d) silence (cond (not (opcode (field16 d 2) == 0)) (header_alone not_implemented) (cond (not (counts_are_one_question d)) (header_alone format_error) asked))
+    (Decided d) (λ _. tt) (λ _.
+    cond_both (not (opcode (field16 d 2) == 0)) (header_alone not_implemented) (cond (not (counts_are_one_question d)) (header_alone format_error) asked)
+    (Decided d) (λ _. omega arith) (λ _.
+    cond_both (not (counts_are_one_question d)) (header_alone format_error) asked (Decided d) (λ _. omega arith) (λ _. decided_asked z d (question_at d) refl)))
+
+-- a question with sets that a message has room for
+roomy : (h : Header) (q : MessageQuestion) (is : List Item) → h.id < 2 ^ 16 → h.flags < 2 ^ 16 → Askable q → sections_in_order is ≡ true → plain_size q is < 2 ^ 16 → HasRoom h q is
+roomy h q is id flags ok ordered short = record {
+  id = id;
+  flags = flags;
+  qname = ok.qname;
+  qtype = ok.qtype;
+  qclass = ok.qclass;
+  answers = omega (arith, count_bound q answer is);
+  authorities = omega (arith, count_bound q authority is);
+  additionals = omega (arith, count_bound q additional is);
+  in_order = ordered;
+}
+
+empty_size : (q : MessageQuestion) → is_name q.qname ≡ true → plain_size q [] ≤ 271
+unfolding plain_size
+empty_size q h =
+    let short = leb-true (length (wire q.qname)) 255 (and_parts (list_all is_label q.qname) (nat_le (length (wire q.qname)) 255) h).1 in
+    omega (arith, length-question_octets q, short)
+
+-- The octets of a reply, laid out plainly, spell the message that it is.
+pub reply_spells : (z : ZoneContents) (d : Octets) (keep : MessageQuestion → List Item) (r : Reply) → All IsWritable z.records → All (λ o. o < 256) d → KeepsBeginning z keep
+    → reply_with keep z d ≡ Some r → Spells (octets_by plain_layout r) (reply_message r)
+unfolding reply_with
+reply_spells z d keep r writable low keeps e = go (decide z d) (decided z d) e
+  where
+    id : field16 d 0 < 2 ^ 16
+    id = field_bound d 0 low
+
+    told : (x : Reply) → Spells (octets_by plain_layout x) (reply_message x) → ◌≡◌ {A = Option Reply} (Some x) (Some r) → Spells (octets_by plain_layout r) (reply_message r)
+    told x s e = subst (λ y. Spells (octets_by plain_layout y) (reply_message y)) (same_Some x r e) s
+
+    go : (x : Decision) → Decided d x
+        → ◌≡◌ {A = Option Reply} (elim x [
+          | silence ↦ None
+          | header_alone rcode ↦ Some (record { header = reply_head d false false rcode; question = None; sets = [] })
+          | question_alone q rcode ↦ Some (record { header = reply_head d false false rcode; question = Some q; sets = [] })
+          | answered q ↦ Some (answer_with z d q (keep q))
+        ]) (Some r)
+        → Spells (octets_by plain_layout r) (reply_message r)
+    go silence h e = absurd (none-some r e)
+    go (header_alone rcode) h e =
+        let head = reply_head d false false rcode in
+        told (record { header = head; question = None; sets = [] }) (header_spells head id (flags_bound d false false rcode h)) e
+    go (question_alone q rcode) h e =
+        let head = reply_head d false false rcode in
+        let ok = askable d q low h.0 in
+        let short = empty_size q ok.qname in
+        told (record { header = head; question = Some q; sets = [] })
+        (plain_spells head q [] (roomy head q [] id (flags_bound d false false rcode h.1) ok refl (omega (arith, short))) (All-nil IsWritable)) e
+    go (answered q) h e =
+        let ok = askable d q low h in
+        let k = keeps q ok.qname in
+        let o = outcome z q.qname q.qtype in
+        let head = reply_head d (is_authoritative o) (truncated z q (keep q)) o.rcode in
+        let flags = flags_bound d (is_authoritative o) (truncated z q (keep q)) o.rcode (outcome_rcode z writable q.qname q.qtype ok.qname) in
+        let ordered = subst (λ is. sections_in_order is ≡ true) (sym k.1) (items_in_order z writable q.qname q.qtype ok.qname k.0) in
+        let all = subst (λ is. All IsWritable (records_of is)) (sym k.1) (items_writable z writable q.qname q.qtype ok.qname k.0) in
+        told (answer_with z d q (keep q)) (plain_spells head q (keep q) (roomy head q (keep q) id flags ok ordered k.2) all) e
+
+-- What a server keeps by the size of the plain layout is such a beginning.
+front_kept : (q : MessageQuestion) (limit : ℕ) (front rest all : List Item) → all ≡ front ++ rest → is_name q.qname ≡ true → 271 ≤ limit → limit < 2 ^ 16
+    → (k : ℕ) × (kept (plain_size q) limit front ≡ take k all) × (plain_size q (kept (plain_size q) limit front) < 2 ^ 16)
+front_kept q limit front rest all split h from below =
+    let k = greatest (λ n. nat_le (plain_size q (take n front)) limit) (length front) in
+    let inside = greatest_bound (λ n. nat_le (plain_size q (take n front)) limit) (length front) in
+    let none = empty_size q h in
+    let short = kept_fits (plain_size q) limit front (omega (arith, none)) in
+    (k, sym (ap (take k) split ∙ take-append-le k front rest inside), omega (arith, short))
+
+pub keep_plain_begins : (z : ZoneContents) (limit : ℕ) → 271 ≤ limit → limit < 2 ^ 16 → KeepsBeginning z (keep_plain z limit)
+unfolding items
+keep_plain_begins z limit from below q h =
+    let o = outcome z q.qname q.qtype in
+    front_kept q limit (main_items o) (extra z (main_items o) (targets o)) (items z q.qname q.qtype) refl h from below
+
+pub keep_addresses_begins : (z : ZoneContents) (limit : ℕ) → 271 ≤ limit → limit < 2 ^ 16 → KeepsBeginning z (keep_addresses z limit)
+unfolding items
+keep_addresses_begins z limit from below q h =
+    cond_both (q.qtype == type_a) (kept (plain_size q) limit o.answers) []
+    (λ is. (k : ℕ) × (is ≡ take k (items z q.qname q.qtype)) × (plain_size q is < 2 ^ 16))
+    (λ _. front_kept q limit o.answers (o.authorities ++ more) (items z q.qname q.qtype) (append_assoc o.answers o.authorities more) h from below)
+    (λ _. let none = empty_size q h in (0, refl, omega (arith, none)))
+  where
+    o : Outcome
+    o = outcome z q.qname q.qtype
+
+    more : List Item
+    more = extra z (main_items o) (targets o)
+
+-- all sets, as far as they fit
+pub keep_all_begins : (z : ZoneContents) (limit : ℕ) → 271 ≤ limit → limit < 2 ^ 16 → KeepsBeginning z (λ q. kept (plain_size q) limit (items z q.qname q.qtype))
+keep_all_begins z limit from below q h =
+    front_kept q limit (items z q.qname q.qtype) [] (items z q.qname q.qtype) (sym (append-nil (items z q.qname q.qtype))) h from below

@@ -1,0 +1,5 @@
+use Rattle.dns_spec.proofs.Kept.{kept_longest}
+use Rattle.dns_spec.proofs.reply.kept_sets_are_the_most.Goals as goal
+
+pub returns : goal.returns
+returns c = kept_longest

@@ -1,0 +1,5 @@
+use Rattle.dns_spec.proofs.Kept.{kept_fits}
+use Rattle.dns_spec.proofs.reply.kept_sets_fit.Goals as goal
+
+pub returns : goal.returns
+returns c = kept_fits

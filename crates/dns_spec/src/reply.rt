@@ -1,0 +1,28 @@
+//! Laws of replies: their octets are the message that they are, and what is kept is the longest beginning that fits.
+
+ghost use Rattle.std.specs.Prelude.{◌≡◌, ℕ, List, [], ◌<◌, ◌≤◌, All, Some, length, take};
+ghost use Rattle.dns_spec.specs.Names.{Octets};
+ghost use Rattle.dns_spec.specs.Records.{ZoneContents};
+ghost use Rattle.dns_spec.specs.Reading.{MessageQuestion, Spells};
+ghost use Rattle.dns_spec.specs.Layout.{Item, plain_layout};
+ghost use Rattle.dns_spec.specs.Reply.{Reply, kept, reply_with, octets_by, reply_message};
+ghost use Rattle.dns_spec.specs.Laws.{IsWritable, KeepsBeginning};
+
+/// The octets of a reply in the plain layout spell the message that the reply is, over every zone whose records fit a
+/// message, for every datagram, whatever beginning of the sets is kept (RFC 1035 4.1).
+pub fn plain_reply_is_spelled()
+    ensures { (z : ZoneContents) (d : Octets) (keep : MessageQuestion → List Item) (r : Reply) → All IsWritable z.records
+        → All (λ o. o < 256) d → KeepsBeginning z keep
+        → reply_with keep z d ≡ Some r → Spells (octets_by plain_layout r) (reply_message r) }
+{}
+
+/// What is kept of a list of sets fits where nothing does.
+pub fn kept_sets_fit()
+    ensures { (size_of : List Item → ℕ) (limit : ℕ) (sets : List Item) → size_of [] ≤ limit → size_of (kept size_of limit sets) ≤ limit }
+{}
+
+/// No longer beginning of a list of sets fits than what is kept of it.
+pub fn kept_sets_are_the_most()
+    ensures { (size_of : List Item → ℕ) (limit : ℕ) (sets : List Item) (k : ℕ) → k ≤ length sets → size_of (take k sets) ≤ limit
+        → k ≤ length (kept size_of limit sets) }
+{}
