@@ -102,7 +102,7 @@ map-lowercase-wire (l ∷ n) ok =
     let is_l = IsLabel-is_label l parts.0 in
     let len : to_ascii_lowercase (length l) ≡ length (map to_ascii_lowercase l) = lowercase_below (length l) (omega arith) ∙ sym (length-map l to_ascii_lowercase) in
     let rest : map to_ascii_lowercase (l ++ wire n) ≡ map to_ascii_lowercase l ++ wire (folded n) =
-        map-append to_ascii_lowercase l (wire n) ∙ ap (λ xs. map to_ascii_lowercase l ++ xs) (map-lowercase-wire n parts.1)
+    map-append to_ascii_lowercase l (wire n) ∙ ap (λ xs. map to_ascii_lowercase l ++ xs) (map-lowercase-wire n parts.1)
     in
     cc
 
@@ -130,9 +130,10 @@ pub same-wire : (n m : DomainName) → is_name n ≡ true → is_name m ≡ true
 same-wire n m p q =
     let e = map-lowercase-wire n (IsName-is_name n p).labels in
     let f = map-lowercase-wire m (IsName-is_name m q).labels in
-    let decides = names_equal-decides (folded n) (folded m) in
-    ( λ h. e ∙ ap wire (decides.0 h) ∙ sym f
-    , λ h. decides.1 (wire-injective (folded n) (folded m) (is_name-folded n p) (is_name-folded m q) (sym e ∙ h ∙ f)) )
+    let decides = names_equal-decides (folded n) (folded m) in (
+      λ h. e ∙ ap wire (decides.0 h) ∙ sym f,
+      λ h. decides.1 (wire-injective (folded n) (folded m) (is_name-folded n p) (is_name-folded m q) (sym e ∙ h ∙ f)),
+    )
 
 pub same-length : (n m : DomainName) → same n m ≡ true → length n ≡ length m
 same-length n m h =
@@ -206,3 +207,20 @@ length-is_name n ok =
         let parts = and_parts (is_label l) _ ok in
         let is_l = IsLabel-is_label l parts.0 in
         omega (arith, length-wire_long n parts.1, length-append l (wire n))
+
+-- the labels of two names, one after another
+pub length-wire-append : (n m : DomainName) → length (wire (n ++ m)) + 1 ≡ length (wire n) + length (wire m)
+length-wire-append [] m = omega arith
+length-wire-append (l ∷ n) m =
+    omega (arith, length-wire-append n m, length-append l (wire n), length-append l (wire (n ++ m)))
+
+-- they are a name, where there is room
+pub is_name-append : (n m : DomainName) → is_name n ≡ true → is_name m ≡ true → length (wire (n ++ m)) ≤ 255 → is_name (n ++ m) ≡ true
+is_name-append n m p q fits =
+    is_name-IsName (n ++ m) (all_append n (IsName-is_name n p).labels) fits
+  where
+    all_append : (n : DomainName) → list_all is_label n ≡ true → list_all is_label (n ++ m) ≡ true
+    all_append [] ok = (IsName-is_name m q).labels
+    all_append (l ∷ n) ok =
+        let parts = and_parts (is_label l) _ ok in
+        and_from _ _ parts.0 (all_append n parts.1)

@@ -1,5 +1,6 @@
 -- The meaning of the product, to be read from the first file to the last.
 pub mod Names
+pub mod NameText
 pub mod Data
 pub mod Records
 pub mod Tree

@@ -1,0 +1,38 @@
+-- What a reader learns here: which name a word of a zone file spells.
+use Rattle.std.specs.Prelude.{◌≡◌, ◌≢◌, ℕ, ◌+◌, ◌-◌, ◌*◌, ◌<◌, ◌≤◌, ◌⊎◌, [], ◌∷◌, ◌++◌, codes, IsTrue}
+use Rattle.std.specs.Char.{IsAsciiDigit, IsNotAsciiDigit}
+use Rattle.dns_spec.specs.Names.{Octets, DomainName, is_name}
+
+-- the number that three decimal digits spell
+abbrev pub decimal : ℕ → ℕ → ℕ → ℕ
+decimal a b c = 100 * (a - 48) + 10 * (b - 48) + (c - 48)
+
+-- RFC 1035 5.1: an octet is spelled as itself, if it is no dot and no backslash; as `\X`, where X is no digit (and,
+-- in this product, printable); or as `\DDD`, three decimal digits.
+abbrev pub SpellsOctet : Octets → ℕ → Type 0
+SpellsOctet (a ∷ []) x = (a ≡ x) × (a ≢ 46) × (a ≢ 92)
+SpellsOctet (e ∷ a ∷ []) x = (e ≡ 92) × (a ≡ x) × (32 ≤ a) × (a ≤ 126) × IsNotAsciiDigit a
+SpellsOctet (e ∷ a ∷ b ∷ c ∷ []) x =
+    (e ≡ 92) × IsAsciiDigit a × IsAsciiDigit b × IsAsciiDigit c × (decimal a b c ≡ x) × (x < 256)
+SpellsOctet _ x = ⊥
+
+-- the text spells the octets of a label, one after another, and then comes `rest`
+abbrev pub LabelThen : Octets → Octets → Octets → Type 0
+LabelThen text [] rest = text ≡ rest
+LabelThen text (x ∷ l) rest =
+    (first : Octets) × (others : Octets) × (text ≡ first ++ others) × SpellsOctet first x × LabelThen others l rest
+
+-- RFC 1035 5.1: the text spells the first label, and either ends there, so that the labels of the origin follow; or
+-- has a dot, and then spells the other labels. Nothing behind a dot is the root.
+abbrev pub TextSpells : DomainName → Octets → DomainName → Type 0
+TextSpells origin text [] = text ≡ []
+TextSpells origin text (l ∷ n) =
+    (LabelThen text l [] × (n ≡ origin))
+    ⊎ ((others : Octets) × LabelThen text l (46 ∷ others) × TextSpells origin others n)
+
+-- RFC 1035 5.1: a word spells a name, relative to the origin. `@` alone is the origin, and `.` alone the root.
+pub record SpellsName (origin : DomainName) (word : Octets) (n : DomainName) : Type 0 where
+  pub spelled : ((word ≡ codes "@") × (n ≡ origin))
+      ⊎ (((word ≡ codes ".") × (n ≡ []))
+      ⊎ ((word ≢ codes "@") × (word ≢ []) × TextSpells origin word n))
+  pub is_name : IsTrue (is_name n)
