@@ -1,1 +1,2 @@
 pub mod WireLemmas
+pub mod TextLemmas

@@ -138,3 +138,14 @@ map-lowercase-octets xs n form e =
     let w : xs ≡ wire n = sym form.wire_is ∙ ap wire e in
     let ok : is_name n ≡ true = ap is_name (sym e) ∙ form.is_name in
     ap (map to_ascii_lowercase) w ∙ map-lowercase-wire n (IsName-is_name n ok).labels
+
+-- the labels of another name next to the root: what stands before the root's length stays
+pub wire-append : (n m : DomainName) (xs : Octets) → xs ≡ take (length (wire n) - 1) (wire n) → xs ++ wire m ≡ wire (n ++ m)
+unfolding front
+wire-append n m xs e = ap (λ ys. ys ++ wire m) (e ∙ front_taken n) ∙ sym (behind_front n)
+  where
+    behind_front : (n : DomainName) → wire (n ++ m) ≡ front n ++ wire m
+    behind_front [] = refl
+    behind_front (l ∷ n) =
+        ap (λ xs. length l ∷ (l ++ xs)) (behind_front n)
+        ∙ ap (λ xs. length l ∷ xs) (sym (append_assoc l (front n) (wire m)))

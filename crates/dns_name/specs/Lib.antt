@@ -1,1 +1,3 @@
 pub mod WireForm
+pub mod TextForm
+pub mod NameFault

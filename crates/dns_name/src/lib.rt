@@ -3,9 +3,11 @@
 
 mod label;
 mod name;
+mod text;
 
 pub use label::Label;
 pub use name::{Labels, Name};
+pub use text::NameFault;
 
 #[cfg(test)]
 mod tests;

@@ -7,6 +7,7 @@ ghost use Rattle.std.specs.Cmp.Lexicographic.{lists_per, lists_equiv};
 ghost use Rattle.std.specs.Iterator.{YieldsFirst, item_count};
 ghost use Rattle.arrayvec.specs.ArrayVec.{array_vec_len};
 ghost use Rattle.dns_spec.specs.Names.{is_name, wire, folded, same, at_or_below, names_equal};
+ghost use Rattle.dns_name.specs.TextForm.{Appended};
 ghost use Rattle.dns_name.specs.WireForm.{labels_of, IsWireForm};
 
 use crate::label::Label;
@@ -51,6 +52,7 @@ impl Name {
         ensures fits { IsTrue result ↔ (length (wire (self.old ++ label.entry ∷ [])) ≤ 255) }
         ensures pushed { OnTrue result (self.new ≡ self.old ++ label.entry ∷ []) }
         ensures unchanged { OnFalse result (self.new ≡ self.old) }
+        ensures is_name { IsTrue (is_name self.new) }
     {
         let octets = label.octets();
         if self.octets.remaining_capacity() <= octets.len() {
@@ -58,8 +60,21 @@ impl Name {
         }
         self.octets.pop();
         self.octets.push(octets.len() as u8);
-        append(&mut self.octets, octets);
+        append_octets(&mut self.octets, octets);
         self.octets.push(0);
+        true
+    }
+
+    // Adds the labels of `other` next to the root, as `push` adds one.
+    pub(crate) fn append(&mut self, other: &Name) -> bool
+        ensures { Appended self.old other.now result self.new }
+    {
+        let octets = other.octets();
+        if self.octets.remaining_capacity() + 1 < octets.len() {
+            return false;
+        }
+        self.octets.pop();
+        append_octets(&mut self.octets, octets);
         true
     }
 
@@ -130,10 +145,11 @@ impl Name {
 
     /// A second name with the same octets. It takes no memory.
     pub fn copied(&self) -> Name
-        ensures { result ≡ self.now }
+        ensures value { result ≡ self.now }
+        ensures is_name { IsTrue (is_name result) }
     {
         let mut octets = ArrayVec::new();
-        append(&mut octets, self.octets());
+        append_octets(&mut octets, self.octets());
         Name { octets }
     }
 }
@@ -210,7 +226,7 @@ fn first_label(octets: &[u8]) -> Option<(Label<'_>, &[u8])>
 }
 
 // Appends octets that there is room for.
-fn append(octets: &mut ArrayVec<u8, MAX_OCTETS>, part: &[u8])
+fn append_octets(octets: &mut ArrayVec<u8, MAX_OCTETS>, part: &[u8])
     requires { array_vec_len octets.old + length part.now ≤ MAX_OCTETS }
     ensures { octets.new.items ≡ octets.old.items ++ part.now }
 {

@@ -1,4 +1,4 @@
-use super::*;
+use crate::{Label, Name};
 use std::test::Fail;
 
 // `www.example.` on the wire (RFC 1035 3.1).

@@ -10,14 +10,14 @@ still_name xs n form e = is_name-folded n (ap is_name (sym e) ∙ form.is_name)
 
 pub invariant_of-folded : goal.invariant_of-folded
 invariant_of-folded c =
-    let view_is = c.folded.view_is ∙ c.copied-folded.ensures in
+    let view_is = c.folded.view_is ∙ c.copied-folded.ensures.value in
     IsWireForm-wire _ (folded c.args.self.now)
     (c.lower_case.ensures ∙ map-lowercase-octets _ _ c.folded.invariant view_is)
     (still_name _ _ c.folded.invariant view_is)
 
 pub returns : goal.returns
 returns c =
-    let view_is = c.folded.view_is ∙ c.copied-folded.ensures in
+    let view_is = c.folded.view_is ∙ c.copied-folded.ensures.value in
     labels_of_spelled _ (folded c.args.self.now)
     (c.lower_case.ensures ∙ map-lowercase-octets _ _ c.folded.invariant view_is)
     (still_name _ _ c.folded.invariant view_is)

@@ -42,7 +42,7 @@ pushes c =
       form = c.self.invariant;
       view_is = c.self.view_is;
       front = c.pop.ensures.rest;
-      back = rw (c.push-2.ensures.items, c.append.ensures, c.push.ensures.items, e) refl;
+      back = rw (c.push-2.ensures.items, c.append_octets.ensures, c.push.ensures.items, e) refl;
     }
 
 fits : (c : goal.After-push-2) → length c.self.inside.octets.items + 1 + length c.args.label ≤ 255
@@ -63,3 +63,13 @@ returns-clause-pushed c =
     let p = pushes c in
     labels_of_spelled _ _ (spells _ _ _ _ _ p)
     (stays_name _ _ _ _ _ p c.octets-octets.ensures.is_label (fits c))
+
+pub returns-then-remaining_capacity-octets-clause-is_name :
+    goal.returns-then-remaining_capacity-octets-clause-is_name
+returns-then-remaining_capacity-octets-clause-is_name c = ap is_name (sym c.self.view_is) ∙ c.self.invariant.is_name
+
+pub returns-clause-is_name : goal.returns-clause-is_name
+returns-clause-is_name c =
+    let p = pushes c in
+    let ok = stays_name _ _ _ _ _ p c.octets-octets.ensures.is_label (fits c) in
+    ap is_name (labels_of_spelled _ _ (spells _ _ _ _ _ p) ok) ∙ ok

@@ -1,0 +1,489 @@
+-- Reading a text from left to right finds what it spells, and nothing else.
+use Rattle.std.proofs.Common.{Result, Ok, Err, ◌≡◌, ◌≢◌, ℕ, ◌+◌, ◌-◌, ◌*◌, ◌<◌, ◌≤◌, ◌⊎◌, ◌↔◌, inl, inr, Bool, true, false, ◌&&◌, ◌==◌, nat_le, nat_lt, [], ◌∷◌, ◌++◌, length, take, drop, Option, Some, None, refl, sym, ◌∙◌, ap, subst, arith, length-append}
+use Rattle.std.proofs.lemmas.List.{append_assoc, append-nil, length-take, take_all, take-append-le}
+use Rattle.std.proofs.lemmas.Bool.{true≢false, false≢true, and_parts, and_from, and_left, and_right, and_cases, lt-leb, leb-false, eqb-true, eqb-false, eq-eqb, ne_eqb, lt-ltb, ltb-true, le-leb, leb-true, cases_Bool, cases_lt}
+use Rattle.std.specs.Option.{option_and_then}
+use Rattle.std.specs.Bool.{OnTrue, MatchBool}
+use Rattle.std.specs.Result.{IsErr}
+use Rattle.std.specs.Prelude.{if◌then◌else◌}
+use Rattle.std.specs.Char.{is_ascii_digit, IsAsciiDigit, IsNotAsciiDigit}
+use Rattle.std.specs.List.{list_all}
+use Rattle.dns_spec.proofs.NameLaws.{is_label-head, length-wire-append, IsName-is_name, IsLabel-is_label}
+use Rattle.dns_spec.specs.Names.{Octets, DomainName, wire, is_label, is_name}
+use Rattle.dns_spec.specs.NameText.{decimal, SpellsOctet, LabelThen, TextSpells, SpellsName}
+use Rattle.dns_name.specs.TextForm.{digit_at, decimal_at, escaped_at, octet_at, is_label_end, ReadsLabel, PushesLabel, HasNoLabel, Appended, SpellsIff}
+
+-- a text is the spelling of an octet and others
+abbrev pub OctetThen : Octets → ℕ → Octets → Type 0
+OctetThen text x others = (first : Octets) × (text ≡ first ++ others) × SpellsOctet first x
+
+is_digit : (a : ℕ) → IsAsciiDigit a → is_ascii_digit a ≡ true
+is_digit a h = and_from _ _ (le-leb _ _ h.0) (le-leb _ _ h.1)
+
+no_digit : (a : ℕ) → IsNotAsciiDigit a → is_ascii_digit a ≡ false
+no_digit a (inl h) = and_left _ _ (lt-leb _ _ h)
+no_digit a (inr h) = and_right _ _ (lt-leb _ _ h)
+
+digit_from : (a : ℕ) → is_ascii_digit a ≡ true → IsAsciiDigit a
+digit_from a h =
+    let parts = and_parts (nat_le 48 a) _ h in
+    (leb-true _ _ parts.0, leb-true _ _ parts.1)
+
+no_digit_from : (a : ℕ) → is_ascii_digit a ≡ false → IsNotAsciiDigit a
+no_digit_from a h = elim (and_cases (nat_le 48 a) _ h) [ inl low ↦ inl (leb-false _ _ low) | inr high ↦ inr (leb-false _ _ high) ]
+
+digit_here : (a : ℕ) (rest : Octets) → IsAsciiDigit a → digit_at (a ∷ rest) ≡ Some (a - 48, rest)
+digit_here a rest h = rw (is_digit a h) refl
+
+decimal_here : (a b c x : ℕ) (rest : Octets) → IsAsciiDigit a → IsAsciiDigit b → IsAsciiDigit c → decimal a b c ≡ x → x < 256 → decimal_at (a ∷ b ∷ c ∷ rest) ≡ Some (x, rest)
+unfolding decimal_at
+decimal_here a b c x rest p q r e h =
+    let small : nat_lt (decimal a b c) 256 ≡ true = lt-ltb _ _ (omega arith) in
+    rw (is_digit a p, is_digit b q, is_digit c r, small) (ap (λ y. Some (y, rest)) e)
+
+-- a spelling is read, whatever stands behind it
+octet_at-spelled : (first : Octets) (x : ℕ) (others : Octets) → SpellsOctet first x → octet_at (first ++ others) ≡ Some (x, others)
+unfolding octet_at escaped_at
+octet_at-spelled [] x others h = absurd h
+octet_at-spelled (a ∷ []) x others h = rw (ne_eqb a 92 h.2) (ap (λ y. Some (y, others)) h.0)
+octet_at-spelled (e ∷ a ∷ []) x others h =
+    let printable : (nat_le 32 a && nat_le a 126) ≡ true = and_from _ _ (le-leb _ _ h.2) (le-leb _ _ h.3) in
+    rw (eq-eqb e 92 h.0, no_digit a h.4, printable) (ap (λ y. Some (y, others)) h.1)
+octet_at-spelled (e ∷ a ∷ b ∷ []) x others h = absurd h
+octet_at-spelled (e ∷ a ∷ b ∷ c ∷ []) x others h =
+    rw (eq-eqb e 92 h.0, is_digit a h.1) (decimal_here a b c x others h.1 h.2 h.3 h.4 h.5)
+octet_at-spelled (e ∷ a ∷ b ∷ c ∷ d ∷ more) x others h = absurd h
+
+pub octet_at-OctetThen : (text : Octets) (x : ℕ) (others : Octets) → OctetThen text x others → octet_at text ≡ Some (x, others)
+octet_at-OctetThen text x others (first, e, h) = ap octet_at e ∙ octet_at-spelled first x others h
+
+and_then_some : {A B : Type 0} (f : A → Option B) (o : Option A) (y : B) → option_and_then f o ≡ Some y → (x : A) × (o ≡ Some x) × (f x ≡ Some y)
+and_then_some f None y e = cc
+and_then_some f (Some x) y e = (x, refl, e)
+
+some_inner : {A : Type 0} (x y : A) → Some x ≡ Some y → x ≡ y
+some_inner x y e = cc
+
+some_parts : (v w : ℕ × Octets) → Some v ≡ Some w → (v.0 ≡ w.0) × (v.1 ≡ w.1)
+some_parts v w e =
+    let pairs = some_inner v w e in
+    (ap (λ u. u.0) pairs, ap (λ u. u.1) pairs)
+
+if_some : {A : Type 0} (t : Bool) (x y : A) → (if t then Some x else None) ≡ Some y → (t ≡ true) × (x ≡ y)
+if_some true x y e = (refl, cc)
+if_some false x y e = cc
+
+digit_read : (text : Octets) (v : ℕ × Octets) → digit_at text ≡ Some v → (a : ℕ) × (text ≡ a ∷ v.1) × IsAsciiDigit a × (v.0 ≡ a - 48)
+digit_read [] v e = cc
+digit_read (a ∷ rest) v e =
+    let read = if_some (is_ascii_digit a) _ _ e in
+    (a, ap (λ w. a ∷ w.1) read.1, digit_from a read.0, ap (λ w. w.0) (sym read.1))
+
+decimal_read : (text : Octets) (x : ℕ) (others : Octets) → decimal_at text ≡ Some (x, others) → OctetThen (92 ∷ text) x others
+unfolding decimal_at
+decimal_read text x others e =
+    let one = and_then_some _ (digit_at text) (x, others) e in
+    let two = and_then_some _ (digit_at one.0.1) (x, others) one.2 in
+    let three = and_then_some _ (digit_at two.0.1) (x, others) two.2 in
+    let fits = if_some _ _ _ three.2 in
+    let a = digit_read text one.0 one.1 in
+    let b = digit_read one.0.1 two.0 two.1 in
+    let c = digit_read two.0.1 three.0 three.1 in
+    let value : decimal a.0 b.0 c.0 ≡ x =
+    ap (λ v. 100 * v + 10 * (b.0 - 48) + (c.0 - 48)) (sym a.3)
+    ∙ ap (λ v. 100 * one.0.0 + 10 * v + (c.0 - 48)) (sym b.3)
+    ∙ ap (λ v. 100 * one.0.0 + 10 * two.0.0 + v) (sym c.3)
+    ∙ ap (λ w. w.0) fits.1
+    in
+    let small : 100 * one.0.0 + 10 * two.0.0 + three.0.0 < 256 = ltb-true _ _ fits.0 in
+    let behind : three.0.1 ≡ others = ap (λ w. w.1) fits.1 in
+    let whole : 92 ∷ text ≡ (92 ∷ a.0 ∷ b.0 ∷ c.0 ∷ []) ++ others = cc (a.1, b.1, c.1, behind) in
+    let below : x < 256 = omega (arith, ap (λ w. w.0) fits.1) in
+    (92 ∷ a.0 ∷ b.0 ∷ c.0 ∷ [], whole, (refl, a.2, b.2, c.2, value, below))
+
+escaped_read : (text : Octets) (x : ℕ) (others : Octets) → escaped_at text ≡ Some (x, others) → OctetThen (92 ∷ text) x others
+unfolding escaped_at
+escaped_read [] x others e = cc
+escaped_read (a ∷ rest) x others e =
+    elim (cases_Bool (is_ascii_digit a)) [
+      | inl digit ↦ decimal_read (a ∷ rest) x others (rw digit at e)
+      | inr none ↦
+          let f : (if nat_le 32 a && nat_le a 126 then Some (a, rest) else None) ≡ Some (x, others) = rw none at e in
+          let printable = if_some (nat_le 32 a && nat_le a 126) (a, rest) (x, others) f in
+          let parts = and_parts (nat_le 32 a) _ printable.0 in
+          let same_octet : a ≡ x = ap (λ w. w.0) printable.1 in
+          let behind : rest ≡ others = ap (λ w. w.1) printable.1 in (
+            92 ∷ a ∷ [],
+            ap (λ w. 92 ∷ a ∷ w) behind,
+            (refl, same_octet, leb-true _ _ parts.0, leb-true _ _ parts.1, no_digit_from a none),
+          )
+    ]
+
+-- what is read is spelled so, unless the text stands at a label's end
+pub OctetThen-octet_at : (text : Octets) (x : ℕ) (others : Octets) → is_label_end text ≡ false → octet_at text ≡ Some (x, others) → OctetThen text x others
+unfolding octet_at
+OctetThen-octet_at [] x others h e = cc
+OctetThen-octet_at (a ∷ rest) x others h e =
+    elim (cases_Bool (a == 92)) [
+      | inl backslash ↦
+          let f : escaped_at rest ≡ Some (x, others) = rw backslash at e in
+          let is_92 : 92 ≡ a = sym (eqb-true a 92 backslash) in
+          subst (λ b. OctetThen (b ∷ rest) x others) is_92 (escaped_read rest x others f)
+      | inr plain ↦
+          let f : Some (a, rest) ≡ Some (x, others) = rw plain at e in
+          let parts = some_parts (a, rest) (x, others) f in
+          (a ∷ [], ap (λ w. a ∷ w) parts.1, (parts.0, eqb-false a 46 h, eqb-false a 92 plain))
+    ]
+
+-- no spelling of an octet begins at a label's end
+pub OctetThen-goes_on : (text : Octets) (x : ℕ) (others : Octets) → OctetThen text x others → is_label_end text ≡ false
+OctetThen-goes_on text x others (first, e, h) = ap is_label_end e ∙ by_cases first h
+  where
+    by_cases : (first : Octets) → SpellsOctet first x → is_label_end (first ++ others) ≡ false
+    by_cases [] h = absurd h
+    by_cases (a ∷ []) h = ne_eqb a 46 h.1
+    by_cases (a ∷ b ∷ []) h = ne_eqb a 46 (λ e. absurd (omega (arith, h.0)))
+    by_cases (a ∷ b ∷ c ∷ []) h = absurd h
+    by_cases (a ∷ b ∷ c ∷ d ∷ []) h = ne_eqb a 46 (λ e. absurd (omega (arith, h.0)))
+    by_cases (a ∷ b ∷ c ∷ d ∷ k ∷ more) h = absurd h
+
+-- a spelling has an octet or more
+pub OctetThen-shorter : (text : Octets) (x : ℕ) (others : Octets) → OctetThen text x others → length others < length text
+OctetThen-shorter text x others (first, e, h) =
+    omega (arith, ap length e, length-append first others, some_octet first h)
+  where
+    some_octet : (first : Octets) → SpellsOctet first x → 0 < length first
+    some_octet [] h = absurd h
+    some_octet (a ∷ first) h = omega arith
+
+-- one octet more of a label
+pub LabelThen-push : (text l : Octets) (rest : Octets) (x : ℕ) (others : Octets) → LabelThen text l rest → OctetThen rest x others → LabelThen text (l ++ x ∷ []) others
+LabelThen-push text [] rest x others e (first, f, h) = (first, others, e ∙ f, h, refl)
+LabelThen-push text (y ∷ l) rest x others (first, behind, f, h, g) next =
+    (first, behind, f, h, LabelThen-push behind l rest x others g next)
+
+LabelThen-at : (text l rest text' : Octets) → text ≡ text' → LabelThen text l rest → LabelThen text' l rest
+LabelThen-at text l rest text' e h = let P : Octets → Type 0 = λ t. LabelThen t l rest in subst P e h
+
+-- where a label is read so far, each label that the text spells goes on from there
+pub LabelThen-rest : (text l rest l' rest' : Octets) → LabelThen text l rest → LabelThen text l' rest' → is_label_end rest' ≡ true → (m : Octets) × (l' ≡ l ++ m) × LabelThen rest m rest'
+LabelThen-rest text [] rest l' rest' e h end = (l', refl, LabelThen-at text l' rest' rest e h)
+LabelThen-rest text (x ∷ l) rest [] rest' (first, behind, f, p, h) e end =
+    absurd (true≢false (sym end ∙ ap is_label_end (sym e) ∙ OctetThen-goes_on text x behind (first, f, p)))
+LabelThen-rest text (x ∷ l) rest (y ∷ l') rest' (first, behind, f, p, h) (first', behind', f', p', h') end =
+    let one : octet_at text ≡ Some (x, behind) = octet_at-OctetThen text x behind (first, f, p) in
+    let two : octet_at text ≡ Some (y, behind') = octet_at-OctetThen text y behind' (first', f', p') in
+    let parts = some_parts (x, behind) (y, behind') (sym one ∙ two) in
+    let octets : x ≡ y = parts.0 in
+    let texts : behind' ≡ behind = sym parts.1 in
+    let others = LabelThen-rest behind l rest l' rest' h (LabelThen-at behind' l' rest' behind texts h') end in
+    let m = others.0 in
+    (m, ap (λ w. w ∷ l') (sym octets) ∙ ap (λ w. x ∷ w) others.1, others.2)
+
+-- a text begins with one label alone
+pub LabelThen-unique : (text l rest l' rest' : Octets) → LabelThen text l rest → LabelThen text l' rest' → is_label_end rest ≡ true → is_label_end rest' ≡ true → (l' ≡ l) × (rest ≡ rest')
+LabelThen-unique text l rest l' rest' h h' end end' =
+    by_cases (LabelThen-rest text l rest l' rest' h h' end')
+  where
+    by_cases : (m : Octets) × (l' ≡ l ++ m) × LabelThen rest m rest' → (l' ≡ l) × (rest ≡ rest')
+    by_cases ([], e, f) = (e ∙ append-nil l, f)
+    by_cases (x ∷ m, e, (first, behind, f, p, g)) =
+        absurd (true≢false (sym end ∙ OctetThen-goes_on rest x behind (first, f, p)))
+
+-- the empty text spells the empty label, and nothing follows
+LabelThen-nil : (l rest : Octets) → LabelThen [] l rest → (l ≡ []) × (rest ≡ [])
+LabelThen-nil [] rest h = (refl, sym h)
+LabelThen-nil (x ∷ l) rest (first, behind, e, p, h) =
+    absurd (true≢false (OctetThen-goes_on [] x behind (first, e, p)))
+
+no_empty_label : is_label [] ≡ true → ⊥
+no_empty_label h = false≢true h
+
+-- where the labels `read` are read and `rest` is left: what the text spells is `read` and what `rest` spells
+pub record ReadSoFar (origin : DomainName) (word : Octets) (read : DomainName) (rest : Octets) : Type 0 where
+  pub all : (n : DomainName) → TextSpells origin rest n → TextSpells origin word (read ++ n)
+  pub only : (n : DomainName) → TextSpells origin word n → (m : DomainName) × (n ≡ read ++ m) × TextSpells origin rest m
+
+pub ReadSoFar-none : (origin : DomainName) (word : Octets) → ReadSoFar origin word [] word
+ReadSoFar-none origin word = record { all = λ n h. h; only = λ n h. (n, refl, h) }
+
+-- what a text that begins with a label and a dot spells
+spells_behind_dot : (origin : DomainName) (rest l others : Octets) (m : DomainName) → LabelThen rest l (46 ∷ others) → TextSpells origin rest m → (k : DomainName) × (m ≡ l ∷ k) × TextSpells origin others k
+spells_behind_dot origin rest l others [] h e =
+    let ended : 46 ∷ others ≡ [] = (LabelThen-nil l (46 ∷ others) (LabelThen-at rest l (46 ∷ others) [] e h)).1 in
+    cc
+spells_behind_dot origin rest l others (k ∷ m) h (inl (g, e)) =
+    let ended : [] ≡ 46 ∷ others = (LabelThen-unique rest k [] l (46 ∷ others) g h refl refl).1 in
+    cc
+spells_behind_dot origin rest l others (k ∷ m) h (inr (others', g, e)) =
+    let one = LabelThen-unique rest k (46 ∷ others') l (46 ∷ others) g h refl refl in
+    let same_text : others' ≡ others = ap (drop 1) one.1 in
+    let P : Octets → Type 0 = λ t. TextSpells origin t m in
+    (m, ap (λ j. j ∷ m) (sym one.0), subst P same_text e)
+
+pub ReadSoFar-push : (origin : DomainName) (word : Octets) (read : DomainName) (rest l others : Octets) → ReadSoFar origin word read rest → LabelThen rest l (46 ∷ others) → ReadSoFar origin word (read ++ l ∷ []) others
+ReadSoFar-push origin word read rest l others so_far h = record { all = all; only = only }
+  where
+    all : (n : DomainName) → TextSpells origin others n → TextSpells origin word ((read ++ l ∷ []) ++ n)
+    all n g =
+        let P : DomainName → Type 0 = TextSpells origin word in
+        subst P (sym (append_assoc read (l ∷ []) n)) (so_far.all (l ∷ n) (inr (others, h, g)))
+
+    only : (n : DomainName) → TextSpells origin word n → (m : DomainName) × (n ≡ (read ++ l ∷ []) ++ m) × TextSpells origin others m
+    only n g =
+        let behind = so_far.only n g in
+        let next = spells_behind_dot origin rest l others behind.0 h behind.2 in
+        (next.0, behind.1 ∙ ap (λ m. read ++ m) next.1 ∙ sym (append_assoc read (l ∷ []) next.0), next.2)
+
+-- the word is read, and spells the name n alone
+pub record SpellsOnly (origin : DomainName) (word : Octets) (n : DomainName) : Type 0 where
+  pub spelled : TextSpells origin word n
+  pub only : (m : DomainName) → is_name m ≡ true → TextSpells origin word m → m ≡ n
+
+-- what a text that is one label without a dot spells
+spells_last : (origin : DomainName) (rest l : Octets) (m : DomainName) → LabelThen rest l [] → is_label l ≡ true → TextSpells origin rest m → m ≡ l ∷ origin
+spells_last origin rest l [] h is_l e =
+    let empty : l ≡ [] = (LabelThen-nil l [] (LabelThen-at rest l [] [] e h)).0 in
+    absurd (no_empty_label (ap is_label (sym empty) ∙ is_l))
+spells_last origin rest l (k ∷ m) h is_l (inl (g, e)) =
+    let one : l ≡ k = (LabelThen-unique rest k [] l [] g h refl refl).0 in
+    cc
+spells_last origin rest l (k ∷ m) h is_l (inr (others, g, e)) =
+    let ended : 46 ∷ others ≡ [] = (LabelThen-unique rest k (46 ∷ others) l [] g h refl refl).1 in
+    cc
+
+-- a label among those of a name
+is_label-inside : (read : DomainName) (l : Octets) (n m : DomainName) → m ≡ read ++ l ∷ n → is_name m ≡ true → is_label l ≡ true
+is_label-inside read l n m e ok = inside read (IsName-is_name (read ++ l ∷ n) (ap is_name (sym e) ∙ ok)).labels
+  where
+    inside : (read : DomainName) → list_all is_label (read ++ l ∷ n) ≡ true → is_label l ≡ true
+    inside [] h = (and_parts (is_label l) _ h).0
+    inside (k ∷ read) h = inside read (and_parts (is_label k) _ h).1
+
+-- a last label without a dot
+pub SpellsOnly-relative : (origin : DomainName) (word : Octets) (read : DomainName) (rest l : Octets) → ReadSoFar origin word read rest → LabelThen rest l [] → is_label l ≡ true → SpellsOnly origin word ((read ++ l ∷ []) ++ origin)
+SpellsOnly-relative origin word read rest l so_far h is_l =
+    let P : DomainName → Type 0 = TextSpells origin word in
+    let joined = append_assoc read (l ∷ []) origin in
+    record {
+      spelled = subst P (sym joined) (so_far.all (l ∷ origin) (inl (h, refl)));
+      only = λ m ok g.
+          let behind = so_far.only m g in
+          behind.1 ∙ ap (λ k. read ++ k) (spells_last origin rest l behind.0 h is_l behind.2) ∙ sym joined;
+    }
+
+-- a final dot
+pub SpellsOnly-absolute : (origin : DomainName) (word : Octets) (read : DomainName) (rest : Octets) → ReadSoFar origin word read rest → rest ≡ [] → SpellsOnly origin word read
+SpellsOnly-absolute origin word read rest so_far e = record { spelled = spelled; only = only }
+  where
+    spelled : TextSpells origin word read
+    spelled = let P : DomainName → Type 0 = TextSpells origin word in subst P (append-nil read) (so_far.all [] e)
+
+    no_more : (m k : DomainName) → m ≡ read ++ k → is_name m ≡ true → TextSpells origin rest k → m ≡ read
+    no_more m [] f ok h = f ∙ append-nil read
+    no_more m (l ∷ k) f ok (inl (g, h)) =
+        let empty = LabelThen-nil l [] (LabelThen-at rest l [] [] e g) in
+        absurd (no_empty_label (ap is_label (sym empty.0) ∙ is_label-inside read l k m f ok))
+    no_more m (l ∷ k) f ok (inr (others, g, h)) =
+        let empty = LabelThen-nil l (46 ∷ others) (LabelThen-at rest l (46 ∷ others) [] e g) in
+        absurd (no_empty_label (ap is_label (sym empty.0) ∙ is_label-inside read l k m f ok))
+
+    only : (m : DomainName) → is_name m ≡ true → TextSpells origin word m → m ≡ read
+    only m ok g = let behind = so_far.only m g in no_more m behind.0 behind.1 ok behind.2
+
+-- no name is spelled where no label stands next
+pub nothing_spelled : (origin : DomainName) (word : Octets) (read : DomainName) (rest : Octets) → ReadSoFar origin word read rest → (rest ≡ [] → ⊥) → ((l behind : Octets) → LabelThen rest l behind → is_label_end behind ≡ true → is_label l ≡ true → ⊥) → (n : DomainName) → is_name n ≡ true → TextSpells origin word n → ⊥
+nothing_spelled origin word read rest so_far more none n ok h =
+    let behind = so_far.only n h in
+    by_cases behind.0 behind.1 behind.2
+  where
+    by_cases : (m : DomainName) → n ≡ read ++ m → TextSpells origin rest m → ⊥
+    by_cases [] e g = more g
+    by_cases (l ∷ m) e (inl (g, f)) = none l [] g refl (is_label-inside read l m n e ok)
+    by_cases (l ∷ m) e (inr (others, g, f)) = none l (46 ∷ others) g refl (is_label-inside read l m n e ok)
+
+-- an octet more of a label, of which no more than 64 are kept
+pub ReadsLabel-push : (text octets rest : Octets) (x : ℕ) (others : Octets) → ReadsLabel text octets rest → OctetThen rest x others → length octets < 64 → ReadsLabel text (octets ++ x ∷ []) others
+ReadsLabel-push text octets rest x others reads next room =
+    let l = reads.label in
+    let short : length l < 64 = omega (arith, ap length reads.kept, length-take 64 l) in
+    let whole : octets ≡ l = reads.kept ∙ take_all 64 l (omega arith) in
+    let longer = length-append l (x ∷ []) in
+    record {
+      label = l ++ x ∷ [];
+      spelled = LabelThen-push text l rest x others reads.spelled next;
+      kept = ap (λ w. w ++ x ∷ []) whole ∙ sym (take_all 64 (l ++ x ∷ []) (omega arith));
+    }
+
+pub ReadsLabel-full : (text octets rest : Octets) (x : ℕ) (others : Octets) → ReadsLabel text octets rest → OctetThen rest x others → 64 ≤ length octets → ReadsLabel text octets others
+ReadsLabel-full text octets rest x others reads next full =
+    let l = reads.label in
+    let long : 64 ≤ length l = omega (arith, ap length reads.kept, length-take 64 l) in
+    record {
+      label = l ++ x ∷ [];
+      spelled = LabelThen-push text l rest x others reads.spelled next;
+      kept = reads.kept ∙ sym (take-append-le 64 l (x ∷ []) long);
+    }
+
+-- where no octet is spelled and the label hasn't ended, the text begins with no label
+pub no_label_read : (text octets rest : Octets) → ReadsLabel text octets rest → is_label_end rest ≡ false → octet_at rest ≡ None → (l end : Octets) → LabelThen text l end → is_label_end end ≡ true → ⊥
+no_label_read text octets rest reads goes_on none l end h at_end =
+    by_cases (LabelThen-rest text reads.label rest l end reads.spelled h at_end)
+  where
+    by_cases : (m : Octets) × (l ≡ reads.label ++ m) × LabelThen rest m end → ⊥
+    by_cases ([], e, f) = true≢false (sym at_end ∙ ap is_label_end (sym f) ∙ goes_on)
+    by_cases (x ∷ m, e, (first, behind, f, p, g)) =
+        let read = octet_at-OctetThen rest x behind (first, f, p) in
+        cc
+
+-- a label that was read is the only one that the text begins with
+pub label_read_alone : (text octets end : Octets) → ReadsLabel text octets end → is_label_end end ≡ true → (is_label octets ≡ true → ⊥) → HasNoLabel text
+label_read_alone text octets end reads at_end no_label l end' h at_end' is_l =
+    let one : l ≡ reads.label = (LabelThen-unique text reads.label end l end' reads.spelled h at_end at_end').0 in
+    let fits = (IsLabel-is_label l is_l).fits in
+    let whole : octets ≡ l = reads.kept ∙ ap (take 64) (sym one) ∙ take_all 64 l (omega arith) in
+    no_label (ap is_label whole ∙ is_l)
+
+-- a label of which all octets were kept
+pub label_kept : (text octets end : Octets) → ReadsLabel text octets end → is_label octets ≡ true → LabelThen text octets end
+label_kept text octets end reads is_l =
+    let l = reads.label in
+    let fits = (IsLabel-is_label octets is_l).fits in
+    let short : length l < 64 = omega (arith, ap length reads.kept, length-take 64 l) in
+    let whole : octets ≡ l = reads.kept ∙ take_all 64 l (omega arith) in
+    let P : Octets → Type 0 = λ k. LabelThen text k end in
+    subst P (sym whole) reads.spelled
+
+pub PushesLabel-label : (text octets end l : Octets) (old : DomainName) (fits : Bool) (new : DomainName) → ReadsLabel text octets end → is_label_end end ≡ true → is_label octets ≡ true → l ≡ octets → Appended old (l ∷ []) fits new → PushesLabel text old fits end new
+PushesLabel-label text octets end l old fits new reads at_end is_l e appended =
+    let P : Octets → Type 0 = λ k. Appended old (k ∷ []) fits new in
+    record {
+      label = octets;
+      spelled = label_kept text octets end reads is_l;
+      at_end = at_end;
+      is_label = is_l;
+      appended = subst P e appended;
+    }
+
+-- what `push` says of one label
+pub Appended-push : (old : DomainName) (l : Octets) (fits : Bool) (new : DomainName) → ((fits ≡ true) ↔ (length (wire (old ++ l ∷ [])) ≤ 255)) → OnTrue fits (new ≡ old ++ l ∷ []) → is_name new ≡ true → Appended old (l ∷ []) fits new
+Appended-push old l true new room pushed ok = (pushed, ok)
+Appended-push old l false new room pushed ok =
+    elim (cases_lt 255 (length (wire (old ++ l ∷ [])))) [ inl h ↦ h | inr h ↦ absurd (false≢true (room.1 h)) ]
+
+-- while the labels that are read fit, the name holds them
+abbrev pub Holds : DomainName → Bool → DomainName → Type 0
+Holds read fits name = MatchBool fits ((name ≡ read) × (is_name read ≡ true)) (255 < length (wire read))
+
+pub Holds-append : (read : DomainName) (fits : Bool) (name labels : DomainName) (more : Bool) (new : DomainName) → Holds read fits name → Appended name labels more new → Holds (read ++ labels) (fits && more) new
+Holds-append read true name labels true new (e, ok) (f, ok') =
+    let whole : new ≡ read ++ labels = f ∙ ap (λ n. n ++ labels) e in
+    (whole, ap is_name (sym whole) ∙ ok')
+Holds-append read true name labels false new (e, ok) over =
+    let P : DomainName → Type 0 = λ n. 255 < length (wire (n ++ labels)) in
+    subst P e over
+Holds-append read false name labels more new over h =
+    omega (arith, length-wire-append read labels, some_octet labels)
+  where
+    some_octet : (n : DomainName) → 0 < length (wire n)
+    some_octet [] = omega arith
+    some_octet (l ∷ n) = omega arith
+
+-- how far a word is read
+pub record Reads (origin : DomainName) (word : Octets) (name : DomainName) (fits : Bool) (rest : Octets) : Type 0 where
+  pub read : DomainName
+  pub so_far : ReadSoFar origin word read rest
+  pub holds : Holds read fits name
+
+pub Reads-none : (origin : DomainName) (word : Octets) → Reads origin word [] true word
+Reads-none origin word = record { read = []; so_far = ReadSoFar-none origin word; holds = (refl, refl) }
+
+pub Reads-push : (origin : DomainName) (word : Octets) (name : DomainName) (fits : Bool) (rest : Octets) (more : Bool) (end : Octets) (new : DomainName) (dot : ℕ) (others : Octets) → Reads origin word name fits rest → PushesLabel rest name more end new → end ≡ dot ∷ others → Reads origin word new (fits && more) others
+Reads-push origin word name fits rest more end new dot others reads pushes e =
+    let is_dot : dot ≡ 46 = eqb-true dot 46 (ap is_label_end (sym e) ∙ pushes.at_end) in
+    let P : Octets → Type 0 = LabelThen rest pushes.label in
+    let spelled : LabelThen rest pushes.label (46 ∷ others) = subst P (e ∙ ap (λ d. d ∷ others) is_dot) pushes.spelled in
+    record {
+      read = reads.read ++ pushes.label ∷ [];
+      so_far = ReadSoFar-push origin word reads.read rest pushes.label others reads.so_far spelled;
+      holds = Holds-append reads.read fits name (pushes.label ∷ []) more new reads.holds pushes.appended;
+    }
+
+-- the result that is told at the end
+pub SpellsIff-only : {E : Type 0} (origin : DomainName) (word : Octets) (n name : DomainName) (fits : Bool) (e : E) (r : Result DomainName E) → SpellsOnly origin word n → Holds n fits name → r ≡ (if fits then Ok name else Err e) → SpellsIff origin word r
+SpellsIff-only origin word n name true e r spells (f, ok) g = λ m.
+    let P : DomainName → Type 0 = λ k. (is_name k ≡ true) × TextSpells origin word k in (
+      λ h. (let same_name : n ≡ m = cc in subst P same_name (ok, spells.spelled)),
+      λ h. g ∙ ap (λ k. Ok k) (f ∙ sym (spells.only m h.0 h.1)),
+    )
+SpellsIff-only origin word n name false e r spells over g = λ m. (
+  λ h. cc,
+  λ h. absurd (let whole = ap (λ k. length (wire k)) (spells.only m h.0 h.1) in let fits = (IsName-is_name m h.0).fits in omega arith),
+)
+
+pub SpellsIff-absolute : {E : Type 0} (origin : DomainName) (word : Octets) (name : DomainName) (fits : Bool) (rest : Octets) (e : E) (r : Result DomainName E) → Reads origin word name fits rest → rest ≡ [] → r ≡ (if fits then Ok name else Err e) → SpellsIff origin word r
+SpellsIff-absolute origin word name fits rest e r reads empty g =
+    SpellsIff-only origin word reads.read name fits e r
+    (SpellsOnly-absolute origin word reads.read rest reads.so_far empty) reads.holds g
+
+pub SpellsIff-relative : {E : Type 0} (origin : DomainName) (word : Octets) (name : DomainName) (fits : Bool) (rest : Octets) (more : Bool) (end : Octets) (new : DomainName) (more' : Bool) (whole : DomainName) (e : E) (r : Result DomainName E) → Reads origin word name fits rest → PushesLabel rest name more end new → end ≡ [] → Appended new origin more' whole → r ≡ (if (fits && more) && more' then Ok whole else Err e) → SpellsIff origin word r
+SpellsIff-relative origin word name fits rest more end new more' whole e r reads pushes f appended g =
+    let P : Octets → Type 0 = LabelThen rest pushes.label in
+    let l = pushes.label in
+    let one = Holds-append reads.read fits name (l ∷ []) more new reads.holds pushes.appended in
+    SpellsIff-only origin word ((reads.read ++ l ∷ []) ++ origin) whole ((fits && more) && more') e r
+    (SpellsOnly-relative origin word reads.read rest l reads.so_far (subst P f pushes.spelled) pushes.is_label)
+    (Holds-append (reads.read ++ l ∷ []) (fits && more) new origin more' whole one appended) g
+
+pub SpellsIff-none : {E : Type 0} (origin : DomainName) (word : Octets) (name : DomainName) (fits : Bool) (rest : Octets) (r : Result DomainName E) → Reads origin word name fits rest → (rest ≡ [] → ⊥) → HasNoLabel rest → IsErr r → SpellsIff origin word r
+SpellsIff-none origin word name fits rest (Ok n) reads more none g = absurd (false≢true g)
+SpellsIff-none origin word name fits rest (Err e) reads more none g = λ m. (
+  λ h. cc,
+  λ h. absurd (nothing_spelled origin word reads.read rest reads.so_far more none m h.0 h.1),
+)
+
+LabelThen-shorter : (text l rest : Octets) → LabelThen text l rest → length rest ≤ length text
+LabelThen-shorter text [] rest h = omega (arith, ap length h)
+LabelThen-shorter text (x ∷ l) rest (first, behind, e, p, h) =
+    omega (arith, LabelThen-shorter behind l rest h, OctetThen-shorter text x behind (first, e, p))
+
+pub PushesLabel-shorter : (text : Octets) (old : DomainName) (fits : Bool) (end : Octets) (new : DomainName) (dot : ℕ) (others : Octets) → PushesLabel text old fits end new → end ≡ dot ∷ others → length others < length text
+PushesLabel-shorter text old fits end new dot others pushes e =
+    omega (arith, LabelThen-shorter text pushes.label end pushes.spelled, ap length e)
+
+only_item : (a b : ℕ) → a ∷ [] ≡ b ∷ [] → a ≡ b
+only_item a b e = cc
+
+dot_or_at : (w : Octets) → w ≡ 46 ∷ [] → w ≡ 64 ∷ [] → ⊥
+dot_or_at w h k = absurd (omega (arith, only_item 46 64 (sym h ∙ k)))
+
+empty_or_dot : (word : Octets) → word ≡ [] → word ≡ 46 ∷ [] → ⊥
+empty_or_dot word h e = cc
+
+-- only the empty label stands at a label's end
+LabelThen-at_end : (text l rest : Octets) → is_label_end text ≡ true → LabelThen text l rest → l ≡ []
+LabelThen-at_end text [] rest e h = refl
+LabelThen-at_end text (x ∷ l) rest e (first, behind, f, p, h) =
+    absurd (true≢false (sym e ∙ OctetThen-goes_on text x behind (first, f, p)))
+
+dot_spells_none : (origin : DomainName) (word : Octets) (n : DomainName) → word ≡ 46 ∷ [] → is_name n ≡ true → TextSpells origin word n → ⊥
+dot_spells_none origin word [] e ok h = absurd (empty_or_dot word h e)
+dot_spells_none origin word (l ∷ n) e ok (inl (h, k)) =
+    no_empty_label (ap is_label (sym (LabelThen-at_end word l [] (ap is_label_end e) h)) ∙ is_label-head l n ok)
+dot_spells_none origin word (l ∷ n) e ok (inr (others, h, k)) =
+    no_empty_label (ap is_label (sym (LabelThen-at_end word l (46 ∷ others) (ap is_label_end e) h)) ∙ is_label-head l n ok)
+
+-- the result is the name that the word spells, if there is one
+abbrev pub SpellsWordIff : {E : Type 0} → DomainName → Octets → Result DomainName E → Type 0
+SpellsWordIff origin word r = (n : DomainName) → (r ≡ Ok n) ↔ SpellsName origin word n
+
+pub SpellsWordIff-root : {E : Type 0} (origin : DomainName) (word : Octets) (root : DomainName) (r : Result DomainName E) → word ≡ 46 ∷ [] → root ≡ [] → r ≡ Ok root → SpellsWordIff origin word r
+SpellsWordIff-root origin word root r f e g = λ n. (
+  λ h. (let same_name : n ≡ root = cc in record { spelled = inr (inl (f, same_name ∙ e)); is_name = ap is_name (same_name ∙ e) }),
+  λ h. g ∙ ap (λ k. Ok k) (e ∙ sym (by_cases n h.is_name h.spelled)),
+)
+  where
+    by_cases : (n : DomainName) → is_name n ≡ true → ((word ≡ 64 ∷ []) × (n ≡ origin)) ⊎ (((word ≡ 46 ∷ []) × (n ≡ [])) ⊎ ((word ≢ 64 ∷ []) × (word ≢ []) × TextSpells origin word n)) → n ≡ []
+    by_cases n ok (inl (h, k)) = absurd (dot_or_at word f h)
+    by_cases n ok (inr (inl (h, k))) = k
+    by_cases n ok (inr (inr (h, k, l))) = absurd (dot_spells_none origin word n f ok l)

@@ -1,0 +1,182 @@
+//! Names in the text of zone files (RFC 1035 5.1).
+ghost use Rattle.std.specs.Prelude.{◌≡◌, ◌≢◌, true, ℕ, if◌then◌else◌, IsNone, ◌↔◌, [], ◌∷◌, ◌++◌, IsTrue, IfOk, OnErr, Ok, IfSome, ◌<◌};
+ghost use Rattle.dns_spec.specs.Names.{Octets, DomainName, is_label, is_name};
+ghost use Rattle.dns_spec.specs.NameText.{LabelThen, TextSpells, SpellsName};
+ghost use Rattle.dns_name.specs.NameFault.{fault_code};
+ghost use Rattle.dns_name.specs.TextForm.{ReadsLabel, PushesLabel, HasNoLabel, SpellsIff, Gives, digit_at, decimal_at, escaped_at, octet_at, is_label_end, Appended};
+
+use crate::label::Label;
+use crate::name::Name;
+use arrayvec::ArrayVec;
+
+// A label has at most 63 octets. One more is kept, which tells that it is too long.
+const KEPT_OCTETS: usize = 64;
+
+/// Why a word spells no name.
+#[derive(Clone, Copy, Debug, PartialEq, Eq)]
+pub enum NameFault {
+    /// A label has no octet, as in `a..b`. The empty word is such a label.
+    EmptyLabel = 1,
+    /// A label has more than 63 octets (RFC 1035 2.3.4).
+    LabelTooLong = 2,
+    /// The name, with the origin where it is relative, has more than 255 octets on the wire (RFC 1035 2.3.4).
+    NameTooLong = 3,
+    /// A backslash begins neither `\X`, with X printable and no digit, nor `\DDD`, three digits up to 255.
+    BadEscape = 4,
+}
+
+impl NameFault {
+    /// The number of the fault, 1 to 4 in the order of the variants.
+    pub fn code(self) -> u8
+        ensures { result ≡ fault_code self }
+    {
+        self as u8
+    }
+}
+
+impl Name {
+    /// The name that a word of a zone file spells, relative to `origin` (RFC 1035 5.1).
+    ///
+    /// `@` alone is the origin and `.` alone the root. A word without a final dot goes on with the labels of the
+    /// origin: `www` at `example.` is `www.example.` The case of letters is kept. An octet is spelled as itself, as
+    /// `\X` or as `\DDD`.
+    ///
+    /// Labels are judged from the left. In a label a bad escape is told first, then no octet or too many of them.
+    /// That the whole name is too long is told only where no label is faulty.
+    pub fn read_text(word: &[u8], origin: &Name) -> Result<Name, NameFault>
+        ensures { (n : DomainName) → (result ≡ Ok n) ↔ SpellsName origin.now word.now n }
+    {
+        if word.is_empty() {
+            return Err(NameFault::EmptyLabel);
+        }
+        if word == b"@".as_slice() {
+            return Ok(origin.copied());
+        }
+        if word == b".".as_slice() {
+            return Ok(Name::root());
+        }
+        spelled_name(word, origin)
+    }
+}
+
+// The name that labels and dots spell.
+fn spelled_name(word: &[u8], origin: &Name) -> Result<Name, NameFault>
+    requires { word.now ≢ [] }
+    ensures { SpellsIff origin.now word.now result }
+{
+    let mut name = Name::root();
+    let mut fits = true;
+    let mut rest = word;
+    'labels: while !rest.is_empty() {
+        let (label_fits, end) = push_label(&mut name, rest)?;
+        fits &= label_fits;
+        let Some((_, others)) = end.split_first() else {
+            fits &= name.append(origin);
+            return name_that_fits(name, fits);
+        };
+        rest = others;
+    }
+    name_that_fits(name, fits)
+}
+
+fn name_that_fits(name: Name, fits: bool) -> Result<Name, NameFault>
+    ensures { result ≡ (if fits then Ok name else Err NameFault.NameTooLong) }
+{
+    if fits {
+        Ok(name)
+    } else {
+        Err(NameFault::NameTooLong)
+    }
+}
+
+// Reads the label that a text begins with, and adds it to the name where it fits there.
+//
+// Gives whether it fits, and the text from the label's end on: empty, or with a dot first.
+fn push_label<'a>(name: &mut Name, text: &'a [u8]) -> Result<(bool, &'a [u8]), NameFault>
+    ensures ok { IfOk result (λ x. PushesLabel text.now name.old x.0 x.1.now name.new) }
+    ensures err { OnErr result (HasNoLabel text.now) }
+{
+    let Some((octets, end)) = label_text(text) else {
+        return Err(NameFault::BadEscape);
+    };
+    if octets.is_empty() {
+        return Err(NameFault::EmptyLabel);
+    }
+    let Some(label) = Label::new(octets.as_slice()) else {
+        return Err(NameFault::LabelTooLong);
+    };
+    Ok((name.push(label), end))
+}
+
+// The octets of the label that a text begins with, at most 64 of them, and the text from its end on. `None` where
+// an escape in it is bad.
+fn label_text(text: &[u8]) -> Option<(ArrayVec<u8, KEPT_OCTETS>, &[u8])>
+    ensures some { IfSome result (λ x. ReadsLabel text.now x.0.items x.1.now) }
+    ensures end { IfSome result (λ x. IsTrue (is_label_end x.1.now)) }
+    ensures none { IsNone result → (l end : Octets) → LabelThen text.now l end → is_label_end end ≡ true → ⊥ }
+{
+    let mut octets = ArrayVec::new();
+    let mut rest = text;
+    'octets: while !at_label_end(rest) {
+        let (octet, others) = first_octet(rest)?;
+        if !octets.is_full() {
+            octets.push(octet);
+        }
+        rest = others;
+    }
+    Some((octets, rest))
+}
+
+// The octet that a text begins with, and the text behind its spelling.
+#[tactic(auto, unfolding(crate::specs::TextForm::octet_at))]
+fn first_octet(text: &[u8]) -> Option<(u8, &[u8])>
+    ensures { Gives result (octet_at text.now) }
+{
+    let (first, rest) = text.split_first()?;
+    if *first == b'\\' {
+        return escaped(rest);
+    }
+    Some((*first, rest))
+}
+
+#[tactic(auto, unfolding(crate::specs::TextForm::escaped_at))]
+fn escaped(text: &[u8]) -> Option<(u8, &[u8])>
+    ensures { Gives result (escaped_at text.now) }
+{
+    let (first, rest) = text.split_first()?;
+    if first.is_ascii_digit() {
+        return decimal(text);
+    }
+    if *first < b' ' || *first > b'~' {
+        return None;
+    }
+    Some((*first, rest))
+}
+
+#[tactic(auto, unfolding(crate::specs::TextForm::decimal_at))]
+fn decimal(text: &[u8]) -> Option<(u8, &[u8])>
+    ensures { Gives result (decimal_at text.now) }
+{
+    let (hundreds, text) = digit(text)?;
+    let (tens, text) = digit(text)?;
+    let (ones, text) = digit(text)?;
+    let value = u8::try_from(100 * hundreds + 10 * tens + ones).ok()?;
+    Some((value, text))
+}
+
+fn digit(text: &[u8]) -> Option<(u16, &[u8])>
+    ensures value { Gives result (digit_at text.now) }
+    ensures bound { IfSome result (λ x. x.0 < 10) }
+{
+    let (first, rest) = text.split_first()?;
+    if !first.is_ascii_digit() {
+        return None;
+    }
+    Some((u16::from(*first - b'0'), rest))
+}
+
+fn at_label_end(text: &[u8]) -> bool
+    ensures { result ≡ is_label_end text.now }
+{
+    text.first().is_none_or(|first| *first == b'.')
+}
