@@ -1,2 +1,3 @@
-pub mod WireLemmas
+pub mod Pieces
 pub mod TextLemmas
+pub mod WireLemmas

@@ -1,3 +1,4 @@
-pub mod WireForm
-pub mod TextForm
+pub mod Counted
 pub mod NameFault
+pub mod TextForm
+pub mod WireForm
