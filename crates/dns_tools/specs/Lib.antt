@@ -1,2 +1,5 @@
-pub mod ListZone
+-- What the contracts of the programs' functions cite.
 pub mod Decided
+pub mod ListZone
+pub mod Status
+pub mod Words
