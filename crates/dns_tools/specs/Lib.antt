@@ -2,4 +2,5 @@
 pub mod Decided
 pub mod ListZone
 pub mod Status
+pub mod Stops
 pub mod Words

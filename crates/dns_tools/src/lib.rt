@@ -3,11 +3,15 @@
 
 mod fault;
 mod list;
+mod once;
 mod query;
+mod respond;
 mod words;
 
 pub use fault::{FaultWord, Stop, exit_status};
-pub use list::{Record, Zone};
+pub use list::{BuildFault, Record, Zone};
+pub use once::run_once;
+pub use respond::{Limit, Steps};
 pub use words::{ServeWords, serve_words};
 
 #[cfg(test)]
