@@ -3,6 +3,7 @@
 
 mod fault;
 mod list;
+mod load;
 mod once;
 mod query;
 mod respond;
@@ -10,6 +11,7 @@ mod words;
 
 pub use fault::{FaultWord, Stop, exit_status};
 pub use list::{BuildFault, Record, Zone};
+pub use load::{LoadFault, load as load_zone};
 pub use once::run_once;
 pub use respond::{Limit, Steps};
 pub use words::{ServeWords, serve_words};
