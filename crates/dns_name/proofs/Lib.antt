@@ -1,2 +1,4 @@
+pub mod Pieces
+pub mod TextLemmas
 pub mod WireLemmas
 pub mod TextLemmas

@@ -1,3 +1,6 @@
+pub mod Counted
+pub mod NameFault
+pub mod TextForm
 pub mod WireForm
 pub mod TextForm
 pub mod NameFault

@@ -1,12 +1,15 @@
-//! Domain names: their labels, their octets on the wire, and how they are compared.
+//! Domain names: their labels, their octets on the wire, and how they are compared; and devices that count their
+//! failures.
 #![tactic(auto)]
 
 mod label;
 mod name;
+mod tally;
 mod text;
 
 pub use label::Label;
 pub use name::{Labels, Name};
+pub use tally::{SinkFailed, SourceFailed, Tally};
 pub use text::NameFault;
 
 #[cfg(test)]

@@ -1,11 +1,22 @@
-//! What the programs do, as functions over readers and writers.
+//! What the programs do, behind their `main`s: their words, how a zone is loaded, and how queries are answered.
 #![tactic(auto)]
 
-mod list;
-mod lookup;
-mod query;
+mod fault;
 mod layout;
+mod list;
+mod load;
+mod lookup;
+mod once;
+mod query;
 mod reply;
+mod words;
 
-pub use list::{Record, Zone};
+pub use fault::{FaultWord, Stop, exit_status};
+pub use list::{BuildFault, Record, Zone};
+pub use load::{LoadFault, load as load_zone};
+pub use once::run_once;
 pub use reply::{Limit, Steps, respond};
+pub use words::{ServeWords, serve_words};
+
+#[cfg(test)]
+mod tests;

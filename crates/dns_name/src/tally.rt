@@ -1,0 +1,122 @@
+ghost use Rattle.std.specs.Prelude.{◌≡◌, ◌+◌, ◌-◌, ◌^◌, ◌<◌, length, IfOk, OnOk, OnErr, is_ok, if◌then◌else◌};
+ghost use Rattle.std.specs.Io.{ReadsAtMost, WritesAtMost};
+ghost use Rattle.std.specs.Io.KnownBytes.{Appends, ReadConsumes, WriteAppends};
+ghost use Rattle.dns_name.specs.Counted.{failures_after, AppendsBeginning};
+
+use std::io::{Read, Write};
+use std::marker::Model;
+
+/// A call of a reader failed, and was counted.
+#[derive(Clone, Copy, Debug, PartialEq, Eq)]
+pub struct SourceFailed;
+
+/// A call of a writer failed, and was counted.
+#[derive(Clone, Copy, Debug, PartialEq, Eq)]
+pub struct SinkFailed;
+
+/// A reader or a writer with the count of its failures.
+///
+/// The count rises by one exactly where a call answers an error, and no call is tried again. Each call over the
+/// device asks that the count is below the greatest `u64`.
+#[derive(Drop)]
+pub struct Tally<T> {
+    device: T,
+    failures: u64,
+}
+
+impl<T> Model for Tally<T> {
+    ghost use Rattle.dns_name.specs.Counted.{Counted};
+
+    ghost Value = { Counted T };
+
+    ghost view = { λ t. record { device = t.device; failures = t.failures } };
+}
+
+impl<T> Tally<T> {
+    /// The device with a count of 0.
+    pub fn new(device: T) -> Self
+        ensures device { result.device ≡ device }
+        ensures failures { result.failures ≡ 0 }
+    {
+        Tally {
+            device,
+            failures: 0,
+        }
+    }
+
+    /// How many calls of the device have failed.
+    pub fn failures(&self) -> u64
+        ensures { result ≡ self.now.failures }
+    {
+        let Tally { failures, .. } = self;
+        *failures
+    }
+
+    /// The device, without its count.
+    pub fn into_inner(self) -> T
+        ensures { result ≡ self.device }
+    {
+        let Tally {
+            device,
+            failures: _,
+        } = self;
+        device
+    }
+}
+
+impl<T: Read> Tally<T> {
+    /// Reads once, into the front of `buf`, and answers how many octets came: 0 at the end of the input, or where
+    /// `buf` is empty. Where the device fails, the failure is counted and no octet was taken.
+    pub fn read(&mut self, buf: &mut [u8]) -> Result<usize, SourceFailed>
+        requires { self.old.failures < 2 ^ 64 - 1 }
+        ensures bound { ReadsAtMost result buf.new }
+        ensures bytes { ReadConsumes (T.remaining self.old.device) (T.remaining self.new.device) result buf.new }
+        ensures counted { self.new.failures ≡ failures_after self.old.failures result }
+    {
+        match self.device.read(buf) {
+            Ok(count) => Ok(count),
+            Err(_) => {
+                self.failures += 1;
+                Err(SourceFailed)
+            }
+        }
+    }
+}
+
+impl<T: Write> Tally<T> {
+    /// Writes once, from the front of `piece`, and answers how many octets the device took. Where it fails, or takes
+    /// nothing of a piece that isn't empty, the failure is counted and nothing was written.
+    pub fn write(&mut self, piece: &[u8]) -> Result<usize, SinkFailed>
+        requires { self.old.failures < 2 ^ 64 - 1 }
+        ensures bound { WritesAtMost result piece.now }
+        ensures progress { IfOk result (λ count. 0 < length piece.now → 0 < count) }
+        ensures bytes { WriteAppends (T.contents self.old.device) (T.contents self.new.device) result piece.now }
+        ensures counted { self.new.failures ≡ failures_after self.old.failures result }
+    {
+        match self.device.write(piece) {
+            Ok(count) if count > 0 || piece.is_empty() => Ok(count),
+            _ => {
+                self.failures += 1;
+                Err(SinkFailed)
+            }
+        }
+    }
+
+    /// Writes the whole text, call by call. Where one of them fails, a beginning of the text was written, and nothing
+    /// is tried after it.
+    pub fn write_all(&mut self, text: &[u8]) -> Result<(), SinkFailed>
+        requires { self.old.failures < 2 ^ 64 - 1 }
+        ensures ok { OnOk result (Appends (T.contents self.old.device) (T.contents self.new.device) text.now) }
+        ensures err { OnErr result (AppendsBeginning (T.contents self.old.device) (T.contents self.new.device) text.now) }
+        ensures counted { self.new.failures ≡ failures_after self.old.failures result }
+    {
+        let mut written = 0;
+        'pieces: while written < text.len() {
+            written += self.write(&text[written..])?;
+        }
+        Ok(())
+    }
+}
+
+#[cfg(test)]
+mod tests;

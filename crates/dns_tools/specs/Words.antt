@@ -1,0 +1,19 @@
+-- What a reader learns here: which words of a command line are never taken as values.
+use Rattle.std.specs.Prelude.{ℕ, Bool, true, false, ◌==◌, List, [], ◌∷◌}
+use Rattle.dns_tools.specs.declared.fault.FaultWord.{FaultWord}
+use Rattle.dns_tools.specs.declared.fault.FaultWord.TheVariants.{Usage, BadOrigin, NoMemory, SourceFailed, SinkFailed, ZoneRefused, Unsupported}
+
+-- the word begins with `-`
+abbrev pub is_dashed : List ℕ → Bool
+is_dashed [] = false
+is_dashed (octet ∷ rest) = octet == 45
+
+-- what the words of a command line can be refused for
+abbrev pub is_word_fault : FaultWord → Bool
+is_word_fault Usage = true
+is_word_fault BadOrigin = true
+is_word_fault NoMemory = true
+is_word_fault SourceFailed = false
+is_word_fault SinkFailed = false
+is_word_fault ZoneRefused = false
+is_word_fault (Unsupported line) = false

@@ -1,0 +1,77 @@
+//! Why a program stops, what it says then, and the status that it ends with.
+ghost use Rattle.std.specs.Prelude.{◌≡◌};
+ghost use Rattle.dns_tools.specs.Status.{status_of, fault_status, word_of};
+
+use thiserror::Error;
+
+/// Why an engine gave up before the end of its input.
+#[derive(Clone, Copy, Debug, PartialEq, Eq)]
+pub enum Stop {
+    /// No memory was found.
+    Memory,
+    /// Reading failed.
+    Source,
+    /// Writing failed.
+    Sink,
+}
+
+/// The status of a program: 0 where its engine answers true, 1 where it answers false, 2 where it stopped.
+pub fn exit_status(outcome: &Result<bool, Stop>) -> u8
+    ensures { result ≡ status_of outcome.now }
+{
+    match outcome {
+        Ok(true) => 0,
+        Ok(false) => 1,
+        Err(_) => 2,
+    }
+}
+
+/// What a program says on standard error where it can't do what it was asked for. The texts are what it prints.
+#[derive(Clone, Copy, Debug, PartialEq, Eq, Error)]
+pub enum FaultWord {
+    /// The words are not those that the program takes.
+    #[error("usage")]
+    Usage,
+    /// ORIGIN is no domain name.
+    #[error("bad origin")]
+    BadOrigin,
+    /// No memory was found.
+    #[error("no memory")]
+    NoMemory,
+    /// The zone file can't be opened, or it or standard input can't be read.
+    #[error("R16")]
+    SourceFailed,
+    /// Standard output can't be written.
+    #[error("P1")]
+    SinkFailed,
+    /// The records of the file are no zone that is served.
+    #[error("zone refused")]
+    ZoneRefused,
+    /// The first line of the file, counted from 1, that is no record in the one spelling that is read.
+    #[error("line {0}: unsupported")]
+    Unsupported(u32),
+}
+
+impl FaultWord {
+    /// The status that the program ends with: 1 where the zone file is at fault, 2 for all else.
+    pub fn status(&self) -> u8
+        ensures { result ≡ fault_status self.now }
+    {
+        match self {
+            FaultWord::ZoneRefused | FaultWord::Unsupported(_) => 1,
+            _ => 2,
+        }
+    }
+}
+
+impl From<Stop> for FaultWord {
+    ghost from_gives = { λ stop word. word ≡ word_of stop };
+
+    fn from(stop: Stop) -> FaultWord {
+        match stop {
+            Stop::Memory => FaultWord::NoMemory,
+            Stop::Source => FaultWord::SourceFailed,
+            Stop::Sink => FaultWord::SinkFailed,
+        }
+    }
+}

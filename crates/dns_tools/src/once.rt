@@ -1,0 +1,248 @@
+//! Messages that come as lines of hexadecimal digits, and the lines that answer them.
+ghost use Rattle.std.specs.Prelude.{◌≡◌, ◌+◌, ◌-◌, ◌*◌, ◌^◌, ◌<◌, ◌≤◌, ◌++◌, length, vec_len, vec_capacity, Err, OnOk, IfErr, IfSome, IfNone, IsErr, Ok, take, ◌≢◌};
+ghost use Rattle.hex.specs.Hex.{decode_of};
+ghost use Rattle.std.specs.Bool.{OnFalse};
+ghost use Rattle.dns_name.specs.Counted.{failures_after};
+ghost use Rattle.dns_tools.specs.Stops.{source_failures_after, sink_failures_after};
+ghost use Rattle.dns_tools.specs.declared.once.TheConstants.{MOST_DIGITS, MOST_OCTETS, MOST_ANSWER, MOST_REPLY, ANSWERS};
+
+use crate::fault::Stop;
+use crate::list::Zone;
+use crate::reply::{Limit, Steps, respond};
+use dns_name::{SinkFailed, Tally};
+use std::alloc::{AllocError, Global};
+use std::io::{Read, Write};
+
+// The octets of the greatest datagram, and their digits.
+const MOST_OCTETS: usize = 65_535;
+
+const MOST_DIGITS: usize = 131_070;
+
+// The octets of the greatest reply, and the length of the line that tells it.
+const MOST_REPLY: usize = 512;
+
+const MOST_ANSWER: usize = 1_025;
+
+// How many octets of answers are gathered before they are written, and how many are read at once.
+const ANSWERS: usize = 65_536;
+
+const PIECE: usize = 65_536;
+
+/// Answers each line of the source by one line of the sink, and tells whether each line was a message.
+///
+/// A line is a message in hexadecimal digits of either case, at most 131,070 of them; behind the last LF there is a
+/// line only where octets follow. Its answer is the reply in lower case digits, or `none` where there is no reply. A
+/// line that is no such message is answered by `bad hex`. At most 18,446,744,073,709,551,615 octets are read, and the
+/// source counts as ended there. All answers that are due are written before the source is asked for more.
+///
+/// Where it stops, the sink has a beginning of the answers, and no device is used after its failure. Memory is taken
+/// before the first octet is read, and none afterwards.
+pub fn run_once<R: Read, W: Write>(
+    alloc: Global,
+    zone: &Zone,
+    limit: Limit,
+    source: &mut Tally<R>,
+    sink: &mut Tally<W>,
+) -> Result<bool, Stop>
+    requires source { source.old.failures < 2 ^ 64 - 1 }
+    requires sink { sink.old.failures < 2 ^ 64 - 1 }
+    ensures source { source.new.failures ≡ source_failures_after source.old.failures result }
+    ensures sink { sink.new.failures ≡ sink_failures_after sink.old.failures result }
+
+    // Without memory nothing was read and nothing was written.
+    ensures unread { result ≡ Err Stop.Memory → source.new ≡ source.old }
+    ensures unwritten { result ≡ Err Stop.Memory → sink.new ≡ sink.old }
+{
+    let mut piece = vec![in alloc; 0; PIECE].map_err(|_| Stop::Memory)?;
+    let mut exchange = Exchange::new(alloc, zone, limit).map_err(|_| Stop::Memory)?;
+    exchange.run(piece.as_mut_slice(), source, sink)
+}
+
+// The lines of one source, as they come, and their answers, as far as they are not written.
+#[derive(Drop)]
+struct Exchange<'z> {
+    zone: &'z Zone,
+    limit: Limit,
+    // What is kept of the line that goes on.
+    line: Vec<u8>,
+    is_overlong: bool,
+    // Where a line is spelled as octets.
+    datagram: Vec<u8>,
+    answers: Vec<u8>,
+    are_all_messages: bool,
+    ghost line_fits: { vec_len line ≤ MOST_DIGITS },
+    ghost line_room: { MOST_DIGITS ≤ vec_capacity line },
+    ghost datagram_room: { vec_len datagram ≡ MOST_OCTETS },
+    ghost answers_fit: { vec_len answers ≤ ANSWERS },
+    ghost answers_room: { ANSWERS ≤ vec_capacity answers },
+}
+
+impl<'z> Exchange<'z> {
+    fn new(alloc: Global, zone: &'z Zone, limit: Limit) -> Result<Self, AllocError> {
+        Ok(Exchange {
+            zone,
+            limit,
+            line: Vec::with_capacity(alloc, MOST_DIGITS)?,
+            is_overlong: false,
+            datagram: vec![in alloc; 0; MOST_OCTETS]?,
+            answers: Vec::with_capacity(alloc, ANSWERS)?,
+            are_all_messages: true,
+        })
+    }
+
+    fn run<R: Read, W: Write>(
+        &mut self,
+        piece: &mut [u8],
+        source: &mut Tally<R>,
+        sink: &mut Tally<W>,
+    ) -> Result<bool, Stop>
+        requires source { source.old.failures < 2 ^ 64 - 1 }
+        requires sink { sink.old.failures < 2 ^ 64 - 1 }
+        requires piece { 0 < length piece.old }
+        ensures source { source.new.failures ≡ source_failures_after source.old.failures result }
+        ensures sink { sink.new.failures ≡ sink_failures_after sink.old.failures result }
+        ensures memory { IfErr result (λ stop. stop ≢ Stop.Memory) }
+    {
+        let mut left = u64::MAX;
+        'pieces: while left > 0 {
+            self.flush(sink).map_err(|_| Stop::Sink)?;
+            let most = left.min(piece.len() as u64) as usize;
+            let count = source.read(&mut piece[..most]).map_err(|_| Stop::Source)?;
+            if count == 0 {
+                break;
+            }
+            self.take(&piece[..count], sink).map_err(|_| Stop::Sink)?;
+            left -= count as u64;
+        }
+        if !self.line.is_empty() {
+            self.end_line(sink).map_err(|_| Stop::Sink)?;
+        }
+        self.flush(sink).map_err(|_| Stop::Sink)?;
+        Ok(self.are_all_messages)
+    }
+
+    // Takes the next octets of the source, and answers the lines that end in them.
+    fn take<W: Write>(&mut self, octets: &[u8], sink: &mut Tally<W>) -> Result<(), SinkFailed>
+        requires { sink.old.failures < 2 ^ 64 - 1 }
+        ensures { sink.new.failures ≡ failures_after sink.old.failures result }
+    {
+        'octets: for octet in octets {
+            if *octet == b'\n' {
+                self.end_line(sink)?;
+            } else {
+                self.keep(*octet);
+            }
+        }
+        Ok(())
+    }
+
+    // Keeps the next octet of the line, as long as the line may be a message.
+    fn keep(&mut self, octet: u8) {
+        if self.line.len() < MOST_DIGITS {
+            self.line.push_reserved(octet);
+        } else {
+            self.is_overlong = true;
+        }
+    }
+
+    // Answers the line that has ended, and begins the next.
+    fn end_line<W: Write>(&mut self, sink: &mut Tally<W>) -> Result<(), SinkFailed>
+        requires { sink.old.failures < 2 ^ 64 - 1 }
+        ensures { sink.new.failures ≡ failures_after sink.old.failures result }
+    {
+        if ANSWERS - self.answers.len() < MOST_ANSWER {
+            self.flush(sink)?;
+        }
+        let line = self.line.as_slice();
+        let datagram = self.datagram.as_mut_slice();
+        if self.is_overlong || !answer(self.zone, self.limit, line, datagram, &mut self.answers) {
+            self.refuse_line();
+        }
+        self.line.clear();
+        self.is_overlong = false;
+        Ok(())
+    }
+
+    // Answers a line that is no message.
+    fn refuse_line(&mut self)
+        requires { vec_len self.old.answers + MOST_ANSWER ≤ ANSWERS }
+    {
+        self.are_all_messages = false;
+        put(&mut self.answers, b"bad hex\n");
+    }
+
+    // Writes the answers that are due.
+    fn flush<W: Write>(&mut self, sink: &mut Tally<W>) -> Result<(), SinkFailed>
+        requires { sink.old.failures < 2 ^ 64 - 1 }
+        ensures counted { sink.new.failures ≡ failures_after sink.old.failures result }
+        ensures empty { OnOk result (vec_len self.new.answers ≡ 0) }
+    {
+        sink.write_all(self.answers.as_slice())?;
+        self.answers.clear();
+        Ok(())
+    }
+}
+
+// Answers a line that is a message. False, with nothing answered, where it is none.
+fn answer(
+    zone: &Zone,
+    limit: Limit,
+    line: &[u8],
+    datagram: &mut [u8],
+    answers: &mut Vec<u8>,
+) -> bool
+    requires line { length line.now ≤ 2 * length datagram.old + 1 }
+    requires room { vec_len answers.old + MOST_ANSWER ≤ vec_capacity answers.old }
+    ensures len { vec_len answers.new ≤ vec_len answers.old + MOST_ANSWER }
+    ensures capacity { vec_capacity answers.old ≤ vec_capacity answers.new }
+    ensures refused { OnFalse result (answers.new ≡ answers.old) }
+{
+    let Some(len) = octets_of(line, datagram) else {
+        return false;
+    };
+    let mut reply = [0; MOST_REPLY];
+    match respond(&mut Steps::new(zone), &datagram[..len], limit, &mut reply) {
+        Some(len) => put_reply(answers, &reply[..len]),
+        None => put(answers, b"none\n"),
+    }
+    true
+}
+
+// Spells the octets of a message in front of the buffer, and answers how many they are. `None` for other lines.
+fn octets_of(line: &[u8], datagram: &mut [u8]) -> Option<usize>
+    requires { length line.now ≤ 2 * length datagram.old + 1 }
+    ensures some { IfSome result (λ len. decode_of line.now ≡ Ok (take len datagram.new)) }
+    ensures within { IfSome result (λ len. len ≤ length datagram.new) }
+    ensures none { IfNone result (IsErr (decode_of line.now)) }
+{
+    let len = line.len() / 2;
+    hex::decode_to_slice(line, &mut datagram[..len]).ok()?;
+    Some(len)
+}
+
+// Adds a line with the digits of a reply.
+fn put_reply(answers: &mut Vec<u8>, reply: &[u8])
+    requires reply { length reply.now ≤ MOST_REPLY }
+    requires room { vec_len answers.old + 2 * length reply.now + 1 ≤ vec_capacity answers.old }
+    ensures len { vec_len answers.new ≡ vec_len answers.old + 2 * length reply.now + 1 }
+    ensures capacity { vec_capacity answers.old ≤ vec_capacity answers.new }
+{
+    let mut line = [b'\n'; MOST_ANSWER];
+    let end = 2 * reply.len();
+    if hex::encode_to_slice(reply, &mut line[..end]).is_err() {
+        unreachable!();
+    }
+    put(answers, &line[..end + 1]);
+}
+
+// Adds a text that there is room for.
+fn put(answers: &mut Vec<u8>, text: &[u8])
+    requires { vec_len answers.old + length text.now ≤ vec_capacity answers.old }
+    ensures items { answers.new.items ≡ answers.old.items ++ text.now }
+    ensures len { vec_len answers.new ≡ vec_len answers.old + length text.now }
+    ensures capacity { vec_capacity answers.old ≤ vec_capacity answers.new }
+{
+    if answers.extend_from_slice(text).is_err() {
+        unreachable!();
+    }
+}

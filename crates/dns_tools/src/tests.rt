@@ -1,0 +1,5 @@
+mod devices;
+mod fault;
+mod load;
+mod once;
+mod words;

@@ -1,0 +1,185 @@
+use super::devices::{Kept, Pieces};
+use super::load::{F1, example};
+use crate::load::load;
+use crate::{Limit, Stop, run_once};
+use dns_name::Tally;
+use std::alloc::Global;
+use std::test::Fail;
+
+// What a run over the sample file writes and answers, for an input in pieces and a number of calls that work.
+fn run(
+    alloc: Global,
+    input: &[u8],
+    most: usize,
+    reads: u32,
+    writes: u32,
+) -> Result<(Vec<u8>, Result<bool, Stop>), Fail> {
+    let zone = load(alloc, &example()?, &mut Tally::new(F1.as_bytes()))?;
+    let mut source = Tally::new(Pieces {
+        text: input,
+        most,
+        calls_left: reads,
+    });
+    let mut sink = Tally::new(Kept {
+        text: Vec::new(alloc),
+        most,
+        calls_left: writes,
+    });
+    let outcome = run_once(alloc, &zone, Limit::Udp, &mut source, &mut sink);
+    Ok((sink.into_inner().text, outcome))
+}
+
+const WWW: &str = "12340000000100000000000003777777076578616d706c650000010001";
+
+const WWW_REPLY: &str =
+    "12348400000100010000000003777777076578616d706c650000010001c00c0001000100000e100004c000020a";
+
+#[test]
+fn replies_to_one_message(rt: HostRuntime) -> Result<(), Fail> {
+    let rows = [
+        (WWW, WWW_REPLY),
+        (
+            "12340000000100000000000003575757074578616d706c650000010001",
+            "12348400000100010000000003575757074578616d706c650000010001c00c0001000100000e100004c000020a",
+        ),
+        (
+            "12340000000100000000000003777777076578616D706C650000010001",
+            WWW_REPLY,
+        ),
+        ("1234000000010000000000", "none"),
+        (
+            "12348000000100000000000003777777076578616d706c650000010001",
+            "none",
+        ),
+        ("", "none"),
+        (
+            "12341000000100000000000003777777076578616d706c650000010001",
+            "123490040000000000000000",
+        ),
+        (
+            "12340000000100000000000103777777076578616d706c6500000100010000291000000000000000",
+            "123480010000000000000000",
+        ),
+        (
+            "123400000001000000000000c00c00010001",
+            "123480010000000000000000",
+        ),
+        (
+            "12340000000100000000000003777777076578616d706c65000001000100",
+            "123480010000000000000000",
+        ),
+        (
+            "12340000000100000000000003777777056f746865720000010001",
+            "12348005000100000000000003777777056f746865720000010001",
+        ),
+        (
+            "12340000000100000000000003777777076578616d706c650000010003",
+            "12348005000100000000000003777777076578616d706c650000010003",
+        ),
+        (
+            "123400000001000000000000076578616d706c650000fc0001",
+            "123480040001000000000000076578616d706c650000fc0001",
+        ),
+        (
+            "123400000001000000000000046e6f7065076578616d706c650000010001",
+            "123486030001000000000000046e6f7065076578616d706c650000010001",
+        ),
+        (
+            "123400000001000000000000016203656e74076578616d706c650000010001",
+            "123486000001000000000000016203656e74076578616d706c650000010001",
+        ),
+    ];
+    for (query, reply) in rows {
+        let input = format!(in rt.alloc(); "{query}\n")?;
+        let (output, outcome) = run(rt.alloc(), input.as_bytes(), 1000, 1000, 1000)?;
+        let wanted = format!(in rt.alloc(); "{reply}\n")?;
+        assert_eq!(rt; output.as_slice(), wanted.as_bytes(), "to {query}");
+        assert_eq!(rt; outcome, Ok(true));
+    }
+    Ok(())
+}
+
+#[test]
+fn lines_that_are_no_messages(rt: HostRuntime) -> Result<(), Fail> {
+    for line in ["zz", "0", "00\r", "00 ", "123", "0x00", "\u{e9}"] {
+        let input = format!(in rt.alloc(); "\n{line}\n00\n")?;
+        for most in [1, 1000] {
+            let (output, outcome) = run(rt.alloc(), input.as_bytes(), most, 1000, 1000)?;
+            assert_eq!(rt;
+                output.as_slice(),
+                b"none\nbad hex\nnone\n".as_slice(),
+                "at {line}"
+            );
+            assert_eq!(rt; outcome, Ok(false));
+        }
+    }
+    Ok(())
+}
+
+#[test]
+fn the_last_line_may_lack_its_end(rt: HostRuntime) -> Result<(), Fail> {
+    for (input, wanted) in [
+        ("", ""),
+        ("\n", "none\n"),
+        ("\n00", "none\nnone\n"),
+        ("z", "bad hex\n"),
+    ] {
+        let (output, outcome) = run(rt.alloc(), input.as_bytes(), 1, 1000, 1000)?;
+        assert_eq!(rt; output.as_slice(), wanted.as_bytes());
+        assert_eq!(rt; outcome, Ok(input != "z"));
+    }
+    Ok(())
+}
+
+#[test]
+fn a_line_of_the_most_digits_and_one_more(rt: HostRuntime) -> Result<(), Fail> {
+    let mut input = vec![in rt.alloc(); b'0'; 131_070]?;
+    let (output, outcome) = run(rt.alloc(), input.as_slice(), 70_000, 1000, 1000)?;
+    assert_eq!(rt; output.as_slice(), b"000080010000000000000000\n".as_slice());
+    assert_eq!(rt; outcome, Ok(true));
+    input.extend_from_slice(b"0\n\n")?;
+    let (output, outcome) = run(rt.alloc(), input.as_slice(), 70_000, 1000, 1000)?;
+    assert_eq!(rt; output.as_slice(), b"bad hex\nnone\n".as_slice());
+    assert_eq!(rt; outcome, Ok(false));
+    Ok(())
+}
+
+#[test]
+fn more_answers_than_are_gathered(rt: HostRuntime) -> Result<(), Fail> {
+    let (mut input, mut wanted) = (Vec::new(rt.alloc()), Vec::new(rt.alloc()));
+    for _ in 0..2000 {
+        input.extend_from_slice(WWW.as_bytes())?;
+        input.push(b'\n')?;
+        wanted.extend_from_slice(WWW_REPLY.as_bytes())?;
+        wanted.push(b'\n')?;
+    }
+    let (output, outcome) = run(rt.alloc(), input.as_slice(), 1_000_000, 1000, 1000)?;
+    assert_eq!(rt; outcome, Ok(true));
+    assert!(rt; output == wanted);
+    Ok(())
+}
+
+#[test]
+fn a_failing_device_stops_the_run_behind_a_beginning(rt: HostRuntime) -> Result<(), Fail> {
+    let (input, wanted) = (b"\n00\n\n", b"none\nnone\nnone\n".as_slice());
+    for reads in 0..5 {
+        let (output, outcome) = run(rt.alloc(), input, 1, reads, 1000)?;
+        assert_eq!(rt; outcome, Err(Stop::Source));
+        let due = [0, 1, 1, 1, 2];
+        assert_eq!(rt;
+            output.len(),
+            5 * due[reads as usize],
+            "after {reads} reads"
+        );
+        assert!(rt; wanted.starts_with(output.as_slice()));
+    }
+    for writes in 0..15 {
+        let (output, outcome) = run(rt.alloc(), input, 1, 1000, writes)?;
+        assert_eq!(rt; outcome, Err(Stop::Sink));
+        assert_eq!(rt; output.len(), writes as usize);
+        assert!(rt; wanted.starts_with(output.as_slice()));
+    }
+    let (_, outcome) = run(rt.alloc(), input, 1, 6, 15)?;
+    assert_eq!(rt; outcome, Ok(true));
+    Ok(())
+}
