@@ -1,4 +1,3 @@
 pub mod Pieces
 pub mod TextLemmas
 pub mod WireLemmas
-pub mod TextLemmas

@@ -2,6 +2,7 @@ pub mod NameLaws
 pub mod NameReading
 pub mod Places
 pub mod WrittenData
+pub mod MadeData
 pub mod PlainLayout
 pub mod LayoutSize
 pub mod Question

@@ -1,4 +1,5 @@
 -- What the contracts of the programs' functions cite.
+pub mod Record
 pub mod ListZone
 pub mod Decided
 pub mod Body

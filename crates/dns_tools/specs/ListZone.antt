@@ -1,10 +1,10 @@
 -- What the list of records of a served zone keeps.
 use Rattle.std.specs.Prelude.{◌≡◌, ℕ, ◌+◌, ◌^◌, Bool, true, ◌&&◌, ◌||◌, not, List, [], ◌∷◌, length, if◌then◌else◌, nat_lt, nat_le, ◌==◌, IsTrue}
-use Rattle.std.specs.List.{list_all}
-use Rattle.dns_spec.specs.Names.{DomainName, same}
+use Rattle.std.specs.List.{list_all, list_any}
+use Rattle.dns_spec.specs.Names.{DomainName, folded, same}
 use Rattle.dns_spec.specs.Data.{type_a, type_ns, type_soa, valid}
-use Rattle.dns_spec.specs.Records.{ResourceRecord, ZoneContents, owns, sort_by, data_order}
-use Rattle.dns_spec.specs.Checks.{first_is_asterisk}
+use Rattle.dns_spec.specs.Records.{ResourceRecord, ZoneContents, owns, records_equal, insert_by, sort_by, data_order}
+use Rattle.dns_spec.specs.Checks.{first_is_asterisk, no_soa, many_soa, no_ns, outside, large_set, ttls_differ, ns_target_lost}
 use Rattle.dns_spec.specs.Reading.{MessageQuestion}
 use Rattle.dns_spec.specs.Layout.{question_octets, plain_records_size}
 
@@ -35,3 +35,30 @@ abbrev pub kept_records : ZoneContents → MessageQuestion → List ResourceReco
 kept_records z q =
     let rs = asked_records q.qname type_a z.records in
     if q.qtype == type_a && nat_le (size_with q rs) 512 then rs else []
+
+-- the records of a list, each once, in the order of their data
+abbrev pub listed_records : List ResourceRecord → List ResourceRecord
+listed_records [] = []
+listed_records (r ∷ rs) =
+    let others = listed_records rs in
+    if list_any (records_equal r) others then others else insert_by data_order r others
+
+abbrev pub listed_zone : DomainName → List ResourceRecord → ZoneContents
+listed_zone o rs = record { origin = folded o; records = listed_records rs }
+
+-- a record of a kind that is read, and of no wildcard
+abbrev pub is_plain : DomainName → ResourceRecord → Bool
+is_plain o r = is_listed o r && not (first_is_asterisk r.owner)
+
+abbrev pub lacks_or_repeats : ZoneContents → DomainName → Bool
+lacks_or_repeats z n = no_soa z n || many_soa z n || no_ns z n
+
+-- the faults that such records can have
+abbrev pub has_fault : ZoneContents → DomainName → Bool
+has_fault z n = lacks_or_repeats z n || outside z n || large_set z n || ttls_differ z n || ns_target_lost z n
+
+-- the zone is not served
+abbrev pub is_refused : ZoneContents → Bool
+is_refused z =
+    not (list_all (is_plain z.origin) z.records) || has_fault z z.origin
+    || list_any (λ (r : ResourceRecord). has_fault z r.owner) z.records

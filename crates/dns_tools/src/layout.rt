@@ -8,7 +8,7 @@ ghost use Rattle.dns_tools.specs.ListZone.{asked_records};
 ghost use Rattle.std.specs.List.{flat_map};
 ghost use Rattle.dns_tools.specs.Body.{body};
 
-use crate::list::Record;
+use crate::record::Record;
 use crate::query::Question;
 use byteorder::{BigEndian, ByteOrder};
 use dns_name::Name;

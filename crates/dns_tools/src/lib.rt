@@ -1,6 +1,7 @@
 //! What the programs do, behind their `main`s: their words, how a zone is loaded, and how queries are answered.
 #![tactic(auto)]
 
+mod checks;
 mod fault;
 mod layout;
 mod list;
@@ -8,13 +9,15 @@ mod load;
 mod lookup;
 mod once;
 mod query;
+mod record;
 mod reply;
 mod words;
 
 pub use fault::{FaultWord, Stop, exit_status};
-pub use list::{BuildFault, Record, Zone};
+pub use list::{BuildFault, Zone};
 pub use load::{LoadFault, load as load_zone};
 pub use once::run_once;
+pub use record::Record;
 pub use reply::{Limit, Steps, respond};
 pub use words::{ServeWords, serve_words};
 

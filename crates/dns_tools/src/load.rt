@@ -6,7 +6,8 @@ ghost use Rattle.dns_tools.specs.declared.load.TheConstants.{MOST_LINES, MOST_LI
 mod line;
 
 use crate::fault::FaultWord;
-use crate::list::{BuildFault, Record, Zone};
+use crate::list::{BuildFault, Zone};
+use crate::record::Record;
 use dns_name::{Name, Tally};
 use line::{LineFault, read_line};
 use std::alloc::{AllocError, Global};

@@ -16,7 +16,7 @@ use crate::layout::{Head, Put, put_header, put_question, put_set};
 use std::marker::Model;
 
 /// How many octets a reply may have.
-#[derive(Clone, Copy)]
+#[derive(Clone, Copy, Debug, PartialEq, Eq)]
 pub enum Limit {
     /// Over UDP: 512 (RFC 1035 4.2.1).
     Udp,

@@ -1,14 +1,9 @@
 //! One line of a zone file as a record.
 
-use crate::list::Record;
+use crate::record::Record;
+use byteorder::{BigEndian, ByteOrder};
 use dns_name::Name;
 use std::alloc::{AllocError, AllocFailed, Global};
-
-const TYPE_A: u16 = 1;
-
-const TYPE_NS: u16 = 2;
-
-const TYPE_SOA: u16 = 6;
 
 // The greatest TTL (RFC 2181 8).
 const MOST_TTL: u32 = 2_147_483_647;
@@ -40,55 +35,46 @@ pub(super) fn read_line(alloc: Global, origin: &Name, line: &[u8]) -> Result<Rec
         return Err(LineFault::Unsupported);
     }
     let is_origin = owner.octets() == origin.octets();
-    let (rtype, rdata) = match *rtype {
-        b"A" => (TYPE_A, read_a(alloc, words)?),
-        b"NS" if is_origin => (TYPE_NS, read_ns(alloc, words)?),
-        b"SOA" if is_origin => (TYPE_SOA, read_soa(alloc, words)?),
-        _ => return Err(LineFault::Unsupported),
-    };
-    Ok(Record {
-        owner,
-        ttl,
-        rtype,
-        rdata,
-    })
+    match *rtype {
+        b"A" => read_a(alloc, owner, ttl, words),
+        b"NS" if is_origin => read_ns(alloc, owner, ttl, words),
+        b"SOA" if is_origin => read_soa(alloc, owner, ttl, words),
+        _ => Err(LineFault::Unsupported),
+    }
 }
 
-// The data of an address record (RFC 1035 3.4.1).
-fn read_a(alloc: Global, words: &[&[u8]]) -> Result<Vec<u8>, LineFault> {
+// An address record (RFC 1035 3.4.1).
+fn read_a(alloc: Global, owner: Name, ttl: u32, words: &[&[u8]]) -> Result<Record, LineFault> {
     let [address] = words else {
         return Err(LineFault::Unsupported);
     };
     let address = read_address(address).ok_or(LineFault::Unsupported)?;
-    Ok(Vec::from_slice(alloc, address.as_slice())?)
+    Ok(Record::address(alloc, owner, ttl, address)?)
 }
 
-// The data of a name server's record (RFC 1035 3.3.11).
-fn read_ns(alloc: Global, words: &[&[u8]]) -> Result<Vec<u8>, LineFault> {
-    let [target] = words else {
+// A name server's record (RFC 1035 3.3.11).
+fn read_ns(alloc: Global, owner: Name, ttl: u32, words: &[&[u8]]) -> Result<Record, LineFault> {
+    let [server] = words else {
         return Err(LineFault::Unsupported);
     };
-    let target = read_name(target).ok_or(LineFault::Unsupported)?;
-    Ok(Vec::from_slice(alloc, target.octets())?)
+    let server = read_name(server).ok_or(LineFault::Unsupported)?;
+    Ok(Record::name_server(alloc, owner, ttl, server)?)
 }
 
-// The data of the record that begins a zone (RFC 1035 3.3.13).
-fn read_soa(alloc: Global, words: &[&[u8]]) -> Result<Vec<u8>, LineFault> {
-    let [mname, rname, numbers @ ..] = words else {
+// The record that begins a zone (RFC 1035 3.3.13).
+fn read_soa(alloc: Global, owner: Name, ttl: u32, words: &[&[u8]]) -> Result<Record, LineFault> {
+    let [mname, rname, serial, refresh, retry, expire, minimum] = words else {
         return Err(LineFault::Unsupported);
     };
-    if numbers.len() != 5 {
-        return Err(LineFault::Unsupported);
-    }
     let mname = read_name(mname).ok_or(LineFault::Unsupported)?;
     let rname = read_name(rname).ok_or(LineFault::Unsupported)?;
-    let mut rdata = Vec::from_slice(alloc, mname.octets())?;
-    rdata.extend_from_slice(rname.octets())?;
-    for number in numbers {
-        let number = read_number(number).ok_or(LineFault::Unsupported)?;
-        rdata.extend_from_slice(&number.to_be_bytes())?;
+    let mut numbers = [0; 20];
+    let words = [serial, refresh, retry, expire, minimum];
+    for (octets, word) in numbers.chunks_exact_mut(4).zip(words) {
+        let number = read_number(word).ok_or(LineFault::Unsupported)?;
+        BigEndian::write_u32(octets, number);
     }
-    Ok(rdata)
+    Ok(Record::start_of_authority(alloc, owner, ttl, mname, &rname, &numbers)?)
 }
 
 // An owner: a name without escapes whose first label isn't `*`.
