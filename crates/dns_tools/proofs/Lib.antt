@@ -8,3 +8,4 @@ pub mod ListAnswer
 pub mod ListReply
 pub mod Decisions
 pub mod RespondCases
+pub mod ListedRecords

@@ -1,10 +1,11 @@
 -- What the list of records of a served zone keeps.
-use Rattle.std.specs.Prelude.{◌≡◌, ℕ, ◌+◌, ◌^◌, Bool, true, ◌&&◌, ◌||◌, not, List, [], ◌∷◌, length, if◌then◌else◌, nat_lt, nat_le, ◌==◌, IsTrue}
+use Rattle.std.specs.Prelude.{◌≡◌, ℕ, ◌+◌, ◌^◌, Bool, true, false, ◌&&◌, ◌||◌, not, List, [], ◌∷◌, length, if◌then◌else◌, nat_lt, nat_le, ◌==◌, IsTrue}
 use Rattle.std.specs.List.{list_all, list_any}
-use Rattle.dns_spec.specs.Names.{DomainName, folded, same}
-use Rattle.dns_spec.specs.Data.{type_a, type_ns, type_soa, valid}
-use Rattle.dns_spec.specs.Records.{ResourceRecord, ZoneContents, owns, records_equal, insert_by, sort_by, data_order}
-use Rattle.dns_spec.specs.Checks.{first_is_asterisk, no_soa, many_soa, no_ns, outside, large_set, ttls_differ, ns_target_lost}
+use Rattle.dns_spec.specs.Names.{DomainName, folded, same, at_or_below}
+use Rattle.dns_spec.specs.Data.{type_a, type_ns, type_soa, valid, target}
+use Rattle.std.specs.Option.{option_map_or}
+use Rattle.dns_spec.specs.Records.{ResourceRecord, ZoneContents, at, owns, records_equal, insert_by, sort_by, data_order}
+use Rattle.dns_spec.specs.Checks.{first_is_asterisk, no_soa, many_soa, no_ns, outside, large_set, ttls_differ}
 use Rattle.dns_spec.specs.Reading.{MessageQuestion}
 use Rattle.dns_spec.specs.Layout.{question_octets, plain_records_size}
 
@@ -46,16 +47,27 @@ listed_records (r ∷ rs) =
 abbrev pub listed_zone : DomainName → List ResourceRecord → ZoneContents
 listed_zone o rs = record { origin = folded o; records = listed_records rs }
 
+-- RFC 1035 3.2.1: data of its type, and a TTL of 32 bits
+abbrev pub is_sound : ResourceRecord → Bool
+is_sound r = valid r.rtype r.rdata && nat_lt r.ttl (2 ^ 32)
+
 -- a record of a kind that is read, and of no wildcard
 abbrev pub is_plain : DomainName → ResourceRecord → Bool
-is_plain o r = is_listed o r && not (first_is_asterisk r.owner)
+is_plain o r = is_listed o r && not (first_is_asterisk r.owner) && is_sound r
 
 abbrev pub lacks_or_repeats : ZoneContents → DomainName → Bool
 lacks_or_repeats z n = no_soa z n || many_soa z n || no_ns z n
 
+-- RFC 1034 4.2.1: a server at or below the origin without address; no cut stands above it, since NS is at the origin
+abbrev pub lacks_server : ZoneContents → ResourceRecord → Bool
+lacks_server z r = option_map_or (λ m. at_or_below m z.origin && not (owns z m type_a)) (target r.rtype r.rdata) false
+
+abbrev pub server_lost : ZoneContents → DomainName → Bool
+server_lost z n = list_any (λ (r : ResourceRecord). r.rtype == type_ns && lacks_server z r) (at z n)
+
 -- the faults that such records can have
 abbrev pub has_fault : ZoneContents → DomainName → Bool
-has_fault z n = lacks_or_repeats z n || outside z n || large_set z n || ttls_differ z n || ns_target_lost z n
+has_fault z n = lacks_or_repeats z n || outside z n || large_set z n || ttls_differ z n || server_lost z n
 
 -- the zone is not served
 abbrev pub is_refused : ZoneContents → Bool

@@ -5,8 +5,8 @@ ghost use Rattle.dns_spec.specs.Names.{same, at_or_below};
 ghost use Rattle.std.specs.Option.{option_map_or};
 ghost use Rattle.dns_spec.specs.Records.{ResourceRecord};
 ghost use Rattle.dns_spec.specs.Data.{target};
-ghost use Rattle.dns_spec.specs.Checks.{first_is_asterisk, ns_target_lost};
-ghost use Rattle.dns_tools.specs.ListZone.{is_plain, is_refused, has_fault, lacks_or_repeats};
+ghost use Rattle.dns_spec.specs.Checks.{first_is_asterisk};
+ghost use Rattle.dns_tools.specs.ListZone.{is_plain, is_refused, has_fault, lacks_or_repeats, lacks_server, server_lost};
 
 use crate::query::{TYPE_A, TYPE_NS, TYPE_SOA};
 use crate::record::Record;
@@ -43,14 +43,13 @@ fn first_is_asterisk(name: &Name) -> bool
 }
 
 fn has_fault(origin: &Name, records: &[Record], name: &Name) -> bool
-    requires { list_all (is_plain origin.now) records.now ≡ true }
     ensures { result ≡ has_fault (record { origin = origin.now; records = records.now }) name.now }
 {
     lacks_or_repeats(origin, records, name)
         || !name.at_or_below(origin)
         || large_set(records, name)
         || ttls_differ(records, name)
-        || ns_target_lost(origin, records, name)
+        || server_lost(origin, records, name)
 }
 
 // No SOA or more than one at the origin, or no NS there (RFC 1035 5.2).
@@ -109,9 +108,8 @@ fn has_other_ttl(records: &[Record], name: &Name, one: &Record) -> bool
 }
 
 // A name server at or below the origin without address (RFC 1034 4.2.1).
-fn ns_target_lost(origin: &Name, records: &[Record], name: &Name) -> bool
-    requires { list_all (is_plain origin.now) records.now ≡ true }
-    ensures { result ≡ ns_target_lost (record { origin = origin.now; records = records.now }) name.now }
+fn server_lost(origin: &Name, records: &[Record], name: &Name) -> bool
+    ensures { result ≡ server_lost (record { origin = origin.now; records = records.now }) name.now }
 {
     records
         .iter()
@@ -120,7 +118,7 @@ fn ns_target_lost(origin: &Name, records: &[Record], name: &Name) -> bool
 }
 
 fn lacks_server(origin: &Name, records: &[Record], listed: &Record) -> bool
-    ensures { result ≡ option_map_or (λ m. at_or_below m origin.now && not (list_any (λ (r : ResourceRecord). same r.owner m && r.rtype == 1) records.now)) (target listed.now.rtype listed.now.rdata) false }
+    ensures { result ≡ lacks_server (record { origin = origin.now; records = records.now }) listed.now }
 {
     match &listed.target {
         Some(target) => target.at_or_below(origin) && !owns(records, target, TYPE_A),

@@ -31,8 +31,8 @@ impl Model for Record {
 
 impl Record {
     /// An address (RFC 1035 3.4.1).
-    pub fn address(alloc: Global, owner: Name, ttl: u32, address: [u8; 4]) -> Result<Record, AllocError>
-        ensures { IfOk result (λ made. made ≡ record { owner = owner; ttl = ttl; rtype = TYPE_A; rdata = address }) }
+    pub fn address(alloc: Global, owner: Name, ttl: u32, address: &[u8; 4]) -> Result<Record, AllocError>
+        ensures { IfOk result (λ made. made ≡ record { owner = owner; ttl = ttl; rtype = TYPE_A; rdata = address.now }) }
     {
         Ok(Record {
             owner,

@@ -49,7 +49,7 @@ fn read_a(alloc: Global, owner: Name, ttl: u32, words: &[&[u8]]) -> Result<Recor
         return Err(LineFault::Unsupported);
     };
     let address = read_address(address).ok_or(LineFault::Unsupported)?;
-    Ok(Record::address(alloc, owner, ttl, address)?)
+    Ok(Record::address(alloc, owner, ttl, &address)?)
 }
 
 // A name server's record (RFC 1035 3.3.11).
