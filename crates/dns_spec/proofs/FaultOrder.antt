@@ -111,7 +111,7 @@ filter_alike p q (x ∷ xs) e = ap₂ (λ t zs. cond t (x ∷ zs) zs) e.0 (filte
 octets_decide : (a b : Octets) → (octets_equal a b ≡ true → a ≡ b) × (a ≡ b → octets_equal a b ≡ true)
 octets_decide = bytes_decides
 
-names_decide : (a b : DomainName) → (names_equal a b ≡ true → a ≡ b) × (a ≡ b → names_equal a b ≡ true)
+pub names_decide : (a b : DomainName) → (names_equal a b ≡ true → a ≡ b) × (a ≡ b → names_equal a b ≡ true)
 names_decide = pointwise_decides octets_decide
 
 lower_twice : (os : Octets) → map to_ascii_lowercase (map to_ascii_lowercase os) ≡ map to_ascii_lowercase os

@@ -12,6 +12,8 @@ pub mod FaultOrder
 pub mod WritableItems
 pub mod Kept
 pub mod ReplySpelled
+pub mod SharedNames
+pub mod SharedLayout
 pub mod Examples
 mod Rows
 mod PlainRows

@@ -144,7 +144,7 @@ records_by_section (i ∷ is) h =
         rw (a, b, c, rest, none, none') refl
 
 -- the header, field by field
-header_at : {b : Octets} (h : Header) (qd an ns ar : ℕ) → h.id < 2 ^ 16 → h.flags < 2 ^ 16 → qd < 2 ^ 16 → an < 2 ^ 16 → ns < 2 ^ 16 → ar < 2 ^ 16
+pub header_at : {b : Octets} (h : Header) (qd an ns ar : ℕ) → h.id < 2 ^ 16 → h.flags < 2 ^ 16 → qd < 2 ^ 16 → an < 2 ^ 16 → ns < 2 ^ 16 → ar < 2 ^ 16
     → Stands b 0 (header_octets h qd an ns ar)
     → NumberAt b 0 2 h.id × NumberAt b 2 2 h.flags × NumberAt b 4 2 qd × NumberAt b 6 2 an × NumberAt b 8 2 ns × NumberAt b 10 2 ar
 header_at {b} h qd an ns ar id flags qd-low an-low ns-low ar-low at =
@@ -192,7 +192,7 @@ length-question_octets q =
     length-append (wire q.qname ++ octets16 q.qtype) (octets16 q.qclass) ∙ omega (arith, length-append (wire q.qname) (octets16 q.qtype))
 
 -- the question behind the header
-question_at_12 : {b : Octets} (q : MessageQuestion) → is_name q.qname ≡ true → q.qtype < 2 ^ 16 → q.qclass < 2 ^ 16
+pub question_at_12 : {b : Octets} (q : MessageQuestion) → is_name q.qname ≡ true → q.qtype < 2 ^ 16 → q.qclass < 2 ^ 16
     → Stands b 12 (question_octets q) → QuestionsAt b 12 (q ∷ []) (12 + length (question_octets q))
 question_at_12 {b} q name qtype qclass at =
     let n = wire q.qname in

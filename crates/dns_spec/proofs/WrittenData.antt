@@ -102,7 +102,7 @@ module _ {b : Octets} {i : ℕ} (os x rest : Octets) (whole : os ≡ x ++ rest) 
   ends_alike : i + length x + length rest ≡ i + length os
   ends_alike = omega (arith, ap length whole, length-append x rest)
 
-front_taken : (k : ℕ) (os : Octets) (part : Part) (rest : Octets) → octets_front k os ≡ Some (part, rest)
+pub front_taken : (k : ℕ) (os : Octets) (part : Part) (rest : Octets) → octets_front k os ≡ Some (part, rest)
     → (os ≡ take k os ++ rest) × (length (take k os) ≡ k)
 front_taken k os part rest h =
     let c = cond_some (nat_le k (length os)) (octets (take k os), drop k os) (part, rest) h in

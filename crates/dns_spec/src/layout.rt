@@ -1,6 +1,6 @@
 //! Laws of layouts: the octets laid out are the message, and their number is the size added up.
 
-ghost use Rattle.std.specs.Prelude.{◌≡◌, ℕ, List, [], ◌<◌, ◌^◌, All, length};
+ghost use Rattle.std.specs.Prelude.{◌≡◌, ℕ, List, [], ◌<◌, ◌≤◌, ◌^◌, All, length};
 ghost use Rattle.dns_spec.specs.Reading.{Header, MessageQuestion, Spells};
 ghost use Rattle.dns_spec.specs.Layout.{Item, records_of, header_octets, layout, size, plain_layout, plain_size, message_of};
 ghost use Rattle.dns_spec.specs.Laws.{IsWritable, IsAddressRecord, HasRoom};
@@ -31,4 +31,11 @@ pub fn plain_layout_has_its_size()
 /// The layout is as long as its size, which is added up without writing it.
 pub fn layout_has_its_size()
     ensures { (h : Header) (q : MessageQuestion) (items : List Item) → length (layout h q items) ≡ size q items }
+{}
+
+/// The layout, in which names share suffixes, spells its message, as long as it has at most 16,384 octets: a pointer
+/// has 14 bits (RFC 1035 4.1.4).
+pub fn layout_is_spelled()
+    ensures { (h : Header) (q : MessageQuestion) (items : List Item) → HasRoom h q items → All IsWritable (records_of items) → size q items ≤ 16384
+        → Spells (layout h q items) (message_of h q items) }
 {}
