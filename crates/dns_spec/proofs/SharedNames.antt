@@ -8,8 +8,7 @@ use Rattle.dns_spec.specs.Reading.{RunAt, NameAt}
 use Rattle.dns_spec.specs.Reading.RunAt.{ends, goes_on, jumps}
 use Rattle.dns_spec.specs.Layout.{pointer, Placed, has_suffix, suffix_place, place_of, shared_octets}
 use Rattle.dns_spec.proofs.Places.{Stands, stands_front, stands_rest, stands_behind, stands_within, stands_get, stands_take, label_parts}
-use Rattle.dns_spec.proofs.PlainLayout.{same_name}
-use Rattle.dns_spec.proofs.FaultOrder.{names_decide}
+use Rattle.dns_spec.proofs.NameLaws.{names_equal-decides}
 
 -- s is a suffix of n
 record Suffix (n s : DomainName) : Type 0 where
@@ -20,13 +19,13 @@ suffix_from : (n s : DomainName) → has_suffix n s ≡ true → Suffix n s
 suffix_from n s h =
     let p = and_parts (nat_le (length s) (length n)) (names_equal (last_labels (length s) n) s) h in
     let k = length n - length s in
-    record { front = take k n; whole = sym (take-append-drop k n) ∙ ap (λ x. take k n ++ x) (same_name (drop k n) s p.1) }
+    record { front = take k n; whole = sym (take-append-drop k n) ∙ ap (λ x. take k n ++ x) ((names_equal-decides (drop k n) s).0 p.1) }
 
 suffix_to : (n s : DomainName) → Suffix n s → has_suffix n s ≡ true
 suffix_to n s h =
     let len : length n ≡ length h.front + length s = ap length h.whole ∙ length-append h.front s in
     let last : last_labels (length s) n ≡ s = ap (drop (length n - length s)) h.whole ∙ drop_at h.front s (length n - length s) (omega (arith, len)) in
-    and_from (nat_le (length s) (length n)) (names_equal (last_labels (length s) n) s) (le-leb (length s) (length n) (omega (arith, len))) ((names_decide (last_labels (length s) n) s).1 last)
+    and_from (nat_le (length s) (length n)) (names_equal (last_labels (length s) n) s) (le-leb (length s) (length n) (omega (arith, len))) ((names_equal-decides (last_labels (length s) n) s).1 last)
 
 suffix_again : (m n s : DomainName) → Suffix m n → Suffix n s → Suffix m s
 suffix_again m n s h g = record { front = h.front ++ g.front; whole = h.whole ∙ ap (λ x. h.front ++ x) g.whole ∙ sym (append_assoc h.front g.front s) }
