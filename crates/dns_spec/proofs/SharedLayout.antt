@@ -1,62 +1,22 @@
 -- The layout, in which names share suffixes, spells its message.
-use Rattle.std.proofs.Common.{◌≡◌, ℕ, zero, suc, ◌+◌, ◌<◌, ◌≤◌, Bool, true, false, ◌&&◌, not, cond, nat_le, ◌==◌, List, [], ◌∷◌, ◌++◌, map, length, take, drop, Option, None, Some, All, is_some, option_map, unwrap_or, refl, sym, ap, ◌∙◌, subst, arith, append_assoc, append-nil, length-append, add-zero, zero-add}
-use Rattle.std.proofs.lemmas.Bool.{and_parts, not-true, eqb-false, false≢true}
-use Rattle.std.proofs.lemmas.Option.{none-some, same_Some, cond_some, some_pair_parts}
+use Rattle.std.proofs.Common.{◌≡◌, ℕ, zero, suc, ◌+◌, ◌≤◌, Bool, true, false, cond, nat_le, List, [], ◌∷◌, ◌++◌, map, length, take, drop, Option, None, Some, All, is_some, unwrap_or, refl, sym, ap, ◌∙◌, subst, arith, append_assoc, append-nil, length-append, add-zero, zero-add}
+use Rattle.std.proofs.lemmas.Bool.{and_parts, false≢true}
+use Rattle.std.proofs.lemmas.Option.{none-some, same_Some, cond_some}
 use Rattle.std.proofs.lemmas.List.{length-map, map-append}
 use Rattle.std.specs.List.{list_all}
-use Rattle.dns_spec.specs.Names.{Octets, DomainName, wire, is_label, is_name, labels_from, name_of}
-use Rattle.dns_spec.specs.Data.{class_in, Piece, fixed, domain, string, strings, anything, pieces_of, compresses, Part, octets, name, are_strings, octets_front, piece_front, cut, valid, parts, laid_parts}
+use Rattle.dns_spec.specs.Names.{Octets, wire, is_label, labels_from}
+use Rattle.dns_spec.specs.Data.{class_in, Piece, fixed, domain, string, strings, anything, pieces_of, compresses, Part, octets, octets_front, piece_front, cut, valid, parts, laid_parts}
 use Rattle.dns_spec.specs.Records.{ResourceRecord}
 use Rattle.dns_spec.specs.Reading.{Header, MessageQuestion, MessageRecord, OctetsAt, NumberAt, PiecesAt, DataAt, RecordsAt, Spells}
 use Rattle.dns_spec.specs.Layout.{octets16, octets32, answer, authority, additional, Item, records_of, in_section, Placed, shared_octets, data_octets, data_names, parts_of, record_tail, records_octets, question_octets, reply_header, layout, size, message_record, message_of}
 use Rattle.dns_spec.specs.Laws.{IsWritable, HasRoom}
 use Rattle.dns_spec.proofs.SortedOnce.{Each}
 use Rattle.dns_spec.proofs.Places.{Stands, stands_front, stands_rest, stands_behind, stands_all, stands_within, stands_get, number_at, octets_at}
-use Rattle.dns_spec.proofs.WrittenData.{name_read, front_taken, data_written}
+use Rattle.dns_spec.proofs.WrittenData.{cut_into, name_part, octets_part, all_strings, front_taken, data_written}
 use Rattle.dns_spec.proofs.PlainLayout.{records_by_section, header_at, question_at_12, length-question_octets}
 use Rattle.dns_spec.proofs.LayoutSize.{length-layout}
 use Rattle.dns_spec.proofs.WritableItems.{each_from_all}
 use Rattle.dns_spec.proofs.SharedNames.{Known, known_later, known_more, name_shared, nothing_known, shared_alone}
-
--- data that is cut into parts begins with the part of its first piece
-record CutInto (p : Piece) (ps : List Piece) (os : Octets) (xs : List Part) : Type 0 where
-  part : Part
-  rest : Octets
-  others : List Part
-  front : piece_front p os ≡ Some (part, rest)
-  more : cut ps rest ≡ Some others
-  whole : part ∷ others ≡ xs
-
-cut_into : (p : Piece) (ps : List Piece) (os : Octets) (xs : List Part) → cut (p ∷ ps) os ≡ Some xs → CutInto p ps os xs
-unfolding cut
-cut_into p ps os xs h = go (piece_front p os) refl h
-  where
-    mapped : (part : Part) (rest : Octets) (y : Option (List Part)) → piece_front p os ≡ Some (part, rest) → cut ps rest ≡ y
-        → option_map (λ (ys : List Part). part ∷ ys) y ≡ Some xs → CutInto p ps os xs
-    mapped part rest None f e g = absurd (none-some xs g)
-    mapped part rest (Some ys) f e g = record { part = part; rest = rest; others = ys; front = f; more = e; whole = same_Some (part ∷ ys) xs g }
-
-    go : (y : Option (Part × Octets)) → piece_front p os ≡ y
-        → ◌≡◌ {A = Option (List Part)} (elim y [ None ↦ None | Some r ↦ option_map (λ ys. r.0 ∷ ys) (cut ps r.1) ]) (Some xs) → CutInto p ps os xs
-    go None e f = absurd (none-some xs f)
-    go (Some r) e f = mapped r.0 r.1 (cut ps r.1) e refl f
-
--- the part of a domain name
-name_part : (os rest : Octets) (part : Part) → piece_front domain os ≡ Some (part, rest)
-    → (n : DomainName) × (name n ≡ part) × (is_name n ≡ true) × (os ≡ wire n ++ rest)
-name_part os rest part h = go (name_of os) refl h
-  where
-    go : (y : Option (DomainName × Octets)) → name_of os ≡ y
-        → option_map {T = DomainName × Octets} {U = Part × Octets} (λ r. (name r.0, r.1)) y ≡ Some (part, rest)
-        → (n : DomainName) × (name n ≡ part) × (is_name n ≡ true) × (os ≡ wire n ++ rest)
-    go None e f = absurd (none-some (part, rest) f)
-    go (Some (n, tail)) e f =
-        let p = some_pair_parts (name n) part tail rest f in
-        let r = name_read os n tail e in
-        (n, p.0, r.0, r.1 ∙ ap (λ x. wire n ++ x) p.1)
-
-octets_part : (k : ℕ) (os rest : Octets) (part : Part) → octets_front k os ≡ Some (part, rest) → octets (take k os) ≡ part
-octets_part k os rest part h = ap (λ z. z.0) (cond_some (nat_le k (length os)) (octets (take k os), drop k os) (part, rest) h).1
 
 -- behind the last octet there are only parts without octets
 take_none : (k : ℕ) → take {A = ℕ} k [] ≡ []
@@ -188,17 +148,10 @@ module _ (b : Octets) (room : length b ≤ 16384) where
   -- the last piece of data is all that is left of it
   strings_lays : (ps : List Piece) (os rest : Octets) (part : Part) (ys : List Part) → piece_front strings os ≡ Some (part, rest) → Lays ps rest ys → cut ps rest ≡ Some ys → Lays (strings ∷ ps) os (part ∷ ys)
   strings_lays ps os rest part ys front lays more ms i known header =
-      let t = cond_some (not (length os == 0) && are_strings 0 os) (octets os, []) (part, rest) front in
-      let q = and_parts (not (length os == 0)) (are_strings 0 os) t.0 in
-      let ne = eqb-false (length os) 0 (not-true (length os == 0) q.0) in
-      let none : rest ≡ [] = sym (ap (λ z. z.1) t.1) in
-      subst (λ x. Stands b i (data_octets ms i (x ∷ ys)) → Laid (strings ∷ ps) os ms i (x ∷ ys)) (ap (λ z. z.0) t.1) (λ at.
-      let r = rest_lays ps os ys ms i known header at (subst (λ z. Lays ps z ys) none lays) (ap (cut ps) (sym none) ∙ more) in
-      record { pieces = (os, [], i + length os, r.0, some (length os) ne, q.1, sym (append-nil os), r.1, r.2); known = r.3 })
-    where
-      some : (n : ℕ) → (n ≡ 0 → ⊥) → 0 < n
-      some zero ne = absurd (ne refl)
-      some (suc n) ne = omega arith
+      let t = all_strings os rest part front in
+      subst (λ x. Stands b i (data_octets ms i (x ∷ ys)) → Laid (strings ∷ ps) os ms i (x ∷ ys)) t.2 (λ at.
+      let r = rest_lays ps os ys ms i known header at (subst (λ z. Lays ps z ys) t.3 lays) (ap (cut ps) (sym t.3) ∙ more) in
+      record { pieces = (os, [], i + length os, r.0, t.0, t.1, sym (append-nil os), r.1, r.2); known = r.3 })
 
   anything_lays : (ps : List Piece) (os rest : Octets) (part : Part) (ys : List Part) → piece_front anything os ≡ Some (part, rest) → Lays ps rest ys → cut ps rest ≡ Some ys → Lays (anything ∷ ps) os (part ∷ ys)
   anything_lays ps os rest part ys front lays more ms i known header =
