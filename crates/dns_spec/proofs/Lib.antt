@@ -14,6 +14,7 @@ pub mod Kept
 pub mod ReplySpelled
 pub mod SharedNames
 pub mod SharedLayout
+pub mod FirstOctets
 pub mod Examples
 mod Rows
 mod PlainRows

@@ -40,3 +40,8 @@ pub fn kept_sets_are_the_most()
     ensures { (size_of : List Item → ℕ) (limit : ℕ) (sets : List Item) (k : ℕ) → k ≤ length sets → size_of (take k sets) ≤ limit
         → k ≤ length (kept size_of limit sets) }
 {}
+
+/// A reply depends on the first 512 octets of a datagram alone: a question ends before them.
+pub fn first_512_octets_decide()
+    ensures { (z : ZoneContents) (keep : MessageQuestion → List Item) (d : Octets) → reply_with keep z d ≡ reply_with keep z (take 512 d) }
+{}
