@@ -5,6 +5,7 @@ pub mod WrittenData
 pub mod MadeData
 pub mod PlainLayout
 pub mod LayoutSize
+pub mod LeastSize
 pub mod Question
 pub mod OneMessage
 pub mod SortedOnce
