@@ -9,13 +9,14 @@ use Rattle.std.proofs.lemmas.Str.Ascii.{lowercase-lowercase}
 use Rattle.std.specs.List.{list_any}
 use Rattle.std.specs.Option.{option_map_or}
 use Rattle.std.specs.Cmp.{IsTotalOrder}
-use Rattle.std.specs.Cmp.Lexicographic.{pointwise_decides, bytes_decides, lists_ties}
+use Rattle.std.specs.Cmp.Lexicographic.{lists_ties}
 use Rattle.std.specs.Char.{to_ascii_lowercase}
-use Rattle.dns_spec.specs.Names.{Octets, DomainName, folded, same, octets_equal, names_equal, at_or_below, below, suffixes, label_order, name_order}
+use Rattle.dns_spec.specs.Names.{Octets, DomainName, folded, same, names_equal, at_or_below, below, suffixes, label_order, name_order}
 use Rattle.dns_spec.specs.Data.{type_a, type_ns, type_cname, type_soa, type_mx, type_aaaa, type_srv, target}
 use Rattle.dns_spec.specs.Records.{ResourceRecord, ZoneContents, at, owns, distinct}
 use Rattle.dns_spec.specs.Tree.{is_cut, without_first}
 use Rattle.dns_spec.specs.Checks.{Check, count, has_target, at_or_below_cut, below_cut, has_address, is_address_type, no_soa, many_soa, soa_elsewhere, no_ns, outside, cname_and_other, many_cname, ttls_differ, ns_target_alias, lacks_address, ns_target_lost, mx_target_alias, data_at_cut, first_is_asterisk, wildcard_ns, large_set, many_sets, checks, Fault, faults_at, told_names, faults}
+use Rattle.dns_spec.proofs.NameLaws.{names_equal-decides}
 use Rattle.dns_spec.proofs.SortedOnce.{Each, Among, length-sort_by, same_sorted}
 
 -- two lists of which each test passes as many
@@ -108,12 +109,6 @@ filter_alike p q [] e = refl
 filter_alike p q (x ∷ xs) e = ap₂ (λ t zs. cond t (x ∷ zs) zs) e.0 (filter_alike p q xs e.1)
 
 -- names in lower case are told apart by their order
-octets_decide : (a b : Octets) → (octets_equal a b ≡ true → a ≡ b) × (a ≡ b → octets_equal a b ≡ true)
-octets_decide = bytes_decides
-
-names_decide : (a b : DomainName) → (names_equal a b ≡ true → a ≡ b) × (a ≡ b → names_equal a b ≡ true)
-names_decide = pointwise_decides octets_decide
-
 lower_twice : (os : Octets) → map to_ascii_lowercase (map to_ascii_lowercase os) ≡ map to_ascii_lowercase os
 lower_twice [] = refl
 lower_twice (o ∷ os) = ap₂ (λ x xs. x ∷ xs) (lowercase-lowercase o) (lower_twice os)
@@ -130,7 +125,7 @@ each_lower [] = tt
 each_lower (r ∷ xs) = (folded_folded r.owner, each_lower xs)
 
 one_lower : (n m : DomainName) → Lower n → Lower m → same n m ≡ true → n ≡ m
-one_lower n m d e t = sym d ∙ (names_decide (folded n) (folded m)).0 t ∙ e
+one_lower n m d e t = sym d ∙ (names_equal-decides (folded n) (folded m)).0 t ∙ e
 
 name_order_total : IsTotalOrder name_order
 name_order_total = on_total (λ n. reverse (folded n)) (lists_total nat_list_cmp_total)
@@ -140,8 +135,8 @@ name_tie n m e =
     let a = reverse (folded n) in
     let b = reverse (folded m) in
     let t : names_equal a b ≡ true = lists_ties label_order (lists_ties nat_cmp nat_ties) a b ∙ ap is_eq e in
-    let back : folded n ≡ folded m = sym (reverse-reverse (folded n)) ∙ ap reverse ((names_decide a b).0 t) ∙ reverse-reverse (folded m) in
-    (names_decide (folded n) (folded m)).1 back
+    let back : folded n ≡ folded m = sym (reverse-reverse (folded n)) ∙ ap reverse ((names_equal-decides a b).0 t) ∙ reverse-reverse (folded m) in
+    (names_equal-decides (folded n) (folded m)).1 back
 
 in_rest : {A B C : Type 0} → A ⊎ B → (B → C) → A ⊎ C
 in_rest (inl e) f = inl e
@@ -303,8 +298,8 @@ module _ (o : DomainName) (xs ys : List ResourceRecord) (c : SameCounts xs ys) w
       let back : SameCounts ys xs = λ p. sym (c p) in
       same_sorted name_order name_order_total same name_tie Lower one_lower (folded o ∷ map f xs) (folded o ∷ map f ys)
       (folded_folded o, each_lower xs) (folded_folded o, each_lower ys)
-      (λ a m. in_rest m (same_values f names_equal names_decide xs ys c a))
-      (λ a m. in_rest m (same_values f names_equal names_decide ys xs back a))
+      (λ a m. in_rest m (same_values f names_equal names_equal-decides xs ys c a))
+      (λ a m. in_rest m (same_values f names_equal names_equal-decides ys xs back a))
 
   faults_kept : faults z ≡ faults z'
   unfolding faults

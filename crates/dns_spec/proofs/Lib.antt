@@ -5,6 +5,7 @@ pub mod WrittenData
 pub mod MadeData
 pub mod PlainLayout
 pub mod LayoutSize
+pub mod LeastSize
 pub mod Question
 pub mod OneMessage
 pub mod SortedOnce
@@ -12,6 +13,9 @@ pub mod FaultOrder
 pub mod WritableItems
 pub mod Kept
 pub mod ReplySpelled
+pub mod SharedNames
+pub mod SharedLayout
+pub mod FirstOctets
 pub mod Examples
 mod Rows
 mod PlainRows

@@ -93,7 +93,7 @@ octets_at {b} {i} x s = record {
 }
 
 -- a name written whole, of labels
-label_parts : (l : Octets) → is_label l ≡ true → (0 < length l) × (length l < 64)
+pub label_parts : (l : Octets) → is_label l ≡ true → (0 < length l) × (length l < 64)
 label_parts l h =
     let p = and_parts (nat_lt 0 (length l)) (nat_le (length l) 63) h in
     (ltb-true 0 (length l) p.0, let q = leb-true (length l) 63 p.1 in omega arith)

@@ -1,28 +1,19 @@
 -- The plain layout spells its message.
 use Rattle.std.proofs.Common.{◌≡◌, ℕ, ◌+◌, ◌^◌, ◌<◌, Bool, true, false, cond, nat_le, List, [], ◌∷◌, ◌++◌, map, length, take, drop, is_some, All, filter, flat_map, refl, sym, ap, ◌∙◌, subst, arith, append_assoc, append-nil, length-append, zero-add}
-use Rattle.std.proofs.lemmas.Bool.{and_parts, leb-true, false≢true}
+use Rattle.std.proofs.lemmas.Bool.{and_parts, leb-true}
 use Rattle.std.proofs.lemmas.List.{length-map, take_at, drop_at}
 use Rattle.std.proofs.lemmas.List.Elements.{All-head, All-tail, All-same, All-take, All-drop, All-weaker}
 use Rattle.std.proofs.lemmas.List.Concat.{flat_map-append}
-use Rattle.std.specs.Cmp.Lexicographic.{bytes_decides}
 use Rattle.std.specs.List.{list_all}
-use Rattle.dns_spec.specs.Names.{Octets, DomainName, wire, is_name, octets_equal, names_equal}
+use Rattle.dns_spec.specs.Names.{Octets, DomainName, wire, is_name, names_equal}
 use Rattle.dns_spec.specs.Data.{class_in, type_a, pieces_of, cut}
 use Rattle.dns_spec.specs.Records.{ResourceRecord}
 use Rattle.dns_spec.specs.Reading.{Header, MessageQuestion, NameAt, OctetsAt, NumberAt, DataAt, QuestionsAt, RecordAt, RecordsAt, Spells}
 use Rattle.dns_spec.specs.Layout.{octets16, octets32, pointer, Section, answer, authority, additional, Item, is_section, records_of, in_section, record_tail, question_octets, header_octets, reply_header, plain_owner, plain_record, plain_layout, message_record, message_of}
 use Rattle.dns_spec.specs.Laws.{section_rank, sections_in_order, IsWritable, IsAddressRecord, HasRoom}
+use Rattle.dns_spec.proofs.NameLaws.{names_equal-decides}
 use Rattle.dns_spec.proofs.Places.{Stands, stands_front, stands_rest, stands_behind, stands_all, stands_within, number_at, octets_at, name_written, name_pointed}
 use Rattle.dns_spec.proofs.WrittenData.{data_written}
-
--- names that compare equal octet by octet are one name
-pub same_name : (n m : DomainName) → names_equal n m ≡ true → n ≡ m
-same_name [] [] h = refl
-same_name [] (l ∷ m) h = absurd (false≢true h)
-same_name (l ∷ n) [] h = absurd (false≢true h)
-same_name (l ∷ n) (k ∷ m) h =
-    let p = and_parts (octets_equal l k) (names_equal n m) h in
-    ap (λ x. x ∷ n) ((bytes_decides l k).0 p.0) ∙ ap (λ x. k ∷ x) (same_name n m p.1)
 
 -- what a record must be like to be read back where it is written in b
 record IsReadable (b : Octets) (r : ResourceRecord) : Type 0 where
@@ -35,7 +26,7 @@ record IsReadable (b : Octets) (r : ResourceRecord) : Type 0 where
 module _ (b : Octets) (asked : DomainName) (e : ℕ) (there : NameAt b 12 asked e) where
   owner_as : (i : ℕ) (n : DomainName) (t : Bool) → names_equal n asked ≡ t → 12 < i → is_name n ≡ true
       → Stands b i (cond t (pointer 12) (wire n)) → NameAt b i n (i + length (cond t (pointer 12) (wire n)))
-  owner_as i n true is h name at = name_pointed n h (subst (λ x. NameAt b 12 x e) (sym (same_name n asked is)) there) at
+  owner_as i n true is h name at = name_pointed n h (subst (λ x. NameAt b 12 x e) (sym ((names_equal-decides n asked).0 is)) there) at
   owner_as i n false is h name at = name_written n name at
 
   owner_at : (i : ℕ) (n : DomainName) → 12 < i → is_name n ≡ true → Stands b i (plain_owner asked n) → NameAt b i n (i + length (plain_owner asked n))
@@ -144,7 +135,7 @@ records_by_section (i ∷ is) h =
         rw (a, b, c, rest, none, none') refl
 
 -- the header, field by field
-header_at : {b : Octets} (h : Header) (qd an ns ar : ℕ) → h.id < 2 ^ 16 → h.flags < 2 ^ 16 → qd < 2 ^ 16 → an < 2 ^ 16 → ns < 2 ^ 16 → ar < 2 ^ 16
+pub header_at : {b : Octets} (h : Header) (qd an ns ar : ℕ) → h.id < 2 ^ 16 → h.flags < 2 ^ 16 → qd < 2 ^ 16 → an < 2 ^ 16 → ns < 2 ^ 16 → ar < 2 ^ 16
     → Stands b 0 (header_octets h qd an ns ar)
     → NumberAt b 0 2 h.id × NumberAt b 2 2 h.flags × NumberAt b 4 2 qd × NumberAt b 6 2 an × NumberAt b 8 2 ns × NumberAt b 10 2 ar
 header_at {b} h qd an ns ar id flags qd-low an-low ns-low ar-low at =
@@ -192,7 +183,7 @@ length-question_octets q =
     length-append (wire q.qname ++ octets16 q.qtype) (octets16 q.qclass) ∙ omega (arith, length-append (wire q.qname) (octets16 q.qtype))
 
 -- the question behind the header
-question_at_12 : {b : Octets} (q : MessageQuestion) → is_name q.qname ≡ true → q.qtype < 2 ^ 16 → q.qclass < 2 ^ 16
+pub question_at_12 : {b : Octets} (q : MessageQuestion) → is_name q.qname ≡ true → q.qtype < 2 ^ 16 → q.qclass < 2 ^ 16
     → Stands b 12 (question_octets q) → QuestionsAt b 12 (q ∷ []) (12 + length (question_octets q))
 question_at_12 {b} q name qtype qclass at =
     let n = wire q.qname in

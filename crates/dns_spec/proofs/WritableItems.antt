@@ -1,21 +1,20 @@
 -- The sets of an answer stand in the order of their sections, and their records fit a message where those of the zone do.
-use Rattle.std.proofs.Common.{◌≡◌, ℕ, zero, suc, ◌<◌, ◌≤◌, min, append_assoc, append-nil, Bool, true, false, ◌&&◌, not, cond, nat_lt, nat_le, ◌==◌, List, [], ◌∷◌, ◌++◌, map, reverse, length, take, drop, Option, None, Some, is_some, option_map, unwrap_or, All, find, filter, flat_map, refl, sym, ap, ap₂, ◌∙◌, subst, arith, nat_cmp, length-append}
+use Rattle.std.proofs.Common.{◌≡◌, ℕ, zero, suc, ◌<◌, ◌≤◌, min, append_assoc, append-nil, Bool, true, false, ◌&&◌, not, cond, nat_le, ◌==◌, List, [], ◌∷◌, ◌++◌, map, reverse, length, take, Option, None, Some, is_some, option_map, unwrap_or, All, find, filter, flat_map, refl, sym, ap, subst, arith, nat_cmp}
 use mathlib.Core.List.{reverse_aux}
-use Rattle.std.proofs.lemmas.Bool.{and_parts, and_from, leb-true, le-leb}
-use Rattle.std.proofs.lemmas.Option.{none-some, same_Some, cond_some, option_and_then_some, some_pair_parts}
-use Rattle.std.proofs.lemmas.List.{length-map}
+use Rattle.std.proofs.lemmas.Bool.{and_from, le-leb}
+use Rattle.std.proofs.lemmas.Option.{none-some, same_Some, cond_some, option_and_then_some}
 use Rattle.std.proofs.lemmas.List.Elements.{All-nil, All-cons, All-head, All-tail}
 use Rattle.std.specs.List.{list_all, list_any}
-use Rattle.std.specs.Char.{to_ascii_lowercase}
-use Rattle.dns_spec.specs.Names.{Octets, DomainName, wire, is_label, is_name, folded, same, at_or_below, suffixes, name_of}
-use Rattle.dns_spec.specs.Data.{type_a, type_ns, type_cname, type_soa, type_aaaa, qtype_any, Piece, fixed, domain, string, strings, anything, pieces_of, Part, octets, name, are_strings, octets_front, piece_front, cut, first_name, target, soa_minimum}
+use Rattle.dns_spec.specs.Names.{Octets, DomainName, is_name, folded, same, at_or_below, suffixes}
+use Rattle.dns_spec.specs.Data.{type_a, type_ns, type_cname, type_soa, type_aaaa, qtype_any, Piece, fixed, domain, string, strings, anything, pieces_of, Part, octets, name, piece_front, cut, first_name, target, soa_minimum}
 use Rattle.dns_spec.specs.Records.{ResourceRecord, ZoneContents, data_order, at, of_type, rrset, with_owner, distinct, sort_by}
 use Rattle.dns_spec.specs.Tree.{exists, is_cut, cut_of, source_of_synthesis, found}
 use Rattle.dns_spec.specs.Layout.{Section, answer, authority, additional, Item, records_of}
 use Rattle.dns_spec.specs.Answer.{name_error, no_error, item, follows_alias, alias_set, first_target, next_sought, chain_from, chain, last_of, last_sought, alias_items, Outcome, all_sets, asked_sets, referral_to, negative, positive, or_empty, answer_from, outcome_at, outcome, targets, stands, address_set, address_sets, extra, main_items, items}
 use Rattle.dns_spec.specs.Laws.{section_rank, sections_in_order, IsWritable}
+use Rattle.dns_spec.proofs.NameLaws.{is_name-tail, is_name-folded}
 use Rattle.dns_spec.proofs.SortedOnce.{Each, each_filter, each_sort}
-use Rattle.dns_spec.proofs.WrittenData.{name_read}
+use Rattle.dns_spec.proofs.WrittenData.{cut_into, name_part, octets_part, all_strings}
 
 pub each_append : {X : Type 0} (P : X → Type 0) (xs ys : List X) → Each P xs → Each P ys → Each P (xs ++ ys)
 each_append P [] ys e f = f
@@ -57,31 +56,12 @@ found_each P test (x ∷ xs) y e h = go (test x) h (found_each P test xs y e.1)
 abbrev Named : DomainName → Type 0
 Named n = is_name n ≡ true
 
-named_rest : (l : Octets) (n : DomainName) → Named (l ∷ n) → Named n
-named_rest l n h =
-    let p = and_parts (list_all is_label (l ∷ n)) (nat_le (length (wire (l ∷ n))) 255) h in
-    let q = and_parts (is_label l) (list_all is_label n) p.0 in
-    let short = leb-true (length (wire (l ∷ n))) 255 p.1 in
-    and_from (list_all is_label n) (nat_le (length (wire n)) 255) q.1 (le-leb (length (wire n)) 255 (omega (arith, length-append l (wire n), short)))
-
 each_suffix : (n : DomainName) → Named n → Each Named (suffixes n)
 each_suffix [] h = (h, tt)
-each_suffix (l ∷ n) h = (h, each_suffix n (named_rest l n h))
-
-labels_folded : (n : DomainName) → list_all is_label (folded n) ≡ list_all is_label n
-labels_folded [] = refl
-labels_folded (l ∷ n) = ap₂ (λ k t. (nat_lt 0 k && nat_le k 63) && t) (length-map l to_ascii_lowercase) (labels_folded n)
-
-length-wire_folded : (n : DomainName) → length (wire (folded n)) ≡ length (wire n)
-length-wire_folded [] = refl
-length-wire_folded (l ∷ n) =
-    omega (arith, length-append l (wire n), length-append (map to_ascii_lowercase l) (wire (folded n)), length-map l to_ascii_lowercase, length-wire_folded n)
-
-pub named_folded : (n : DomainName) → Named n → Named (folded n)
-named_folded n h = ap₂ (λ t k. t && nat_le k 255) (labels_folded n) (length-wire_folded n) ∙ h
+each_suffix (l ∷ n) h = (h, each_suffix n (is_name-tail l n h))
 
 pub named_cut : (z : ZoneContents) (q c : DomainName) → Named q → cut_of z q ≡ Some c → Named c
-named_cut z q c h e = found_each Named (is_cut z) (reverse (suffixes (folded q))) c (each_reverse Named (suffixes (folded q)) (each_suffix (folded q) (named_folded q h))) e
+named_cut z q c h e = found_each Named (is_cut z) (reverse (suffixes (folded q))) c (each_reverse Named (suffixes (folded q)) (each_suffix (folded q) (is_name-folded q h))) e
 
 -- the names in data are names
 abbrev NamedPart : Part → Type 0
@@ -91,41 +71,21 @@ NamedPart (name n) = Named n
 octets_named : (o : Octets) (part : Part) → octets o ≡ part → NamedPart part
 octets_named o part e = subst NamedPart e tt
 
-front_named : (k : ℕ) (os rest : Octets) (part : Part) → octets_front k os ≡ Some (part, rest) → NamedPart part
-front_named k os rest part h =
-    octets_named (take k os) part (ap (λ z. z.0) (cond_some (nat_le k (length os)) (octets (take k os), drop k os) (part, rest) h).1)
-
-name_named : (os rest : Octets) (part : Part) (y : Option (DomainName × Octets)) → name_of os ≡ y
-    → option_map {T = DomainName × Octets} {U = Part × Octets} (λ r. (name r.0, r.1)) y ≡ Some (part, rest) → NamedPart part
-name_named os rest part None e h = absurd (none-some (part, rest) h)
-name_named os rest part (Some (n, os')) e h =
-    subst NamedPart (some_pair_parts (name n) part os' rest h).0 (name_read os n os' e).0
-
 named_front : (p : Piece) (os rest : Octets) (part : Part) → piece_front p os ≡ Some (part, rest) → NamedPart part
-named_front (fixed k) os rest part h = front_named k os rest part h
-named_front domain os rest part h = name_named os rest part (name_of os) refl h
+named_front (fixed k) os rest part h = octets_named (take k os) part (octets_part k os rest part h)
+named_front domain os rest part h = let m = name_part os rest part h in subst NamedPart m.1 m.2
 named_front string [] rest part h = absurd (none-some (part, rest) h)
-named_front string (k ∷ os) rest part h = front_named (suc k) (k ∷ os) rest part h
-named_front strings os rest part h =
-    octets_named os part (ap (λ z. z.0) (cond_some (not (length os == 0) && are_strings 0 os) (octets os, []) (part, rest) h).1)
+named_front string (k ∷ os) rest part h = octets_named (k ∷ take k os) part (octets_part (suc k) (k ∷ os) rest part h)
+named_front strings os rest part h = octets_named os part (all_strings os rest part h).2
 named_front anything os rest part h = octets_named os part (ap (λ z. z.0) (same_Some (octets os, []) (part, rest) h))
 
 named_parts : (ps : List Piece) (os : Octets) (xs : List Part) → cut ps os ≡ Some xs → Each NamedPart xs
 unfolding cut
 named_parts [] [] xs h = subst (Each NamedPart) (same_Some [] xs h) tt
 named_parts [] (o ∷ os) xs h = absurd (none-some xs h)
-named_parts (p ∷ ps) os xs h = go (piece_front p os) refl h (λ rest ys e. named_parts ps rest ys e)
-  where
-    joined : (part : Part) (y : Option (List Part)) → NamedPart part → ((ys : List Part) → y ≡ Some ys → Each NamedPart ys)
-        → option_map (λ (ys : List Part). part ∷ ys) y ≡ Some xs → Each NamedPart xs
-    joined part None n f e = absurd (none-some xs e)
-    joined part (Some ys) n f e = subst (Each NamedPart) (same_Some (part ∷ ys) xs e) (n, f ys refl)
-
-    go : (y : Option (Part × Octets)) → piece_front p os ≡ y
-        → ◌≡◌ {A = Option (List Part)} (elim y [ None ↦ None | Some r ↦ option_map (λ ys. r.0 ∷ ys) (cut ps r.1) ]) (Some xs)
-        → ((rest : Octets) (ys : List Part) → cut ps rest ≡ Some ys → Each NamedPart ys) → Each NamedPart xs
-    go None e f again = absurd (none-some xs f)
-    go (Some r) e f again = joined r.0 (cut ps r.1) (named_front p os r.1 r.0 e) (again r.1) f
+named_parts (p ∷ ps) os xs h =
+    let c = cut_into p ps os xs h in
+    subst (Each NamedPart) c.whole (named_front p os c.rest c.part c.front, named_parts ps c.rest c.others c.more)
 
 named_first : (xs : List Part) (m : DomainName) → Each NamedPart xs → first_name xs ≡ Some m → Named m
 named_first [] m e h = absurd (none-some m h)

@@ -7,6 +7,7 @@ pub mod Tree
 pub mod Checks
 pub mod Reading
 pub mod Layout
+pub mod Sharing
 pub mod Answer
 pub mod Reply
 pub mod Laws

@@ -4,8 +4,8 @@ ghost use Rattle.std.specs.Prelude.{◌≡◌, ℕ, List, [], ◌<◌, ◌≤◌
 ghost use Rattle.dns_spec.specs.Names.{Octets};
 ghost use Rattle.dns_spec.specs.Records.{ZoneContents};
 ghost use Rattle.dns_spec.specs.Reading.{MessageQuestion, Spells};
-ghost use Rattle.dns_spec.specs.Layout.{Item, plain_layout};
-ghost use Rattle.dns_spec.specs.Reply.{Reply, kept, reply_with, octets_by, reply_message};
+ghost use Rattle.dns_spec.specs.Layout.{Item, layout, plain_layout};
+ghost use Rattle.dns_spec.specs.Reply.{Reply, kept, reply, reply_with, octets_by, reply_message};
 ghost use Rattle.dns_spec.specs.Laws.{IsWritable, KeepsBeginning};
 
 /// The octets of a reply in the plain layout spell the message that the reply is, over every zone whose records fit a
@@ -14,6 +14,20 @@ pub fn plain_reply_is_spelled()
     ensures { (z : ZoneContents) (d : Octets) (keep : MessageQuestion → List Item) (r : Reply) → All IsWritable z.records
         → All (λ o. o < 256) d → KeepsBeginning z keep
         → reply_with keep z d ≡ Some r → Spells (octets_by plain_layout r) (reply_message r) }
+{}
+
+/// The octets of a reply spell the message that the reply is, over every zone whose records fit a message, for every
+/// datagram and every limit from 271 to 16,384 octets (RFC 1035 4.1).
+pub fn reply_is_spelled()
+    ensures { (z : ZoneContents) (d : Octets) (limit : ℕ) (r : Reply) → All IsWritable z.records → All (λ o. o < 256) d
+        → 271 ≤ limit → limit ≤ 16384
+        → reply z d limit ≡ Some r → Spells (octets_by layout r) (reply_message r) }
+{}
+
+/// The octets of a reply are at most its limit, where that has room for a question.
+pub fn reply_is_within_its_limit()
+    ensures { (z : ZoneContents) (d : Octets) (limit : ℕ) (r : Reply) → 271 ≤ limit
+        → reply z d limit ≡ Some r → length (octets_by layout r) ≤ limit }
 {}
 
 /// What is kept of a list of sets fits where nothing does.
@@ -25,4 +39,9 @@ pub fn kept_sets_fit()
 pub fn kept_sets_are_the_most()
     ensures { (size_of : List Item → ℕ) (limit : ℕ) (sets : List Item) (k : ℕ) → k ≤ length sets → size_of (take k sets) ≤ limit
         → k ≤ length (kept size_of limit sets) }
+{}
+
+/// A reply depends on the first 512 octets of a datagram alone: a question ends before them.
+pub fn first_512_octets_decide()
+    ensures { (z : ZoneContents) (keep : MessageQuestion → List Item) (d : Octets) → reply_with keep z d ≡ reply_with keep z (take 512 d) }
 {}

@@ -1,0 +1,5 @@
+use Rattle.dns_spec.proofs.ReplySpelled.{shared_reply_fits}
+use Rattle.dns_spec.proofs.reply.reply_is_within_its_limit.Goals as goal
+
+pub returns : goal.returns
+returns c = shared_reply_fits
