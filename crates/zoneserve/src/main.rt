@@ -34,11 +34,12 @@ fn serve<R: Env + Files + Input + Print + AllocGlobal>(rt: &R) -> Result<u8, Fau
 
 // The words behind the program's own name. Words that are no text are none that the program takes.
 fn given_words<R: Env + AllocGlobal>(rt: &R) -> Result<Vec<String>, FaultWord> {
-    let words = env::args(rt).map_err(|error| word_or_no_memory(&error, FaultWord::Usage))?;
-    words
-        .skip(1)
-        .collect(rt.alloc())
-        .map_err(|_| FaultWord::NoMemory)
+    let given = env::args(rt).map_err(|error| word_or_no_memory(&error, FaultWord::Usage))?;
+    let mut words = Vec::new(rt.alloc());
+    for word in given.skip(1) {
+        words.push(word).map_err(|_| FaultWord::NoMemory)?;
+    }
+    Ok(words)
 }
 
 fn word_or_no_memory(error: &Error, word: FaultWord) -> FaultWord {

@@ -1,12 +1,16 @@
 //! One line of a zone file as a record.
 
 use crate::record::Record;
+use arrayvec::ArrayVec;
 use byteorder::{BigEndian, ByteOrder};
 use dns_name::Name;
 use std::alloc::{AllocError, AllocFailed, Global};
 
 // The greatest TTL (RFC 2181 8).
 const MOST_TTL: u32 = 2_147_483_647;
+
+// The words of the longest record, the SOA's.
+const MOST_WORDS: usize = 11;
 
 /// Why a line gives no record.
 #[derive(Clone, Copy, Debug, PartialEq, Eq)]
@@ -25,7 +29,7 @@ impl From<AllocError> for LineFault {
 
 /// The record of a line `owner TTL IN TYPE data` without its line end, in a zone of the origin.
 pub(super) fn read_line(alloc: Global, origin: &Name, line: &[u8]) -> Result<Record, LineFault> {
-    let words: Vec<&[u8]> = line.split(|octet| *octet == b' ').collect(alloc)?;
+    let words = words_of(line).ok_or(LineFault::Unsupported)?;
     let [owner, ttl, class, rtype, words @ ..] = words.as_slice() else {
         return Err(LineFault::Unsupported);
     };
@@ -41,6 +45,15 @@ pub(super) fn read_line(alloc: Global, origin: &Name, line: &[u8]) -> Result<Rec
         b"SOA" if is_origin => read_soa(alloc, owner, ttl, words),
         _ => Err(LineFault::Unsupported),
     }
+}
+
+// The words of a line, where they are no more than a record has.
+fn words_of(line: &[u8]) -> Option<ArrayVec<&[u8], MOST_WORDS>> {
+    let mut words = ArrayVec::new();
+    for word in line.split(|octet| *octet == b' ') {
+        words.try_push(word).ok()?;
+    }
+    Some(words)
 }
 
 // An address record (RFC 1035 3.4.1).
