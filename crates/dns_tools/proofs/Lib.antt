@@ -9,3 +9,4 @@ pub mod ListReply
 pub mod Decisions
 pub mod RespondCases
 pub mod ListedRecords
+pub mod PlainZone

@@ -20,7 +20,7 @@ use Rattle.dns_tools.proofs.Ordered.{BeforeAll, Ordered, sort-Ordered, Ordered-s
 use Rattle.dns_tools.proofs.ListTree.{no_cut, no_alias, at_wildcard, none_asked, asked-is}
 
 -- a total order of the data
-data_total : IsTotalOrder data_order
+pub data_total : IsTotalOrder data_order
 data_total = on_total (λ (r : ResourceRecord). r.rdata) nat_list_cmp_total
 
 -- picked records are in the order of the list

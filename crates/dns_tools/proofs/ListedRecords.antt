@@ -24,3 +24,30 @@ listed_onto-nothing (r ∷ rs) = ap (with_record r) (listed_onto-nothing rs)
 pub listed_onto-last : (rs : List ResourceRecord) (r : ResourceRecord) (others : List ResourceRecord) → listed_onto (rs ++ r ∷ []) others ≡ listed_onto rs (with_record r others)
 listed_onto-last [] r others = refl
 listed_onto-last (x ∷ rs) r others = ap (with_record x) (listed_onto-last rs r others)
+
+-- a new record's place in a list: behind the first i records, which are before it
+module _ (new r : ResourceRecord) (rs : List ResourceRecord) (i : ℕ) (h : i < length rs) (e : r ≡ get_or rs i r)
+    (before : insert_by data_order new rs ≡ take i rs ++ insert_by data_order new (drop i rs)) where
+  here : drop i rs ≡ r ∷ drop (i + 1) rs
+  here = drop-cons rs i r h ∙ ap (λ x. x ∷ drop (suc i) rs) (sym e) ∙ ap (λ k. r ∷ drop k rs) (sym (add-one i))
+
+  pub place-passed : is_gt (data_order new r) ≡ true → insert_by data_order new rs ≡ take (i + 1) rs ++ insert_by data_order new (drop (i + 1) rs)
+  place-passed behind =
+      before ∙ ap (λ x. take i rs ++ insert_by data_order new x) here
+      ∙ ap (λ b. take i rs ++ cond b (r ∷ insert_by data_order new (drop (i + 1) rs)) (new ∷ r ∷ drop (i + 1) rs)) behind
+      ∙ sym (append_assoc (take i rs) (r ∷ []) (insert_by data_order new (drop (i + 1) rs)))
+      ∙ ap (λ x. x ++ insert_by data_order new (drop (i + 1) rs)) (ap (λ x. take i rs ++ x ∷ []) e ∙ sym (take-suc rs i r h) ∙ ap (λ k. take k rs) (sym (add-one i)))
+
+  pub place-found : (place : ℕ) → place ≡ i → is_gt (data_order new r) ≡ false → insert rs place new ≡ insert_by data_order new rs
+  place-found place at first =
+      ap (λ k. insert rs k new) at
+      ∙ sym (before ∙ ap (λ x. take i rs ++ insert_by data_order new x) here
+      ∙ ap (λ b. take i rs ++ cond b (r ∷ insert_by data_order new (drop (i + 1) rs)) (new ∷ r ∷ drop (i + 1) rs)) first
+      ∙ ap (λ x. take i rs ++ new ∷ x) (sym here))
+
+-- one record more of those to be listed
+pub with_record-new : (r : ResourceRecord) (others : List ResourceRecord) → list_any (records_equal r) others ≡ false → with_record r others ≡ insert_by data_order r others
+with_record-new r others e = ap (λ b. cond b others (insert_by data_order r others)) e
+
+pub with_record-known : (r : ResourceRecord) (others : List ResourceRecord) → list_any (records_equal r) others ≡ true → with_record r others ≡ others
+with_record-known r others e = ap (λ b. cond b others (insert_by data_order r others)) e

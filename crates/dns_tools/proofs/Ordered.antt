@@ -56,7 +56,7 @@ module _ {X : Type 0} (cmp : X → X → Ordering) (total : IsTotalOrder cmp) wh
   insert_cases x y ys true e h rest = (before_insert x y ys (turned x y (cmp x y) refl e) h.0, rest)
   insert_cases x y ys false e h rest = ((e, before_more x y ys e h.0), h)
 
-  insert-Ordered : (x : X) (ys : List X) → Ordered ys → Ordered (insert_by cmp x ys)
+  pub insert-Ordered : (x : X) (ys : List X) → Ordered ys → Ordered (insert_by cmp x ys)
   insert-Ordered x [] h = (tt, tt)
   insert-Ordered x (y ∷ ys) h = insert_cases x y ys (is_gt (cmp x y)) refl h (insert-Ordered x ys h.1)
 

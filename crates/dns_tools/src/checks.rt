@@ -6,7 +6,7 @@ ghost use Rattle.std.specs.Option.{option_map_or};
 ghost use Rattle.dns_spec.specs.Records.{ResourceRecord};
 ghost use Rattle.dns_spec.specs.Data.{target};
 ghost use Rattle.dns_spec.specs.Checks.{first_is_asterisk};
-ghost use Rattle.dns_tools.specs.ListZone.{is_plain, is_refused, has_fault, lacks_or_repeats, lacks_server, server_lost};
+ghost use Rattle.dns_tools.specs.ListZone.{is_listed, is_plain, is_refused, has_fault, lacks_or_repeats, lacks_server, server_lost};
 
 use crate::query::{TYPE_A, TYPE_NS, TYPE_SOA};
 use crate::record::Record;
@@ -21,16 +21,29 @@ pub(crate) fn is_refused(origin: &Name, records: &[Record]) -> bool
 {
     !records.iter().all(|listed| is_plain(origin, listed))
         || has_fault(origin, records, origin)
-        || records.iter().any(|listed| has_fault(origin, records, &listed.owner))
+        || has_faulty_owner(origin, records)
+}
+
+fn has_faulty_owner(origin: &Name, records: &[Record]) -> bool
+    ensures { result ≡ list_any (λ (r : ResourceRecord). has_fault (record { origin = origin.now; records = records.now }) r.owner) records.now }
+{
+    records
+        .iter()
+        .any(|listed| has_fault(origin, records, &listed.owner))
 }
 
 // An A record, or an SOA or NS record at the origin, and none of a wildcard.
 fn is_plain(origin: &Name, listed: &Record) -> bool
     ensures { result ≡ is_plain origin.now listed.now }
 {
-    let is_kind = listed.rtype == TYPE_A
-        || ((listed.rtype == TYPE_NS || listed.rtype == TYPE_SOA) && listed.owner.same(origin));
-    is_kind && !first_is_asterisk(&listed.owner)
+    is_listed(origin, listed) && !first_is_asterisk(&listed.owner)
+}
+
+fn is_listed(origin: &Name, listed: &Record) -> bool
+    ensures { result ≡ is_listed origin.now listed.now }
+{
+    listed.rtype == TYPE_A
+        || ((listed.rtype == TYPE_NS || listed.rtype == TYPE_SOA) && listed.owner.same(origin))
 }
 
 fn first_is_asterisk(name: &Name) -> bool

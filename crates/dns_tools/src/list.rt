@@ -1,6 +1,7 @@
 //! A zone kept as a list of SOA, NS and A records.
 ghost use Rattle.std.specs.Prelude.{◌≡◌, ◌≤◌, ◌++◌, true, false, length, Err, IfOk, OnOk, insert};
 ghost use Rattle.std.specs.List.{list_any};
+ghost use Rattle.std.specs.Ordering.{is_gt};
 ghost use Rattle.dns_spec.specs.Records.{records_equal, insert_by, data_order};
 ghost use Rattle.dns_spec.specs.Tree.{exists};
 ghost use Rattle.dns_tools.specs.ListZone.{IsListZone, listed_records, listed_zone, is_refused};
@@ -123,10 +124,17 @@ fn place_of(records: &[Record], new: &Record) -> usize
 {
     let mut place = 0;
     'records: for listed in records {
-        if new.rdata.as_slice() <= listed.rdata.as_slice() {
+        if !is_behind(new, listed) {
             break;
         }
         place += 1;
     }
     place
+}
+
+// Whether a record's data is greater than another's (RFC 4034 6.3).
+fn is_behind(one: &Record, other: &Record) -> bool
+    ensures { result ≡ is_gt (data_order one.now other.now) }
+{
+    one.rdata.as_slice().cmp(other.rdata.as_slice()).is_gt()
 }

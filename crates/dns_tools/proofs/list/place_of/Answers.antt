@@ -1,14 +1,15 @@
-use Rattle.std.proofs.Common.{rules, ◌≡◌, ◌≤◌, ◌++◌, true, false, length, Err, IfOk, OnOk, insert, ℕ, ◌+◌, ◌-◌, ◌*◌, ◌<◌, ◌/◌, ◌%◌, Bool, nat_eq, nat_lt, List, [], ◌∷◌, slice_index_or, slice_set, bit_and, bit_or, Fits, w8, w32, w64, Bor, MutBor}
-use Rattle.std.specs.List.{list_any}
-use Rattle.dns_spec.specs.Records.{records_equal, insert_by, data_order}
-use Rattle.dns_spec.specs.Tree.{exists}
-use Rattle.dns_tools.specs.ListZone.{IsListZone, listed_records, listed_zone, is_refused}
+use Rattle.std.proofs.Common.{refl, sym, ◌∙◌, arith}
+use Rattle.dns_tools.proofs.ListedRecords.{place-passed, place-found}
 use Rattle.dns_tools.proofs.list.place_of.Goals as goal
 
--- src/list.rt:125:5
 pub records-preserved : goal.records-preserved
-records-preserved c = ?
+records-preserved c = record {
+  place = omega arith;
+  before = place-passed c.args.new.now c.listed-item.result c.args.records.now c.records.listed-index c.records-test.true c.listed-item.is c.records.invariant.before
+      (sym c.is_behind.ensures ∙ c.if-not-is_behind.false);
+}
 
--- src/list.rt:120:1
-pub returns-then-le-clause-place : goal.returns-then-le-clause-place
-returns-then-le-clause-place c = ?
+pub returns-then-not-is_behind-clause-place : goal.returns-then-not-is_behind-clause-place
+returns-then-not-is_behind-clause-place c =
+    place-found c.args.new.now c.listed-item.result c.args.records.now c.records.listed-index c.records-test.true c.listed-item.is c.records.invariant.before c.records.place c.records.invariant.place
+    (sym c.is_behind.ensures ∙ c.if-not-is_behind.true)
