@@ -71,14 +71,15 @@ pub cut-soa : (m r : DomainName) (ds : Octets) → is_name m ≡ true → is_nam
 cut-soa m r ds okm okr e =
     ap (cut (pieces_of type_soa)) (append_assoc (wire m) (wire r) ds)
     ∙ step domain (domain ∷ fixed 20 ∷ []) (wire m ++ (wire r ++ ds)) (name m) (wire r ++ ds) (name r ∷ octets ds ∷ []) (cut-domain m (wire r ++ ds) okm)
-      (step domain (fixed 20 ∷ []) (wire r ++ ds) (name r) ds (octets ds ∷ []) (cut-domain r ds okr)
-      (step (fixed 20) [] ds (octets ds) [] [] (all_of 20 ds e) nothing_left))
+    (step domain (fixed 20 ∷ []) (wire r ++ ds) (name r) ds (octets ds ∷ []) (cut-domain r ds okr)
+    (step (fixed 20) [] ds (octets ds) [] [] (all_of 20 ds e) nothing_left))
 
 -- what is cut is valid, and its first name is its target
 made : (t : ℕ) (d : Octets) (xs : List Part) → cut (pieces_of t) d ≡ Some xs → length d ≤ 65535 → (valid t d ≡ true) × (target t d ≡ first_name xs)
-made t d xs e fits =
-    ( and_from (nat_le (length d) 65535) (is_some (cut (pieces_of t) d)) (le-leb (length d) 65535 fits) (ap is_some e)
-    , ap (λ x. first_name (unwrap_or x (octets d ∷ []))) e )
+made t d xs e fits = (
+  and_from (nat_le (length d) 65535) (is_some (cut (pieces_of t) d)) (le-leb (length d) 65535 fits) (ap is_some e),
+  ap (λ x. first_name (unwrap_or x (octets d ∷ []))) e,
+)
 
 pub address-made : (d : Octets) → length d ≡ 4 → (valid type_a d ≡ true) × (target type_a d ≡ None)
 address-made d e = made type_a d (octets d ∷ []) (cut-address d e) (omega arith)

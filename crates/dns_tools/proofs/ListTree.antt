@@ -38,8 +38,9 @@ witness p q [] h k = absurd (false≢true h)
 witness p q (x ∷ xs) h k =
     let parts = and_parts (q x) (list_all q xs) k in
     elim (or_cases (p x) (list_any p xs) h) [
-      inl here ↦ record { of = x; passes = here; is = parts.0 }
-    | inr later ↦ witness p q xs later parts.1 ]
+      | inl here ↦ record { of = x; passes = here; is = parts.0 }
+      | inr later ↦ witness p q xs later parts.1
+    ]
 
 find-none : {X : Type 0} (p : X → Bool) (xs : List X) → ((x : X) → p x ≡ false) → find p xs ≡ None
 find-none p [] none = refl
@@ -118,7 +119,7 @@ asked_cases : (q : DomainName) (t : ℕ) (r : ResourceRecord) (rs : List Resourc
     → filter (λ (s : ResourceRecord). s.rtype == t) (with_owner q (filter (λ (s : ResourceRecord). same s.owner q) rs)) ≡ asked_records q t rs
     → same r.owner q ≡ b → (r.rtype == t) ≡ c
     → filter (λ (s : ResourceRecord). s.rtype == t) (with_owner q (cond b (r ∷ filter (λ (s : ResourceRecord). same s.owner q) rs) (filter (λ (s : ResourceRecord). same s.owner q) rs)))
-      ≡ cond (c && b) (record r { owner = q } ∷ asked_records q t rs) (asked_records q t rs)
+    ≡ cond (c && b) (record r { owner = q } ∷ asked_records q t rs) (asked_records q t rs)
 asked_cases q t r rs true true rest e f = rw f (ap (λ xs. record r { owner = q } ∷ xs) rest)
 asked_cases q t r rs true false rest e f = rw f rest
 asked_cases q t r rs false true rest e f = rest

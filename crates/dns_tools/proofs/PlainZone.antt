@@ -1,6 +1,6 @@
 -- Records that are not refused, each once and in order, are a list zone.
-use Rattle.std.proofs.Common.{Bool, true, false, cond, not, ◌&&◌, ◌||◌, ◌≡◌, ℕ, ◌^◌, List, [], ◌∷◌, refl, sym, subst, ap, ◌∙◌, nat_lt}
-use Rattle.std.proofs.lemmas.Bool.{true≢false, false≢true, and_parts, and_from, or_parts, not-false, true_from_ne_false}
+use Rattle.std.proofs.Common.{Bool, true, false, cond, not, ◌&&◌, ◌||◌, ◌≡◌, ◌<◌, ℕ, ◌^◌, List, [], ◌∷◌, refl, sym, subst, ap, ◌∙◌, nat_lt}
+use Rattle.std.proofs.lemmas.Bool.{true≢false, false≢true, and_parts, and_from, or_parts, not-false, lt-ltb}
 use Rattle.std.specs.Prelude.{if◌then◌else◌}
 use Rattle.std.specs.Bool.{⊤}
 use Rattle.std.specs.List.{list_any, list_all}
@@ -69,3 +69,14 @@ plain_zone o rs xs e h =
       ordered = Ordered-sort data_order data_total xs (subst (Ordered data_order data_total) (sym e) (listed-Ordered rs));
       soa = soa_owned z lacking;
     }
+
+-- a sound record of a kind that is read is plain where its owner is no wildcard
+three_tests : (a b s : Bool) → a ≡ true → s ≡ true → b ≡ (a && b && s)
+three_tests true true true e f = refl
+three_tests true false true e f = refl
+three_tests true b false e f = absurd (false≢true f)
+three_tests false b s e f = absurd (false≢true e)
+
+pub sound_plain : (o : DomainName) (r : ResourceRecord) → is_listed o r ≡ true → valid r.rtype r.rdata ≡ true → r.ttl < 2 ^ 32 → not (first_is_asterisk r.owner) ≡ is_plain o r
+sound_plain o r kind good low =
+    three_tests (is_listed o r) (not (first_is_asterisk r.owner)) (is_sound r) kind (and_from (valid r.rtype r.rdata) (nat_lt r.ttl (2 ^ 32)) good (lt-ltb r.ttl (2 ^ 32) low))

@@ -68,9 +68,10 @@ few q (r ∷ rs) = omega (arith, few q rs)
 module _ (z : ZoneContents) (ok : IsListZone z) (q : MessageQuestion) (fits : FitsMessage q) where
   kept_cases : (b c : Bool) → nat_le (size_with q (asked_records q.qname type_a z.records)) 512 ≡ c
       → AllByRecursion IsWritable (if b && c then asked_records q.qname type_a z.records else []) × (length (if b && c then asked_records q.qname type_a z.records else []) < 2 ^ 16)
-  kept_cases true true e =
-      ( writable_asked q.qname type_a z.records fits.qname (omega arith) ok.ttls ok.valid_data
-      , omega (arith, few q.qname (asked_records q.qname type_a z.records), leb-true _ 512 e) )
+  kept_cases true true e = (
+    writable_asked q.qname type_a z.records fits.qname (omega arith) ok.ttls ok.valid_data,
+    omega (arith, few q.qname (asked_records q.qname type_a z.records), leb-true _ 512 e),
+  )
   kept_cases true false e = (tt, omega arith)
   kept_cases false c e = (tt, omega arith)
 

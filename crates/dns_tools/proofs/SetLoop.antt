@@ -55,9 +55,9 @@ module _ (first : Octets) (at : ℕ) (q : DomainName) (t : ℕ) (rs : List Resou
         size = omega (arith, so.size, ap (plain_records_size q) picked, is_end);
         counted = omega (arith, so.counted, ap length picked);
         written =
-          ap (λ x. x ++ flat_map (plain_record q) (asked_records q t (drop (i + 1) rs))) is_body
-          ∙ append_assoc (body out end) (plain_record q shown) _
-          ∙ ap (λ x. body out end ++ flat_map (plain_record q) x) (sym picked) ∙ so.written;
+            ap (λ x. x ++ flat_map (plain_record q) (asked_records q t (drop (i + 1) rs))) is_body
+            ∙ append_assoc (body out end) (plain_record q shown) _
+            ∙ ap (λ x. body out end ++ flat_map (plain_record q) x) (sym picked) ∙ so.written;
         before = body-front out out' (plain_record q shown) at end end' behind (omega (arith, so.from)) (omega arith) so.inside is_body ∙ so.before;
       }
 

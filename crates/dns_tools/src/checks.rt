@@ -19,9 +19,16 @@ const MOST_RECORDS: usize = 64;
 pub(crate) fn is_refused(origin: &Name, records: &[Record]) -> bool
     ensures { result ≡ is_refused (record { origin = origin.now; records = records.now }) }
 {
-    !records.iter().all(|listed| is_plain(origin, listed))
-        || has_fault(origin, records, origin)
-        || has_faulty_owner(origin, records)
+    if !are_plain(origin, records) || has_fault(origin, records, origin) {
+        return true;
+    }
+    has_faulty_owner(origin, records)
+}
+
+fn are_plain(origin: &Name, records: &[Record]) -> bool
+    ensures { result ≡ list_all (is_plain origin.now) records.now }
+{
+    records.iter().all(|listed| is_plain(origin, listed))
 }
 
 fn has_faulty_owner(origin: &Name, records: &[Record]) -> bool
@@ -36,6 +43,7 @@ fn has_faulty_owner(origin: &Name, records: &[Record]) -> bool
 fn is_plain(origin: &Name, listed: &Record) -> bool
     ensures { result ≡ is_plain origin.now listed.now }
 {
+    let _ttl = listed.ttl;
     is_listed(origin, listed) && !first_is_asterisk(&listed.owner)
 }
 
@@ -70,13 +78,17 @@ fn lacks_or_repeats(origin: &Name, records: &[Record], name: &Name) -> bool
     ensures { result ≡ lacks_or_repeats (record { origin = origin.now; records = records.now }) name.now }
 {
     name.same(origin)
-        && (!owns(records, name, TYPE_SOA) || count(records, name, TYPE_SOA) > 1 || !owns(records, name, TYPE_NS))
+        && (!owns(records, name, TYPE_SOA)
+            || count(records, name, TYPE_SOA) > 1
+            || !owns(records, name, TYPE_NS))
 }
 
 fn owns(records: &[Record], name: &Name, rtype: u16) -> bool
     ensures { result ≡ list_any (λ (r : ResourceRecord). same r.owner name.now && r.rtype == rtype) records.now }
 {
-    records.iter().any(|listed| listed.owner.same(name) && listed.rtype == rtype)
+    records
+        .iter()
+        .any(|listed| listed.owner.same(name) && listed.rtype == rtype)
 }
 
 fn count(records: &[Record], name: &Name, rtype: u16) -> usize
@@ -114,20 +126,16 @@ fn ttls_differ(records: &[Record], name: &Name) -> bool
 fn has_other_ttl(records: &[Record], name: &Name, one: &Record) -> bool
     ensures { result ≡ list_any (λ (s : ResourceRecord). one.now.rtype == s.rtype && not (one.now.ttl == s.ttl)) (filter (λ (s : ResourceRecord). same s.owner name.now) records.now) }
 {
-    records
-        .iter()
-        .filter(|listed| listed.owner.same(name))
-        .any(|listed| one.rtype == listed.rtype && one.ttl != listed.ttl)
+    records.iter().filter(|listed| listed.owner.same(name)).any(|listed| one.rtype == listed.rtype
+        && one.ttl != listed.ttl)
 }
 
 // A name server at or below the origin without address (RFC 1034 4.2.1).
 fn server_lost(origin: &Name, records: &[Record], name: &Name) -> bool
     ensures { result ≡ server_lost (record { origin = origin.now; records = records.now }) name.now }
 {
-    records
-        .iter()
-        .filter(|listed| listed.owner.same(name))
-        .any(|listed| listed.rtype == TYPE_NS && lacks_server(origin, records, listed))
+    records.iter().filter(|listed| listed.owner.same(name)).any(|listed| listed.rtype == TYPE_NS
+        && lacks_server(origin, records, listed))
 }
 
 fn lacks_server(origin: &Name, records: &[Record], listed: &Record) -> bool

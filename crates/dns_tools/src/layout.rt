@@ -8,8 +8,8 @@ ghost use Rattle.dns_tools.specs.ListZone.{asked_records};
 ghost use Rattle.std.specs.List.{flat_map};
 ghost use Rattle.dns_tools.specs.Body.{body};
 
-use crate::record::Record;
 use crate::query::Question;
+use crate::record::Record;
 use byteorder::{BigEndian, ByteOrder};
 use dns_name::Name;
 use std::marker::Model;
@@ -123,7 +123,12 @@ fn owner_octets<'a>(asked: &Name, owner: &'a Name) -> &'a [u8]
 /// Writes a record at a place behind the header, and answers the place behind it.
 ///
 /// `None`, with nothing written, where there is no room for it.
-pub(crate) fn put_record(out: &mut [u8], at: usize, asked: &Name, shown: &Shown<'_>) -> Option<usize>
+pub(crate) fn put_record(
+    out: &mut [u8],
+    at: usize,
+    asked: &Name,
+    shown: &Shown<'_>,
+) -> Option<usize>
     requires behind_header { 12 ≤ at }
     requires inside { at ≤ length out.old }
     requires short { length out.old < 2 ^ 16 }
@@ -155,7 +160,13 @@ pub(crate) struct Put {
 /// Writes the records of a type at the name asked for, and answers the place behind them and how many there are.
 ///
 /// `None` where there is no room for all of them: what was written before them stays.
-pub(crate) fn put_set(out: &mut [u8], at: usize, asked: &Name, rtype: u16, records: &[Record]) -> Option<Put>
+pub(crate) fn put_set(
+    out: &mut [u8],
+    at: usize,
+    asked: &Name,
+    rtype: u16,
+    records: &[Record],
+) -> Option<Put>
     requires behind_header { 12 ≤ at }
     requires inside { at ≤ length out.old }
     requires short { length out.old < 2 ^ 16 }
@@ -165,7 +176,10 @@ pub(crate) fn put_set(out: &mut [u8], at: usize, asked: &Name, rtype: u16, recor
     ensures body { IfSome result (λ put. body out.new put.end ≡ body out.old at ++ flat_map (plain_record asked.now) (asked_records asked.now rtype records.now)) }
     ensures none { IfNone result (body out.new at ≡ body out.old at) }
 {
-    let mut put = Put { end: at, records: 0 };
+    let mut put = Put {
+        end: at,
+        records: 0,
+    };
     'records: for listed in records {
         if listed.rtype == rtype && listed.owner.same(asked) {
             let shown = Shown {

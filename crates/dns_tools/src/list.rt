@@ -79,7 +79,9 @@ impl Zone {
     pub fn exists(&self, name: &Name) -> bool
         ensures { result ≡ exists self.now name.now }
     {
-        self.records.iter().any(|listed| listed.owner.at_or_below(name))
+        self.records
+            .iter()
+            .any(|listed| listed.owner.at_or_below(name))
     }
 }
 

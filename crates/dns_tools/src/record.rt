@@ -31,7 +31,12 @@ impl Model for Record {
 
 impl Record {
     /// An address (RFC 1035 3.4.1).
-    pub fn address(alloc: Global, owner: Name, ttl: u32, address: &[u8; 4]) -> Result<Record, AllocError>
+    pub fn address(
+        alloc: Global,
+        owner: Name,
+        ttl: u32,
+        address: &[u8; 4],
+    ) -> Result<Record, AllocError>
         ensures { IfOk result (λ made. made ≡ record { owner = owner; ttl = ttl; rtype = TYPE_A; rdata = address.now }) }
     {
         Ok(Record {
@@ -44,7 +49,12 @@ impl Record {
     }
 
     /// A name server (RFC 1035 3.3.11).
-    pub fn name_server(alloc: Global, owner: Name, ttl: u32, server: Name) -> Result<Record, AllocError>
+    pub fn name_server(
+        alloc: Global,
+        owner: Name,
+        ttl: u32,
+        server: Name,
+    ) -> Result<Record, AllocError>
         ensures { IfOk result (λ made. made ≡ record { owner = owner; ttl = ttl; rtype = TYPE_NS; rdata = wire server }) }
     {
         Ok(Record {
@@ -80,4 +90,3 @@ impl Record {
         })
     }
 }
-

@@ -9,10 +9,10 @@ ghost use Rattle.dns_tools.specs.ListZone.{IsListZone, kept_records};
 ghost use Rattle.dns_spec.specs.Reply.{is_ignored, reply_head, reply_with, answer_with, keep_addresses, octets_by, reply_message};
 ghost use Rattle.dns_tools.specs.Decided.{code_of, limit_of};
 
+use crate::layout::{Head, Put, put_header, put_question, put_set};
 use crate::list::Zone;
 use crate::lookup::is_found;
 use crate::query::{Decision, HEADER_OCTETS, Question, Rcode, TYPE_A, decide, field};
-use crate::layout::{Head, Put, put_header, put_question, put_set};
 use std::marker::Model;
 
 /// How many octets a reply may have.
@@ -50,7 +50,12 @@ impl<'z> Steps<'z> {
 /// `None`, with nothing promised of `out`, exactly where no reply is owed: the datagram is shorter than a header or
 /// is a reply itself. Any octets are a datagram; it has the reply of RFC 1034 4.3.2 with the A records asked for, where
 /// they fit, and is truncated where other RRsets would stand in it. No memory is taken.
-pub fn respond(steps: &mut Steps<'_>, datagram: &[u8], limit: Limit, out: &mut [u8]) -> Option<usize>
+pub fn respond(
+    steps: &mut Steps<'_>,
+    datagram: &[u8],
+    limit: Limit,
+    out: &mut [u8],
+) -> Option<usize>
     requires { length out.old ≡ limit_of limit }
     ensures absent { IsNone result ↔ IsTrue (is_ignored datagram.now) }
 
@@ -96,7 +101,10 @@ fn answer(zone: &Zone, datagram: &[u8], question: &Question, out: &mut [u8]) -> 
         Rcode::NameError
     };
     let is_truncated = put.records == 0;
-    put_header(out, head(datagram, true, is_truncated, rcode, 1, put.records));
+    put_header(
+        out,
+        head(datagram, true, is_truncated, rcode, 1, put.records),
+    );
     put.end
 }
 
@@ -124,7 +132,14 @@ fn put_addresses(zone: &Zone, question: &Question, out: &mut [u8], end: usize) -
 }
 
 // ID, opcode and RD of the query, QR set, and counts of one section of records.
-fn head(datagram: &[u8], authoritative: bool, truncated: bool, rcode: Rcode, questions: u16, answers: u16) -> Head
+fn head(
+    datagram: &[u8],
+    authoritative: bool,
+    truncated: bool,
+    rcode: Rcode,
+    questions: u16,
+    answers: u16,
+) -> Head
     requires { 12 ≤ length datagram.now }
     ensures id { result.id ≡ (reply_head datagram.now authoritative truncated (code_of rcode)).id }
     ensures flags { result.flags ≡ (reply_head datagram.now authoritative truncated (code_of rcode)).flags }
@@ -139,7 +154,12 @@ fn head(datagram: &[u8], authoritative: bool, truncated: bool, rcode: Rcode, que
     let truncated = if truncated { 0x200 } else { 0 };
     Head {
         id: field(datagram, 0),
-        flags: 0x8000 + opcode * 0x800 + authoritative + truncated + recursion_desired * 0x100 + rcode.code(),
+        flags: 0x8000
+            + opcode * 0x800
+            + authoritative
+            + truncated
+            + recursion_desired * 0x100
+            + rcode.code(),
         questions,
         answers,
         authorities: 0,

@@ -11,11 +11,11 @@ pub labels-preserved : goal.labels-preserved
 labels-preserved c =
     let front = c.labels.name ++ c.in-Some.label ∷ [] in
     let regrouped : front ++ c.next.new.self ≡ c.args.name.now ++ c.args.labels =
-      append_assoc c.labels.name (c.in-Some.label ∷ []) c.next.new.self
-      ∙ ap (λ labels. c.labels.name ++ labels) (sym c.in-Some.ensures.steps) ∙ c.labels.invariant
+    append_assoc c.labels.name (c.in-Some.label ∷ []) c.next.new.self
+    ∙ ap (λ labels. c.labels.name ++ labels) (sym c.in-Some.ensures.steps) ∙ c.labels.invariant
     in
     let fits : length (wire front) ≤ 255 =
-      omega (arith, length-wire-front front c.next.new.self, ap (λ n. length (wire n)) regrouped, c.requires)
+    omega (arith, length-wire-front front c.next.new.self, ap (λ n. length (wire n)) regrouped, c.requires)
     in
     let taken : c.push.result ≡ true = c.push.ensures.fits.1 fits in
     let pushed = rw taken at c.push.ensures.pushed in

@@ -22,5 +22,6 @@ returns-clause-octets c =
     c.head.ensures.id c.head.ensures.flags c.head.ensures.questions (c.head.ensures.answers ∙ put.count) c.head.ensures.authorities
     (ap (λ n. n == 0) put.count)
     (elim c.if-is_found.branch [
-      then-is_found w ↦ let e : is_some (found z q.qname) ≡ true = sym is ∙ w.if-is_found.true in rw (w.rcode-is, e) refl
-    | else-is_found w ↦ let e : is_some (found z q.qname) ≡ false = sym is ∙ w.if-is_found.false in rw (w.rcode-is, e) refl ]))
+      | then-is_found w ↦ let e : is_some (found z q.qname) ≡ true = sym is ∙ w.if-is_found.true in rw (w.rcode-is, e) refl
+      | else-is_found w ↦ let e : is_some (found z q.qname) ≡ false = sym is ∙ w.if-is_found.false in rw (w.rcode-is, e) refl
+    ]))

@@ -12,24 +12,25 @@ is_reply c =
     let bytes : (i : ℕ) → get_or d i 0 < 256 = λ i. omega (arith, c.type_inv.datagram i) in
     let list = c.records-records.ensures.list in
     elim c.match-decide.branch [
-      in-Silence w ↦ rw (w.out-is, w.result-is) (silent z d c.args.out.now bytes (sym w.in-Silence.ensures.decision))
-    | in-HeaderAlone w ↦
-        let head = w.head.ensures in
-        rw (w.out-is, w.result-is)
-        (header_sent z d w.put_header.new.out bytes (code_of w.in-HeaderAlone.rcode) (code_low w.in-HeaderAlone.rcode) (sym w.in-HeaderAlone.ensures.decision)
-        (rw w.put_header.ensures (header_laid d c.args.out.now (code_of w.in-HeaderAlone.rcode) _ _ _ _ _ head.id head.flags head.answers head.authorities head.questions)))
-    | in-QuestionAlone w ↦
-        let head = w.head-in-QuestionAlone.ensures in
-        let q = w.in-QuestionAlone.question in
-        rw (w.out-is, w.result-is)
-        (question_sent z d w.put_header-in-QuestionAlone.new.out bytes list q (code_of w.in-QuestionAlone.rcode) w.put_question-end.result (code_low w.in-QuestionAlone.rcode)
-        (sym w.in-QuestionAlone.ensures.decision)
-        (rw w.put_header-in-QuestionAlone.ensures
-        (question_laid d w.put_question-end.new.out (code_of w.in-QuestionAlone.rcode) _ _ _ _ _ head.id head.flags head.answers head.authorities q w.put_question-end.result head.questions
-        (omega (arith, w.put_question-end.ensures.end)) w.put_question-end.ensures.body)))
-    | in-Answered w ↦
-        rw (w.out-is, w.result-is)
-        (answer_sent z d w.answer.new.out bytes list w.in-Answered.question w.answer.result (sym w.in-Answered.ensures.decision) w.answer.ensures.octets) ]
+      | in-Silence w ↦ rw (w.out-is, w.result-is) (silent z d c.args.out.now bytes (sym w.in-Silence.ensures.decision))
+      | in-HeaderAlone w ↦
+          let head = w.head.ensures in
+          rw (w.out-is, w.result-is)
+          (header_sent z d w.put_header.new.out bytes (code_of w.in-HeaderAlone.rcode) (code_low w.in-HeaderAlone.rcode) (sym w.in-HeaderAlone.ensures.decision)
+          (rw w.put_header.ensures (header_laid d c.args.out.now (code_of w.in-HeaderAlone.rcode) _ _ _ _ _ head.id head.flags head.answers head.authorities head.questions)))
+      | in-QuestionAlone w ↦
+          let head = w.head-in-QuestionAlone.ensures in
+          let q = w.in-QuestionAlone.question in
+          rw (w.out-is, w.result-is)
+          (question_sent z d w.put_header-in-QuestionAlone.new.out bytes list q (code_of w.in-QuestionAlone.rcode) w.put_question-end.result (code_low w.in-QuestionAlone.rcode)
+          (sym w.in-QuestionAlone.ensures.decision)
+          (rw w.put_header-in-QuestionAlone.ensures
+          (question_laid d w.put_question-end.new.out (code_of w.in-QuestionAlone.rcode) _ _ _ _ _ head.id head.flags head.answers head.authorities q w.put_question-end.result head.questions
+          (omega (arith, w.put_question-end.ensures.end)) w.put_question-end.ensures.body)))
+      | in-Answered w ↦
+          rw (w.out-is, w.result-is)
+          (answer_sent z d w.answer.new.out bytes list w.in-Answered.question w.answer.result (sym w.in-Answered.ensures.decision) w.answer.ensures.octets)
+    ]
 
 pub returns-clause-absent : goal.returns-clause-absent
 returns-clause-absent c = (is_reply c).absent

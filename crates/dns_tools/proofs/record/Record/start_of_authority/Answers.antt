@@ -10,6 +10,6 @@ invariant_of-result c =
     let r = c.args.rname.now in
     let made = soa-made m r c.args.numbers.now c.octets.ensures.is_name c.octets-2.ensures.is_name c.told-numbers in
     let octets : c.extend_from_slice-2.new.self.items ≡ wire m ++ wire r ++ c.args.numbers.now =
-      rw (c.in_ok-extend_from_slice-2.ensures.items, c.in_ok-extend_from_slice.ensures.items, c.in_ok-rdata.ensures.items, c.octets.ensures.value, c.octets-2.ensures.value, c.as_slice.ensures) refl
+    rw (c.in_ok-extend_from_slice-2.ensures.items, c.in_ok-extend_from_slice.ensures.items, c.in_ok-rdata.ensures.items, c.octets.ensures.value, c.octets-2.ensures.value, c.as_slice.ensures) refl
     in
     record { is_valid = ap (valid 6) octets ∙ made.0; target_is = ap (target 6) octets ∙ made.1 }
