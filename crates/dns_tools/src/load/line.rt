@@ -1,4 +1,5 @@
 //! One line of a zone file as a record.
+ghost use Rattle.std.specs.Prelude.{◌≡◌};
 
 use crate::record::Record;
 use arrayvec::ArrayVec;
@@ -22,6 +23,10 @@ pub(super) enum LineFault {
 }
 
 impl From<AllocError> for LineFault {
+    ghost use Rattle.dns_tools.specs.declared.load.line.LineFault.{LineFault};
+
+    ghost from_gives = { λ _fault line. line ≡ LineFault.Memory };
+
     fn from(_fault: AllocError) -> LineFault {
         LineFault::Memory
     }
