@@ -1,4 +1,4 @@
-.PHONY: run test
+.PHONY: run test memory
 
 # Builds the server and asks it about the zone in examples/.
 run:
@@ -7,3 +7,7 @@ run:
 
 test:
 	rt ci
+
+# Refuses the program each of its allocations in turn. It proves nothing, and is no part of the gate.
+memory:
+	examples/refuse-memory

@@ -72,7 +72,7 @@ module _ {X Y : Type 0} (f : X → Y) (eq : Y → Y → Bool) (decides : (a b : 
   same_values : (xs ys : List X) → SameCounts xs ys → (a : Y) → Among a (map f xs) → Among a (map f ys)
   same_values xs ys c a m = value_any a ys (sym (same_any (λ x. eq a (f x)) xs ys c) ∙ any_value a xs m)
 
-each_any : {X : Type 0} (xs : List X) → Each (λ _. Unit {0}) xs
+pub each_any : {X : Type 0} (xs : List X) → Each (λ _. Unit {0}) xs
 each_any [] = tt
 each_any (x ∷ xs) = (tt, each_any xs)
 
@@ -90,7 +90,7 @@ nat_ties x y = go (nat_lt x y) refl
     go true e = ne_eqb x y (λ h. let below = ltb-true x y e in omega arith)
     go false e = level (eqb x y)
 
-nat_tie : (x y : ℕ) → nat_cmp x y ≡ Equal → eqb x y ≡ true
+pub nat_tie : (x y : ℕ) → nat_cmp x y ≡ Equal → eqb x y ≡ true
 nat_tie x y e = nat_ties x y ∙ ap is_eq e
 
 -- how many types records have

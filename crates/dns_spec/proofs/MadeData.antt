@@ -1,14 +1,14 @@
 -- Data made of a name, of an address, or of two names and five numbers is data of its type, and its target is its first
 -- name.
-use Rattle.std.proofs.Common.{◌≡◌, ℕ, zero, suc, ◌+◌, ◌≤◌, ◌<◌, Bool, true, false, ◌&&◌, cond, List, [], ◌∷◌, ◌++◌, length, take, drop, nat_le, Option, None, Some, refl, sym, ap, ◌∙◌, arith, length-append, append_assoc, append-nil}
+use Rattle.std.proofs.Common.{◌≡◌, ℕ, suc, ◌≤◌, true, List, [], ◌∷◌, ◌++◌, length, take, drop, nat_le, Option, None, Some, refl, sym, ap, ◌∙◌, arith, length-append, append_assoc, append-nil}
 use Rattle.std.proofs.lemmas.Bool.{and_parts, and_from, le-leb}
 use Rattle.std.specs.Option.{option_map, option_and_then, is_some}
 use Rattle.std.specs.List.{list_all}
 use Rattle.dns_spec.specs.Names.{Octets, DomainName, wire, is_label, is_name, labels_from, with_octet, name_if_valid, name_of}
 use Rattle.std.proofs.lemmas.List.{take_all, drop_all}
 use Rattle.std.specs.Option.{unwrap_or}
-use Rattle.dns_spec.specs.Data.{type_a, type_ns, type_soa, Piece, first_name, Part, octets, name, piece_front, octets_front, cut, valid, target, fixed, domain, pieces_of}
-use Rattle.dns_spec.proofs.NameLaws.{IsLabel, IsLabel-is_label, IsName, IsName-is_name}
+use Rattle.dns_spec.specs.Data.{type_a, type_ns, type_soa, Piece, first_name, Part, octets, name, piece_front, cut, valid, target, fixed, domain, pieces_of}
+use Rattle.dns_spec.proofs.NameLaws.{IsName-is_name}
 
 label_taken : (l os : Octets) (n : DomainName) (rest : Octets) → labels_from 0 os ≡ Some ([] ∷ n, rest) → labels_from (length l) (l ++ os) ≡ Some (l ∷ n, rest)
 unfolding labels_from

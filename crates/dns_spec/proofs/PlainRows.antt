@@ -11,7 +11,7 @@ use Rattle.dns_spec.specs.Checks.{Fault, faults}
 use Rattle.dns_spec.specs.Reading.{MessageQuestion, run, runs_before, name_at}
 use Rattle.dns_spec.specs.Layout.{Item, cost, data_size, records_size, size, plain_layout, plain_size}
 use Rattle.dns_spec.specs.Answer.{chain_from, chain, outcome_at, outcome, extra, items, required}
-use Rattle.dns_spec.specs.Reply.{kept, keep_plain, keep_addresses, keep_longest, octets_by, reply_with, question_at, decide}
+use Rattle.dns_spec.specs.Reply.{kept, keep_plain, keep_longest, octets_by, reply_with, question_at, decide}
 use Rattle.dns_spec.proofs.Examples.{hex, dotted, query, www_query, in_zone, alias, example, small_zone, small_zone_with, large_zone, plain_zone}
 
 -- what a server puts that keeps such sets, laid out plainly
@@ -19,11 +19,7 @@ unfoldable plain_reply : (ZoneContents → ℕ → MessageQuestion → List Item
 unfolding labels_from cut run runs_before name_at data_size records_size size plain_layout plain_size cost chain_from chain outcome_at outcome extra items required reply_with question_at decide
 plain_reply keep z d = option_map (octets_by plain_layout) (reply_with (keep z 512) z d)
 
--- addresses alone; the answer and authority sets; all sets
-unfoldable addresses_alone : ZoneContents → Octets → Option Octets
-unfolding plain_reply labels_from cut run runs_before name_at data_size records_size size plain_layout plain_size cost chain_from chain outcome_at outcome extra items required reply_with question_at decide
-addresses_alone = plain_reply keep_addresses
-
+-- the answer and authority sets; all sets
 unfoldable main_sets : ZoneContents → Octets → Option Octets
 unfolding plain_reply labels_from cut run runs_before name_at data_size records_size size plain_layout plain_size cost chain_from chain outcome_at outcome extra items required reply_with question_at decide
 main_sets = plain_reply keep_plain
@@ -47,74 +43,64 @@ reply_size z limit q = size q (keep_longest z limit q)
 abbrev told : Octets → ℕ → Fault
 told cs code = record { owner = dotted cs; code = code }
 
--- over a list of addresses
-first_www : addresses_alone plain_zone www_query ≡ Some (hex (codes "123484000001000100000000 03777777076578616d706c650000010001 c00c0001000100000e100004c000020a"))
-unfolding plain_reply addresses_alone main_sets all_sets labels_from cut run runs_before name_at data_size records_size size plain_layout plain_size cost chain_from chain outcome_at outcome extra items required reply_with question_at decide
-first_www = refl
-
--- where addresses alone are put, a name error is truncated
-first_nope : addresses_alone plain_zone (query (codes "nope.example") 1) ≡ Some (hex (codes "123486030001000000000000 046e6f7065076578616d706c650000010001"))
-unfolding plain_reply addresses_alone main_sets all_sets labels_from cut run runs_before name_at data_size records_size size plain_layout plain_size cost chain_from chain outcome_at outcome extra items required reply_with question_at decide
-first_nope = refl
-
--- and so is an empty answer
-first_ent : addresses_alone plain_zone (query (codes "b.ent.example") 1) ≡ Some (hex (codes "123486000001000000000000 016203656e74076578616d706c650000010001"))
-unfolding plain_reply addresses_alone main_sets all_sets labels_from cut run runs_before name_at data_size records_size size plain_layout plain_size cost chain_from chain outcome_at outcome extra items required reply_with question_at decide
-first_ent = refl
+-- an address
+plain_www : main_sets plain_zone www_query ≡ Some (hex (codes "123484000001000100000000 03777777076578616d706c650000010001 c00c0001000100000e100004c000020a"))
+unfolding plain_reply main_sets all_sets labels_from cut run runs_before name_at data_size records_size size plain_layout plain_size cost chain_from chain outcome_at outcome extra items required reply_with question_at decide
+plain_www = refl
 
 -- the SOA of a name error, with its names whole
 plain_nope : outline (main_sets plain_zone (query (codes "nope.example") 1)) 30 71 ≡ Some (hex (codes "123484030001000000010000"), 101, hex (codes "076578616d706c6500 00060001 0000012c 0034 026e73076578616d706c6500 0a686f73746d6173746572076578616d706c6500 00000001 00001c20 00000384 00127500 0000012c"))
-unfolding plain_reply addresses_alone main_sets all_sets labels_from cut run runs_before name_at data_size records_size size plain_layout plain_size cost chain_from chain outcome_at outcome extra items required reply_with question_at decide
+unfolding plain_reply main_sets all_sets labels_from cut run runs_before name_at data_size records_size size plain_layout plain_size cost chain_from chain outcome_at outcome extra items required reply_with question_at decide
 plain_nope = refl
 
 -- the SOA of an empty answer
 plain_ent : outline (main_sets plain_zone (query (codes "b.ent.example") 1)) 31 19 ≡ Some (hex (codes "123484000001000000010000"), 102, hex (codes "076578616d706c6500 00060001 0000012c 0034"))
-unfolding plain_reply addresses_alone main_sets all_sets labels_from cut run runs_before name_at data_size records_size size plain_layout plain_size cost chain_from chain outcome_at outcome extra items required reply_with question_at decide
+unfolding plain_reply main_sets all_sets labels_from cut run runs_before name_at data_size records_size size plain_layout plain_size cost chain_from chain outcome_at outcome extra items required reply_with question_at decide
 plain_ent = refl
 
 -- the servers of a zone
 plain_ns : outline (main_sets plain_zone (query (codes "example") 2)) 25 24 ≡ Some (hex (codes "123484000001000100000000"), 49, hex (codes "c00c 00020001 00000e10 000c 026e73076578616d706c6500"))
-unfolding plain_reply addresses_alone main_sets all_sets labels_from cut run runs_before name_at data_size records_size size plain_layout plain_size cost chain_from chain outcome_at outcome extra items required reply_with question_at decide
+unfolding plain_reply main_sets all_sets labels_from cut run runs_before name_at data_size records_size size plain_layout plain_size cost chain_from chain outcome_at outcome extra items required reply_with question_at decide
 plain_ns = refl
 
 -- all sets of a name, NS before SOA
 plain_any : outline (main_sets plain_zone (query (codes "example") 255)) 25 34 ≡ Some (hex (codes "123484000001000200000000"), 113, hex (codes "c00c 00020001 00000e10 000c 026e73076578616d706c6500 c00c 00060001 00000e10"))
-unfolding plain_reply addresses_alone main_sets all_sets labels_from cut run runs_before name_at data_size records_size size plain_layout plain_size cost chain_from chain outcome_at outcome extra items required reply_with question_at decide
+unfolding plain_reply main_sets all_sets labels_from cut run runs_before name_at data_size records_size size plain_layout plain_size cost chain_from chain outcome_at outcome extra items required reply_with question_at decide
 plain_any = refl
 
 -- the sizes in the plain layout over a whole zone
 plain_tree_ent : outline (all_sets small_zone (query (codes "b.ent.example") 1)) 0 2 ≡ Some (hex (codes "123484000001000000010000"), 102, hex (codes "1234"))
-unfolding plain_reply addresses_alone main_sets all_sets labels_from cut run runs_before name_at data_size records_size size plain_layout plain_size cost chain_from chain outcome_at outcome extra items required reply_with question_at decide
+unfolding plain_reply main_sets all_sets labels_from cut run runs_before name_at data_size records_size size plain_layout plain_size cost chain_from chain outcome_at outcome extra items required reply_with question_at decide
 plain_tree_ent = refl
 
 -- a wildcard
 plain_tree_wildcard : outline (all_sets small_zone (query (codes "x.y.w.example") 16)) 0 2 ≡ Some (hex (codes "123484000001000100000000"), 47, hex (codes "1234"))
-unfolding plain_reply addresses_alone main_sets all_sets labels_from cut run runs_before name_at data_size records_size size plain_layout plain_size cost chain_from chain outcome_at outcome extra items required reply_with question_at decide
+unfolding plain_reply main_sets all_sets labels_from cut run runs_before name_at data_size records_size size plain_layout plain_size cost chain_from chain outcome_at outcome extra items required reply_with question_at decide
 plain_tree_wildcard = refl
 
 -- above a wildcard
 plain_tree_above : outline (all_sets small_zone (query (codes "w.example") 16)) 0 2 ≡ Some (hex (codes "123484000001000000010000"), 98, hex (codes "1234"))
-unfolding plain_reply addresses_alone main_sets all_sets labels_from cut run runs_before name_at data_size records_size size plain_layout plain_size cost chain_from chain outcome_at outcome extra items required reply_with question_at decide
+unfolding plain_reply main_sets all_sets labels_from cut run runs_before name_at data_size records_size size plain_layout plain_size cost chain_from chain outcome_at outcome extra items required reply_with question_at decide
 plain_tree_above = refl
 
 -- a referral
 plain_tree_referral : outline (all_sets small_zone (query (codes "h.sub.example") 1)) 0 2 ≡ Some (hex (codes "123480000001000000010001"), 100, hex (codes "1234"))
-unfolding plain_reply addresses_alone main_sets all_sets labels_from cut run runs_before name_at data_size records_size size plain_layout plain_size cost chain_from chain outcome_at outcome extra items required reply_with question_at decide
+unfolding plain_reply main_sets all_sets labels_from cut run runs_before name_at data_size records_size size plain_layout plain_size cost chain_from chain outcome_at outcome extra items required reply_with question_at decide
 plain_tree_referral = refl
 
 -- an alias
 plain_tree_alias : outline (all_sets small_zone (query (codes "alias.example") 1)) 0 2 ≡ Some (hex (codes "123484000001000200000000"), 83, hex (codes "1234"))
-unfolding plain_reply addresses_alone main_sets all_sets labels_from cut run runs_before name_at data_size records_size size plain_layout plain_size cost chain_from chain outcome_at outcome extra items required reply_with question_at decide
+unfolding plain_reply main_sets all_sets labels_from cut run runs_before name_at data_size records_size size plain_layout plain_size cost chain_from chain outcome_at outcome extra items required reply_with question_at decide
 plain_tree_alias = refl
 
 -- the servers with their addresses
 plain_tree_ns : outline (all_sets small_zone (query (codes "example") 2)) 0 2 ≡ Some (hex (codes "123484000001000100000001"), 75, hex (codes "1234"))
-unfolding plain_reply addresses_alone main_sets all_sets labels_from cut run runs_before name_at data_size records_size size plain_layout plain_size cost chain_from chain outcome_at outcome extra items required reply_with question_at decide
+unfolding plain_reply main_sets all_sets labels_from cut run runs_before name_at data_size records_size size plain_layout plain_size cost chain_from chain outcome_at outcome extra items required reply_with question_at decide
 plain_tree_ns = refl
 
 -- a ring of aliases
 plain_tree_ring : outline (all_sets large_zone (query (codes "r1.example") 1)) 0 2 ≡ Some (hex (codes "123484000001000200000000"), 86, hex (codes "1234"))
-unfolding plain_reply addresses_alone main_sets all_sets labels_from cut run runs_before name_at data_size records_size size plain_layout plain_size cost chain_from chain outcome_at outcome extra items required reply_with question_at decide
+unfolding plain_reply main_sets all_sets labels_from cut run runs_before name_at data_size records_size size plain_layout plain_size cost chain_from chain outcome_at outcome extra items required reply_with question_at decide
 plain_tree_ring = refl
 
 -- sizes added up: a set of strings that fits exactly

@@ -1,17 +1,17 @@
 -- The octets of a reply, laid out plainly, spell it.
-use Rattle.std.proofs.Common.{◌≡◌, ℕ, ◌+◌, ◌/◌, ◌^◌, ◌<◌, ◌≤◌, Bool, true, false, not, cond, nat_le, ◌==◌, List, [], ◌∷◌, ◌++◌, length, take, drop, Option, None, Some, All, refl, sym, ap, ◌∙◌, subst, arith, length-append, length-take, mod-lt, append_assoc, append-nil}
+use Rattle.std.proofs.Common.{◌≡◌, ℕ, ◌+◌, ◌/◌, ◌^◌, ◌<◌, ◌≤◌, Bool, true, false, not, cond, nat_le, ◌==◌, List, [], ◌∷◌, ◌++◌, length, take, drop, Option, None, Some, All, refl, sym, ap, ◌∙◌, subst, arith, length-append, length-take, mod-lt, append-nil}
 use Rattle.std.proofs.lemmas.Bool.{cond_both, and_parts, leb-true}
 use Rattle.std.proofs.lemmas.Option.{none-some, same_Some, cond_some}
 use Rattle.std.proofs.lemmas.List.{take-append-le}
 use Rattle.std.proofs.lemmas.List.Elements.{All-nil, All-take, All-drop}
 use Rattle.std.specs.List.{list_all}
 use Rattle.dns_spec.specs.Names.{Octets, DomainName, wire, is_label, is_name, at_or_below}
-use Rattle.dns_spec.specs.Data.{class_in, type_a, number_of}
+use Rattle.dns_spec.specs.Data.{class_in, number_of}
 use Rattle.dns_spec.specs.Records.{ResourceRecord, ZoneContents}
 use Rattle.dns_spec.specs.Reading.{Header, MessageQuestion, name_at, Spells}
 use Rattle.dns_spec.specs.Layout.{Section, answer, authority, additional, Item, greatest, is_section, records_of, in_section, plain_records_size, plain_size, plain_layout, records_size, size, layout, names_in, parts_of, message_of}
-use Rattle.dns_spec.specs.Answer.{format_error, not_implemented, refused, Outcome, outcome, main_items, extra, targets, items, is_authoritative}
-use Rattle.dns_spec.specs.Reply.{kept, field16, opcode, recursion_desired, bit, truncated, reply_head, question_of, question_at, Decision, silence, header_alone, question_alone, answered, is_meta_type, decide_question, decide_asked, counts_are_one_question, is_ignored, decide, Reply, answer_with, reply_with, octets_by, reply_message, keep_plain, keep_addresses, keep_longest, reply}
+use Rattle.dns_spec.specs.Answer.{format_error, not_implemented, refused, outcome, main_items, extra, targets, items, is_authoritative}
+use Rattle.dns_spec.specs.Reply.{kept, field16, opcode, recursion_desired, bit, truncated, reply_head, question_of, question_at, Decision, silence, header_alone, question_alone, answered, is_meta_type, decide_question, decide_asked, counts_are_one_question, is_ignored, decide, Reply, answer_with, reply_with, octets_by, reply_message, keep_plain, keep_longest, reply}
 use Rattle.dns_spec.specs.Laws.{sections_in_order, IsWritable, HasRoom, KeepsBeginning}
 use Rattle.dns_spec.proofs.SortedOnce.{Each}
 use Rattle.dns_spec.proofs.NameReading.{name_at_computes}
@@ -239,20 +239,6 @@ unfolding items
 keep_plain_begins z limit from below q h =
     let o = outcome z q.qname q.qtype in
     front_kept q limit (main_items o) (extra z (main_items o) (targets o)) (items z q.qname q.qtype) refl h from below
-
-pub keep_addresses_begins : (z : ZoneContents) (limit : ℕ) → 271 ≤ limit → limit < 2 ^ 16 → KeepsBeginning z (keep_addresses z limit)
-unfolding items
-keep_addresses_begins z limit from below q h =
-    cond_both (q.qtype == type_a) (kept (plain_size q) limit o.answers) []
-    (λ is. (k : ℕ) × (is ≡ take k (items z q.qname q.qtype)) × (plain_size q is < 2 ^ 16))
-    (λ _. front_kept q limit o.answers (o.authorities ++ more) (items z q.qname q.qtype) (append_assoc o.answers o.authorities more) h from below)
-    (λ _. let none = empty_size q h in (0, refl, omega (arith, none)))
-  where
-    o : Outcome
-    o = outcome z q.qname q.qtype
-
-    more : List Item
-    more = extra z (main_items o) (targets o)
 
 -- all sets, as far as they fit
 pub keep_all_begins : (z : ZoneContents) (limit : ℕ) → 271 ≤ limit → limit < 2 ^ 16 → KeepsBeginning z (λ q. kept (plain_size q) limit (items z q.qname q.qtype))

@@ -4,7 +4,7 @@ use Rattle.std.specs.Prelude.{ℕ, ◌+◌, ◌*◌, ◌/◌, ◌%◌, ◌^◌, 
 use Rattle.std.specs.Prelude.{Option, None, Some}
 use Rattle.std.specs.Option.{option_map}
 use Rattle.dns_spec.specs.Names.{Octets, DomainName, at_or_below}
-use Rattle.dns_spec.specs.Data.{class_in, type_a, number_of}
+use Rattle.dns_spec.specs.Data.{class_in, number_of}
 use Rattle.dns_spec.specs.Records.{ZoneContents}
 use Rattle.dns_spec.specs.Reading.{Header, MessageQuestion, DnsMessage, name_at}
 use Rattle.dns_spec.specs.Layout.{Item, layout, size, plain_size, header_octets, message_of, greatest}
@@ -138,8 +138,3 @@ octets_of z d limit = option_map (octets_by layout) (reply z d limit)
 -- What a server that lays names out plainly keeps of the answer and authority sets.
 abbrev pub keep_plain : ZoneContents → ℕ → MessageQuestion → List Item
 keep_plain z limit q = kept (plain_size q) limit (main_items (outcome z q.qname q.qtype))
-
--- What a server that answers with addresses alone keeps: the A set asked for, where it fits in the plain layout.
-abbrev pub keep_addresses : ZoneContents → ℕ → MessageQuestion → List Item
-keep_addresses z limit q =
-    if q.qtype == type_a then kept (plain_size q) limit (outcome z q.qname q.qtype).answers else []

@@ -1,5 +1,5 @@
 -- The nearest existing ancestor, looked for from a name upwards.
-use Rattle.std.proofs.Common.{Bool, true, false, ◌≡◌, ℕ, ◌<◌, List, [], ◌∷◌, length, refl, sym, ◌∙◌, ap, arith, Option, None, Some}
+use Rattle.std.proofs.Common.{Bool, true, false, ◌≡◌, ◌<◌, [], ◌∷◌, length, refl, sym, ◌∙◌, ap, arith, None, Some}
 use Rattle.std.specs.List.{find}
 use Rattle.std.specs.Option.{is_some, option_and_then}
 use Rattle.std.specs.Prelude.{if◌then◌else◌}

@@ -1,10 +1,10 @@
 -- What a buffer holds behind the header, after a write.
-use Rattle.std.proofs.Common.{◌≡◌, ℕ, zero, suc, ◌+◌, ◌-◌, ◌≤◌, List, [], ◌∷◌, ◌++◌, length, take, drop, refl, sym, ◌∙◌, ap, arith, length-take, length-drop, length-append, min}
-use Rattle.std.proofs.lemmas.List.{append_assoc, drop-append-le, drop-take, take-append-le, take-take}
+use Rattle.std.proofs.Common.{◌≡◌, ℕ, zero, suc, ◌+◌, ◌-◌, ◌≤◌, [], ◌∷◌, ◌++◌, length, take, drop, refl, sym, ◌∙◌, ap, arith, length-take, length-drop}
+use Rattle.std.proofs.lemmas.List.{drop-append-le, drop-take, take-append-le, take-take}
 use Rattle.std.proofs.Math.ListN.{drop_of_length-le}
 use Rattle.std.proofs.lemmas.Slice.{take-put_mid}
 use borrow.Rule.Slice.PartMut.{put_mid}
-use Rattle.dns_spec.specs.Names.{Octets, wire}
+use Rattle.dns_spec.specs.Names.{Octets}
 use Rattle.dns_tools.specs.Body.{body}
 
 pub body-write : (out piece : Octets) (at : ℕ) → 12 ≤ at → at + length piece ≤ length out → body (put_mid at (at + length piece - at) out piece) (at + length piece) ≡ body out at ++ piece

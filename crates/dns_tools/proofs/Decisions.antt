@@ -1,13 +1,12 @@
 -- What a decision says of the datagram.
-use Rattle.std.proofs.Common.{Bool, true, false, cond, ◌&&◌, ◌||◌, not, ◌≡◌, ℕ, zero, suc, ◌+◌, ◌*◌, ◌/◌, ◌%◌, ◌^◌, ◌<◌, ◌≤◌, List, [], ◌∷◌, length, take, drop, get_or, subst, get_or-drop, refl, sym, ◌∙◌, ap, arith, Option, None, Some, nat_lt, nat_le, IsTrue}
-use Rattle.std.proofs.lemmas.Bool.{true≢false, false≢true}
+use Rattle.std.proofs.Common.{Bool, true, false, not, ◌≡◌, ℕ, ◌+◌, ◌^◌, ◌<◌, ◌≤◌, [], ◌∷◌, length, take, drop, get_or, subst, get_or-drop, refl, sym, ◌∙◌, arith, Option, None, Some}
 use Rattle.std.specs.Prelude.{◌==◌, if◌then◌else◌}
 use Rattle.dns_spec.specs.Names.{Octets, DomainName, is_name, at_or_below}
 use Rattle.dns_spec.specs.Data.{class_in, number_of}
 use Rattle.dns_spec.specs.Records.{ZoneContents}
 use Rattle.dns_spec.specs.Reading.{MessageQuestion, name_at}
 use Rattle.dns_spec.specs.Answer.{format_error, not_implemented, refused}
-use Rattle.dns_spec.specs.Reply.{Decision, silence, header_alone, question_alone, answered, is_ignored, opcode, field16, counts_are_one_question, question_at, question_of, decide, decide_asked, decide_question, is_meta_type, recursion_desired, bit, reply_head}
+use Rattle.dns_spec.specs.Reply.{Decision, silence, header_alone, question_alone, answered, is_ignored, opcode, field16, counts_are_one_question, question_at, question_of, decide, decide_asked, is_meta_type, recursion_desired, bit, reply_head}
 use Rattle.dns_spec.proofs.NameReading.{name_at_computes}
 
 -- the question that a decision has

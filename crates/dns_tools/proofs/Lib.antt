@@ -1,9 +1,13 @@
 pub mod NameLoop
 pub mod BodyLaws
+pub mod SoaData
+pub mod Fitting
 pub mod SetLoop
+pub mod TypesLoop
 pub mod Ancestors
 pub mod Ordered
 pub mod ListTree
+pub mod AllSets
 pub mod ListAnswer
 pub mod ListReply
 pub mod Decisions

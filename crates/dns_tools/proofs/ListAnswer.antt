@@ -1,21 +1,23 @@
 -- How a question is answered over a list zone: by the records of its own name and type, else by the SOA.
-use Rattle.std.proofs.Common.{Bool, true, false, cond, ◌&&◌, ◌||◌, not, ◌≡◌, ℕ, zero, suc, ◌+◌, ◌<◌, ◌≤◌, List, [], ◌∷◌, ◌++◌, map, length, drop, subst, refl, sym, ◌∙◌, ap, arith, Option, None, Some, nat_lt, nat_le}
-use Rattle.std.proofs.lemmas.Bool.{true≢false, false≢true, and_parts, or_parts, false_from_ne_true}
+use Rattle.std.proofs.Common.{Bool, true, false, cond, ◌&&◌, ◌||◌, ◌≡◌, ℕ, List, [], ◌∷◌, ◌++◌, map, subst, refl, sym, ◌∙◌, ap, Option, None, Some, inl, inr}
+use Rattle.std.proofs.lemmas.Bool.{false≢true, and_parts, eqb-true}
 use Rattle.std.proofs.lemmas.List.{append-nil}
 use Rattle.std.specs.Prelude.{◌==◌, if◌then◌else◌}
-use Rattle.std.specs.Bool.{⊤}
-use Rattle.std.specs.List.{list_any, list_all, filter, flat_map}
+use Rattle.std.specs.List.{list_all, filter, flat_map}
 use Rattle.std.specs.Option.{is_some, option_map, option_and_then, unwrap_or}
 use Rattle.std.specs.Ordering.{is_gt}
 use Rattle.std.specs.Cmp.{IsTotalOrder, on_total}
 use Rattle.std.specs.Cmp.Lexicographic.{nat_list_cmp_total}
-use Rattle.dns_spec.specs.Names.{Octets, DomainName, same}
+use Rattle.dns_spec.specs.Names.{DomainName, same}
 use Rattle.dns_spec.specs.Data.{type_a, type_ns, type_soa, type_cname, qtype_any}
-use Rattle.dns_spec.specs.Records.{ResourceRecord, ZoneContents, at, owns, of_type, rrset, with_owner, insert_by, sort_by, data_order}
+use Rattle.dns_spec.specs.Records.{ResourceRecord, ZoneContents, at, of_type, rrset, with_owner, sort_by, data_order}
 use Rattle.dns_spec.specs.Tree.{exists, cut_of, found, asterisk, closest_encloser}
-use Rattle.dns_spec.specs.Layout.{Section, answer, authority, Item}
-use Rattle.dns_spec.specs.Answer.{item, follows_alias, alias_set, first_target, next_sought, chain_from, chain, last_sought, alias_items, Outcome, negative, negative_soa, positive, or_empty, answer_from, asked_sets, all_sets, outcome_at, outcome, main_items, extra, targets_inside, required, no_error, name_error, referral_to, is_authoritative}
-use Rattle.dns_tools.specs.ListZone.{IsListZone, asked_records}
+use Rattle.dns_spec.specs.Layout.{answer, authority, Item}
+use Rattle.dns_spec.specs.Answer.{item, follows_alias, alias_set, next_sought, chain_from, chain, alias_items, Outcome, negative, negative_soa, positive, or_empty, answer_from, asked_sets, all_sets, outcome_at, outcome, main_items, no_error, name_error, referral_to}
+use Rattle.dns_tools.specs.ListZone.{IsListZone, WantedSet, shown, asked_set, soa_set, picked, listed_types, asked_types, asked_items, soa_items, or_else, due_items, is_listed}
+use Rattle.dns_spec.specs.Reading.{MessageQuestion}
+use Rattle.dns_spec.proofs.SortedOnce.{Each}
+use Rattle.dns_tools.proofs.AllSets.{IsListedType, all_sets-is}
 use Rattle.dns_tools.proofs.Ordered.{BeforeAll, Ordered, sort-Ordered, Ordered-sort}
 use Rattle.dns_tools.proofs.ListTree.{no_cut, no_alias, at_wildcard, none_asked, asked-is}
 
@@ -24,17 +26,17 @@ pub data_total : IsTotalOrder data_order
 data_total = on_total (λ (r : ResourceRecord). r.rdata) nat_list_cmp_total
 
 -- picked records are in the order of the list
-before_cases : (q : DomainName) (t : ℕ) (x r : ResourceRecord) (rs : List ResourceRecord) (b : Bool) → is_gt (data_order x r) ≡ false → BeforeAll data_order data_total x (asked_records q t rs)
-    → BeforeAll data_order data_total x (cond b (record r { owner = q } ∷ asked_records q t rs) (asked_records q t rs))
+before_cases : (q : DomainName) (t : ℕ) (x r : ResourceRecord) (rs : List ResourceRecord) (b : Bool) → is_gt (data_order x r) ≡ false → BeforeAll data_order data_total x (picked (asked_set q t) rs)
+    → BeforeAll data_order data_total x (cond b (record r { owner = q } ∷ picked (asked_set q t) rs) (picked (asked_set q t) rs))
 before_cases q t x r rs true p h = (p, h)
 before_cases q t x r rs false p h = h
 
-before_asked : (q : DomainName) (t : ℕ) (x : ResourceRecord) (rs : List ResourceRecord) → BeforeAll data_order data_total x rs → BeforeAll data_order data_total x (asked_records q t rs)
+before_asked : (q : DomainName) (t : ℕ) (x : ResourceRecord) (rs : List ResourceRecord) → BeforeAll data_order data_total x rs → BeforeAll data_order data_total x (picked (asked_set q t) rs)
 before_asked q t x [] h = tt
 before_asked q t x (r ∷ rs) h = before_cases q t x r rs (r.rtype == t && same r.owner q) h.0 (before_asked q t x rs h.1)
 
-order_cases : (q : DomainName) (t : ℕ) (r : ResourceRecord) (rs : List ResourceRecord) (b : Bool) → BeforeAll data_order data_total r rs → Ordered data_order data_total (asked_records q t rs)
-    → Ordered data_order data_total (cond b (record r { owner = q } ∷ asked_records q t rs) (asked_records q t rs))
+order_cases : (q : DomainName) (t : ℕ) (r : ResourceRecord) (rs : List ResourceRecord) (b : Bool) → BeforeAll data_order data_total r rs → Ordered data_order data_total (picked (asked_set q t) rs)
+    → Ordered data_order data_total (cond b (record r { owner = q } ∷ picked (asked_set q t) rs) (picked (asked_set q t) rs))
 order_cases q t r rs true p h = (before_asked q t (record r { owner = q }) rs (shown r rs p), h)
   where
     shown : (r : ResourceRecord) (rs : List ResourceRecord) → BeforeAll data_order data_total r rs → BeforeAll data_order data_total (record r { owner = q }) rs
@@ -42,48 +44,64 @@ order_cases q t r rs true p h = (before_asked q t (record r { owner = q }) rs (s
     shown r (s ∷ rs) p = (p.0, shown r rs p.1)
 order_cases q t r rs false p h = h
 
-ordered_asked : (q : DomainName) (t : ℕ) (rs : List ResourceRecord) → Ordered data_order data_total rs → Ordered data_order data_total (asked_records q t rs)
+ordered_asked : (q : DomainName) (t : ℕ) (rs : List ResourceRecord) → Ordered data_order data_total rs → Ordered data_order data_total (picked (asked_set q t) rs)
 ordered_asked q t [] h = tt
 ordered_asked q t (r ∷ rs) h = order_cases q t r rs (r.rtype == t && same r.owner q) h.0 (ordered_asked q t rs h.1)
 
--- a sort of something gives something
-insert-some : (x : ResourceRecord) (ys : List ResourceRecord) (b : Bool) (y : ResourceRecord) → cond b (y ∷ insert_by data_order x ys) (x ∷ y ∷ ys) ≡ [] → ⊥
-insert-some x ys true y e = cc
-insert-some x ys false y e = cc
+-- a filter leaves records in their order
+before_filter : (p : ResourceRecord → Bool) (x : ResourceRecord) (rs : List ResourceRecord) → BeforeAll data_order data_total x rs → BeforeAll data_order data_total x (filter p rs)
+before_filter p x [] h = tt
+before_filter p x (r ∷ rs) h = go (p r) (before_filter p x rs h.1)
+  where
+    go : (b : Bool) → BeforeAll data_order data_total x (filter p rs) → BeforeAll data_order data_total x (cond b (r ∷ filter p rs) (filter p rs))
+    go true k = (h.0, k)
+    go false k = k
 
-sort-some : (x : ResourceRecord) (ys : List ResourceRecord) → insert_by data_order x ys ≡ [] → ⊥
-sort-some x [] e = cc
-sort-some x (y ∷ ys) e = insert-some x ys (is_gt (data_order x y)) y e
+ordered_filter : (p : ResourceRecord → Bool) (rs : List ResourceRecord) → Ordered data_order data_total rs → Ordered data_order data_total (filter p rs)
+ordered_filter p [] h = tt
+ordered_filter p (r ∷ rs) h = go (p r) (ordered_filter p rs h.1)
+  where
+    go : (b : Bool) → Ordered data_order data_total (filter p rs) → Ordered data_order data_total (cond b (r ∷ filter p rs) (filter p rs))
+    go true k = (before_filter p r rs h.0, k)
+    go false k = k
 
-sort-nothing : (xs : List ResourceRecord) → sort_by data_order xs ≡ [] → xs ≡ []
-sort-nothing [] e = refl
-sort-nothing (x ∷ xs) e = absurd (sort-some x (sort_by data_order xs) e)
+-- picking records is filtering them, and showing each
+picked_cases : (w : WantedSet) (r : ResourceRecord) (rs : List ResourceRecord) (b c : Bool)
+    → picked w rs ≡ map (shown w) (filter (λ (s : ResourceRecord). s.rtype == w.rtype) (filter (λ (s : ResourceRecord). same s.owner w.owner) rs))
+    → (r.rtype == w.rtype) ≡ c
+    → cond (c && b) (shown w r ∷ picked w rs) (picked w rs)
+    ≡ map (shown w) (filter (λ (s : ResourceRecord). s.rtype == w.rtype) (cond b (r ∷ filter (λ (s : ResourceRecord). same s.owner w.owner) rs) (filter (λ (s : ResourceRecord). same s.owner w.owner) rs)))
+picked_cases w r rs true true rest f = rw f (ap (λ xs. shown w r ∷ xs) rest)
+picked_cases w r rs true false rest f = rw f rest
+picked_cases w r rs false true rest f = rest
+picked_cases w r rs false false rest f = rest
 
-owns_cases : (n : DomainName) (t : ℕ) (r : ResourceRecord) (rs : List ResourceRecord) (b c : Bool)
-    → (filter (λ (s : ResourceRecord). s.rtype == t) (filter (λ (s : ResourceRecord). same s.owner n) rs) ≡ [] → list_any (λ (s : ResourceRecord). same s.owner n && s.rtype == t) rs ≡ false)
-    → same r.owner n ≡ b → (r.rtype == t) ≡ c
-    → filter (λ (s : ResourceRecord). s.rtype == t) (cond b (r ∷ filter (λ (s : ResourceRecord). same s.owner n) rs) (filter (λ (s : ResourceRecord). same s.owner n) rs)) ≡ []
-    → (b && c || list_any (λ (s : ResourceRecord). same s.owner n && s.rtype == t) rs) ≡ false
-owns_cases n t r rs true true rest e f h =
-    let some : r ∷ filter (λ (s : ResourceRecord). s.rtype == t) (filter (λ (s : ResourceRecord). same s.owner n) rs) ≡ [] = rw f at h in
-    cc
-owns_cases n t r rs true false rest e f h = rest (rw f at h)
-owns_cases n t r rs false c rest e f h = rest h
+picked-is : (w : WantedSet) (rs : List ResourceRecord)
+    → picked w rs ≡ map (shown w) (filter (λ (s : ResourceRecord). s.rtype == w.rtype) (filter (λ (s : ResourceRecord). same s.owner w.owner) rs))
+picked-is w [] = refl
+picked-is w (r ∷ rs) = picked_cases w r rs (same r.owner w.owner) (r.rtype == w.rtype) (picked-is w rs) refl
 
-owns_nothing : (n : DomainName) (t : ℕ) (rs : List ResourceRecord) → filter (λ (s : ResourceRecord). s.rtype == t) (filter (λ (s : ResourceRecord). same s.owner n) rs) ≡ []
-    → list_any (λ (s : ResourceRecord). same s.owner n && s.rtype == t) rs ≡ false
-owns_nothing n t [] h = refl
-owns_nothing n t (r ∷ rs) h = owns_cases n t r rs (same r.owner n) (r.rtype == t) (owns_nothing n t rs) refl refl h
+-- the types of the records at a name
+kind_cases : (t : ℕ) (a b c d : Bool) → (t == type_a) ≡ a → (t == type_ns) ≡ b → (t == type_soa) ≡ c → (a || (b || c) && d) ≡ true → IsListedType t
+kind_cases t true b c d e f g h = inl (eqb-true t type_a e)
+kind_cases t false true c d e f g h = inr (inl (eqb-true t type_ns f))
+kind_cases t false false true d e f g h = inr (inr (eqb-true t type_soa g))
+kind_cases t false false false d e f g h = absurd (false≢true h)
 
--- one set
-pub record OneSet (s : Section) (items : List Item) : Type 0 where
-  pub first : ResourceRecord
-  pub others : List ResourceRecord
-  pub is : items ≡ record { section = s; records = first ∷ others } ∷ []
+pub listed_type : (o : DomainName) (r : ResourceRecord) → is_listed o r ≡ true → IsListedType r.rtype
+listed_type o r h = kind_cases r.rtype (r.rtype == type_a) (r.rtype == type_ns) (r.rtype == type_soa) (same r.owner o) refl refl refl h
 
-one_set : (f : ResourceRecord → ResourceRecord) (xs : List ResourceRecord) → (xs ≡ [] → ⊥) → OneSet authority (item authority (map f xs))
-one_set f [] some = absurd (some refl)
-one_set f (x ∷ xs) some = record { first = f x; others = map f xs; is = refl }
+listed_kinds : (q o : DomainName) (rs : List ResourceRecord) → list_all (is_listed o) rs ≡ true
+    → Each IsListedType (map (λ (r : ResourceRecord). r.rtype) (with_owner q (filter (λ (r : ResourceRecord). same r.owner q) rs)))
+listed_kinds q o [] h = tt
+listed_kinds q o (r ∷ rs) h =
+    let parts = and_parts (is_listed o r) (list_all (is_listed o) rs) h in
+    go (same r.owner q) (listed_type o r parts.0) (listed_kinds q o rs parts.1)
+  where
+    go : (b : Bool) → IsListedType r.rtype → Each IsListedType (map (λ (s : ResourceRecord). s.rtype) (with_owner q (filter (λ (s : ResourceRecord). same s.owner q) rs)))
+        → Each IsListedType (map (λ (s : ResourceRecord). s.rtype) (with_owner q (cond b (r ∷ filter (λ (s : ResourceRecord). same s.owner q) rs) (filter (λ (s : ResourceRecord). same s.owner q) rs))))
+    go true k rest = (k, rest)
+    go false k rest = rest
 
 -- what is found for a name: its own records, none below a wildcard, or a name error
 pub data FoundAs (z : ZoneContents) (q : DomainName) : Option (List ResourceRecord) → Type 0 where
@@ -91,11 +109,10 @@ pub data FoundAs (z : ZoneContents) (q : DomainName) : Option (List ResourceReco
   below_wildcard : exists z q ≡ false → FoundAs z q (Some [])
   missing : exists z q ≡ false → FoundAs z q None
 
--- an outcome that is no referral and puts something
-pub record PutsSome (o : Outcome) (rcode : ℕ) : Type 0 where
+-- an outcome that is no referral
+pub record IsDirect (o : Outcome) (rcode : ℕ) : Type 0 where
   pub rcode_is : o.rcode ≡ rcode
   pub no_referral : o.referral ≡ None
-  pub some : 0 < length (main_items o)
 
 abbrev pub rcode_of : Option (List ResourceRecord) → ℕ
 rcode_of x = if is_some x then no_error else name_error
@@ -105,13 +122,8 @@ module _ (z : ZoneContents) (ok : IsListZone z) where
   in_order : Ordered data_order data_total z.records
   in_order = subst (Ordered data_order data_total) ok.ordered (sort-Ordered data_order data_total z.records)
 
-  pub set_is : (q : DomainName) (t : ℕ) → of_type t (with_owner q (at z q)) ≡ asked_records q t z.records
-  set_is q t = ap (sort_by data_order) (asked-is q t z.records) ∙ Ordered-sort data_order data_total (asked_records q t z.records) (ordered_asked q t z.records in_order)
-
-  pub soa_set : OneSet authority (negative_soa z)
-  soa_set =
-      one_set _ (rrset z z.origin type_soa)
-      (λ e. true≢false (sym ok.soa ∙ owns_nothing z.origin type_soa z.records (sort-nothing (filter (λ (s : ResourceRecord). s.rtype == type_soa) (at z z.origin)) e)))
+  pub set_is : (q : DomainName) (t : ℕ) → of_type t (with_owner q (at z q)) ≡ picked (asked_set q t) z.records
+  set_is q t = ap (sort_by data_order) (asked-is q t z.records) ∙ Ordered-sort data_order data_total (picked (asked_set q t) z.records) (ordered_asked q t z.records in_order)
 
   -- no alias is found
   alias_cases : (q : DomainName) (b : Bool) (x : Option DomainName)
@@ -189,35 +201,65 @@ module _ (z : ZoneContents) (ok : IsListZone z) where
   pub found_as : (q : DomainName) → FoundAs z q (found z q)
   found_as q = found_cases q (exists z q) refl
 
-  -- something is put, whatever is found
-  one_or_more : (items : List Item) → OneSet authority items → 0 < length items
-  one_or_more items one = omega (arith, ap length one.is)
+  -- no outcome is a referral
+  or_empty-direct : (items : List Item) → IsDirect (or_empty z items) no_error
+  or_empty-direct [] = record { rcode_is = refl; no_referral = refl }
+  or_empty-direct (i ∷ is) = record { rcode_is = refl; no_referral = refl }
 
-  negative_puts : (rcode : ℕ) → PutsSome (negative z rcode) rcode
-  negative_puts rcode = record { rcode_is = refl; no_referral = refl; some = one_or_more (negative_soa z) soa_set }
+  listed_direct : (q : DomainName) (t : ℕ) (x : Option (List ResourceRecord)) → FoundAs z q x → IsDirect (listed_outcome t x) (rcode_of x)
+  listed_direct q t x there = rw (no_alias_answer t (with_owner q (at z q)) (no_alias z ok q q)) (or_empty-direct (asked_sets t (with_owner q (at z q))))
+  listed_direct q t x (below_wildcard none) = rw (no_alias_answer t [] refl) (or_empty-direct (asked_sets t []))
+  listed_direct q t x (missing none) = record { rcode_is = refl; no_referral = refl }
 
-  or_empty_puts : (items : List Item) → PutsSome (or_empty z items) no_error
-  or_empty_puts [] = negative_puts no_error
-  or_empty_puts (i ∷ is) = record { rcode_is = refl; no_referral = refl; some = omega (arith, ap length (append-nil (i ∷ is))) }
+  pub is_direct : (q : DomainName) (t : ℕ) → IsDirect (outcome z q t) (rcode_of (found z q))
+  is_direct q t = rw (outcome-is q t) (listed_direct q t (found z q) (found_as q))
 
-  listed_puts : (q : DomainName) (t : ℕ) (x : Option (List ResourceRecord)) → FoundAs z q x → PutsSome (listed_outcome t x) (rcode_of x)
-  listed_puts q t x there = rw (no_alias_answer t (with_owner q (at z q)) (no_alias z ok q q)) (or_empty_puts (asked_sets t (with_owner q (at z q))))
-  listed_puts q t x (below_wildcard none) = rw (no_alias_answer t [] refl) (or_empty_puts (asked_sets t []))
-  listed_puts q t x (missing none) = negative_puts name_error
+  -- the sets asked for of the records at a name
+  one_type : (q : DomainName) (t : ℕ) → item answer (of_type t (with_owner q (at z q))) ≡ asked_items q z.records (t ∷ [])
+  one_type q t = ap (item answer) (set_is q t) ∙ sym (append-nil (item answer (picked (asked_set q t) z.records)))
 
-  pub puts_some : (q : DomainName) (t : ℕ) → PutsSome (outcome z q t) (rcode_of (found z q))
-  puts_some q t = rw (outcome-is q t) (listed_puts q t (found z q) (found_as q))
+  asked_here : (q : DomainName) (t : ℕ) → asked_sets t (with_owner q (at z q)) ≡ asked_items q z.records (asked_types t)
+  asked_here q t = by_test (t == qtype_any)
+    where
+      by_test : (b : Bool) → (if b then all_sets (with_owner q (at z q)) else item answer (of_type t (with_owner q (at z q)))) ≡ asked_items q z.records (if b then listed_types else t ∷ [])
+      by_test true =
+          all_sets-is (with_owner q (at z q)) (listed_kinds q z.origin z.records ok.kinds)
+          ∙ (λ i. flat_map (λ u. item answer (set_is q u i)) listed_types)
+      by_test false = one_type q t
 
-  -- the sets of one type
-  pub listed_sets : (q : DomainName) (t : ℕ) (x : Option (List ResourceRecord)) → (t == qtype_any) ≡ false → FoundAs z q x
-      → (listed_outcome t x).answers ≡ (or_empty z (item answer (asked_records q t z.records))).answers
-  listed_sets q t x one there = rw (no_alias_answer t (with_owner q (at z q)) (no_alias z ok q q), one, set_is q t) refl
-  listed_sets q t x one (below_wildcard none) = rw (no_alias_answer t [] refl, one, none_asked z ok q t none) refl
-  listed_sets q t x one (missing none) = rw (none_asked z ok q t none) refl
+  nothing_here : (q : DomainName) → exists z q ≡ false → (ts : List ℕ) → asked_items q z.records ts ≡ []
+  nothing_here q none [] = refl
+  nothing_here q none (t ∷ ts) = (λ i. item answer (none_asked z ok q t none i) ++ asked_items q z.records ts) ∙ nothing_here q none ts
 
-  -- the sets of the answer and authority sections
-  pub listed_main : (q : DomainName) (t : ℕ) (x : Option (List ResourceRecord)) → (t == qtype_any) ≡ false → FoundAs z q x
-      → main_items (listed_outcome t x) ≡ main_items (or_empty z (item answer (asked_records q t z.records)))
-  listed_main q t x one there = rw (no_alias_answer t (with_owner q (at z q)) (no_alias z ok q q), one, set_is q t) refl
-  listed_main q t x one (below_wildcard none) = rw (no_alias_answer t [] refl, one, none_asked z ok q t none) refl
-  listed_main q t x one (missing none) = rw (none_asked z ok q t none) refl
+  no_sets : (t : ℕ) → asked_sets t [] ≡ []
+  no_sets t = by_test (t == qtype_any)
+    where
+      by_test : (b : Bool) → (if b then all_sets [] else item answer (of_type t [])) ≡ []
+      by_test true = refl
+      by_test false = refl
+
+  -- the SOA of a negative answer
+  negative_soa-is : negative_soa z ≡ soa_items z
+  negative_soa-is =
+      let plain = filter (λ (r : ResourceRecord). r.rtype == type_soa) (at z z.origin) in
+      let sorted : rrset z z.origin type_soa ≡ plain =
+      Ordered-sort data_order data_total plain (ordered_filter (λ (r : ResourceRecord). r.rtype == type_soa) (at z z.origin) (ordered_filter (λ (r : ResourceRecord). same r.owner z.origin) z.records in_order))
+      in
+      ap (λ rs. item authority (map (shown (soa_set z.origin)) rs)) sorted ∙ ap (item authority) (sym (picked-is (soa_set z.origin) z.records))
+
+  or_empty-is : (is : List Item) → main_items (or_empty z is) ≡ or_else (soa_items z) is
+  or_empty-is [] = negative_soa-is
+  or_empty-is (i ∷ is) = append-nil (i ∷ is)
+
+  listed_due : (q : DomainName) (t : ℕ) (x : Option (List ResourceRecord)) → FoundAs z q x
+      → main_items (listed_outcome t x) ≡ or_else (soa_items z) (asked_items q z.records (asked_types t))
+  listed_due q t x there =
+      ap main_items (no_alias_answer t (with_owner q (at z q)) (no_alias z ok q q)) ∙ or_empty-is (asked_sets t (with_owner q (at z q)))
+      ∙ ap (or_else (soa_items z)) (asked_here q t)
+  listed_due q t x (below_wildcard none) =
+      ap main_items (no_alias_answer t [] refl) ∙ or_empty-is (asked_sets t []) ∙ ap (or_else (soa_items z)) (no_sets t ∙ sym (nothing_here q none (asked_types t)))
+  listed_due q t x (missing none) = or_empty-is [] ∙ ap (or_else (soa_items z)) (sym (nothing_here q none (asked_types t)))
+
+  -- the sets of the answer and authority sections are those that are due
+  pub main-is : (q : MessageQuestion) → main_items (outcome z q.qname q.qtype) ≡ due_items z q
+  main-is q = ap main_items (outcome-is q.qname q.qtype) ∙ listed_due q.qname q.qtype (found z q.qname) (found_as q.qname)

@@ -1,17 +1,16 @@
 -- A list zone has no cut, no alias and no record at a wildcard, so a name is answered from its own records.
-use Rattle.std.proofs.Common.{Bool, true, false, cond, ◌&&◌, ◌||◌, not, ◌≡◌, ℕ, ◌+◌, ◌<◌, ◌≤◌, ◌⊎◌, inl, inr, List, [], ◌∷◌, ◌++◌, map, length, drop, refl, sym, ◌∙◌, ap, arith, Option, None, Some, nat_lt, nat_le}
-use Rattle.std.proofs.lemmas.Bool.{true≢false, false≢true, and_parts, and_left, and_right, or_cases, or_parts, false_from_ne_true, eqb-true, ltb-true, cases_Bool, not-true}
-use Rattle.std.specs.Prelude.{◌==◌, if◌then◌else◌}
+use Rattle.std.proofs.Common.{Bool, true, false, cond, ◌&&◌, not, ◌≡◌, ℕ, inl, inr, List, [], ◌∷◌, map, length, refl, sym, ◌∙◌, ap, arith, None, nat_lt}
+use Rattle.std.proofs.lemmas.Bool.{true≢false, false≢true, and_parts, and_right, or_cases, or_parts, false_from_ne_true, eqb-true, ltb-true, not-true}
+use Rattle.std.specs.Prelude.{◌==◌}
 use Rattle.std.specs.List.{list_any, list_all, filter, find}
-use Rattle.std.specs.Option.{is_some, option_map, option_and_then, unwrap_or}
 use Rattle.std.specs.Char.{to_ascii_lowercase}
-use Rattle.dns_spec.specs.Names.{Octets, DomainName, wire, folded, same, names_equal, octets_equal, at_or_below, below, suffixes}
-use Rattle.dns_spec.specs.Data.{type_a, type_ns, type_soa, type_cname}
+use Rattle.dns_spec.specs.Names.{Octets, DomainName, folded, same, at_or_below, below}
+use Rattle.dns_spec.specs.Data.{type_ns, type_cname}
 use Rattle.dns_spec.specs.Records.{ResourceRecord, ZoneContents, at, owns, of_type, with_owner, sort_by, data_order}
 use Rattle.dns_spec.specs.Checks.{first_is_asterisk}
-use Rattle.dns_spec.specs.Tree.{exists, is_cut, cut_of, found, asterisk, source_of_synthesis, closest_encloser}
+use Rattle.dns_spec.specs.Tree.{exists, is_cut, cut_of, asterisk}
 use Rattle.dns_spec.proofs.NameLaws.{names_equal-decides, octets_equal-decides, same-length, same-length-wire, at_or_below-short}
-use Rattle.dns_tools.specs.ListZone.{IsListZone, is_listed, asked_records}
+use Rattle.dns_tools.specs.ListZone.{IsListZone, is_listed, asked_set, picked}
 
 same-is : (n m : DomainName) → same n m ≡ true → folded n ≡ folded m
 same-is n m h = (names_equal-decides (folded n) (folded m)).0 h
@@ -107,7 +106,7 @@ no_match n (r ∷ rs) none h =
     rw (none r parts.0) (no_match n rs none parts.1)
 
 -- a name that does not exist owns nothing
-not_asked : (q : DomainName) (t : ℕ) (rs : List ResourceRecord) → list_any (λ (r : ResourceRecord). at_or_below r.owner q) rs ≡ false → asked_records q t rs ≡ []
+not_asked : (q : DomainName) (t : ℕ) (rs : List ResourceRecord) → list_any (λ (r : ResourceRecord). at_or_below r.owner q) rs ≡ false → picked (asked_set q t) rs ≡ []
 not_asked q t [] h = refl
 not_asked q t (r ∷ rs) h =
     let parts = or_parts (at_or_below r.owner q) (list_any (λ (s : ResourceRecord). at_or_below s.owner q) rs) h in
@@ -116,17 +115,17 @@ not_asked q t (r ∷ rs) h =
 
 -- the records of a type at the name, in the order of the list
 asked_cases : (q : DomainName) (t : ℕ) (r : ResourceRecord) (rs : List ResourceRecord) (b c : Bool)
-    → filter (λ (s : ResourceRecord). s.rtype == t) (with_owner q (filter (λ (s : ResourceRecord). same s.owner q) rs)) ≡ asked_records q t rs
+    → filter (λ (s : ResourceRecord). s.rtype == t) (with_owner q (filter (λ (s : ResourceRecord). same s.owner q) rs)) ≡ picked (asked_set q t) rs
     → same r.owner q ≡ b → (r.rtype == t) ≡ c
     → filter (λ (s : ResourceRecord). s.rtype == t) (with_owner q (cond b (r ∷ filter (λ (s : ResourceRecord). same s.owner q) rs) (filter (λ (s : ResourceRecord). same s.owner q) rs)))
-    ≡ cond (c && b) (record r { owner = q } ∷ asked_records q t rs) (asked_records q t rs)
+    ≡ cond (c && b) (record r { owner = q } ∷ picked (asked_set q t) rs) (picked (asked_set q t) rs)
 asked_cases q t r rs true true rest e f = rw f (ap (λ xs. record r { owner = q } ∷ xs) rest)
 asked_cases q t r rs true false rest e f = rw f rest
 asked_cases q t r rs false true rest e f = rest
 asked_cases q t r rs false false rest e f = rest
 
 pub asked-is : (q : DomainName) (t : ℕ) (rs : List ResourceRecord)
-    → filter (λ (s : ResourceRecord). s.rtype == t) (with_owner q (filter (λ (s : ResourceRecord). same s.owner q) rs)) ≡ asked_records q t rs
+    → filter (λ (s : ResourceRecord). s.rtype == t) (with_owner q (filter (λ (s : ResourceRecord). same s.owner q) rs)) ≡ picked (asked_set q t) rs
 asked-is q t [] = refl
 asked-is q t (r ∷ rs) = asked_cases q t r rs (same r.owner q) (r.rtype == t) (asked-is q t rs) refl refl
 
@@ -140,5 +139,5 @@ module _ (z : ZoneContents) (ok : IsListZone z) where
       (λ r plain. false_from_ne_true (same r.owner (asterisk ∷ e)) (λ h. true≢false (sym (wildcard_is r.owner e (same-is r.owner (asterisk ∷ e) h)) ∙ not-true (first_is_asterisk r.owner) plain)))
       ok.no_wildcard
 
-  pub none_asked : (q : DomainName) (t : ℕ) → exists z q ≡ false → asked_records q t z.records ≡ []
+  pub none_asked : (q : DomainName) (t : ℕ) → exists z q ≡ false → picked (asked_set q t) z.records ≡ []
   none_asked q t h = not_asked q t z.records h

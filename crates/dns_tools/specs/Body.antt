@@ -1,5 +1,5 @@
 -- What a buffer holds behind the 12 octets of a header.
-use Rattle.std.specs.Prelude.{ℕ, List, take, drop}
+use Rattle.std.specs.Prelude.{ℕ, take, drop}
 use Rattle.dns_spec.specs.Names.{Octets}
 
 -- the octets behind the header, up to a place

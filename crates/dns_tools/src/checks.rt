@@ -43,7 +43,7 @@ fn has_faulty_owner(origin: &Name, records: &[Record]) -> bool
 fn is_plain(origin: &Name, listed: &Record) -> bool
     ensures { result ≡ is_plain origin.now listed.now }
 {
-    let _ttl = listed.ttl;
+    let (_owner, _ttl) = (listed.owner.octets(), listed.ttl);
     is_listed(origin, listed) && !first_is_asterisk(&listed.owner)
 }
 

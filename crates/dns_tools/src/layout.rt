@@ -1,10 +1,11 @@
 //! A reply laid out plainly: header, question, and records whose owner is a pointer to the question's name where it is
 //! spelled so. All other names are written whole (RFC 1035 4.1).
-ghost use Rattle.std.specs.Prelude.{◌≡◌, ◌+◌, ◌++◌, ◌≤◌, ◌<◌, ◌^◌, ◌↔◌, length, drop, IsTrue, IsSome, IfSome, IfNone};
+ghost use Rattle.std.specs.Prelude.{◌≡◌, true, ◌+◌, ◌++◌, ◌≤◌, ◌<◌, ◌^◌, ◌↔◌, length, drop, IsTrue, IsSome, IfSome, IfNone};
 ghost use Rattle.std.specs.Int.{bytes_high_first};
 ghost use Rattle.dns_spec.specs.Names.{wire, names_equal};
 ghost use Rattle.dns_spec.specs.Layout.{octets16, octets32, question_octets, header_octets, plain_owner, plain_record, plain_record_size, plain_records_size};
-ghost use Rattle.dns_tools.specs.ListZone.{asked_records};
+ghost use Rattle.dns_spec.specs.Data.{type_soa, soa_minimum};
+ghost use Rattle.dns_tools.specs.ListZone.{picked, shown};
 ghost use Rattle.std.specs.List.{flat_map};
 ghost use Rattle.dns_tools.specs.Body.{body};
 
@@ -150,6 +151,23 @@ pub(crate) fn put_record(
     Some(append(out, at, rdata))
 }
 
+/// Which records of a zone a reply shows as one RRset: those of a type at a name.
+#[derive(Drop)]
+pub(crate) struct Wanted<'a> {
+    pub(crate) owner: &'a Name,
+    pub(crate) rtype: u16,
+    /// Whether they are the SOA of a negative answer, which has a lowered TTL.
+    pub(crate) is_negative: bool,
+}
+
+impl<'a> Model for Wanted<'a> {
+    ghost use Rattle.dns_tools.specs.ListZone.{WantedSet};
+
+    ghost Value = { WantedSet };
+
+    ghost view = { λ w. record { owner = w.owner.now; rtype = w.rtype; is_negative = w.is_negative } };
+}
+
 /// An RRset that was written: the place behind it, and how many records it has.
 #[derive(Clone, Copy)]
 pub(crate) struct Put {
@@ -157,23 +175,24 @@ pub(crate) struct Put {
     pub(crate) records: u16,
 }
 
-/// Writes the records of a type at the name asked for, and answers the place behind them and how many there are.
+/// Writes an RRset, and answers the place behind it and how many records it has.
 ///
-/// `None` where there is no room for all of them: what was written before them stays.
-pub(crate) fn put_set(
+/// `None` where there is no room for all of it: what was written before it stays.
+pub(crate) fn put_set<'a>(
     out: &mut [u8],
     at: usize,
     asked: &Name,
-    rtype: u16,
-    records: &[Record],
+    wanted: &Wanted<'a>,
+    records: &'a [Record],
 ) -> Option<Put>
     requires behind_header { 12 ≤ at }
     requires inside { at ≤ length out.old }
     requires short { length out.old < 2 ^ 16 }
-    ensures room { IsSome result ↔ (at + plain_records_size asked.now (asked_records asked.now rtype records.now) ≤ length out.old) }
-    ensures end { IfSome result (λ put. put.end ≡ at + plain_records_size asked.now (asked_records asked.now rtype records.now)) }
-    ensures count { IfSome result (λ put. put.records ≡ length (asked_records asked.now rtype records.now)) }
-    ensures body { IfSome result (λ put. body out.new put.end ≡ body out.old at ++ flat_map (plain_record asked.now) (asked_records asked.now rtype records.now)) }
+    requires soa { wanted.now.is_negative ≡ true → wanted.now.rtype ≡ type_soa }
+    ensures room { IsSome result ↔ (at + plain_records_size asked.now (picked wanted.now records.now) ≤ length out.old) }
+    ensures end { IfSome result (λ put. put.end ≡ at + plain_records_size asked.now (picked wanted.now records.now)) }
+    ensures count { IfSome result (λ put. put.records ≡ length (picked wanted.now records.now)) }
+    ensures body { IfSome result (λ put. body out.new put.end ≡ body out.old at ++ flat_map (plain_record asked.now) (picked wanted.now records.now)) }
     ensures none { IfNone result (body out.new at ≡ body out.old at) }
 {
     let mut put = Put {
@@ -181,16 +200,37 @@ pub(crate) fn put_set(
         records: 0,
     };
     'records: for listed in records {
-        if listed.rtype == rtype && listed.owner.same(asked) {
-            let shown = Shown {
-                owner: asked,
-                ttl: listed.ttl,
-                rtype,
-                rdata: listed.rdata.as_slice(),
-            };
-            put.end = put_record(out, put.end, asked, &shown)?;
+        if listed.rtype == wanted.rtype && listed.owner.same(wanted.owner) {
+            put.end = put_record(out, put.end, asked, &show(wanted, listed))?;
             put.records += 1;
         }
     }
     Some(put)
+}
+
+// How a record of an RRset is shown (RFC 2308 3).
+fn show<'a>(wanted: &Wanted<'a>, listed: &'a Record) -> Shown<'a>
+    requires { wanted.now.is_negative ≡ true → listed.now.rtype ≡ type_soa }
+    ensures { result ≡ shown wanted.now listed.now }
+{
+    let rdata = listed.rdata.as_slice();
+    let (owner, ttl) = if wanted.is_negative {
+        (&listed.owner, listed.ttl.min(minimum(rdata)))
+    } else {
+        (wanted.owner, listed.ttl)
+    };
+    Shown {
+        owner,
+        ttl,
+        rtype: listed.rtype,
+        rdata,
+    }
+}
+
+// MINIMUM in the data of an SOA (RFC 1035 3.3.13).
+fn minimum(rdata: &[u8]) -> u32
+    requires { 4 ≤ length rdata.now }
+    ensures { result ≡ soa_minimum rdata.now }
+{
+    BigEndian::read_u32(&rdata[rdata.len() - 4..])
 }

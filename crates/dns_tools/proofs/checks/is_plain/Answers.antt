@@ -1,8 +1,8 @@
-use Rattle.std.proofs.Common.{◌≡◌, ◌<◌, ◌^◌, not, subst, refl, sym, ap, ◌∙◌, arith}
+use Rattle.std.proofs.Common.{◌<◌, ◌^◌, not, subst, sym, ap, ◌∙◌, arith}
 use Rattle.dns_spec.specs.Records.{ResourceRecord}
+use Rattle.dns_spec.specs.Names.{is_name}
 use Rattle.dns_spec.specs.Data.{valid}
 use Rattle.dns_spec.specs.Checks.{first_is_asterisk}
-use Rattle.dns_tools.specs.ListZone.{is_listed, is_plain}
 use Rattle.dns_tools.proofs.PlainZone.{sound_plain}
 use Rattle.dns_tools.proofs.checks.is_plain.Goals as goal
 
@@ -12,5 +12,6 @@ returns-then-is_listed c =
     let here = c.listed.view_is in
     ap not (c.first_is_asterisk.ensures ∙ ap (λ (r : ResourceRecord). first_is_asterisk r.owner) here)
     ∙ sound_plain c.args.origin.now c.args.listed.now (sym c.is_listed.ensures ∙ c.if-is_listed.true)
+    (ap (λ (r : ResourceRecord). is_name r.owner) (sym here) ∙ c.octets-owner.ensures.is_name)
     (ap (λ (r : ResourceRecord). valid r.rtype r.rdata) (sym here) ∙ c.listed.invariant.is_valid)
     (subst (λ (r : ResourceRecord). r.ttl < 2 ^ 32) here low)

@@ -1,5 +1,4 @@
-use Rattle.std.proofs.Common.{◌≡◌, ◌≤◌, length, arith, refl}
-use Rattle.dns_spec.specs.Layout.{question_octets}
+use Rattle.std.proofs.Common.{◌≤◌, length, arith, refl}
 use Rattle.dns_tools.proofs.BodyLaws.{body-start}
 use Rattle.dns_tools.proofs.layout.put_question.Goals as goal
 

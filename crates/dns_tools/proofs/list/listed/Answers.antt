@@ -1,4 +1,4 @@
-use Rattle.std.proofs.Common.{◌≡◌, refl, sym, ap, ◌∙◌}
+use Rattle.std.proofs.Common.{sym, ap, ◌∙◌}
 use Rattle.std.specs.List.{list_any}
 use Rattle.dns_spec.specs.Records.{records_equal}
 use Rattle.dns_tools.proofs.ListedRecords.{listed_onto, listed_onto-nothing, listed_onto-last, with_record-new, with_record-known}

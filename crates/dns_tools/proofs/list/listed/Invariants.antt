@@ -1,4 +1,4 @@
-use Rattle.std.proofs.Common.{◌≡◌, ◌++◌, vec_len}
+use Rattle.std.proofs.Common.{◌≡◌, vec_len}
 use Rattle.dns_tools.proofs.ListedRecords.{listed_onto}
 use Rattle.dns_tools.specs.ListZone.{listed_records}
 use Rattle.dns_tools.proofs.list.listed.Given as goal

@@ -1,4 +1,4 @@
-use Rattle.std.proofs.Common.{refl, sym, ◌∙◌, arith}
+use Rattle.std.proofs.Common.{sym, ◌∙◌, arith}
 use Rattle.dns_tools.proofs.ListedRecords.{place-passed, place-found}
 use Rattle.dns_tools.proofs.list.place_of.Goals as goal
 

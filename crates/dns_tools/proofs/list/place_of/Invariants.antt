@@ -1,4 +1,4 @@
-use Rattle.std.proofs.Common.{◌≡◌, ◌≤◌, drop, take, ◌++◌}
+use Rattle.std.proofs.Common.{◌≡◌, drop, take, ◌++◌}
 use Rattle.dns_spec.specs.Records.{insert_by, data_order}
 use Rattle.dns_tools.proofs.list.place_of.Given as goal
 

@@ -1,4 +1,4 @@
-use Rattle.std.proofs.Common.{length, ◌-◌, ◌≡◌, ◌≤◌, true}
+use Rattle.std.proofs.Common.{length, ◌-◌, ◌≡◌, true}
 use Rattle.dns_spec.specs.Names.{is_name}
 use Rattle.dns_spec.specs.Reading.{name_at}
 use Rattle.dns_tools.proofs.NameLoop.{read_on}

@@ -1,5 +1,4 @@
-use Rattle.std.proofs.Common.{◌≡◌, false, sym, ap, ◌∙◌}
-use Rattle.dns_spec.specs.Records.{ResourceRecord, ZoneContents}
+use Rattle.std.proofs.Common.{sym, ◌∙◌}
 use Rattle.dns_tools.specs.ListZone.{is_refused}
 use Rattle.dns_tools.proofs.PlainZone.{plain_zone}
 use Rattle.dns_tools.proofs.list.Zone.build.Goals as goal

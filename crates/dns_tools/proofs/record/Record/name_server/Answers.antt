@@ -1,4 +1,4 @@
-use Rattle.std.proofs.Common.{refl, sym, ap, ◌∙◌}
+use Rattle.std.proofs.Common.{ap, ◌∙◌}
 use Rattle.dns_spec.specs.Data.{valid, target}
 use Rattle.dns_spec.proofs.MadeData.{ns-made}
 use Rattle.dns_tools.proofs.record.Record.name_server.Goals as goal

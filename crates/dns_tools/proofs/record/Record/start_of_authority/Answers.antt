@@ -1,4 +1,4 @@
-use Rattle.std.proofs.Common.{◌≡◌, ◌++◌, refl, sym, ap, ◌∙◌}
+use Rattle.std.proofs.Common.{◌≡◌, ◌++◌, refl, ap, ◌∙◌}
 use Rattle.dns_spec.specs.Names.{wire}
 use Rattle.dns_spec.specs.Data.{valid, target}
 use Rattle.dns_spec.proofs.MadeData.{soa-made}
