@@ -1,5 +1,6 @@
 pub mod NameLaws
 pub mod NameReading
+pub mod WrittenNames
 pub mod Places
 pub mod WrittenData
 pub mod MadeData
@@ -22,3 +23,4 @@ mod PlainRows
 mod CheckRows
 mod AnswerRows
 mod ReadingRows
+mod TextRows

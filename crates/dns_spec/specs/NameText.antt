@@ -1,6 +1,7 @@
--- What a reader learns here: which name a word of a zone file spells.
-use Rattle.std.specs.Prelude.{◌≡◌, ◌≢◌, ℕ, ◌+◌, ◌-◌, ◌*◌, ◌<◌, ◌≤◌, ◌⊎◌, [], ◌∷◌, ◌++◌, codes, IsTrue}
-use Rattle.std.specs.Char.{IsAsciiDigit, IsNotAsciiDigit}
+-- What a reader learns here: which name a word of a zone file spells, and how a name is written.
+use Rattle.std.specs.Prelude.{◌≡◌, ◌≢◌, ℕ, ◌+◌, ◌-◌, ◌*◌, ◌/◌, ◌%◌, ◌<◌, ◌≤◌, ◌⊎◌, Bool, ◌==◌, if◌then◌else◌, [], ◌∷◌, ◌++◌, codes, IsTrue}
+use Rattle.std.specs.List.{flat_map, list_any}
+use Rattle.std.specs.Char.{is_ascii_graphic, IsAsciiDigit, IsNotAsciiDigit}
 use Rattle.dns_spec.specs.Names.{Octets, DomainName, is_name}
 
 -- the number that three decimal digits spell
@@ -36,3 +37,22 @@ pub record SpellsName (origin : DomainName) (word : Octets) (n : DomainName) : T
       ⊎ (((word ≡ codes ".") × (n ≡ []))
       ⊎ ((word ≢ codes "@") × (word ≢ []) × TextSpells origin word n))
   pub is_name : IsTrue (is_name n)
+
+-- the octets that mean something else in a zone file, where no backslash stands before them
+abbrev pub is_special : ℕ → Bool
+is_special x = list_any (λ s. x == s) (codes "\"$().;@\\")
+
+abbrev pub three_digits : ℕ → Octets
+three_digits x = (48 + x / 100) ∷ (48 + x / 10 % 10) ∷ (48 + x % 10) ∷ []
+
+-- RFC 1035 5.1: an octet of a label is written as itself, as `\X` or as `\DDD`
+unfoldable pub octet_text : ℕ → Octets
+octet_text x = if is_special x then 92 ∷ x ∷ [] else (if is_ascii_graphic x then x ∷ [] else 92 ∷ three_digits x)
+
+abbrev pub label_text : Octets → Octets
+label_text = flat_map octet_text
+
+-- RFC 1035 5.1: a name is written as its labels, each with a dot after it, and the root as `.`
+abbrev pub name_text : DomainName → Octets
+name_text [] = codes "."
+name_text (l ∷ n) = flat_map (λ k. label_text k ++ codes ".") (l ∷ n)

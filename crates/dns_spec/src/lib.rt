@@ -5,3 +5,4 @@ pub mod checks;
 pub mod layout;
 pub mod reading;
 pub mod reply;
+pub mod text;
