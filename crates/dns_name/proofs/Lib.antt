@@ -1,3 +1,4 @@
+pub mod OrderLemmas
 pub mod Pieces
 pub mod TextLemmas
 pub mod WireLemmas

@@ -1,18 +1,21 @@
 //! Domain names in their wire form.
-ghost use Rattle.std.specs.Prelude.{⊤, ◌≡◌, ℕ, ◌+◌, ◌≤◌, ◌↔◌, List, [], ◌∷◌, ◌++◌, length, map, IsTrue, MatchOption};
+ghost use Rattle.std.specs.Prelude.{⊤, ◌≡◌, ℕ, ◌+◌, ◌≤◌, ◌↔◌, List, [], ◌∷◌, ◌++◌, length, map, reverse, IsTrue, MatchOption};
 ghost use Rattle.std.specs.Bool.{OnTrue, OnFalse};
 ghost use Rattle.std.specs.Char.{to_ascii_lowercase};
 ghost use Rattle.std.specs.Cmp.{nat_eq_equiv, partial_equiv_from_equiv};
 ghost use Rattle.std.specs.Cmp.Lexicographic.{lists_per, lists_equiv};
+ghost use Rattle.std.specs.Cmp.Lexicographic.{slice_cmp};
+ghost use Rattle.std.specs.Ordering.{ordering_then};
 ghost use Rattle.std.specs.Iterator.{YieldsFirst, item_count};
 ghost use Rattle.arrayvec.specs.ArrayVec.{array_vec_len};
-ghost use Rattle.dns_spec.specs.Names.{is_name, wire, folded, same, at_or_below, names_equal};
+ghost use Rattle.dns_spec.specs.Names.{is_name, wire, folded, same, at_or_below, names_equal, label_order, name_order, last_labels};
 ghost use Rattle.dns_name.specs.TextForm.{Appended};
 ghost use Rattle.dns_name.specs.WireForm.{labels_of, IsWireForm};
 
 use crate::label::Label;
 use arrayvec::ArrayVec;
 use std::alloc::AllocError;
+use std::cmp::Ordering;
 use std::marker::Model;
 
 const MAX_OCTETS: usize = 255;
@@ -144,6 +147,32 @@ impl Name {
         same_octets(suffix, target)
     }
 
+    /// Which of two names comes first in the canonical order (RFC 4034 6.1).
+    ///
+    /// Labels are compared from the right, each as octets in lower case. A label comes before one that it begins, and
+    /// a name before all names below it. No memory is taken.
+    pub fn order(&self, other: &Name) -> Ordering
+        ensures { result ≡ name_order self.now other.now }
+    {
+        let (left, right) = (self.fold(), other.fold());
+        let (left_count, right_count) = (left.label_count(), right.label_count());
+        let shared = left_count.min(right_count);
+        let longer = left_count.cmp(&right_count);
+        order_of_labels(left.last_labels(shared), right.last_labels(shared), longer)
+    }
+
+    // The last `count` labels.
+    fn last_labels(&self, count: usize) -> Labels<'_>
+        requires { count ≤ length self.now }
+        ensures { result ≡ last_labels count self.now }
+    {
+        let mut labels = self.labels();
+        'extra: for _ in 0..self.label_count() - count {
+            labels.next();
+        }
+        labels
+    }
+
     /// A second name with the same octets. It takes no memory.
     pub fn copied(&self) -> Name
         ensures value { result ≡ self.now }
@@ -224,6 +253,20 @@ fn first_label(octets: &[u8]) -> Option<(Label<'_>, &[u8])>
     }
     let (label, rest) = rest.split_at(length);
     Some((Label::new(label)?, rest))
+}
+
+// The order of as many labels on both sides, compared from the right, and `longer` where they are equal.
+fn order_of_labels(left: Labels<'_>, right: Labels<'_>, longer: Ordering) -> Ordering
+    requires { length left ≡ length right }
+    ensures { result ≡ ordering_then (slice_cmp label_order (reverse left.entry) (reverse right.entry)) longer }
+{
+    let mut left = left;
+    let mut right = right;
+    let mut order = longer;
+    'labels: while let (Some(l), Some(r)) = (left.next(), right.next()) {
+        order = l.octets().cmp(r.octets()).then(order);
+    }
+    order
 }
 
 // Appends octets that there is room for.
