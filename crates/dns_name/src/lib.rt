@@ -6,6 +6,7 @@ mod label;
 mod name;
 mod tally;
 mod text;
+mod written;
 
 pub use label::Label;
 pub use name::{Labels, Name};

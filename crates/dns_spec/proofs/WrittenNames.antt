@@ -3,10 +3,10 @@ use Rattle.std.proofs.Common.{◌≡◌, ◌≢◌, ℕ, suc, ◌+◌, ◌/◌, 
 use Rattle.std.proofs.lemmas.List.{append_assoc}
 use Rattle.std.proofs.lemmas.Bool.{true≢false, false≢true, eqb-true, cases_Bool, or_cases}
 use Rattle.std.specs.Prelude.{codes}
-use Rattle.std.specs.List.{flat_map, list_any}
+use Rattle.std.specs.List.{list_any}
 use Rattle.std.specs.Char.{is_ascii_graphic, IsAsciiDigit, IsNotAsciiDigit}
 use Rattle.dns_spec.specs.Names.{Octets, DomainName, is_name}
-use Rattle.dns_spec.specs.NameText.{SpellsOctet, LabelThen, TextSpells, SpellsName, is_special, three_digits, octet_text, label_text, name_text}
+use Rattle.dns_spec.specs.NameText.{SpellsOctet, LabelThen, TextSpells, SpellsName, is_special, three_digits, octet_text, label_text, labels_text, name_text}
 use Rattle.dns_spec.proofs.NameLaws.{IsLabel-is_label, is_label-head}
 
 -- an octet that a backslash may stand before
@@ -74,12 +74,7 @@ label_spelled (x ∷ l) rest h = (
   label_spelled l rest (λ k d e. h (suc k) d (omega arith)),
 )
 
--- the text of the labels, each with its dot
-labels_text : DomainName → Octets
-labels_text = flat_map (λ k. label_text k ++ codes ".")
-
 labels_spelled : (origin n : DomainName) → All (All (λ o. o < 256)) n → TextSpells origin (labels_text n) n
-unfolding labels_text
 labels_spelled origin [] h = refl
 labels_spelled origin (l ∷ n) h =
     let spelled = label_spelled l (46 ∷ labels_text n) (h 0 [] (omega arith)) in
@@ -95,21 +90,15 @@ some_octet x = elim (cases_Bool (is_special x)) [
 
 -- the text of a label and its dot has two octets or more
 labels_text_long : (l : Octets) (n : DomainName) → 0 < length l → 2 ≤ length (labels_text (l ∷ n))
-unfolding labels_text
 labels_text_long [] n h = absurd (omega arith)
 labels_text_long (x ∷ l) n h =
     omega (arith, some_octet x, length-append (octet_text x) (label_text l), length-append (label_text (x ∷ l)) (codes "."), length-append (label_text (x ∷ l) ++ codes ".") (labels_text n))
-
-text_is : (l : Octets) (n : DomainName) → labels_text (l ∷ n) ≡ name_text (l ∷ n)
-unfolding labels_text
-text_is l n = refl
 
 pub name_spelled : (origin n : DomainName) → All (All (λ o. o < 256)) n → is_name n ≡ true → SpellsName origin (name_text n) n
 name_spelled origin [] h ok = record { spelled = inr (inl (refl, refl)); is_name = ok }
 name_spelled origin (l ∷ n) h ok =
     let long = labels_text_long l n (IsLabel-is_label l (is_label-head l n ok)).some in
-    let text = text_is l n in
-    let origin_text : name_text (l ∷ n) ≢ codes "@" = λ e. absurd (omega (arith, ap length (text ∙ e))) in
-    let no_text : name_text (l ∷ n) ≢ [] = λ e. absurd (omega (arith, ap length (text ∙ e))) in
-    let spelled = subst (λ t. TextSpells origin t (l ∷ n)) text (labels_spelled origin (l ∷ n) h) in
+    let origin_text : name_text (l ∷ n) ≢ codes "@" = λ e. absurd (omega (arith, ap length e)) in
+    let no_text : name_text (l ∷ n) ≢ [] = λ e. absurd (omega (arith, ap length e)) in
+    let spelled = labels_spelled origin (l ∷ n) h in
     record { spelled = inr (inr (origin_text, no_text, spelled)); is_name = ok }

@@ -52,7 +52,11 @@ octet_text x = if is_special x then 92 ∷ x ∷ [] else (if is_ascii_graphic x 
 abbrev pub label_text : Octets → Octets
 label_text = flat_map octet_text
 
+-- each label with a dot after it
+abbrev pub labels_text : DomainName → Octets
+labels_text = flat_map (λ l. label_text l ++ codes ".")
+
 -- RFC 1035 5.1: a name is written as its labels, each with a dot after it, and the root as `.`
 abbrev pub name_text : DomainName → Octets
 name_text [] = codes "."
-name_text (l ∷ n) = flat_map (λ k. label_text k ++ codes ".") (l ∷ n)
+name_text (l ∷ n) = labels_text (l ∷ n)
