@@ -2,3 +2,4 @@ pub mod OrderLemmas
 pub mod Pieces
 pub mod TextLemmas
 pub mod WireLemmas
+pub mod WrittenLemmas

@@ -1,4 +1,4 @@
-use Rattle.std.proofs.Common.{◌≡◌, length, ap, ◌∙◌}
+use Rattle.std.proofs.Common.{length, ap, ◌∙◌}
 use Rattle.dns_spec.specs.Names.{folded}
 use Rattle.dns_name.proofs.OrderLemmas.{order_is}
 use Rattle.dns_name.proofs.name.Name.order.Goals as goal
