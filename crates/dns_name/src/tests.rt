@@ -1,2 +1,3 @@
 mod comparing;
 mod text;
+mod written;
