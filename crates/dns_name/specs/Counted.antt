@@ -1,5 +1,7 @@
 -- What a reader learns here: a device with the number of its failed calls, and what a call and a whole text do to it.
 use Rattle.std.specs.Prelude.{ℕ, ◌+◌, ◌≤◌, List, length, take, Result, is_ok, if◌then◌else◌, Option}
+use Rattle.std.specs.Borrow.{Bor}
+use Rattle.std.specs.List.{flat_map}
 use Rattle.std.specs.Io.KnownBytes.{Appends}
 
 -- a reader or a writer, and how many of its calls have failed
@@ -10,6 +12,10 @@ pub record Counted (T : Type 0) : Type 0 where
 -- the count after a call: one more exactly where the call failed
 abbrev pub failures_after : {A E : Type 0} → ℕ → Result A E → ℕ
 failures_after count outcome = if is_ok outcome then count else count + 1
+
+-- texts behind references, one after another
+abbrev pub joined : List (Bor (List ℕ)) → List ℕ
+joined = flat_map (λ part. part.now)
 
 -- known bytes grew by some beginning of the text, perhaps by nothing and perhaps by all of it
 abbrev pub AppendsBeginning : Option (List ℕ) → Option (List ℕ) → List ℕ → Type 0

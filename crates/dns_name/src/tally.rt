@@ -1,7 +1,7 @@
 ghost use Rattle.std.specs.Prelude.{◌≡◌, ◌+◌, ◌-◌, ◌^◌, ◌<◌, length, IfOk, OnOk, OnErr, is_ok, if◌then◌else◌};
 ghost use Rattle.std.specs.Io.{ReadsAtMost, WritesAtMost};
 ghost use Rattle.std.specs.Io.KnownBytes.{Appends, ReadConsumes, WriteAppends};
-ghost use Rattle.dns_name.specs.Counted.{failures_after, AppendsBeginning};
+ghost use Rattle.dns_name.specs.Counted.{failures_after, joined, AppendsBeginning};
 
 use std::io::{Read, Write};
 use std::marker::Model;
@@ -113,6 +113,20 @@ impl<T: Write> Tally<T> {
         let mut written = 0;
         'pieces: while written < text.len() {
             written += self.write(&text[written..])?;
+        }
+        Ok(())
+    }
+
+    /// Writes texts, one after another. Where a call fails, a beginning of them all was written, and nothing is tried
+    /// after it.
+    pub fn write_parts(&mut self, parts: &[&[u8]]) -> Result<(), SinkFailed>
+        requires { self.old.failures < 2 ^ 64 - 1 }
+        ensures ok { OnOk result (Appends (T.contents self.old.device) (T.contents self.new.device) (joined parts.now)) }
+        ensures err { OnErr result (AppendsBeginning (T.contents self.old.device) (T.contents self.new.device) (joined parts.now)) }
+        ensures counted { self.new.failures ≡ failures_after self.old.failures result }
+    {
+        'parts: for part in parts {
+            self.write_all(*part)?;
         }
         Ok(())
     }
