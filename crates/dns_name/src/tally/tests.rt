@@ -56,8 +56,9 @@ fn what_is_written_stands_in_the_device(rt: HostRuntime) -> Result<(), Fail> {
     let mut sink = Tally::new(Vec::new(rt.alloc()));
     assert_eq!(rt; sink.write(b"ab"), Ok(2));
     assert_eq!(rt; sink.write_all(b"cd"), Ok(()));
+    assert_eq!(rt; sink.write_parts(&[b"e", b"", b"fg"]), Ok(()));
     assert_eq!(rt; sink.failures(), 0);
-    assert_eq!(rt; sink.into_inner().as_slice(), b"abcd".as_slice());
+    assert_eq!(rt; sink.into_inner().as_slice(), b"abcdefg".as_slice());
     Ok(())
 }
 
@@ -72,6 +73,8 @@ fn each_failure_is_counted_once(rt: HostRuntime) {
     let mut sink = Tally::new(Fading { calls_left: 2 });
     assert_eq!(rt; sink.write_all(b"abc"), Err(SinkFailed));
     assert_eq!(rt; sink.failures(), 1);
+    assert_eq!(rt; sink.write_parts(&[b"", b"d", b"e"]), Err(SinkFailed));
+    assert_eq!(rt; sink.failures(), 2);
 }
 
 #[test]
