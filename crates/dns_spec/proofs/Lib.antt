@@ -4,6 +4,7 @@ pub mod WrittenNames
 pub mod Places
 pub mod WrittenData
 pub mod MadeData
+pub mod LoweredData
 pub mod PlainLayout
 pub mod LayoutSize
 pub mod LeastSize

@@ -39,7 +39,7 @@ cut-address (a ∷ b ∷ c ∷ []) e = absurd (omega arith)
 cut-address (a ∷ b ∷ c ∷ d ∷ x ∷ xs) e = absurd (omega arith)
 
 -- a name
-cut-domain : (n : DomainName) (rest : Octets) → is_name n ≡ true → piece_front domain (wire n ++ rest) ≡ Some (name n, rest)
+pub cut-domain : (n : DomainName) (rest : Octets) → is_name n ≡ true → piece_front domain (wire n ++ rest) ≡ Some (name n, rest)
 cut-domain n rest ok = ap (option_map (λ (r : DomainName × Octets). (name r.0, r.1))) (name_of-wire n rest ok)
 
 pub cut-ns : (n : DomainName) → is_name n ≡ true → cut (pieces_of type_ns) (wire n) ≡ Some (name n ∷ [])
@@ -49,10 +49,10 @@ cut-ns n ok =
     ∙ ap (λ (x : Option (Part × Octets)). elim x [ None ↦ None | Some r ↦ option_map (λ xs. r.0 ∷ xs) (cut [] r.1) ]) (cut-domain n [] ok)
 
 -- two names and 20 octets of numbers
-step : (p : Piece) (ps : List Piece) (os : Octets) (part : Part) (rest : Octets) (xs : List Part) → piece_front p os ≡ Some (part, rest) → cut ps rest ≡ Some xs
+pub cut-step : (p : Piece) (ps : List Piece) (os : Octets) (part : Part) (rest : Octets) (xs : List Part) → piece_front p os ≡ Some (part, rest) → cut ps rest ≡ Some xs
     → cut (p ∷ ps) os ≡ Some (part ∷ xs)
 unfolding cut
-step p ps os part rest xs front behind =
+cut-step p ps os part rest xs front behind =
     ap (λ (x : Option (Part × Octets)). elim x [ None ↦ None | Some r ↦ option_map (λ ys. r.0 ∷ ys) (cut ps r.1) ]) front
     ∙ ap (option_map (λ ys. part ∷ ys)) behind
 
@@ -70,9 +70,9 @@ pub cut-soa : (m r : DomainName) (ds : Octets) → is_name m ≡ true → is_nam
     → cut (pieces_of type_soa) (wire m ++ wire r ++ ds) ≡ Some (name m ∷ name r ∷ octets ds ∷ [])
 cut-soa m r ds okm okr e =
     ap (cut (pieces_of type_soa)) (append_assoc (wire m) (wire r) ds)
-    ∙ step domain (domain ∷ fixed 20 ∷ []) (wire m ++ (wire r ++ ds)) (name m) (wire r ++ ds) (name r ∷ octets ds ∷ []) (cut-domain m (wire r ++ ds) okm)
-    (step domain (fixed 20 ∷ []) (wire r ++ ds) (name r) ds (octets ds ∷ []) (cut-domain r ds okr)
-    (step (fixed 20) [] ds (octets ds) [] [] (all_of 20 ds e) nothing_left))
+    ∙ cut-step domain (domain ∷ fixed 20 ∷ []) (wire m ++ (wire r ++ ds)) (name m) (wire r ++ ds) (name r ∷ octets ds ∷ []) (cut-domain m (wire r ++ ds) okm)
+    (cut-step domain (fixed 20 ∷ []) (wire r ++ ds) (name r) ds (octets ds ∷ []) (cut-domain r ds okr)
+    (cut-step (fixed 20) [] ds (octets ds) [] [] (all_of 20 ds e) nothing_left))
 
 -- what is cut is valid, and its first name is its target
 made : (t : ℕ) (d : Octets) (xs : List Part) → cut (pieces_of t) d ≡ Some xs → length d ≤ 65535 → (valid t d ≡ true) × (target t d ≡ first_name xs)

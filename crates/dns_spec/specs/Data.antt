@@ -1,6 +1,6 @@
 -- What a reader learns here: of which pieces the data of each type is made, and with that which octets are data of a
 -- type, how they read in lower case, and which names stand in them.
-use Rattle.std.specs.Prelude.{ℕ, ◌+◌, ◌-◌, ◌*◌, ◌^◌, Bool, true, false, ◌&&◌, not, List, [], ◌∷◌, map, length, take, drop, nat_le, ◌==◌, IsTrue, if◌then◌else◌, zero, suc}
+use Rattle.std.specs.Prelude.{ℕ, ◌+◌, ◌-◌, ◌*◌, ◌^◌, Bool, true, false, ◌&&◌, not, List, [], ◌∷◌, map, length, take, drop, nat_le, ◌==◌, IsTrue, if◌then◌else◌, zero, suc, codes}
 use Rattle.std.specs.Prelude.{Option, None, Some}
 use Rattle.std.specs.Option.{option_map, unwrap_or, is_some}
 use Rattle.std.specs.List.{find, flat_map}
@@ -53,9 +53,11 @@ pub data Piece : Type 0 where
   strings : Piece
   anything : Piece
 
--- A type that has a name: of which pieces its data is made, and whether names in it take part in compression.
+-- A type that has a name: its number and name, of which pieces its data is made, and whether names in it take part in
+-- compression.
 pub record TypeRow : Type 0 where
   pub number : ℕ
+  pub mnemonic : Octets
   pub pieces : List Piece
   pub compresses : Bool
 
@@ -63,24 +65,27 @@ pub record TypeRow : Type 0 where
 -- types of RFC 1035 are compressed, and RFC 2782 forbids it for the target of SRV.
 abbrev pub type_table : List TypeRow
 type_table =
-    record { number = type_a; pieces = fixed 4 ∷ []; compresses = false }
-    ∷ record { number = type_ns; pieces = domain ∷ []; compresses = true }
-    ∷ record { number = type_cname; pieces = domain ∷ []; compresses = true }
-    ∷ record { number = type_soa; pieces = domain ∷ domain ∷ fixed 20 ∷ []; compresses = true }
-    ∷ record { number = type_ptr; pieces = domain ∷ []; compresses = true }
-    ∷ record { number = type_hinfo; pieces = string ∷ string ∷ []; compresses = false }
-    ∷ record { number = type_mx; pieces = fixed 2 ∷ domain ∷ []; compresses = true }
-    ∷ record { number = type_txt; pieces = strings ∷ []; compresses = false }
-    ∷ record { number = type_aaaa; pieces = fixed 16 ∷ []; compresses = false }
-    ∷ record { number = type_srv; pieces = fixed 6 ∷ domain ∷ []; compresses = false }
+    record { number = type_a; mnemonic = codes "A"; pieces = fixed 4 ∷ []; compresses = false }
+    ∷ record { number = type_ns; mnemonic = codes "NS"; pieces = domain ∷ []; compresses = true }
+    ∷ record { number = type_cname; mnemonic = codes "CNAME"; pieces = domain ∷ []; compresses = true }
+    ∷ record { number = type_soa; mnemonic = codes "SOA"; pieces = domain ∷ domain ∷ fixed 20 ∷ []; compresses = true }
+    ∷ record { number = type_ptr; mnemonic = codes "PTR"; pieces = domain ∷ []; compresses = true }
+    ∷ record { number = type_hinfo; mnemonic = codes "HINFO"; pieces = string ∷ string ∷ []; compresses = false }
+    ∷ record { number = type_mx; mnemonic = codes "MX"; pieces = fixed 2 ∷ domain ∷ []; compresses = true }
+    ∷ record { number = type_txt; mnemonic = codes "TXT"; pieces = strings ∷ []; compresses = false }
+    ∷ record { number = type_aaaa; mnemonic = codes "AAAA"; pieces = fixed 16 ∷ []; compresses = false }
+    ∷ record { number = type_srv; mnemonic = codes "SRV"; pieces = fixed 6 ∷ domain ∷ []; compresses = false }
     ∷ []
 
 -- RFC 3597 section 3: data of every other type is octets
 abbrev pub other_type : TypeRow
-other_type = record { number = 0; pieces = anything ∷ []; compresses = false }
+other_type = record { number = 0; mnemonic = []; pieces = anything ∷ []; compresses = false }
+
+abbrev pub row_of : ℕ → Option TypeRow
+row_of t = find (λ (row : TypeRow). row.number == t) type_table
 
 abbrev pub type_row : ℕ → TypeRow
-type_row t = unwrap_or (find (λ (row : TypeRow). row.number == t) type_table) other_type
+type_row t = unwrap_or (row_of t) other_type
 
 abbrev pub pieces_of : ℕ → List Piece
 pieces_of t = (type_row t).pieces

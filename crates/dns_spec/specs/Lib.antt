@@ -2,6 +2,7 @@
 pub mod Names
 pub mod NameText
 pub mod Data
+pub mod TypeText
 pub mod Records
 pub mod Tree
 pub mod Checks

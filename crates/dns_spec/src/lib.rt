@@ -2,6 +2,7 @@
 #![tactic(auto)]
 
 pub mod checks;
+pub mod data;
 pub mod layout;
 pub mod reading;
 pub mod reply;

@@ -1,0 +1,2 @@
+pub mod RdataFault
+pub mod TypeRows

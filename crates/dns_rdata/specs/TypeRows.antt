@@ -1,0 +1,20 @@
+-- What a reader learns here: how the table of the code stands for that of the definitions.
+use Rattle.std.specs.Prelude.{List, map}
+use Rattle.dns_spec.specs.Data as Data
+use Rattle.dns_spec.specs.Data.{fixed, domain, string, strings, anything}
+use Rattle.dns_rdata.specs.declared.table.Piece.{Piece}
+use Rattle.dns_rdata.specs.declared.table.Piece.TheVariants.{Fixed, Domain, String, Strings, Anything}
+use Rattle.dns_rdata.specs.declared.table.TypeRow.{TypeRow}
+
+abbrev pub piece_of : Piece → Data.Piece
+piece_of (Fixed k) = fixed k
+piece_of Domain = domain
+piece_of String = string
+piece_of Strings = strings
+piece_of Anything = anything
+
+abbrev pub pieces_in : List Piece → List Data.Piece
+pieces_in = map piece_of
+
+abbrev pub row_for : TypeRow → Data.TypeRow
+row_for r = record { number = r.number; mnemonic = r.mnemonic.now; pieces = pieces_in r.pieces.now; compresses = r.compresses }

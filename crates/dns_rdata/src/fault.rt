@@ -1,0 +1,33 @@
+//! Why words or octets are no data of a type.
+ghost use Rattle.std.specs.Prelude.{◌≡◌};
+ghost use Rattle.dns_rdata.specs.RdataFault.{fault_code};
+
+/// Why words or octets are no data of a type.
+#[derive(Clone, Copy, Debug, PartialEq, Eq)]
+pub enum RdataFault {
+    /// There are too few words, or too many.
+    WordCount = 1,
+    /// A word is no number of the size that stands there, or is quoted.
+    BadNumber = 2,
+    /// A word is no address, or is quoted.
+    BadAddress = 3,
+    /// A word is no name, or is quoted.
+    BadName = 4,
+    /// A string has more than 255 octets or a bad escape, or the data is past 65,535 octets.
+    BadString = 5,
+    /// In the unknown form (RFC 3597 5) the length is none, or the digits are not as many octets.
+    BadHex = 6,
+    /// The octets are no data of the type, or more than 65,535 (RFC 1035 3.2.1).
+    NotOfType = 7,
+    /// No memory was found.
+    NoMemory = 8,
+}
+
+impl RdataFault {
+    /// The number of the fault, 1 to 8 in the order of the variants.
+    pub fn code(self) -> u8
+        ensures { result ≡ fault_code self }
+    {
+        self as u8
+    }
+}

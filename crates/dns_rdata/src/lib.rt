@@ -1,0 +1,9 @@
+//! Types of records and their data, as octets and as text.
+#![tactic(auto)]
+
+mod fault;
+mod rtype;
+mod table;
+
+pub use fault::RdataFault;
+pub use rtype::RType;

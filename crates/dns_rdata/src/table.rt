@@ -1,0 +1,59 @@
+//! The table of the types that have a name: of which pieces the data of each is made.
+ghost use Rattle.std.specs.Prelude.{◌≡◌, map};
+ghost use Rattle.std.specs.Option.{option_map};
+ghost use Rattle.dns_spec.specs.Data.{type_table, row_of, pieces_of};
+ghost use Rattle.dns_rdata.specs.TypeRows.{row_for, pieces_in};
+
+use crate::rtype::RType;
+
+/// A piece of data.
+#[derive(Clone, Copy, Debug)]
+pub(crate) enum Piece {
+    /// So many octets.
+    Fixed(usize),
+    /// A domain name.
+    Domain,
+    /// A character-string (RFC 1035 3.3).
+    String,
+    /// One character-string or more.
+    Strings,
+    /// Any octets.
+    Anything,
+}
+
+/// A type that has a name.
+pub(crate) struct TypeRow {
+    pub(crate) number: u16,
+    pub(crate) mnemonic: &'static [u8],
+    pub(crate) pieces: &'static [Piece],
+    /// Whether names in the data take part in compression (RFC 3597 4).
+    pub(crate) compresses: bool,
+}
+
+// RFC 1035 3.3 and 3.4, RFC 3596 2.2, RFC 2782
+const TYPES: [TypeRow; 10] = [
+    TypeRow { number: RType::A.0, mnemonic: b"A", pieces: &[Piece::Fixed(4)], compresses: false },
+    TypeRow { number: RType::NS.0, mnemonic: b"NS", pieces: &[Piece::Domain], compresses: true },
+    TypeRow { number: RType::CNAME.0, mnemonic: b"CNAME", pieces: &[Piece::Domain], compresses: true },
+    TypeRow { number: RType::SOA.0, mnemonic: b"SOA", pieces: &[Piece::Domain, Piece::Domain, Piece::Fixed(20)], compresses: true },
+    TypeRow { number: RType::PTR.0, mnemonic: b"PTR", pieces: &[Piece::Domain], compresses: true },
+    TypeRow { number: RType::HINFO.0, mnemonic: b"HINFO", pieces: &[Piece::String, Piece::String], compresses: false },
+    TypeRow { number: RType::MX.0, mnemonic: b"MX", pieces: &[Piece::Fixed(2), Piece::Domain], compresses: true },
+    TypeRow { number: RType::TXT.0, mnemonic: b"TXT", pieces: &[Piece::Strings], compresses: false },
+    TypeRow { number: RType::AAAA.0, mnemonic: b"AAAA", pieces: &[Piece::Fixed(16)], compresses: false },
+    TypeRow { number: RType::SRV.0, mnemonic: b"SRV", pieces: &[Piece::Fixed(6), Piece::Domain], compresses: false },
+];
+
+/// The table, by rising number.
+pub(crate) fn types() -> &'static [TypeRow]
+    ensures { map row_for result.now ≡ type_table }
+{
+    &TYPES
+}
+
+/// The row of a type, if it has a name.
+pub(crate) fn row_of_type(rtype: RType) -> Option<&'static TypeRow>
+    ensures { option_map (λ r. row_for r.now) result ≡ row_of rtype.0 }
+{
+    types().iter().find(|row| row.number == rtype.0)
+}

@@ -1,0 +1,5 @@
+use Rattle.dns_spec.proofs.LoweredData.{joined-parts}
+use Rattle.dns_spec.proofs.data.joined_parts_are_the_data.Goals as goal
+
+pub returns : goal.returns
+returns c = joined-parts
