@@ -5,6 +5,7 @@ pub mod Places
 pub mod WrittenData
 pub mod MadeData
 pub mod LoweredData
+pub mod TypeWords
 pub mod PlainLayout
 pub mod LayoutSize
 pub mod LeastSize

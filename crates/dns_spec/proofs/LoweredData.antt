@@ -1,5 +1,5 @@
 -- The parts of data joined are the data, and data in lower case is cut into the same pieces.
-use Rattle.std.proofs.Common.{◌≡◌, ℕ, suc, ◌+◌, ◌≤◌, true, Option, None, Some, List, [], ◌∷◌, ◌++◌, map, length, take, drop, refl, sym, ap, ◌∙◌, subst, arith, append-nil, length-append}
+use Rattle.std.proofs.Common.{◌≡◌, ℕ, suc, ◌≤◌, true, Option, None, Some, List, [], ◌∷◌, ◌++◌, map, length, take, refl, sym, ap, ◌∙◌, subst, arith, append-nil, length-append}
 use Rattle.std.proofs.lemmas.Bool.{and_parts, and_from, leb-true, le-leb, false≢true}
 use Rattle.std.proofs.lemmas.Option.{none-some, same_Some}
 use Rattle.std.proofs.lemmas.List.{take_at, drop_at, nil_from_length}
@@ -7,10 +7,10 @@ use Rattle.std.proofs.lemmas.List.Concat.{flat_map-cons}
 use Rattle.std.proofs.lemmas.Str.Ascii.{lowercase-lowercase}
 use Rattle.std.specs.Option.{is_some, unwrap_or}
 use Rattle.std.specs.Char.{to_ascii_lowercase}
-use Rattle.dns_spec.specs.Names.{Octets, DomainName, wire, folded}
+use Rattle.dns_spec.specs.Names.{Octets, DomainName, folded}
 use Rattle.dns_spec.specs.Data.{Piece, fixed, domain, string, strings, anything, pieces_of, Part, octets, name, part_octets, joined, part_folded, octets_front, strings_front, piece_front, cut, valid, parts, lower_case}
 use Rattle.dns_spec.proofs.NameLaws.{is_name-folded, length-wire-folded}
-use Rattle.dns_spec.proofs.WrittenData.{CutInto, cut_into, name_part, octets_part, front_taken, all_strings}
+use Rattle.dns_spec.proofs.WrittenData.{cut_into, name_part, octets_part, front_taken, all_strings}
 use Rattle.dns_spec.proofs.MadeData.{cut-domain, cut-step}
 
 -- a part, and the octets behind it, are the whole
@@ -45,9 +45,15 @@ length-part_folded (name n) = length-wire-folded n
 pub length-lowered : (xs : List Part) → length (joined (map part_folded xs)) ≡ length (joined xs)
 length-lowered [] = refl
 length-lowered (x ∷ xs) =
-    omega (arith, length-lowered xs, length-part_folded x,
-    ap length (flat_map-cons part_octets (part_folded x) (map part_folded xs)), ap length (flat_map-cons part_octets x xs),
-    length-append (part_octets (part_folded x)) (joined (map part_folded xs)), length-append (part_octets x) (joined xs))
+    omega (
+      arith,
+      length-lowered xs,
+      length-part_folded x,
+      ap length (flat_map-cons part_octets (part_folded x) (map part_folded xs)),
+      ap length (flat_map-cons part_octets x xs),
+      length-append (part_octets (part_folded x)) (joined (map part_folded xs)),
+      length-append (part_octets x) (joined xs),
+    )
 
 octets_front-append : (k : ℕ) (x rest : Octets) → length x ≡ k → octets_front k (x ++ rest) ≡ Some (octets x, rest)
 octets_front-append k x rest e =

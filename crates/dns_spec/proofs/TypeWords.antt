@@ -1,0 +1,47 @@
+-- Words that name types: a name in the table is no number, and a number is read as it is written.
+use Rattle.std.proofs.Common.{◌≡◌, ℕ, ◌^◌, ◌<◌, inl, inr, None, Some, [], ◌∷◌, ◌++◌, map, refl, sym, ap, ◌∙◌, arith, codes, drop}
+use Rattle.std.proofs.lemmas.Option.{none-some, same_Some}
+use Rattle.std.proofs.lemmas.Fmt.{decimal_is_IsNumeral, decimal_injective}
+use Rattle.std.proofs.lemmas.Bool.{lt-ltb}
+use Rattle.std.proofs.lemmas.Str.Parse.{digit_from_value}
+use Rattle.std.specs.Option.{option_map}
+use Rattle.std.specs.List.{find}
+use Rattle.std.specs.Fmt.{decimal}
+use Rattle.std.specs.Char.{to_ascii_lowercase, digit_value}
+use Rattle.std.specs.Str.Parse.{AllDigits}
+use Rattle.dns_spec.specs.Names.{Octets, octets_equal}
+use Rattle.dns_spec.specs.Data.{TypeRow, type_table}
+use Rattle.dns_spec.specs.TypeText.{text_in_lower_case, type_by_mnemonic, numbered_type, NamesType}
+
+digit_lowered : (c : ℕ) → digit_value c < 10 → to_ascii_lowercase c ≡ c
+digit_lowered c h = let range = digit_from_value c h in rw (lt-ltb c 65 (omega (arith, range))) refl
+
+digits_lowered : (ds : Octets) → AllDigits 10 ds → map to_ascii_lowercase ds ≡ ds
+digits_lowered [] h = refl
+digits_lowered (d ∷ ds) h = ap (λ x. x ∷ map to_ascii_lowercase ds) (digit_lowered d h.0) ∙ ap (λ x. d ∷ x) (digits_lowered ds h.1)
+
+-- digits have no case
+pub decimal-lowered : (n : ℕ) → n < 2 ^ 64 → text_in_lower_case (decimal n) ≡ decimal n
+decimal-lowered n h = digits_lowered (decimal n) (decimal_is_IsNumeral n h).0.1
+
+-- `type` and anything is no name of the table
+no_mnemonic : (word digits : Octets) → text_in_lower_case word ≡ codes "type" ++ digits → type_by_mnemonic word ≡ None
+no_mnemonic word digits e =
+    ap (λ x. option_map (λ (row : TypeRow). row.number) (find (λ (row : TypeRow). octets_equal x (text_in_lower_case row.mnemonic)) type_table)) e
+
+pub number-no_mnemonic : (word : Octets) (t : ℕ) → text_in_lower_case word ≡ text_in_lower_case (numbered_type t) → type_by_mnemonic word ≡ None
+number-no_mnemonic word t e = no_mnemonic word (text_in_lower_case (decimal t)) e
+
+apart : (word : Octets) (t u : ℕ) → type_by_mnemonic word ≡ Some t → text_in_lower_case word ≡ text_in_lower_case (numbered_type u) → ⊥
+apart word t u e f = none-some t (sym (number-no_mnemonic word u f) ∙ e)
+
+numbers_alike : (t u : ℕ) → t < 65536 → u < 65536 → text_in_lower_case (numbered_type t) ≡ text_in_lower_case (numbered_type u) → t ≡ u
+numbers_alike t u p q e =
+    decimal_injective t u (omega arith) (omega arith)
+    (sym (decimal-lowered t (omega arith)) ∙ ap (drop 4) e ∙ decimal-lowered u (omega arith))
+
+pub one_type : (word : Octets) (t u : ℕ) → NamesType word t → NamesType word u → t ≡ u
+one_type word t u (inl e) (inl f) = same_Some t u (sym e ∙ f)
+one_type word t u (inl e) (inr f) = absurd (apart word t u e f.1)
+one_type word t u (inr e) (inl f) = absurd (apart word u t f e.1)
+one_type word t u (inr e) (inr f) = numbers_alike t u e.0 f.0 (sym e.1 ∙ f.1)

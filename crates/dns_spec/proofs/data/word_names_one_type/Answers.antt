@@ -1,0 +1,5 @@
+use Rattle.dns_spec.proofs.TypeWords.{one_type}
+use Rattle.dns_spec.proofs.data.word_names_one_type.Goals as goal
+
+pub returns : goal.returns
+returns c = one_type
