@@ -1,5 +1,7 @@
 -- What a reader learns here: how the table of the code stands for that of the definitions.
-use Rattle.std.specs.Prelude.{List, map}
+use Rattle.std.specs.Prelude.{ℕ, Bool, ◌==◌, List, map}
+use Rattle.dns_spec.specs.Names.{Octets, octets_equal}
+use Rattle.dns_spec.specs.TypeText.{text_in_lower_case}
 use Rattle.dns_spec.specs.Data as Data
 use Rattle.dns_spec.specs.Data.{fixed, domain, string, strings, anything}
 use Rattle.dns_rdata.specs.declared.table.Piece.{Piece}
@@ -18,3 +20,9 @@ pieces_in = map piece_of
 
 abbrev pub row_for : TypeRow → Data.TypeRow
 row_for r = record { number = r.number; mnemonic = r.mnemonic.now; pieces = pieces_in r.pieces.now; compresses = r.compresses }
+
+abbrev pub has_number : ℕ → TypeRow → Bool
+has_number t r = r.number == t
+
+abbrev pub has_mnemonic : Octets → TypeRow → Bool
+has_mnemonic word r = octets_equal (text_in_lower_case word) (text_in_lower_case r.mnemonic.now)

@@ -1,8 +1,11 @@
 //! The table of the types that have a name: of which pieces the data of each is made.
 ghost use Rattle.std.specs.Prelude.{◌≡◌, map};
 ghost use Rattle.std.specs.Option.{option_map};
+ghost use Rattle.std.specs.List.{find};
 ghost use Rattle.dns_spec.specs.Data.{type_table, row_of, pieces_of};
-ghost use Rattle.dns_rdata.specs.TypeRows.{row_for, pieces_in};
+ghost use Rattle.dns_spec.specs.Names.{octets_equal};
+ghost use Rattle.dns_spec.specs.TypeText.{row_by_mnemonic, text_in_lower_case};
+ghost use Rattle.dns_rdata.specs.TypeRows.{row_for, pieces_in, has_number, has_mnemonic};
 
 use crate::rtype::RType;
 
@@ -55,5 +58,31 @@ pub(crate) fn types() -> &'static [TypeRow]
 pub(crate) fn row_of_type(rtype: RType) -> Option<&'static TypeRow>
     ensures { option_map (λ r. row_for r.now) result ≡ row_of rtype.0 }
 {
-    types().iter().find(|row| row.number == rtype.0)
+    numbered_row(types(), rtype.0)
+}
+
+fn numbered_row(rows: &[TypeRow], number: u16) -> Option<&TypeRow>
+    ensures { option_map (λ r. r.now) result ≡ find (has_number number) rows.now }
+{
+    rows.iter().find(|row| row.number == number)
+}
+
+/// The row of the type with this name, in any case.
+pub(crate) fn row_of_mnemonic(word: &[u8]) -> Option<&'static TypeRow>
+    ensures { option_map (λ r. row_for r.now) result ≡ row_by_mnemonic word.now }
+{
+    named_row(types(), word)
+}
+
+fn named_row<'a>(rows: &'a [TypeRow], word: &[u8]) -> Option<&'a TypeRow>
+    ensures { option_map (λ r. r.now) result ≡ find (has_mnemonic word.now) rows.now }
+{
+    rows.iter().find(|row| same_text(word, row.mnemonic))
+}
+
+/// Whether two texts are equal but for the case of ASCII letters.
+pub(crate) fn same_text(left: &[u8], right: &[u8]) -> bool
+    ensures { result ≡ octets_equal (text_in_lower_case left.now) (text_in_lower_case right.now) }
+{
+    left.eq_ignore_ascii_case(right)
 }

@@ -11,10 +11,12 @@ abbrev pub text_in_lower_case : Octets → Octets
 text_in_lower_case = map to_ascii_lowercase
 
 -- RFC 1035 3.2.2 and 5.1: the type of the table that has the word as its name, in any case
+abbrev pub row_by_mnemonic : Octets → Option TypeRow
+row_by_mnemonic word =
+    find (λ (row : TypeRow). octets_equal (text_in_lower_case word) (text_in_lower_case row.mnemonic)) type_table
+
 abbrev pub type_by_mnemonic : Octets → Option ℕ
-type_by_mnemonic word =
-    option_map (λ (row : TypeRow). row.number)
-    (find (λ (row : TypeRow). octets_equal (text_in_lower_case word) (text_in_lower_case row.mnemonic)) type_table)
+type_by_mnemonic word = option_map (λ (row : TypeRow). row.number) (row_by_mnemonic word)
 
 -- RFC 3597 5: `TYPE` and the number in decimal, without zeros before it (in this product)
 abbrev pub numbered_type : ℕ → Octets
