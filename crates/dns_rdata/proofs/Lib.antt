@@ -1,1 +1,3 @@
 pub mod TableRows
+pub mod Numbers
+pub mod Beginnings

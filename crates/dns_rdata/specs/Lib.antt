@@ -1,2 +1,4 @@
 pub mod RdataFault
 pub mod TypeRows
+pub mod NumberText
+pub mod Parts

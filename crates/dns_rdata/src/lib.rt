@@ -2,6 +2,8 @@
 #![tactic(auto)]
 
 mod fault;
+mod number;
+mod parts;
 mod rtype;
 mod table;
 

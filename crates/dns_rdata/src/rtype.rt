@@ -1,5 +1,14 @@
 //! Types of records.
-ghost use Rattle.std.specs.Prelude.{◌≡◌};
+ghost use Rattle.std.specs.Prelude.{◌≡◌, ◌≢◌, ℕ, ◌-◌, ◌^◌, ◌<◌, MatchOption, OnOk, OnErr};
+ghost use Rattle.std.specs.Io.KnownBytes.{Appends};
+ghost use Rattle.dns_spec.specs.TypeText.{NamesType, text_in_lower_case, numbered_type, type_text};
+ghost use Rattle.dns_name.specs.Counted.{failures_after, AppendsBeginning};
+
+use crate::number::number;
+use crate::table::{row_of_mnemonic, row_of_type, same_text};
+use dns_name::{SinkFailed, Tally};
+use itoa::Buffer;
+use std::io::Write;
 
 /// A type of a record: 16 bits (RFC 1035 3.2.2).
 #[derive(Clone, Copy, Debug, PartialEq, Eq)]
@@ -27,4 +36,60 @@ impl RType {
     pub const AAAA: RType = RType(28);
     /// The place of a service (RFC 2782).
     pub const SRV: RType = RType(33);
+}
+
+/// Types in the text of zone files (RFC 1035 5.1, RFC 3597 5).
+impl RType {
+    /// The type that a word names: `MX`, or `TYPE15`, in any case. A number begins with 1 to 9, or is `0`, and is at
+    /// most 65535. `None` where the word names no type.
+    pub fn read_text(word: &[u8]) -> Option<RType>
+        ensures { MatchOption result ((t : ℕ) → NamesType word.now t → ⊥) (λ r. NamesType word.now r.0) }
+    {
+        match row_of_mnemonic(word) {
+            Some(row) => Some(RType(row.number)),
+            None => read_numbered(word),
+        }
+    }
+
+    /// Writes the type by its name, or as `TYPE` and its number where it has none. It takes no memory.
+    ///
+    /// Where the device fails, a beginning of that was written.
+    pub fn write_text<W: Write>(self, sink: &mut Tally<W>) -> Result<(), SinkFailed>
+        requires { sink.old.failures < 2 ^ 64 - 1 }
+        ensures ok { OnOk result (Appends (W.contents sink.old.device) (W.contents sink.new.device) (type_text self.0)) }
+        ensures err { OnErr result (AppendsBeginning (W.contents sink.old.device) (W.contents sink.new.device) (type_text self.0)) }
+        ensures counted { sink.new.failures ≡ failures_after sink.old.failures result }
+    {
+        match row_of_type(self) {
+            Some(row) => sink.write_all(row.mnemonic),
+            None => write_numbered(self.0, sink),
+        }
+    }
+}
+
+// The type that `TYPE` and a number name.
+fn read_numbered(word: &[u8]) -> Option<RType>
+    ensures { MatchOption result ((t : ℕ) → t < 65536 → text_in_lower_case word.now ≢ text_in_lower_case (numbered_type t))
+        (λ r. text_in_lower_case word.now ≡ text_in_lower_case (numbered_type r.0)) }
+{
+    let (prefix, digits) = word.split_at_checked(4)?;
+    if !same_text(prefix, b"TYPE") {
+        return None;
+    }
+    let number = number(digits)?;
+    if number > u32::from(u16::MAX) {
+        return None;
+    }
+    Some(RType(number as u16))
+}
+
+fn write_numbered<W: Write>(number: u16, sink: &mut Tally<W>) -> Result<(), SinkFailed>
+    requires { sink.old.failures < 2 ^ 64 - 1 }
+    ensures ok { OnOk result (Appends (W.contents sink.old.device) (W.contents sink.new.device) (numbered_type number)) }
+    ensures err { OnErr result (AppendsBeginning (W.contents sink.old.device) (W.contents sink.new.device) (numbered_type number)) }
+    ensures counted { sink.new.failures ≡ failures_after sink.old.failures result }
+{
+    sink.write_all(b"TYPE")?;
+    let mut digits = Buffer::new();
+    sink.write_all(digits.format(number).as_bytes())
 }
