@@ -1,3 +1,5 @@
 pub mod TableRows
 pub mod Numbers
+pub mod NameFronts
+pub mod PartLemmas
 pub mod Beginnings

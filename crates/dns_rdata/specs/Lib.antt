@@ -2,3 +2,4 @@ pub mod RdataFault
 pub mod TypeRows
 pub mod NumberText
 pub mod Parts
+pub mod NameFront

@@ -1,16 +1,16 @@
--- What a reader learns here: how a borrowed part of data stands for a part of the definitions, and which parts are still
--- to come.
-use Rattle.std.specs.Prelude.{◌≡◌, List, Option, Some, None, IsTrue}
-use Rattle.std.specs.Option.{unwrap_or, is_some}
+-- What a reader learns here: how a borrowed part of data stands for a part of the definitions.
+use Rattle.std.specs.Prelude.{◌≡◌, ⊤, List, [], map, Option, Some, None, IsTrue}
 use Rattle.std.specs.Borrow.{Bor}
-use Rattle.dns_spec.specs.Names.{Octets}
-use Rattle.dns_spec.specs.Data.{octets, name, cut}
+use Rattle.std.specs.Option.{unwrap_or, is_some}
+use Rattle.std.specs.Char.{to_ascii_lowercase}
+use Rattle.dns_spec.specs.Names.{Octets, is_name}
+use Rattle.dns_spec.specs.Data.{octets, name, part_octets, cut}
 use Rattle.dns_spec.specs.Data as Data
-use Rattle.dns_name.specs.WireForm.{labels_of}
+use Rattle.dns_name.specs.WireForm.{labels_of, IsWireForm}
 use Rattle.dns_rdata.specs.declared.table.Piece.{Piece}
+use Rattle.dns_rdata.specs.TypeRows.{pieces_in}
 use Rattle.dns_rdata.specs.declared.parts.Part.{Part}
 use Rattle.dns_rdata.specs.declared.parts.Part.TheVariants.{Octets as Run, Name}
-use Rattle.dns_rdata.specs.TypeRows.{pieces_in}
 
 -- the octets of a run, and the labels that the octets of a name spell
 abbrev pub part_for : Part → Data.Part
@@ -21,3 +21,40 @@ part_for (Name o) = name (labels_of o.now)
 abbrev pub part_lends : Part → Octets
 part_lends (Run o) = o.now
 part_lends (Name o) = o.now
+
+-- what is lent as a name is the wire form of a name
+abbrev pub IsLent : Part → Type 0
+IsLent (Run o) = ⊤
+IsLent (Name o) = IsWireForm o.now
+
+-- what a function returned, a part and the octets behind it, is what the octets are cut into
+abbrev pub Cuts : Option (Part × Bor Octets) → Option (Data.Part × Octets) → Type 0
+Cuts None read = read ≡ None
+Cuts (Some x) read = (read ≡ Some (part_for x.0, x.1.now)) × IsLent x.0
+
+-- a part with its octets: of one that is lent, and of one that is defined
+abbrev pub shown_part : Part → Data.Part × Octets
+shown_part x = (part_for x, part_lends x)
+
+abbrev pub with_octets : Data.Part → Data.Part × Octets
+with_octets p = (p, part_octets p)
+
+-- the parts that pieces still cut from octets
+abbrev pub parts_left : List Piece → Octets → List Data.Part
+parts_left ps os = unwrap_or (cut (pieces_in ps) os) []
+
+abbrev pub AreCut : List Piece → Octets → Type 0
+AreCut ps os = IsTrue (is_some (cut (pieces_in ps) os))
+
+abbrev pub PartList : Type 0
+PartList = List Data.Part
+
+-- the octets of a part, those of a name in lower case
+abbrev pub part_lowered : Part → Octets
+part_lowered (Run o) = o.now
+part_lowered (Name o) = map to_ascii_lowercase o.now
+
+-- a part that is a name is one of at most 255 octets
+abbrev pub HasName : Data.Part → Type 0
+HasName (octets o) = ⊤
+HasName (name n) = IsTrue (is_name n)

@@ -4,8 +4,11 @@
 mod fault;
 mod number;
 mod parts;
+mod rdata;
 mod rtype;
 mod table;
 
 pub use fault::RdataFault;
+pub use parts::{Part, Parts};
+pub use rdata::Rdata;
 pub use rtype::RType;

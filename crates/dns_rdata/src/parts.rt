@@ -1,5 +1,15 @@
 //! The parts of data: runs of octets, and names.
-ghost use Rattle.std.specs.Prelude.{◌≡◌};
+ghost use Rattle.std.specs.Prelude.{◌≡◌, map, All, IfSome, IsNone};
+ghost use Rattle.std.specs.Option.{is_some};
+ghost use Rattle.std.specs.Iterator.{YieldsFirstBy, item_count};
+ghost use Rattle.dns_spec.specs.Data.{Valid, parts, cut, piece_front, octets_front, domain, strings_front, are_strings};
+ghost use Rattle.dns_rdata.specs.TypeRows.{piece_of, pieces_in};
+ghost use Rattle.dns_rdata.specs.NameFront.{IsBehindLabels, HasNoLabels};
+ghost use Rattle.dns_rdata.specs.Parts.{Cuts, shown_part, with_octets, HasName};
+
+use crate::rtype::RType;
+use crate::table::{Piece, pieces_of_type};
+use std::marker::Model;
 
 /// A part of data, lent from where it stands.
 #[derive(Clone, Copy, Debug, Drop)]
@@ -10,9 +20,140 @@ pub enum Part<'a> {
     Name(&'a [u8]),
 }
 
-pub fn lent<'a>(part: Part<'a>) -> &'a [u8] {
-    match part {
-        Part::Octets(octets) => octets,
-        Part::Name(octets) => octets,
+/// The parts of data that are still to come, in order.
+#[derive(Drop)]
+pub struct Parts<'a> {
+    pieces: &'static [Piece],
+    octets: &'a [u8],
+}
+
+impl<'a> Model for Parts<'a> {
+    ghost use Rattle.dns_rdata.specs.Parts.{PartList, parts_left, AreCut};
+
+    ghost Value = { PartList };
+
+    ghost view = { λ p. parts_left p.pieces.now p.octets.now };
+
+    ghost invariant = { λ p. AreCut p.pieces.now p.octets.now };
+}
+
+impl<'a> Parts<'a> {
+    /// The parts of data of the type.
+    pub(crate) fn new(rtype: RType, octets: &'a [u8]) -> Parts<'a>
+        requires { Valid rtype.0 octets.now }
+        ensures parts { result ≡ parts rtype.0 octets.now }
+        ensures names { All HasName result }
+    {
+        Parts {
+            pieces: pieces_of_type(rtype),
+            octets,
+        }
     }
+}
+
+impl<'a> Iterator for Parts<'a> {
+    type Item = Part<'a>;
+
+    ghost next_gives = { YieldsFirstBy shown_part (λ s. map with_octets s) };
+
+    ghost remaining = { item_count (λ s. map with_octets s) };
+
+    fn next(&mut self) -> Option<Part<'a>> {
+        let (piece, pieces) = self.pieces.split_first()?;
+        let (part, rest) = first_part(*piece, self.octets)?;
+        self.pieces = pieces;
+        self.octets = rest;
+        Some(part)
+    }
+}
+
+// Whether octets are cut into these pieces.
+pub(crate) fn are_cut(pieces: &[Piece], octets: &[u8]) -> bool
+    ensures { result ≡ is_some (cut (pieces_in pieces.now) octets.now) }
+{
+    let mut pieces = pieces;
+    let mut rest = octets;
+    'pieces: while let Some((piece, others)) = pieces.split_first() {
+        let Some((_, behind)) = first_part(*piece, rest) else {
+            return false;
+        };
+        pieces = others;
+        rest = behind;
+    }
+    rest.is_empty()
+}
+
+// The part of this piece that octets begin with, and the octets behind it.
+fn first_part(piece: Piece, octets: &[u8]) -> Option<(Part<'_>, &[u8])>
+    ensures { Cuts result (piece_front (piece_of piece) octets.now) }
+{
+    match piece {
+        Piece::Fixed(count) => first_run(octets, count),
+        Piece::Domain => first_name(octets),
+        Piece::String => first_run(octets, 1 + usize::from(*octets.first()?)),
+        Piece::Strings => all_strings(octets),
+        Piece::Anything => Some((Part::Octets(octets), &[])),
+    }
+}
+
+fn first_run(octets: &[u8], count: usize) -> Option<(Part<'_>, &[u8])>
+    ensures { Cuts result (octets_front count octets.now) }
+{
+    let (run, rest) = octets.split_at_checked(count)?;
+    Some((Part::Octets(run), rest))
+}
+
+// RFC 1035 3.1
+fn first_name(octets: &[u8]) -> Option<(Part<'_>, &[u8])>
+    ensures { Cuts result (piece_front domain octets.now) }
+{
+    let behind = behind_labels(octets)?;
+    let (name, rest) = octets.split_at(octets.len() - behind.len());
+    if name.len() > 255 {
+        return None;
+    }
+    Some((Part::Name(name), rest))
+}
+
+// The octets behind labels of 1 to 63 octets and the root's length 0. Pointers are no labels.
+fn behind_labels(octets: &[u8]) -> Option<&[u8]>
+    ensures some { IfSome result (λ behind. IsBehindLabels octets.now behind.now) }
+    ensures none { IsNone result → HasNoLabels octets.now }
+{
+    let mut rest = octets;
+    'labels: loop {
+        let (length, others) = rest.split_first()?;
+        if *length == 0 {
+            return Some(others);
+        }
+        if *length > 63 {
+            return None;
+        }
+        let (_, behind) = others.split_at_checked(usize::from(*length))?;
+        rest = behind;
+    }
+}
+
+// RFC 1035 3.3.14
+fn all_strings(octets: &[u8]) -> Option<(Part<'_>, &[u8])>
+    ensures { Cuts result (strings_front octets.now) }
+{
+    if octets.is_empty() || !are_strings(octets) {
+        return None;
+    }
+    Some((Part::Octets(octets), &[]))
+}
+
+// Whether octets are character-strings, one behind the other (RFC 1035 3.3).
+fn are_strings(octets: &[u8]) -> bool
+    ensures { result ≡ are_strings 0 octets.now }
+{
+    let mut rest = octets;
+    'strings: while let Some((length, others)) = rest.split_first() {
+        let Some((_, behind)) = others.split_at_checked(usize::from(*length)) else {
+            return false;
+        };
+        rest = behind;
+    }
+    true
 }

@@ -67,6 +67,16 @@ fn numbered_row(rows: &[TypeRow], number: u16) -> Option<&TypeRow>
     rows.iter().find(|row| row.number == number)
 }
 
+/// The pieces of the data of a type: any octets, where it has no name (RFC 3597 3).
+pub(crate) fn pieces_of_type(rtype: RType) -> &'static [Piece]
+    ensures { pieces_in result.now ≡ pieces_of rtype.0 }
+{
+    match row_of_type(rtype) {
+        Some(row) => row.pieces,
+        None => &[Piece::Anything],
+    }
+}
+
 /// The row of the type with this name, in any case.
 pub(crate) fn row_of_mnemonic(word: &[u8]) -> Option<&'static TypeRow>
     ensures { option_map (λ r. row_for r.now) result ≡ row_by_mnemonic word.now }

@@ -15,7 +15,7 @@ unfolding labels_from
 label_taken [] os n rest h = h
 label_taken (x ∷ l) os n rest h = ap (option_map (with_octet x)) (label_taken l os n rest h)
 
-labels_taken : (n : DomainName) (rest : Octets) → list_all is_label n ≡ true → labels_from 0 (wire n ++ rest) ≡ Some ([] ∷ n, rest)
+pub labels_taken : (n : DomainName) (rest : Octets) → list_all is_label n ≡ true → labels_from 0 (wire n ++ rest) ≡ Some ([] ∷ n, rest)
 unfolding labels_from
 labels_taken [] rest ok = refl
 labels_taken ([] ∷ n) rest ok = cc

@@ -1,0 +1,137 @@
+-- Octets that begin with labels: what is behind a label decides of them.
+use Rattle.std.proofs.Common.{◌≡◌, ℕ, zero, suc, ◌+◌, ◌-◌, ◌<◌, ◌≤◌, Bool, true, false, ◌&&◌, Option, None, Some, List, [], ◌∷◌, ◌++◌, length, take, drop, get_or, refl, sym, ap, ◌∙◌, subst, arith, append_assoc, length-append, take-append-drop}
+use Rattle.std.proofs.lemmas.Bool.{and_parts, and_from, false_from_ne_true}
+use Rattle.std.proofs.lemmas.List.{take_at, drop_at, length-take-le}
+use Rattle.std.proofs.lemmas.Option.{none-some}
+use Rattle.std.specs.Option.{option_map, option_and_then}
+use Rattle.std.specs.List.{list_all}
+use Rattle.dns_spec.specs.Names.{Octets, DomainName, wire, is_label, is_name, name_if_valid, name_of}
+use Rattle.dns_spec.specs.Data.{Part, name, domain, piece_front, are_strings}
+use Rattle.dns_spec.proofs.NameLaws.{IsName-is_name, IsLabel-is_label, is_label-IsLabel, is_name-IsName}
+use Rattle.dns_spec.proofs.WrittenData.{name_read}
+use Rattle.dns_spec.proofs.MadeData.{labels_taken}
+use Rattle.dns_name.specs.WireForm.{labels_of, IsWireForm}
+use Rattle.dns_name.proofs.WireLemmas.{labels_of_spelled, IsWireForm-wire}
+use Rattle.dns_rdata.specs.NameFront.{IsBehindLabels, HasNoLabels}
+
+positive : (n : ℕ) → (n ≡ 0 → ⊥) → 0 < n
+positive zero some = absurd (some refl)
+positive (suc n) some = omega arith
+
+-- the rest has the same labels to come as the whole
+pub record Alike (octets rest : Octets) : Type 0 where
+  pub found : (behind : Octets) → IsBehindLabels rest behind → IsBehindLabels octets behind
+  pub none : HasNoLabels rest → HasNoLabels octets
+
+pub Alike-whole : (octets : Octets) → Alike octets octets
+Alike-whole octets = record { found = λ behind h. h; none = λ h. h }
+
+-- the root's length ends the labels
+pub root_found : (rest others : Octets) (k : ℕ) → rest ≡ k ∷ others → k ≡ 0 → IsBehindLabels rest others
+root_found rest others k e zero_length = record { labels = []; are_labels = refl; whole = e ∙ ap (λ x. x ∷ others) zero_length }
+
+-- what begins with labels begins with the length of a label or of the root
+pub nothing_begins : (rest : Octets) → length rest ≡ 0 → HasNoLabels rest
+nothing_begins rest none behind h = by_cases h.labels (ap length (sym h.whole) ∙ none)
+  where
+    by_cases : (n : DomainName) → length (wire n ++ behind) ≡ 0 → ⊥
+    by_cases [] e = absurd (omega arith)
+    by_cases (l ∷ n) e = absurd (omega arith)
+
+-- a label's length that is too long, or past the end
+pub no_label_there : (rest others : Octets) (k : ℕ) → rest ≡ k ∷ others → (k ≡ 0 → ⊥) → (k ≤ 63 → k ≤ length others → ⊥) → HasNoLabels rest
+no_label_there rest others k e some bad behind h = by_cases h.labels h.are_labels (sym h.whole ∙ e)
+  where
+    by_cases : (n : DomainName) → list_all is_label n ≡ true → wire n ++ behind ≡ k ∷ others → ⊥
+    by_cases [] ok f = some (sym (ap (λ (xs : Octets). get_or xs 0 0) f))
+    by_cases (l ∷ n) ok f =
+        let label = IsLabel-is_label l (and_parts (is_label l) (list_all is_label n) ok).0 in
+        let first : length l ≡ k = ap (λ (xs : Octets). get_or xs 0 0) f in
+        let long : length ((l ++ wire n) ++ behind) ≡ length others = ap (λ (xs : Octets). length (drop 1 xs)) f in
+        bad (omega (arith, label.fits)) (omega (arith, length-append (l ++ wire n) behind, length-append l (wire n)))
+
+-- a label: behind it stands the rest
+pub label_passed : (octets rest others : Octets) (k : ℕ) → Alike octets rest → rest ≡ k ∷ others → (k ≡ 0 → ⊥) → k ≤ 63 → k ≤ length others → Alike octets (drop k others)
+label_passed octets rest others k alike e some fits there = record {
+  found = λ behind h. alike.found behind (longer behind h);
+  none = λ h. alike.none (λ behind b. shorter behind h b.labels b.are_labels (sym b.whole ∙ e));
+}
+  where
+    longer : (behind : Octets) → IsBehindLabels (drop k others) behind → IsBehindLabels rest behind
+    longer behind h =
+        let l = take k others in
+        let long : length l ≡ k = length-take-le k others there in
+        let label : is_label l ≡ true = is_label-IsLabel l (positive (length l) (λ z. some (sym long ∙ z))) (omega arith) in
+        record {
+          labels = l ∷ h.labels;
+          are_labels = and_from (is_label l) (list_all is_label h.labels) label h.are_labels;
+          whole =
+              e ∙ ap (λ x. x ∷ others) (sym long)
+              ∙ ap (λ xs. length l ∷ xs) (sym (take-append-drop k others) ∙ ap (λ xs. l ++ xs) h.whole ∙ sym (append_assoc l (wire h.labels) behind));
+        }
+
+    shorter : (behind : Octets) → HasNoLabels (drop k others) → (n : DomainName) → list_all is_label n ≡ true → wire n ++ behind ≡ k ∷ others → ⊥
+    shorter behind none [] ok f = some (sym (ap (λ (xs : Octets). get_or xs 0 0) f))
+    shorter behind none (l ∷ n) ok f =
+        let first : length l ≡ k = ap (λ (xs : Octets). get_or xs 0 0) f in
+        let others_are : l ++ (wire n ++ behind) ≡ others = sym (append_assoc l (wire n) behind) ∙ ap (drop 1) f in
+        none behind (record {
+          labels = n;
+          are_labels = (and_parts (is_label l) (list_all is_label n) ok).1;
+          whole = ap (drop k) (sym others_are) ∙ drop_at l (wire n ++ behind) k first;
+        })
+
+-- the name that labels are, if they are not too long
+pub front_name : (octets : Octets) (n : DomainName) (behind : Octets) → list_all is_label n ≡ true → octets ≡ wire n ++ behind
+    → name_of octets ≡ name_if_valid ([] ∷ n, behind)
+front_name octets n behind ok e = ap name_of e ∙ ap (option_and_then name_if_valid) (labels_taken n behind ok)
+
+pub no_front_name : (octets : Octets) → HasNoLabels octets → name_of octets ≡ None
+no_front_name octets none = go (name_of octets) refl
+  where
+    go : (y : Option (DomainName × Octets)) → name_of octets ≡ y → y ≡ None
+    go None e = refl
+    go (Some (n, rest)) e =
+        let r = name_read octets n rest e in
+        absurd (none rest (record { labels = n; are_labels = (IsName-is_name n r.0).labels; whole = r.1 }))
+
+-- the octets before those behind labels
+wire_taken : (octets behind : Octets) (n : DomainName) (k : ℕ) → octets ≡ wire n ++ behind → k ≡ length octets - length behind
+    → (take k octets ≡ wire n) × (drop k octets ≡ behind)
+wire_taken octets behind n k e f =
+    let long : length (wire n) ≡ k = omega (arith, ap length e, length-append (wire n) behind) in
+    (ap (take k) e ∙ take_at (wire n) behind k long, ap (drop k) e ∙ drop_at (wire n) behind k long)
+
+-- labels that are too long for a name
+pub long_name : (octets behind front : Octets) (k : ℕ) → IsBehindLabels octets behind → front ≡ take k octets → k ≡ length octets - length behind
+    → 255 < length front → name_of octets ≡ None
+long_name octets behind front k h e f long =
+    let same : front ≡ wire h.labels = e ∙ (wire_taken octets behind h.labels k h.whole f).0 in
+    let no_name : is_name h.labels ≡ false = false_from_ne_true (is_name h.labels) (λ ok. absurd (omega (arith, (IsName-is_name h.labels ok).fits, ap length same))) in
+    front_name octets h.labels behind h.are_labels h.whole ∙ (rw no_name refl)
+
+-- labels that are a name
+pub short_name : (octets behind front rest : Octets) (k : ℕ) → IsBehindLabels octets behind → front ≡ take k octets → rest ≡ drop k octets
+    → k ≡ length octets - length behind → length front ≤ 255
+    → (piece_front domain octets ≡ Some (name (labels_of front), rest)) × IsWireForm front
+short_name octets behind front rest k h e g f short =
+    let taken = wire_taken octets behind h.labels k h.whole f in
+    let same : front ≡ wire h.labels = e ∙ taken.0 in
+    let ok : is_name h.labels ≡ true = is_name-IsName h.labels h.are_labels (omega (arith, ap length same)) in
+    let found : name_of octets ≡ Some (h.labels, behind) = front_name octets h.labels behind h.are_labels h.whole ∙ (rw ok refl) in (
+      ap (option_map (λ (r : DomainName × Octets). (name r.0, r.1))) found
+      ∙ ap (λ x. Some (name x, behind)) (sym (labels_of_spelled front h.labels same ok))
+      ∙ ap (λ x. Some (name (labels_of front), x)) (sym (g ∙ taken.1)),
+      IsWireForm-wire front h.labels same ok,
+    )
+
+-- k octets of a string are passed over
+pub strings_behind : (k : ℕ) (os : Octets) → k ≤ length os → are_strings k os ≡ are_strings 0 (drop k os)
+strings_behind zero os h = refl
+strings_behind (suc k) [] h = absurd (omega arith)
+strings_behind (suc k) (o ∷ os) h = strings_behind k os (omega arith)
+
+pub strings_cut : (k : ℕ) (os : Octets) → length os < k → are_strings k os ≡ false
+strings_cut zero os h = absurd (omega arith)
+strings_cut (suc k) [] h = refl
+strings_cut (suc k) (o ∷ os) h = strings_cut k os (omega arith)

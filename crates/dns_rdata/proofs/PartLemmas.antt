@@ -1,0 +1,153 @@
+-- Parts of data, one after another.
+use Rattle.std.proofs.Common.{◌≡◌, ℕ, zero, suc, ◌≤◌, ◌==◌, Bool, true, false, Option, None, Some, All, List, [], ◌∷◌, ◌++◌, map, length, get_or, drop, refl, sym, ap, ◌∙◌, subst, arith, append_assoc, append-nil}
+use Rattle.std.proofs.lemmas.Bool.{false≢true, false_from_ne_true, eqb-true}
+use Rattle.std.proofs.lemmas.List.{nil_from_length}
+use Rattle.std.proofs.lemmas.List.Concat.{flat_map-cons}
+use Rattle.std.proofs.lemmas.List.Elements.{All-nil, All-cons, All-head, All-tail}
+use Rattle.std.proofs.lemmas.Option.{none-some, same_Some}
+use Rattle.std.specs.Option.{is_some, unwrap_or, option_map}
+use Rattle.std.specs.Char.{to_ascii_lowercase}
+use Rattle.dns_spec.specs.Names.{Octets, wire, folded, is_name}
+use Rattle.dns_spec.specs.Data.{fixed, domain, string, strings, anything, octets, name, part_octets, part_folded, joined, cut, piece_front, valid, lower_case}
+use Rattle.dns_spec.specs.Data as Data
+use Rattle.dns_spec.proofs.NameLaws.{IsName-is_name, map-lowercase-wire}
+use Rattle.dns_spec.proofs.WrittenData.{cut_into, name_part, octets_part, all_strings}
+use Rattle.dns_spec.proofs.LoweredData.{cut_data, lowered_data}
+use Rattle.dns_name.specs.WireForm.{labels_of}
+use Rattle.dns_rdata.specs.declared.table.Piece.{Piece}
+use Rattle.dns_rdata.specs.declared.parts.Part.{Part}
+use Rattle.dns_rdata.specs.declared.parts.Part.TheVariants.{Octets as Run, Name}
+use Rattle.dns_rdata.specs.TypeRows.{piece_of, pieces_in}
+use Rattle.dns_rdata.specs.Parts.{part_for, part_lends, part_lowered, shown_part, with_octets, parts_left, AreCut, IsLent, HasName}
+
+-- what is cut behind the first part
+pub cut_more : (p : Data.Piece) (ps : List Data.Piece) (os : Octets) (part : Data.Part) (rest : Octets) → piece_front p os ≡ Some (part, rest)
+    → cut (p ∷ ps) os ≡ option_map (λ xs. part ∷ xs) (cut ps rest)
+unfolding cut
+cut_more p ps os part rest e =
+    ap (λ (y : Option (Data.Part × Octets)). elim y [ None ↦ None | Some r ↦ option_map (λ xs. r.0 ∷ xs) (cut ps r.1) ]) e
+
+pub cut_none : (p : Data.Piece) (ps : List Data.Piece) (os : Octets) → piece_front p os ≡ None → cut (p ∷ ps) os ≡ None
+unfolding cut
+cut_none p ps os e =
+    ap (λ (y : Option (Data.Part × Octets)). elim y [ None ↦ None | Some r ↦ option_map (λ xs. r.0 ∷ xs) (cut ps r.1) ]) e
+
+is_some-option_map : {A B : Type 0} (f : A → B) (x : Option A) → is_some (option_map f x) ≡ is_some x
+is_some-option_map f None = refl
+is_some-option_map f (Some x) = refl
+
+pub more_are_cut : (p : Data.Piece) (ps : List Data.Piece) (os : Octets) (part : Data.Part) (rest : Octets) → piece_front p os ≡ Some (part, rest)
+    → is_some (cut (p ∷ ps) os) ≡ is_some (cut ps rest)
+more_are_cut p ps os part rest e = ap is_some (cut_more p ps os part rest e) ∙ is_some-option_map (λ xs. part ∷ xs) (cut ps rest)
+
+no_pieces : (os : Octets) → is_some (cut [] os) ≡ (length os == 0)
+unfolding cut
+no_pieces [] = refl
+no_pieces (o ∷ os) = sym (false_from_ne_true (length (o ∷ os) == 0) (λ h. absurd (omega (arith, eqb-true (length (o ∷ os)) 0 h))))
+
+pub no_pieces_left : (ps : List Piece) (os : Octets) → length ps ≡ 0 → is_some (cut (pieces_in ps) os) ≡ (length os == 0)
+no_pieces_left ps os e = ap (λ qs. is_some (cut (pieces_in qs) os)) (nil_from_length ps e) ∙ no_pieces os
+
+nothing_left : (os : Octets) → parts_left [] os ≡ []
+unfolding cut
+nothing_left [] = refl
+nothing_left (o ∷ os) = refl
+
+pub no_parts_left : (ps : List Piece) (os : Octets) → length ps ≡ 0 → parts_left ps os ≡ []
+no_parts_left ps os e = ap (λ qs. parts_left qs os) (nil_from_length ps e) ∙ nothing_left os
+
+-- the first part, and those behind it
+pub parts_left-cons : (p : Piece) (ps : List Piece) (os : Octets) (part : Data.Part) (rest : Octets) → piece_front (piece_of p) os ≡ Some (part, rest)
+    → AreCut (p ∷ ps) os → parts_left (p ∷ ps) os ≡ part ∷ parts_left ps rest
+parts_left-cons p ps os part rest e are =
+    ap (λ y. unwrap_or y []) (cut_more (piece_of p) (pieces_in ps) os part rest e)
+    ∙ go (cut (pieces_in ps) rest) (sym (more_are_cut (piece_of p) (pieces_in ps) os part rest e) ∙ are)
+  where
+    go : (y : Option (List Data.Part)) → is_some y ≡ true → unwrap_or (option_map (λ xs. part ∷ xs) y) [] ≡ part ∷ unwrap_or y []
+    go None f = absurd (false≢true f)
+    go (Some xs) f = refl
+
+-- names that are cut are names
+front_name : (p : Data.Piece) (os : Octets) (part : Data.Part) (rest : Octets) → piece_front p os ≡ Some (part, rest) → HasName part
+front_name (fixed k) os part rest h = subst HasName (octets_part k os rest part h) tt
+front_name domain os part rest h = let m = name_part os rest part h in subst HasName m.1 m.2
+front_name string [] part rest h = absurd (none-some (part, rest) h)
+front_name string (k ∷ os) part rest h = subst HasName (octets_part (suc k) (k ∷ os) rest part h) tt
+front_name strings os part rest h = subst HasName (all_strings os rest part h).2 tt
+front_name anything os part rest h = subst HasName (ap (λ x. x.0) (same_Some (octets os, []) (part, rest) h)) tt
+
+cut_names : (ps : List Data.Piece) (os : Octets) (xs : List Data.Part) → cut ps os ≡ Some xs → All HasName xs
+unfolding cut
+cut_names [] [] xs h = subst (All HasName) (same_Some [] xs h) (All-nil HasName)
+cut_names [] (o ∷ os) xs h = absurd (none-some xs h)
+cut_names (p ∷ ps) os xs h =
+    let c = cut_into p ps os xs h in
+    subst (All HasName) c.whole
+    (All-cons HasName c.part c.others (front_name p os c.part c.rest c.front) (cut_names ps c.rest c.others c.more))
+
+pub names_left : (ps : List Piece) (os : Octets) → All HasName (parts_left ps os)
+names_left ps os = go (cut (pieces_in ps) os) refl
+  where
+    go : (y : Option (List Data.Part)) → cut (pieces_in ps) os ≡ y → All HasName (unwrap_or y [])
+    go None e = All-nil HasName
+    go (Some xs) e = cut_names (pieces_in ps) os xs e
+
+-- a part that is lent is shown with its octets
+lent_octets : (x : Part) → IsLent x → with_octets (part_for x) ≡ shown_part x
+lent_octets (Run o) h = refl
+lent_octets (Name o) h = ap (λ xs. (part_for (Name o), xs)) h.wire_is
+
+pub shown_first : (p : Piece) (ps : List Piece) (os : Octets) (x : Part) (rest : Octets) (left : List Data.Part) → piece_front (piece_of p) os ≡ Some (part_for x, rest)
+    → IsLent x → AreCut (p ∷ ps) os → parts_left (p ∷ ps) os ≡ left → map with_octets left ≡ shown_part x ∷ map with_octets (parts_left ps rest)
+shown_first p ps os x rest left e lent are view =
+    ap (map with_octets) (sym view ∙ parts_left-cons p ps os (part_for x) rest e are)
+    ∙ ap (λ y. y ∷ map with_octets (parts_left ps rest)) (lent_octets x lent)
+
+-- the parts in lower case: those that are done, and those that are still to come
+pub record Lowers (whole : List Data.Part) (done : Octets) (rest : List Data.Part) : Type 0 where
+  pub names : All HasName rest
+  pub whole_is : joined (map part_folded whole) ≡ done ++ joined (map part_folded rest)
+
+pub Lowers-whole : (whole rest : List Data.Part) (done : Octets) → rest ≡ whole → done ≡ [] → All HasName rest → Lowers whole done rest
+Lowers-whole whole rest done e f names = record {
+  names = names;
+  whole_is = ap (λ xs. joined (map part_folded xs)) (sym e) ∙ ap (λ xs. xs ++ joined (map part_folded rest)) (sym f);
+}
+
+-- a name in lower case
+lowered_part : (x : Part) → HasName (part_for x) → part_octets (part_for x) ≡ part_lends x → part_lowered x ≡ part_octets (part_folded (part_for x))
+lowered_part (Run o) ok e = refl
+lowered_part (Name o) ok e = ap (map to_ascii_lowercase) (sym e) ∙ map-lowercase-wire (labels_of o.now) (IsName-is_name (labels_of o.now) ok).labels
+
+unshown : (xs : List Data.Part) → map (λ (y : Data.Part × Octets). y.0) (map with_octets xs) ≡ xs
+unshown [] = refl
+unshown (x ∷ xs) = ap (λ ys. x ∷ ys) (unshown xs)
+
+pub Lowers-next : (whole old new : List Data.Part) (done more : Octets) (x : Part) → Lowers whole done old → map with_octets old ≡ shown_part x ∷ map with_octets new
+    → more ≡ done ++ part_lowered x → Lowers whole more new
+Lowers-next whole [] new done more x h e f = absurd (no_shown e)
+  where
+    no_shown : ◌≡◌ {A = List (Data.Part × Octets)} [] (shown_part x ∷ map with_octets new) → ⊥
+    no_shown g = cc
+Lowers-next whole (p ∷ ps) new done more x h e f =
+    let first : with_octets p ≡ shown_part x = ap (λ (xs : List (Data.Part × Octets)). get_or xs 0 (shown_part x)) e in
+    let same : p ≡ part_for x = ap (λ y. y.0) first in
+    let lends : part_octets (part_for x) ≡ part_lends x = ap part_octets (sym same) ∙ ap (λ y. y.1) first in
+    let others : ps ≡ new = sym (unshown ps) ∙ ap (λ (xs : List (Data.Part × Octets)). map (λ y. y.0) (drop 1 xs)) e ∙ unshown new in
+    let named : HasName (part_for x) = subst HasName same (All-head HasName p ps h.names) in
+    let lower : part_lowered x ≡ part_octets (part_folded p) = lowered_part x named lends ∙ ap (λ y. part_octets (part_folded y)) (sym same) in
+    record {
+      names = subst (All HasName) others (All-tail HasName p ps h.names);
+      whole_is =
+          h.whole_is ∙ ap (λ xs. done ++ xs) (flat_map-cons part_octets (part_folded p) (map part_folded ps))
+          ∙ sym (append_assoc done (part_octets (part_folded p)) (joined (map part_folded ps)))
+          ∙ ap (λ xs. (done ++ xs) ++ joined (map part_folded ps)) (sym lower)
+          ∙ ap (λ xs. xs ++ joined (map part_folded ps)) (sym f) ∙ ap (λ xs. more ++ joined (map part_folded xs)) others;
+    }
+
+pub Lowers-all : (whole rest : List Data.Part) (done : Octets) → Lowers whole done rest → map with_octets rest ≡ [] → done ≡ joined (map part_folded whole)
+Lowers-all whole [] done h e = sym (h.whole_is ∙ append-nil done)
+Lowers-all whole (p ∷ ps) done h e = cc
+
+pub length-lower_case : (t : ℕ) (d : Octets) → valid t d ≡ true → length (lower_case t d) ≤ 65535
+length-lower_case t d ok = (cut_data t (lower_case t d) (lowered_data t d ok).0).short

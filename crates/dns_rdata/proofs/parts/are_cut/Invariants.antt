@@ -1,0 +1,11 @@
+use Rattle.std.proofs.Common.{◌≡◌, length}
+use Rattle.std.specs.Option.{is_some}
+use Rattle.dns_spec.specs.Data.{cut}
+use Rattle.dns_rdata.specs.TypeRows.{pieces_in}
+use Rattle.dns_rdata.proofs.parts.are_cut.Given as goal
+
+abbrev pub invariant-pieces : goal.invariant-pieces
+invariant-pieces l = is_some (cut (pieces_in l.fn.pieces) l.octets) ≡ is_some (cut (pieces_in l.pieces) l.rest)
+
+abbrev pub decreases-pieces : goal.decreases-pieces
+decreases-pieces l = length l.pieces

@@ -1,0 +1,20 @@
+use Rattle.std.proofs.Common.{arith, refl, ap}
+use Rattle.std.specs.Option.{option_map}
+use Rattle.dns_spec.specs.Names.{DomainName, Octets}
+use Rattle.dns_spec.specs.Data.{name}
+use Rattle.dns_rdata.proofs.NameFronts.{no_front_name, long_name, short_name}
+use Rattle.dns_rdata.proofs.parts.first_name.Goals as goal
+
+pub returns-in_err-behind : goal.returns-in_err-behind
+returns-in_err-behind c =
+    rw c.from_residual.ensures (ap (option_map (λ (r : DomainName × Octets). (name r.0, r.1))) (no_front_name c.args.octets.now (c.in_err-behind.ensures.none refl)))
+
+pub returns-then-name-gt255 : goal.returns-then-name-gt255
+returns-then-name-gt255 c =
+    ap (option_map (λ (r : DomainName × Octets). (name r.0, r.1)))
+    (long_name c.args.octets.now c.in_ok-behind.behind.now c.split_at.result.0.now _ c.in_ok-behind.ensures.some c.split_at.ensures.front refl (omega (arith, c.if-name-gt255.true)))
+
+pub returns : goal.returns
+returns c =
+    short_name c.args.octets.now c.in_ok-behind.behind.now c.split_at.result.0.now c.split_at.result.1.now _ c.in_ok-behind.ensures.some
+    c.split_at.ensures.front c.split_at.ensures.back refl (omega (arith, c.if-name-gt255.false))

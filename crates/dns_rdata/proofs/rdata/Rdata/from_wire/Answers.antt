@@ -1,0 +1,7 @@
+use Rattle.std.proofs.Common.{arith, ap, sym, length, ◌∙◌}
+use Rattle.dns_rdata.proofs.PartLemmas.{length-lower_case}
+use Rattle.dns_rdata.proofs.rdata.Rdata.from_wire.Goals as goal
+
+pub invariant_of-result : goal.invariant_of-result
+invariant_of-result c =
+    omega (arith, ap length c.in-Ok.ensures, length-lower_case c.args.rtype.0 c.args.octets.now (sym c.is_valid.ensures ∙ c.if-not-is_valid.false))
