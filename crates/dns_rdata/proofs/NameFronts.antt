@@ -1,12 +1,11 @@
 -- Octets that begin with labels: what is behind a label decides of them.
-use Rattle.std.proofs.Common.{◌≡◌, ℕ, zero, suc, ◌+◌, ◌-◌, ◌<◌, ◌≤◌, Bool, true, false, ◌&&◌, Option, None, Some, List, [], ◌∷◌, ◌++◌, length, take, drop, get_or, refl, sym, ap, ◌∙◌, subst, arith, append_assoc, length-append, take-append-drop}
+use Rattle.std.proofs.Common.{◌≡◌, ℕ, zero, suc, ◌-◌, ◌<◌, ◌≤◌, true, false, Option, None, Some, [], ◌∷◌, ◌++◌, length, take, drop, get_or, refl, sym, ap, ◌∙◌, arith, append_assoc, length-append, take-append-drop}
 use Rattle.std.proofs.lemmas.Bool.{and_parts, and_from, false_from_ne_true}
 use Rattle.std.proofs.lemmas.List.{take_at, drop_at, length-take-le}
-use Rattle.std.proofs.lemmas.Option.{none-some}
 use Rattle.std.specs.Option.{option_map, option_and_then}
 use Rattle.std.specs.List.{list_all}
 use Rattle.dns_spec.specs.Names.{Octets, DomainName, wire, is_label, is_name, name_if_valid, name_of}
-use Rattle.dns_spec.specs.Data.{Part, name, domain, piece_front, are_strings}
+use Rattle.dns_spec.specs.Data.{name, domain, piece_front, are_strings}
 use Rattle.dns_spec.proofs.NameLaws.{IsName-is_name, IsLabel-is_label, is_label-IsLabel, is_name-IsName}
 use Rattle.dns_spec.proofs.WrittenData.{name_read}
 use Rattle.dns_spec.proofs.MadeData.{labels_taken}

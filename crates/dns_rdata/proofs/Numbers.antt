@@ -1,8 +1,8 @@
 -- Numbers are read from the text that they are written by, and from no other.
-use Rattle.std.proofs.Common.{◌≡◌, ◌≢◌, ℕ, zero, suc, ◌+◌, ◌<◌, ◌≤◌, ◌^◌, Bool, true, false, ◌||◌, ◌⊎◌, inl, inr, nat_lt, cond, ◌==◌, Option, None, Some, MatchOption, Result, Ok, Err, List, [], ◌∷◌, ◌++◌, map, length, drop, get_or, refl, sym, ap, ◌∙◌, subst, arith}
+use Rattle.std.proofs.Common.{◌≡◌, ℕ, zero, suc, ◌+◌, ◌<◌, ◌≤◌, ◌^◌, Bool, true, false, ◌||◌, ◌⊎◌, inl, inr, nat_lt, cond, ◌==◌, MatchOption, Result, Ok, Err, [], ◌∷◌, map, length, drop, get_or, refl, sym, ap, ◌∙◌, subst, arith}
 use Rattle.std.proofs.lemmas.Bool.{eq-eqb, eqb-true, lt-ltb, false≢true}
 use Rattle.std.proofs.lemmas.List.{drop-map}
-use Rattle.std.proofs.lemmas.Fmt.{decimal_is_IsNumeral, decimal-digits_value, decimal_injective, parse-decimal, first_decimal, decimal_digit, IsAscii-decimal}
+use Rattle.std.proofs.lemmas.Fmt.{decimal_is_IsNumeral, decimal-digits_value, parse-decimal, first_decimal, decimal_digit, IsAscii-decimal}
 use Rattle.std.proofs.lemmas.Str.Parse.{IsNumeralModel, digit_from_value}
 use Rattle.std.proofs.lemmas.Str.{IsUtf8-from_ascii}
 use Rattle.std.specs.Result.{result_ok, is_ok}

@@ -1,5 +1,5 @@
 -- Parts of data, one after another.
-use Rattle.std.proofs.Common.{◌≡◌, ℕ, zero, suc, ◌≤◌, ◌==◌, Bool, true, false, Option, None, Some, All, List, [], ◌∷◌, ◌++◌, map, length, get_or, drop, refl, sym, ap, ◌∙◌, subst, arith, append_assoc, append-nil}
+use Rattle.std.proofs.Common.{◌≡◌, ℕ, suc, ◌≤◌, ◌==◌, true, Option, None, Some, All, List, [], ◌∷◌, ◌++◌, map, length, get_or, drop, refl, sym, ap, ◌∙◌, subst, arith, append_assoc, append-nil}
 use Rattle.std.proofs.lemmas.Bool.{false≢true, false_from_ne_true, eqb-true}
 use Rattle.std.proofs.lemmas.List.{nil_from_length}
 use Rattle.std.proofs.lemmas.List.Concat.{flat_map-cons}
@@ -7,7 +7,7 @@ use Rattle.std.proofs.lemmas.List.Elements.{All-nil, All-cons, All-head, All-tai
 use Rattle.std.proofs.lemmas.Option.{none-some, same_Some}
 use Rattle.std.specs.Option.{is_some, unwrap_or, option_map}
 use Rattle.std.specs.Char.{to_ascii_lowercase}
-use Rattle.dns_spec.specs.Names.{Octets, wire, folded, is_name}
+use Rattle.dns_spec.specs.Names.{Octets}
 use Rattle.dns_spec.specs.Data.{fixed, domain, string, strings, anything, octets, name, part_octets, part_folded, joined, cut, piece_front, valid, lower_case}
 use Rattle.dns_spec.specs.Data as Data
 use Rattle.dns_spec.proofs.NameLaws.{IsName-is_name, map-lowercase-wire}

@@ -1,5 +1,5 @@
 -- What a reader learns here: by which octets a number is told to be spelled otherwise than it is written.
-use Rattle.std.specs.Prelude.{ℕ, Bool, true, false, ◌==◌, ◌||◌, [], ◌∷◌}
+use Rattle.std.specs.Prelude.{Bool, false, ◌==◌, ◌||◌, [], ◌∷◌}
 use Rattle.dns_spec.specs.Names.{Octets}
 
 -- a plus, or a zero with something behind it

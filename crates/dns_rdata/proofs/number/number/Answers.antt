@@ -1,4 +1,4 @@
-use Rattle.std.proofs.Common.{◌≡◌, false, true, sym, ap, ◌∙◌, subst}
+use Rattle.std.proofs.Common.{◌≡◌, sym, ap, ◌∙◌, subst}
 use Rattle.std.specs.Str.Parse.{ParsesUnsigned}
 use Rattle.dns_rdata.specs.NumberText.{begins_otherwise}
 use Rattle.dns_rdata.proofs.Numbers.{decimal-begins, number_read, no_text}

@@ -1,5 +1,5 @@
 use Rattle.std.proofs.Common.{arith, ◌≡◌, ◌≤◌, sym, ap, ◌∙◌, subst, drop, length}
-use Rattle.dns_rdata.proofs.NameFronts.{Alike, root_found, nothing_begins, no_label_there, label_passed}
+use Rattle.dns_rdata.proofs.NameFronts.{Alike, nothing_begins, no_label_there, label_passed}
 use Rattle.dns_rdata.proofs.parts.behind_labels.Goals as goal
 
 pub returns-in_err-length-clause-none : goal.returns-in_err-length-clause-none

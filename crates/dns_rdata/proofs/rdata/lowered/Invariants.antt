@@ -1,4 +1,4 @@
-use Rattle.std.proofs.Common.{◌≡◌, length}
+use Rattle.std.proofs.Common.{length}
 use Rattle.dns_rdata.proofs.PartLemmas.{Lowers}
 use Rattle.dns_spec.specs.Data.{parts}
 use Rattle.dns_rdata.proofs.rdata.lowered.Given as goal

@@ -1,4 +1,3 @@
-use Rattle.std.proofs.Common.{rules}
 use Rattle.dns_spec.proofs.NameLaws.{octets_equal-decides, same_tests}
 use Rattle.dns_rdata.proofs.table.same_text.Goals as goal
 
