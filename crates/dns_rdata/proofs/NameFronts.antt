@@ -119,8 +119,8 @@ short_name octets behind front rest k h e g f short =
     let ok : is_name h.labels ≡ true = is_name-IsName h.labels h.are_labels (omega (arith, ap length same)) in
     let found : name_of octets ≡ Some (h.labels, behind) = front_name octets h.labels behind h.are_labels h.whole ∙ (rw ok refl) in (
       ap (option_map (λ (r : DomainName × Octets). (name r.0, r.1))) found
-      ∙ ap (λ x. Some (name x, behind)) (sym (labels_of_spelled front h.labels same ok))
-      ∙ ap (λ x. Some (name (labels_of front), x)) (sym (g ∙ taken.1)),
+          ∙ ap (λ x. Some (name x, behind)) (sym (labels_of_spelled front h.labels same ok))
+          ∙ ap (λ x. Some (name (labels_of front), x)) (sym (g ∙ taken.1)),
       IsWireForm-wire front h.labels same ok,
     )
 

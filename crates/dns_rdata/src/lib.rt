@@ -12,3 +12,6 @@ pub use fault::RdataFault;
 pub use parts::{Part, Parts};
 pub use rdata::Rdata;
 pub use rtype::RType;
+
+#[cfg(test)]
+mod tests;

@@ -12,7 +12,7 @@ use crate::table::{Piece, pieces_of_type};
 use std::marker::Model;
 
 /// A part of data, lent from where it stands.
-#[derive(Clone, Copy, Debug, Drop)]
+#[derive(Clone, Copy, Debug, PartialEq, Eq)]
 pub enum Part<'a> {
     /// Octets that hold no name: numbers, an address or strings.
     Octets(&'a [u8]),

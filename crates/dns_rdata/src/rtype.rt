@@ -1,6 +1,7 @@
 //! Types of records.
 ghost use Rattle.std.specs.Prelude.{◌≡◌, ◌≢◌, ℕ, ◌-◌, ◌^◌, ◌<◌, MatchOption, OnOk, OnErr};
 ghost use Rattle.std.specs.Io.KnownBytes.{Appends};
+ghost use Rattle.dns_spec.specs.Data.{compresses};
 ghost use Rattle.dns_spec.specs.TypeText.{NamesType, text_in_lower_case, numbered_type, type_text};
 ghost use Rattle.dns_name.specs.Counted.{failures_after, AppendsBeginning};
 
@@ -36,6 +37,15 @@ impl RType {
     pub const AAAA: RType = RType(28);
     /// The place of a service (RFC 2782).
     pub const SRV: RType = RType(33);
+}
+
+impl RType {
+    /// Whether names in data of the type take part in compression: only those of types of RFC 1035 (RFC 3597 4).
+    pub fn compresses(self) -> bool
+        ensures { result ≡ compresses self.0 }
+    {
+        row_of_type(self).is_some_and(|row| row.compresses)
+    }
 }
 
 /// Types in the text of zone files (RFC 1035 5.1, RFC 3597 5).

@@ -35,16 +35,66 @@ pub(crate) struct TypeRow {
 
 // RFC 1035 3.3 and 3.4, RFC 3596 2.2, RFC 2782
 const TYPES: [TypeRow; 10] = [
-    TypeRow { number: RType::A.0, mnemonic: b"A", pieces: &[Piece::Fixed(4)], compresses: false },
-    TypeRow { number: RType::NS.0, mnemonic: b"NS", pieces: &[Piece::Domain], compresses: true },
-    TypeRow { number: RType::CNAME.0, mnemonic: b"CNAME", pieces: &[Piece::Domain], compresses: true },
-    TypeRow { number: RType::SOA.0, mnemonic: b"SOA", pieces: &[Piece::Domain, Piece::Domain, Piece::Fixed(20)], compresses: true },
-    TypeRow { number: RType::PTR.0, mnemonic: b"PTR", pieces: &[Piece::Domain], compresses: true },
-    TypeRow { number: RType::HINFO.0, mnemonic: b"HINFO", pieces: &[Piece::String, Piece::String], compresses: false },
-    TypeRow { number: RType::MX.0, mnemonic: b"MX", pieces: &[Piece::Fixed(2), Piece::Domain], compresses: true },
-    TypeRow { number: RType::TXT.0, mnemonic: b"TXT", pieces: &[Piece::Strings], compresses: false },
-    TypeRow { number: RType::AAAA.0, mnemonic: b"AAAA", pieces: &[Piece::Fixed(16)], compresses: false },
-    TypeRow { number: RType::SRV.0, mnemonic: b"SRV", pieces: &[Piece::Fixed(6), Piece::Domain], compresses: false },
+    TypeRow {
+        number: RType::A.0,
+        mnemonic: b"A",
+        pieces: &[Piece::Fixed(4)],
+        compresses: false,
+    },
+    TypeRow {
+        number: RType::NS.0,
+        mnemonic: b"NS",
+        pieces: &[Piece::Domain],
+        compresses: true,
+    },
+    TypeRow {
+        number: RType::CNAME.0,
+        mnemonic: b"CNAME",
+        pieces: &[Piece::Domain],
+        compresses: true,
+    },
+    TypeRow {
+        number: RType::SOA.0,
+        mnemonic: b"SOA",
+        pieces: &[Piece::Domain, Piece::Domain, Piece::Fixed(20)],
+        compresses: true,
+    },
+    TypeRow {
+        number: RType::PTR.0,
+        mnemonic: b"PTR",
+        pieces: &[Piece::Domain],
+        compresses: true,
+    },
+    TypeRow {
+        number: RType::HINFO.0,
+        mnemonic: b"HINFO",
+        pieces: &[Piece::String, Piece::String],
+        compresses: false,
+    },
+    TypeRow {
+        number: RType::MX.0,
+        mnemonic: b"MX",
+        pieces: &[Piece::Fixed(2), Piece::Domain],
+        compresses: true,
+    },
+    TypeRow {
+        number: RType::TXT.0,
+        mnemonic: b"TXT",
+        pieces: &[Piece::Strings],
+        compresses: false,
+    },
+    TypeRow {
+        number: RType::AAAA.0,
+        mnemonic: b"AAAA",
+        pieces: &[Piece::Fixed(16)],
+        compresses: false,
+    },
+    TypeRow {
+        number: RType::SRV.0,
+        mnemonic: b"SRV",
+        pieces: &[Piece::Fixed(6), Piece::Domain],
+        compresses: false,
+    },
 ];
 
 /// The table, by rising number.

@@ -15,7 +15,7 @@ returns-in_err-piece-clause-steps c =
 pub returns-in_err-part-clause-steps : goal.returns-in_err-part-clause-steps
 returns-in_err-part-clause-steps c =
     let none = ap (λ ps. is_some (cut (pieces_in ps) c.self.inside.octets.now)) c.in_ok-piece.ensures.cases.0
-        ∙ ap is_some (cut_none (piece_of c.in_ok-piece.piece.now) (pieces_in c.in_ok-piece.pieces.now) c.self.inside.octets.now c.in_err-part.ensures) in
+    ∙ ap is_some (cut_none (piece_of c.in_ok-piece.piece.now) (pieces_in c.in_ok-piece.pieces.now) c.self.inside.octets.now c.in_err-part.ensures) in
     absurd (false≢true (sym none ∙ c.self.invariant))
 
 pub invariant_of-self : goal.invariant_of-self

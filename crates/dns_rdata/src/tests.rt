@@ -1,0 +1,2 @@
+mod rdata;
+mod types;

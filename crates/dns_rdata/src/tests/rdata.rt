@@ -1,0 +1,153 @@
+use crate::{Part, RType, Rdata};
+use std::alloc::Global;
+use std::process::Abort;
+use std::test::Fail;
+
+// Two names, then SERIAL, REFRESH, RETRY, EXPIRE and MINIMUM (RFC 1035 3.3.13).
+const SOA: [u8; 32] =
+    *b"\x02ns\x00\x04mAIL\x01x\x00\x00\x00\x00\x01\x00\x00\x1c\x20\x00\x00\x03\x84\x00\x12\x75\x00\x00\x00\x01\x2c";
+
+const SOA_LOWERED: [u8; 32] =
+    *b"\x02ns\x00\x04mail\x01x\x00\x00\x00\x00\x01\x00\x00\x1c\x20\x00\x00\x03\x84\x00\x12\x75\x00\x00\x00\x01\x2c";
+
+#[test]
+fn octets_of_a_type(rt: HostRuntime) -> Result<(), Fail> {
+    let rows: [(RType, &[u8], &[u8]); 13] = [
+        (RType::A, b"ABCD", b"ABCD"),
+        (RType::NS, b"\x00", b"\x00"),
+        (RType::CNAME, b"\x01A\x00", b"\x01a\x00"),
+        (RType::PTR, b"\x01A\x02Bc\x00", b"\x01a\x02bc\x00"),
+        (RType::SOA, &SOA, &SOA_LOWERED),
+        (
+            RType::MX,
+            b"\x00\x0a\x04Mail\x07example\x00",
+            b"\x00\x0a\x04mail\x07example\x00",
+        ),
+        (RType::HINFO, b"\x01A\x00", b"\x01A\x00"),
+        (RType::TXT, b"\x02AB\x00\x01C", b"\x02AB\x00\x01C"),
+        (RType::AAAA, b"ABCDEFGHIJKLMNOP", b"ABCDEFGHIJKLMNOP"),
+        (RType::SRV, b"AAAAAA\x01A\x00", b"AAAAAA\x01a\x00"),
+        (RType(65), b"\x03ABC", b"\x03ABC"),
+        (RType(65), b"", b""),
+        (RType(0), b"\xc0\x0c", b"\xc0\x0c"),
+    ];
+    for (rtype, octets, wanted) in rows {
+        match Rdata::from_wire(rt.alloc(), rtype, octets) {
+            Ok(data) => assert_eq!(rt; data.octets(), wanted, "at {octets:?}"),
+            Err(_) => return Err("data of its type".into()),
+        }
+    }
+    Ok(())
+}
+
+#[test]
+fn octets_of_no_type(rt: HostRuntime) -> Result<(), Fail> {
+    let rows: [(RType, &[u8]); 19] = [
+        (RType::A, b"ABC"),
+        (RType::A, b"ABCDE"),
+        (RType::NS, b""),
+        (RType::NS, b"\x00\x00"),
+        (RType::NS, b"\x01A"),
+        (RType::NS, b"\x02A\x00"),
+        (RType::NS, b"\xc0\x0c"),
+        (RType::NS, b"\x40\x00"),
+        (RType::CNAME, b"\x01A\xc0\x0c"),
+        (RType::SOA, &SOA[..31]),
+        (RType::MX, b"\x00\x0a"),
+        (RType::MX, b"\x00\x0a\x01A\x00\x00"),
+        (RType::HINFO, b"\x01A"),
+        (RType::HINFO, b"\x01A\x01A\x00"),
+        (RType::TXT, b""),
+        (RType::TXT, b"\x02A"),
+        (RType::AAAA, b"ABCDEFGHIJKLMNO"),
+        (RType::SRV, b"AAAAAA"),
+        (RType::SRV, b"AAAAAA\xc0\x0c"),
+    ];
+    for (rtype, octets) in rows {
+        match Rdata::from_wire(rt.alloc(), rtype, octets) {
+            Ok(_) => return Err("octets that are no data".into()),
+            Err(fault) => assert_eq!(rt; fault.code(), 7, "at {octets:?}"),
+        }
+    }
+    Ok(())
+}
+
+// A name has at most 255 octets (RFC 1035 2.3.4), and data at most 65,535 (RFC 1035 3.2.1).
+#[test]
+fn longest_data(rt: HostRuntime) -> Result<(), Fail> {
+    let mut name = Vec::new(rt.alloc());
+    for _ in 0..127 {
+        name.extend_from_slice(b"\x01A")?;
+    }
+    name.push(0)?;
+    assert!(rt; Rdata::from_wire(rt.alloc(), RType::NS, &name).is_ok());
+    let mut longer = Vec::new(rt.alloc());
+    longer.extend_from_slice(b"\x02B")?;
+    longer.extend_from_slice(&name)?;
+    assert!(rt; Rdata::from_wire(rt.alloc(), RType::NS, &longer).is_err());
+    let mut data = Vec::new(rt.alloc());
+    data.resize(65_535, 0)?;
+    assert!(rt; Rdata::from_wire(rt.alloc(), RType(65), &data).is_ok());
+    data.push(0)?;
+    assert!(rt; Rdata::from_wire(rt.alloc(), RType(65), &data).is_err());
+    Ok(())
+}
+
+fn parts_are(
+    rt: &impl Abort,
+    alloc: Global,
+    rtype: RType,
+    octets: &[u8],
+    wanted: &[Part<'_>],
+) -> Result<(), Fail> {
+    let Ok(_) = Rdata::from_wire(alloc, rtype, octets) else {
+        return Err("data of its type".into());
+    };
+    let mut parts = Rdata::parts(rtype, octets);
+    for part in wanted {
+        assert_eq!(rt; parts.next(), Some(*part), "at {octets:?}");
+    }
+    assert!(rt; parts.next().is_none(), "at {octets:?}");
+    Ok(())
+}
+
+#[test]
+fn parts_in_order(rt: HostRuntime) -> Result<(), Fail> {
+    let rows: [(RType, &[u8], &[Part<'_>]); 6] = [
+        (
+            RType::MX,
+            b"\x00\x0a\x04Mail\x07example\x00",
+            &[
+                Part::Octets(b"\x00\x0a"),
+                Part::Name(b"\x04Mail\x07example\x00"),
+            ],
+        ),
+        (
+            RType::HINFO,
+            b"\x01A\x02BC",
+            &[Part::Octets(b"\x01A"), Part::Octets(b"\x02BC")],
+        ),
+        (
+            RType::SOA,
+            &SOA,
+            &[
+                Part::Name(b"\x02ns\x00"),
+                Part::Name(b"\x04mAIL\x01x\x00"),
+                Part::Octets(
+                    b"\x00\x00\x00\x01\x00\x00\x1c\x20\x00\x00\x03\x84\x00\x12\x75\x00\x00\x00\x01\x2c",
+                ),
+            ],
+        ),
+        (
+            RType::TXT,
+            b"\x01A\x00\x02BC",
+            &[Part::Octets(b"\x01A\x00\x02BC")],
+        ),
+        (RType(65), b"\x01A\x00", &[Part::Octets(b"\x01A\x00")]),
+        (RType(65), b"", &[Part::Octets(b"")]),
+    ];
+    for (rtype, octets, wanted) in rows {
+        parts_are(&rt, rt.alloc(), rtype, octets, wanted)?;
+    }
+    Ok(())
+}
