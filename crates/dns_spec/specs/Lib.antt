@@ -4,6 +4,7 @@ pub mod NameText
 pub mod Data
 pub mod TypeText
 pub mod Records
+pub mod Sets
 pub mod Tree
 pub mod Checks
 pub mod Reading

@@ -1,0 +1,20 @@
+-- What a reader learns here: what a record set is without its owner, and which records it stands for at an owner.
+use Rattle.std.specs.Prelude.{ℕ, List, map, All}
+use Rattle.dns_spec.specs.Names.{Octets, DomainName}
+use Rattle.dns_spec.specs.Data.{Valid}
+use Rattle.dns_spec.specs.Records.{ResourceRecord}
+
+-- RFC 2181 5: a type, a TTL in seconds, and the data of each record
+pub record RecordSet : Type 0 where
+  pub rtype : ℕ
+  pub ttl : ℕ
+  pub rdata : List Octets
+
+-- RFC 1035 3.2.1: all data of the set is of its type
+abbrev pub HasValidData : RecordSet → Type 0
+HasValidData set = All (Valid set.rtype) set.rdata
+
+-- the records of the set at an owner, with a TTL that may differ from the set's (RFC 2308 5)
+abbrev pub records_at : DomainName → ℕ → RecordSet → List ResourceRecord
+records_at owner ttl set =
+    map (λ (d : Octets). record { owner = owner; ttl = ttl; rtype = set.rtype; rdata = d }) set.rdata
