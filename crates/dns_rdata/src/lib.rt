@@ -6,12 +6,14 @@ mod number;
 mod parts;
 mod rdata;
 mod rtype;
+mod set;
 mod table;
 
 pub use fault::RdataFault;
 pub use parts::{Part, Parts};
 pub use rdata::Rdata;
 pub use rtype::RType;
+pub use set::SetView;
 
 #[cfg(test)]
 mod tests;

@@ -83,7 +83,7 @@ fn lowered(alloc: Global, rtype: RType, octets: &[u8]) -> Result<Vec<u8>, AllocE
     ensures { IfOk result (λ v. v.items ≡ lower_case rtype.0 octets.now) }
 {
     let mut lowered = Vec::with_capacity(alloc, octets.len())?;
-    let mut parts = Parts::new(rtype, octets);
+    let mut parts = Rdata::parts(rtype, octets);
     'parts: while let Some(part) = parts.next() {
         push_lowered(&mut lowered, part)?;
     }

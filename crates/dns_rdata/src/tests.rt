@@ -1,2 +1,3 @@
 mod rdata;
+mod set;
 mod types;
