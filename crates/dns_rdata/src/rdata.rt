@@ -39,7 +39,8 @@ impl Rdata {
     /// compressed or a long name, or are more than 65,535. Data of a type without a name is any octets (RFC 3597 3).
     /// `NoMemory` only where a growth of memory was refused: there is at most one.
     pub fn from_wire(alloc: Global, rtype: RType, octets: &[u8]) -> Result<Rdata, RdataFault>
-        ensures { MatchResult result (λ d. Valid rtype.0 octets.now × (d ≡ lower_case rtype.0 octets.now))
+        ensures valid { IfOk result (λ d. Valid rtype.0 d) }
+        ensures value { MatchResult result (λ d. Valid rtype.0 octets.now × (d ≡ lower_case rtype.0 octets.now))
             (λ fault. fault ≡ (if valid rtype.0 octets.now then RdataFault.NoMemory else RdataFault.NotOfType)) }
     {
         if !is_valid(rtype, octets) {

@@ -1,22 +1,24 @@
-ghost use Rattle.std.specs.Prelude.{◌≡◌, ◌+◌, ◌<◌, ◌^◌, length};
+ghost use Rattle.dns_spec.specs.Data.{Valid};
 
-use crate::{RType, SetView};
+use crate::{RType, Rdata, SetView};
+use std::test::Fail;
 
-/// One address (RFC 1035 3.4.1).
+/// A set of one record.
 #[derive(Drop)]
-struct OneAddress {
+struct OneRecord {
+    rtype: RType,
     ttl: u32,
-    octets: [u8; 4],
+    rdata: Rdata,
+    ghost valid: { Valid rtype.0 rdata },
 }
 
-impl SetView for OneAddress {
+impl SetView for OneRecord {
     ghost use Rattle.std.specs.Prelude.{[], ◌∷◌};
-    ghost use Rattle.dns_spec.specs.Data.{type_a};
 
-    ghost set = { λ s. record { rtype = type_a; ttl = s.ttl; rdata = s.octets ∷ [] } };
+    ghost set = { λ s. record { rtype = s.rtype.0; ttl = s.ttl; rdata = s.rdata ∷ [] } };
 
     fn rtype(&self) -> RType {
-        RType::A
+        self.rtype
     }
 
     fn ttl(&self) -> u32 {
@@ -28,7 +30,7 @@ impl SetView for OneAddress {
     }
 
     fn rdata(&self, _i: usize) -> &[u8] {
-        &self.octets
+        self.rdata.octets()
     }
 }
 
@@ -41,12 +43,18 @@ fn first_octet<S: SetView>(set: &S) -> Option<u8> {
 }
 
 #[test]
-fn a_set_is_lent(rt: HostRuntime) {
-    let set = OneAddress {
+fn a_set_is_lent(rt: HostRuntime) -> Result<(), Fail> {
+    let rtype = RType::A;
+    let Ok(rdata) = Rdata::from_wire(rt.alloc(), rtype, b"ABCD") else {
+        return Err("an address".into());
+    };
+    let set = OneRecord {
+        rtype,
         ttl: 3600,
-        octets: *b"ABCD",
+        rdata,
     };
     assert_eq!(rt; set.rtype(), RType::A);
     assert_eq!(rt; set.ttl(), 3600);
     assert_eq!(rt; first_octet(&set), Some(b'A'));
+    Ok(())
 }
