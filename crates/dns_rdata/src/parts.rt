@@ -11,6 +11,10 @@ use crate::rtype::RType;
 use crate::table::{Piece, pieces_of_type};
 use std::marker::Model;
 
+// RFC 1035 2.3.4
+const MAX_LABEL: u8 = 63;
+const MAX_NAME: usize = 255;
+
 /// A part of data, lent from where it stands.
 #[derive(Clone, Copy, Debug, PartialEq, Eq)]
 pub enum Part<'a> {
@@ -109,7 +113,7 @@ fn first_name(octets: &[u8]) -> Option<(Part<'_>, &[u8])>
 {
     let behind = behind_labels(octets)?;
     let (name, rest) = octets.split_at(octets.len() - behind.len());
-    if name.len() > 255 {
+    if name.len() > MAX_NAME {
         return None;
     }
     Some((Part::Name(name), rest))
@@ -126,7 +130,7 @@ fn behind_labels(octets: &[u8]) -> Option<&[u8]>
         if *length == 0 {
             return Some(others);
         }
-        if *length > 63 {
+        if *length > MAX_LABEL {
             return None;
         }
         let (_, behind) = others.split_at_checked(usize::from(*length))?;

@@ -5,11 +5,11 @@ use Rattle.dns_rdata.proofs.parts.behind_labels.Goals as goal
 pub returns-in_err-length-clause-none : goal.returns-in_err-length-clause-none
 returns-in_err-length-clause-none c = λ _. c.labels.invariant.none (nothing_begins c.labels.rest.now c.in_err-length.ensures.cases)
 
-pub returns-then-length-gt63-clause-none : goal.returns-then-length-gt63-clause-none
-returns-then-length-gt63-clause-none c =
+pub returns-then-length-gt-MAX_LABEL-clause-none : goal.returns-then-length-gt-MAX_LABEL-clause-none
+returns-then-length-gt-MAX_LABEL-clause-none c =
     λ _. c.labels.invariant.none
     (no_label_there c.labels.rest.now c.in_ok-length.others.now c.in_ok-length.length.now c.in_ok-length.ensures.cases.0 c.if-length-eq0.false
-    (λ fits there. absurd (omega (arith, c.if-length-gt63.true))))
+    (λ fits there. absurd (omega (arith, c.if-length-gt-MAX_LABEL.true))))
 
 pub returns-in_err-behind-clause-none : goal.returns-in_err-behind-clause-none
 returns-in_err-behind-clause-none c =
@@ -26,4 +26,4 @@ labels-preserved c =
     in
     subst (Alike c.args.octets.now) back
     (label_passed c.args.octets.now c.labels.rest.now c.in_ok-length.others.now c.in_ok-length.length.now c.labels.invariant c.in_ok-length.ensures.cases.0
-    c.if-length-eq0.false c.if-length-gt63.false there)
+    c.if-length-eq0.false c.if-length-gt-MAX_LABEL.false there)
