@@ -8,14 +8,14 @@ use Rattle.std.proofs.lemmas.Str.Ascii.{lowercase-lowercase}
 use Rattle.std.specs.Option.{is_some, unwrap_or}
 use Rattle.std.specs.Char.{to_ascii_lowercase}
 use Rattle.dns_spec.specs.Names.{Octets, DomainName, folded}
-use Rattle.dns_spec.specs.Data.{Piece, fixed, domain, string, strings, anything, pieces_of, Part, octets, name, part_octets, joined, part_folded, octets_front, strings_front, piece_front, cut, valid, parts, lower_case}
+use Rattle.dns_spec.specs.Data.{width, Piece, fixed, domain, string, strings, anything, pieces_of, Part, octets, name, part_octets, joined, part_folded, octets_front, strings_front, piece_front, cut, valid, parts, lower_case}
 use Rattle.dns_spec.proofs.NameLaws.{is_name-folded, length-wire-folded}
 use Rattle.dns_spec.proofs.WrittenData.{cut_into, name_part, octets_part, front_taken, all_strings}
 use Rattle.dns_spec.proofs.MadeData.{cut-domain, cut-step}
 
 -- a part, and the octets behind it, are the whole
 pub piece_whole : (p : Piece) (os : Octets) (part : Part) (rest : Octets) → piece_front p os ≡ Some (part, rest) → os ≡ part_octets part ++ rest
-piece_whole (fixed k) os part rest h = (front_taken k os part rest h).0 ∙ ap (λ x. part_octets x ++ rest) (octets_part k os rest part h)
+piece_whole (fixed f) os part rest h = (front_taken (width f) os part rest h).0 ∙ ap (λ x. part_octets x ++ rest) (octets_part (width f) os rest part h)
 piece_whole domain os part rest h = let m = name_part os rest part h in m.3 ∙ ap (λ x. part_octets x ++ rest) m.1
 piece_whole string [] part rest h = absurd (none-some (part, rest) h)
 piece_whole string (k ∷ os) part rest h =
@@ -65,9 +65,9 @@ none_behind rest other e f = nil_from_length other (f ∙ ap length e)
 -- a piece in lower case is that piece, also where what is behind it is spelled otherwise
 piece_lowered : (p : Piece) (os : Octets) (part : Part) (rest other : Octets) → piece_front p os ≡ Some (part, rest) → length other ≡ length rest
     → piece_front p (part_octets (part_folded part) ++ other) ≡ Some (part_folded part, other)
-piece_lowered (fixed k) os part rest other h same =
-    subst (λ x. piece_front (fixed k) (part_octets (part_folded x) ++ other) ≡ Some (part_folded x, other)) (octets_part k os rest part h)
-    (octets_front-append k (take k os) other (front_taken k os part rest h).1)
+piece_lowered (fixed f) os part rest other h same =
+    subst (λ x. piece_front (fixed f) (part_octets (part_folded x) ++ other) ≡ Some (part_folded x, other)) (octets_part (width f) os rest part h)
+    (octets_front-append (width f) (take (width f) os) other (front_taken (width f) os part rest h).1)
 piece_lowered domain os part rest other h same =
     let m = name_part os rest part h in
     subst (λ x. piece_front domain (part_octets (part_folded x) ++ other) ≡ Some (part_folded x, other)) m.1

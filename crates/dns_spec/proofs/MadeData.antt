@@ -7,7 +7,7 @@ use Rattle.std.specs.List.{list_all}
 use Rattle.dns_spec.specs.Names.{Octets, DomainName, wire, is_label, is_name, labels_from, with_octet, name_if_valid, name_of}
 use Rattle.std.proofs.lemmas.List.{take_all, drop_all}
 use Rattle.std.specs.Option.{unwrap_or}
-use Rattle.dns_spec.specs.Data.{type_a, type_ns, type_soa, Piece, first_name, Part, octets, name, piece_front, cut, valid, target, fixed, domain, pieces_of}
+use Rattle.dns_spec.specs.Data.{type_a, type_ns, type_soa, Fixed, numbers, width, Piece, first_name, Part, octets, name, piece_front, cut, valid, target, fixed, domain, pieces_of}
 use Rattle.dns_spec.proofs.NameLaws.{IsName-is_name}
 
 label_taken : (l os : Octets) (n : DomainName) (rest : Octets) → labels_from 0 os ≡ Some ([] ∷ n, rest) → labels_from (length l) (l ++ os) ≡ Some (l ∷ n, rest)
@@ -56,8 +56,9 @@ cut-step p ps os part rest xs front behind =
     ap (λ (x : Option (Part × Octets)). elim x [ None ↦ None | Some r ↦ option_map (λ ys. r.0 ∷ ys) (cut ps r.1) ]) front
     ∙ ap (option_map (λ ys. part ∷ ys)) behind
 
-all_of : (k : ℕ) (ds : Octets) → length ds ≡ k → piece_front (fixed k) ds ≡ Some (octets ds, [])
-all_of k ds e =
+all_of : (f : Fixed) (ds : Octets) → length ds ≡ width f → piece_front (fixed f) ds ≡ Some (octets ds, [])
+all_of f ds e =
+    let k = width f in
     let whole : take k ds ≡ ds = ap (λ n. take n ds) (sym e) ∙ take_all (length ds) ds (omega arith) in
     let none : drop k ds ≡ [] = ap (λ n. drop n ds) (sym e) ∙ drop_all (length ds) ds (omega arith) in
     rw (le-leb k (length ds) (omega arith), whole, none) refl
@@ -70,9 +71,9 @@ pub cut-soa : (m r : DomainName) (ds : Octets) → is_name m ≡ true → is_nam
     → cut (pieces_of type_soa) (wire m ++ wire r ++ ds) ≡ Some (name m ∷ name r ∷ octets ds ∷ [])
 cut-soa m r ds okm okr e =
     ap (cut (pieces_of type_soa)) (append_assoc (wire m) (wire r) ds)
-    ∙ cut-step domain (domain ∷ fixed 20 ∷ []) (wire m ++ (wire r ++ ds)) (name m) (wire r ++ ds) (name r ∷ octets ds ∷ []) (cut-domain m (wire r ++ ds) okm)
-    (cut-step domain (fixed 20 ∷ []) (wire r ++ ds) (name r) ds (octets ds ∷ []) (cut-domain r ds okr)
-    (cut-step (fixed 20) [] ds (octets ds) [] [] (all_of 20 ds e) nothing_left))
+    ∙ cut-step domain (domain ∷ fixed (numbers 5 4) ∷ []) (wire m ++ (wire r ++ ds)) (name m) (wire r ++ ds) (name r ∷ octets ds ∷ []) (cut-domain m (wire r ++ ds) okm)
+    (cut-step domain (fixed (numbers 5 4) ∷ []) (wire r ++ ds) (name r) ds (octets ds ∷ []) (cut-domain r ds okr)
+    (cut-step (fixed (numbers 5 4)) [] ds (octets ds) [] [] (all_of (numbers 5 4) ds e) nothing_left))
 
 -- what is cut is valid, and its first name is its target
 made : (t : ℕ) (d : Octets) (xs : List Part) → cut (pieces_of t) d ≡ Some xs → length d ≤ 65535 → (valid t d ≡ true) × (target t d ≡ first_name xs)

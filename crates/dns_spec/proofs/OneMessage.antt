@@ -2,7 +2,7 @@
 use Rattle.std.proofs.Common.{◌≡◌, ℕ, ◌+◌, ◌-◌, List, [], ◌∷◌, ◌++◌, length, take, drop, slice_get, refl, sym, ap, ap₂, ◌∙◌, subst, arith, if◌then◌else◌, ◌==◌}
 use Rattle.std.proofs.lemmas.Option.{same_Some}
 use Rattle.dns_spec.specs.Names.{Octets, DomainName, wire}
-use Rattle.dns_spec.specs.Data.{class_in, Piece, fixed, domain, string, strings, anything, pieces_of, number_of}
+use Rattle.dns_spec.specs.Data.{class_in, width, Piece, fixed, domain, string, strings, anything, pieces_of, number_of}
 use Rattle.dns_spec.specs.Reading.{MessageQuestion, MessageRecord, DnsMessage, NameAt, OctetsAt, NumberAt, PiecesAt, DataAt, QuestionsAt, RecordAt, RecordsAt, Spells}
 use Rattle.dns_spec.proofs.NameReading.{one_name}
 
@@ -19,9 +19,9 @@ same_names {b} {i} {j} {e} {f} {n} {m} p g h = one_name b j n m e f (subst (λ z
 module _ (b : Octets) where
   same_pieces : (ps : List Piece) (i j e f : ℕ) (x y : Octets) → i ≡ j → e ≡ f → PiecesAt b ps i e x → PiecesAt b ps j f y → x ≡ y
   same_pieces [] i j e f x y p q g h = g.1 ∙ sym h.1
-  same_pieces (fixed k ∷ ps) i j e f x y p q g h =
-      let next = ap (λ z. z + k) p in
-      g.3 ∙ ap₂ ◌++◌ (same_octets p next g.2 h.2) (same_pieces ps (i + k) (j + k) e f g.1 h.1 next q g.4 h.4) ∙ sym h.3
+  same_pieces (fixed w ∷ ps) i j e f x y p q g h =
+      let next = ap (λ z. z + width w) p in
+      g.3 ∙ ap₂ ◌++◌ (same_octets p next g.2 h.2) (same_pieces ps (i + width w) (j + width w) e f g.1 h.1 next q g.4 h.4) ∙ sym h.3
   same_pieces (domain ∷ ps) i j e f x y p q g h =
       let s = same_names p g.3 h.3 in
       g.4 ∙ ap₂ (λ n z. wire n ++ z) s.0 (same_pieces ps g.1 h.1 e f g.2 h.2 s.1 q g.5 h.5) ∙ sym h.4

@@ -5,7 +5,7 @@ use Rattle.std.proofs.lemmas.Option.{none-some, same_Some, cond_some}
 use Rattle.std.proofs.lemmas.List.{length-map, map-append}
 use Rattle.std.specs.List.{list_all}
 use Rattle.dns_spec.specs.Names.{Octets, wire, is_label, labels_from}
-use Rattle.dns_spec.specs.Data.{class_in, Piece, fixed, domain, string, strings, anything, pieces_of, compresses, Part, octets, octets_front, piece_front, cut, valid, parts, laid_parts}
+use Rattle.dns_spec.specs.Data.{class_in, Fixed, width, Piece, fixed, domain, string, strings, anything, pieces_of, compresses, Part, octets, octets_front, piece_front, cut, valid, parts, laid_parts}
 use Rattle.dns_spec.specs.Records.{ResourceRecord}
 use Rattle.dns_spec.specs.Reading.{Header, MessageQuestion, MessageRecord, OctetsAt, NumberAt, PiecesAt, DataAt, RecordsAt, Spells}
 use Rattle.dns_spec.specs.Layout.{octets16, octets32, answer, authority, additional, Item, records_of, in_section, Placed, shared_octets, data_octets, data_names, parts_of, record_tail, records_octets, question_octets, reply_header, layout, size, message_record, message_of}
@@ -30,8 +30,9 @@ drop_none (suc k) = refl
 no_octets : (ps : List Piece) (ys : List Part) → cut ps [] ≡ Some ys → (ms : List Placed) (i : ℕ) → length (data_octets ms i ys) ≡ 0
 unfolding cut data_octets labels_from
 no_octets [] ys h ms i = ap (λ z. length (data_octets ms i z)) (sym (same_Some [] ys h))
-no_octets (fixed k ∷ ps) ys h ms i =
-    let c = cut_into (fixed k) ps [] ys h in
+no_octets (fixed f ∷ ps) ys h ms i =
+    let k = width f in
+    let c = cut_into (fixed f) ps [] ys h in
     let p = octets_part k [] c.rest c.part c.front in
     let none : c.rest ≡ [] = sym (ap (λ z. z.1) (cond_some (nat_le k 0) (octets (take k []), drop k []) (c.part, c.rest) c.front).1) ∙ drop_none k in
     let whole : octets [] ∷ c.others ≡ ys = ap (λ z. octets z ∷ c.others) (sym (take_none k)) ∙ ap (λ z. z ∷ c.others) p ∙ c.whole in
@@ -81,18 +82,18 @@ module _ (b : Octets) (room : length b ≤ 16384) where
       (record { pieces = (sym (add-zero i), refl); known = subst (λ z. Known b z (ms ++ [])) (sym (add-zero i)) (subst (Known b i) (sym (append-nil ms)) known) })
   nil_lays (o ∷ os) xs e ms i known header at = absurd (none-some xs e)
 
-  fixed_lays : (k : ℕ) (ps : List Piece) (os rest : Octets) (part : Part) (ys : List Part) → octets_front k os ≡ Some (part, rest) → Lays ps rest ys → Lays (fixed k ∷ ps) os (part ∷ ys)
-  fixed_lays k ps os rest part ys front lays ms i known header = subst (λ x. Stands b i (data_octets ms i (x ∷ ys)) → Laid (fixed k ∷ ps) os ms i (x ∷ ys)) (octets_part k os rest part front) laid
+  fixed_lays : (f : Fixed) (ps : List Piece) (os rest : Octets) (part : Part) (ys : List Part) → octets_front (width f) os ≡ Some (part, rest) → Lays ps rest ys → Lays (fixed f ∷ ps) os (part ∷ ys)
+  fixed_lays f ps os rest part ys front lays ms i known header = subst (λ x. Stands b i (data_octets ms i (x ∷ ys)) → Laid (fixed f ∷ ps) os ms i (x ∷ ys)) (octets_part (width f) os rest part front) laid
     where
       o : Octets
-      o = take k os
+      o = take (width f) os
 
-      laid : Stands b i (data_octets ms i (octets (take k os) ∷ ys)) → Laid (fixed k ∷ ps) os ms i (octets (take k os) ∷ ys)
+      laid : Stands b i (data_octets ms i (octets (take (width f) os) ∷ ys)) → Laid (fixed f ∷ ps) os ms i (octets (take (width f) os) ∷ ys)
       laid at =
-          let x = take k os in
-          let t = front_taken k os part rest front in
+          let x = take (width f) os in
+          let t = front_taken (width f) os part rest front in
           let r = behind_octets ms i x ys known header at ps rest lays in
-          let place : i + length x ≡ i + k = ap (λ z. i + z) t.1 in
+          let place : i + length x ≡ i + (width f) = ap (λ z. i + z) t.1 in
           record {
             pieces = (
               x,
@@ -184,9 +185,9 @@ module _ (b : Octets) (room : length b ≤ 16384) where
 
   data_lays : (ps : List Piece) (os : Octets) (xs : List Part) → cut ps os ≡ Some xs → Lays ps os xs
   data_lays [] os xs h = nil_lays os xs h
-  data_lays (fixed k ∷ ps) os xs h =
-      let c = cut_into (fixed k) ps os xs h in
-      subst (Lays (fixed k ∷ ps) os) c.whole (fixed_lays k ps os c.rest c.part c.others c.front (data_lays ps c.rest c.others c.more))
+  data_lays (fixed f ∷ ps) os xs h =
+      let c = cut_into (fixed f) ps os xs h in
+      subst (Lays (fixed f ∷ ps) os) c.whole (fixed_lays f ps os c.rest c.part c.others c.front (data_lays ps c.rest c.others c.more))
   data_lays (domain ∷ ps) os xs h =
       let c = cut_into domain ps os xs h in
       subst (Lays (domain ∷ ps) os) c.whole (domain_lays ps os c.rest c.part c.others c.front (data_lays ps c.rest c.others c.more))

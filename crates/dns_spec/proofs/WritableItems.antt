@@ -6,7 +6,7 @@ use Rattle.std.proofs.lemmas.Option.{none-some, same_Some, cond_some, option_and
 use Rattle.std.proofs.lemmas.List.Elements.{All-nil, All-cons, All-head, All-tail}
 use Rattle.std.specs.List.{list_all, list_any}
 use Rattle.dns_spec.specs.Names.{Octets, DomainName, is_name, folded, same, at_or_below, suffixes}
-use Rattle.dns_spec.specs.Data.{type_a, type_ns, type_cname, type_soa, type_aaaa, qtype_any, Piece, fixed, domain, string, strings, anything, pieces_of, Part, octets, name, piece_front, cut, first_name, target, soa_minimum}
+use Rattle.dns_spec.specs.Data.{type_a, type_ns, type_cname, type_soa, type_aaaa, qtype_any, width, Piece, fixed, domain, string, strings, anything, pieces_of, Part, octets, name, piece_front, cut, first_name, target, soa_minimum}
 use Rattle.dns_spec.specs.Records.{ResourceRecord, ZoneContents, data_order, at, of_type, rrset, with_owner, distinct, sort_by}
 use Rattle.dns_spec.specs.Tree.{exists, is_cut, cut_of, source_of_synthesis, found}
 use Rattle.dns_spec.specs.Layout.{Section, answer, authority, additional, Item, records_of}
@@ -72,7 +72,7 @@ octets_named : (o : Octets) (part : Part) → octets o ≡ part → NamedPart pa
 octets_named o part e = subst NamedPart e tt
 
 named_front : (p : Piece) (os rest : Octets) (part : Part) → piece_front p os ≡ Some (part, rest) → NamedPart part
-named_front (fixed k) os rest part h = octets_named (take k os) part (octets_part k os rest part h)
+named_front (fixed f) os rest part h = octets_named (take (width f) os) part (octets_part (width f) os rest part h)
 named_front domain os rest part h = let m = name_part os rest part h in subst NamedPart m.1 m.2
 named_front string [] rest part h = absurd (none-some (part, rest) h)
 named_front string (k ∷ os) rest part h = octets_named (k ∷ take k os) part (octets_part (suc k) (k ∷ os) rest part h)

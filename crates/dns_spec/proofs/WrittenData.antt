@@ -4,7 +4,7 @@ use Rattle.std.proofs.lemmas.Bool.{and_parts, leb-true, not-true, eqb-false, fal
 use Rattle.std.proofs.lemmas.Option.{none-some, same_Some, cond_some, option_and_then_some, some_pair_parts}
 use Rattle.std.proofs.lemmas.List.{length-take-le, nil_from_length}
 use Rattle.dns_spec.specs.Names.{Octets, DomainName, wire, is_name, with_octet, labels_from, name_if_valid, name_of}
-use Rattle.dns_spec.specs.Data.{class_in, Piece, fixed, domain, string, strings, anything, pieces_of, Part, octets, name, are_strings, octets_front, strings_front, piece_front, cut, valid}
+use Rattle.dns_spec.specs.Data.{class_in, width, Piece, fixed, domain, string, strings, anything, pieces_of, Part, octets, name, are_strings, octets_front, strings_front, piece_front, cut, valid}
 use Rattle.dns_spec.specs.Reading.{OctetsAt, PiecesAt, DataAt}
 use Rattle.dns_spec.proofs.Places.{Stands, stands_front, stands_rest, stands_within, stands_get, octets_at, name_written}
 
@@ -146,8 +146,9 @@ pub pieces_written : {b : Octets} (ps : List Piece) (os : Octets) (xs : List Par
 unfolding cut
 pieces_written [] [] xs i h at = (sym (add-zero i), refl)
 pieces_written [] (o ∷ os) xs i h at = absurd (none-some xs h)
-pieces_written {b} (fixed k ∷ ps) os xs i h at =
-    let c = cut_into (fixed k) ps os xs h in
+pieces_written {b} (fixed f ∷ ps) os xs i h at =
+    let c = cut_into (fixed f) ps os xs h in
+    let k = width f in
     let t = front_taken k os c.part c.rest c.front in
     let x = take k os in
     let place : i + length x ≡ i + k = ap (λ z. i + z) t.1 in

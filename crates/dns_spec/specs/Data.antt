@@ -44,10 +44,21 @@ qtype_any = 255
 abbrev pub class_in : ℕ
 class_in = 1
 
--- A piece of data: so many octets (numbers or an address), a domain name, a character-string, one character-string or
--- more, or any octets.
+-- A piece of so many octets: m numbers of k octets each, an IPv4 address, or an IPv6 address.
+pub data Fixed : Type 0 where
+  numbers : ℕ → ℕ → Fixed
+  ipv4 : Fixed
+  ipv6 : Fixed
+
+abbrev pub width : Fixed → ℕ
+width (numbers m k) = m * k
+width ipv4 = 4
+width ipv6 = 16
+
+-- A piece of data: numbers or an address, a domain name, a character-string, one character-string or more, or any
+-- octets.
 pub data Piece : Type 0 where
-  fixed : ℕ → Piece
+  fixed : Fixed → Piece
   domain : Piece
   string : Piece
   strings : Piece
@@ -65,16 +76,16 @@ pub record TypeRow : Type 0 where
 -- types of RFC 1035 are compressed, and RFC 2782 forbids it for the target of SRV.
 abbrev pub type_table : List TypeRow
 type_table =
-    record { number = type_a; mnemonic = codes "A"; pieces = fixed 4 ∷ []; compresses = false }
+    record { number = type_a; mnemonic = codes "A"; pieces = fixed ipv4 ∷ []; compresses = false }
     ∷ record { number = type_ns; mnemonic = codes "NS"; pieces = domain ∷ []; compresses = true }
     ∷ record { number = type_cname; mnemonic = codes "CNAME"; pieces = domain ∷ []; compresses = true }
-    ∷ record { number = type_soa; mnemonic = codes "SOA"; pieces = domain ∷ domain ∷ fixed 20 ∷ []; compresses = true }
+    ∷ record { number = type_soa; mnemonic = codes "SOA"; pieces = domain ∷ domain ∷ fixed (numbers 5 4) ∷ []; compresses = true }
     ∷ record { number = type_ptr; mnemonic = codes "PTR"; pieces = domain ∷ []; compresses = true }
     ∷ record { number = type_hinfo; mnemonic = codes "HINFO"; pieces = string ∷ string ∷ []; compresses = false }
-    ∷ record { number = type_mx; mnemonic = codes "MX"; pieces = fixed 2 ∷ domain ∷ []; compresses = true }
+    ∷ record { number = type_mx; mnemonic = codes "MX"; pieces = fixed (numbers 1 2) ∷ domain ∷ []; compresses = true }
     ∷ record { number = type_txt; mnemonic = codes "TXT"; pieces = strings ∷ []; compresses = false }
-    ∷ record { number = type_aaaa; mnemonic = codes "AAAA"; pieces = fixed 16 ∷ []; compresses = false }
-    ∷ record { number = type_srv; mnemonic = codes "SRV"; pieces = fixed 6 ∷ domain ∷ []; compresses = false }
+    ∷ record { number = type_aaaa; mnemonic = codes "AAAA"; pieces = fixed ipv6 ∷ []; compresses = false }
+    ∷ record { number = type_srv; mnemonic = codes "SRV"; pieces = fixed (numbers 3 2) ∷ domain ∷ []; compresses = false }
     ∷ []
 
 -- RFC 3597 section 3: data of every other type is octets
@@ -126,7 +137,7 @@ strings_front os = if not (length os == 0) && are_strings 0 os then Some (octets
 
 -- the piece that the octets begin with, and the octets behind it
 abbrev pub piece_front : Piece → Octets → Option (Part × Octets)
-piece_front (fixed k) os = octets_front k os
+piece_front (fixed f) os = octets_front (width f) os
 piece_front domain os = option_map (λ r. (name r.0, r.1)) (name_of os)
 piece_front string os = string_front os
 piece_front strings os = strings_front os

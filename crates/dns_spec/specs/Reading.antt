@@ -3,7 +3,7 @@ use Rattle.std.specs.Prelude.{◌≡◌, ℕ, zero, suc, ◌+◌, ◌-◌, ◌*�
 use Rattle.std.specs.Prelude.{Option, None, Some}
 use Rattle.std.specs.Option.{option_map, option_and_then}
 use Rattle.dns_spec.specs.Names.{Octets, DomainName, wire, is_name}
-use Rattle.dns_spec.specs.Data.{class_in, Piece, fixed, domain, string, strings, anything, pieces_of, are_strings, number_of}
+use Rattle.dns_spec.specs.Data.{class_in, width, Piece, fixed, domain, string, strings, anything, pieces_of, are_strings, number_of}
 
 -- RFC 1035 4.1.4: the place that the two octets of a pointer tell, the first from 192 on
 abbrev pub pointer_place : ℕ → ℕ → ℕ
@@ -103,8 +103,8 @@ pub record NumberAt (b : Octets) (i k v : ℕ) : Type 0 where
 -- go on elsewhere, but its own octets are in the data.
 abbrev pub PiecesAt : Octets → List Piece → ℕ → ℕ → Octets → Type 0
 PiecesAt b [] i e d = (i ≡ e) × (d ≡ [])
-PiecesAt b (fixed k ∷ ps) i e d =
-    (o rest : Octets) × OctetsAt b i (i + k) o × (d ≡ o ++ rest) × PiecesAt b ps (i + k) e rest
+PiecesAt b (fixed f ∷ ps) i e d =
+    (o rest : Octets) × OctetsAt b i (i + width f) o × (d ≡ o ++ rest) × PiecesAt b ps (i + width f) e rest
 PiecesAt b (domain ∷ ps) i e d =
     (n : DomainName) × (j : ℕ) × (rest : Octets) × NameAt b i n j × (d ≡ wire n ++ rest) × PiecesAt b ps j e rest
 PiecesAt b (string ∷ ps) i e d =
