@@ -8,7 +8,7 @@ use Rattle.std.proofs.lemmas.Option.{none-some, same_Some}
 use Rattle.std.specs.Option.{is_some, unwrap_or, option_map}
 use Rattle.std.specs.Char.{to_ascii_lowercase}
 use Rattle.dns_spec.specs.Names.{Octets}
-use Rattle.dns_spec.specs.Data.{fixed, domain, string, strings, anything, octets, name, part_octets, part_folded, joined, cut, piece_front, valid, lower_case}
+use Rattle.dns_spec.specs.Data.{width, fixed, domain, string, strings, anything, octets, name, part_octets, part_folded, joined, cut, piece_front, valid, lower_case}
 use Rattle.dns_spec.specs.Data as Data
 use Rattle.dns_spec.proofs.NameLaws.{IsName-is_name, map-lowercase-wire}
 use Rattle.dns_spec.proofs.WrittenData.{cut_into, name_part, octets_part, all_strings}
@@ -69,7 +69,7 @@ parts_left-cons p ps os part rest e are =
 
 -- names that are cut are names
 front_name : (p : Data.Piece) (os : Octets) (part : Data.Part) (rest : Octets) → piece_front p os ≡ Some (part, rest) → HasName part
-front_name (fixed k) os part rest h = subst HasName (octets_part k os rest part h) tt
+front_name (fixed f) os part rest h = subst HasName (octets_part (width f) os rest part h) tt
 front_name domain os part rest h = let m = name_part os rest part h in subst HasName m.1 m.2
 front_name string [] part rest h = absurd (none-some (part, rest) h)
 front_name string (k ∷ os) part rest h = subst HasName (octets_part (suc k) (k ∷ os) rest part h) tt

@@ -3,13 +3,20 @@ use Rattle.std.specs.Prelude.{ℕ, Bool, ◌==◌, List, map}
 use Rattle.dns_spec.specs.Names.{Octets, octets_equal}
 use Rattle.dns_spec.specs.TypeText.{text_in_lower_case}
 use Rattle.dns_spec.specs.Data as Data
-use Rattle.dns_spec.specs.Data.{fixed, domain, string, strings, anything}
+use Rattle.dns_spec.specs.Data.{numbers, ipv4, ipv6, fixed, domain, string, strings, anything}
+use Rattle.dns_rdata.specs.declared.table.Fixed.{Fixed}
+use Rattle.dns_rdata.specs.declared.table.Fixed.TheVariants.{Numbers, Ipv4, Ipv6}
 use Rattle.dns_rdata.specs.declared.table.Piece.{Piece}
-use Rattle.dns_rdata.specs.declared.table.Piece.TheVariants.{Fixed, Domain, String, Strings, Anything}
+use Rattle.dns_rdata.specs.declared.table.Piece.TheVariants.{Fixed as FixedPiece, Domain, String, Strings, Anything}
 use Rattle.dns_rdata.specs.declared.table.TypeRow.{TypeRow}
 
+abbrev pub fixed_of : Fixed → Data.Fixed
+fixed_of (Numbers m k) = numbers m k
+fixed_of Ipv4 = ipv4
+fixed_of Ipv6 = ipv6
+
 abbrev pub piece_of : Piece → Data.Piece
-piece_of (Fixed k) = fixed k
+piece_of (FixedPiece f) = fixed (fixed_of f)
 piece_of Domain = domain
 piece_of String = string
 piece_of Strings = strings

@@ -13,6 +13,7 @@ use std::marker::Model;
 
 // RFC 1035 2.3.4
 const MAX_LABEL: u8 = 63;
+
 const MAX_NAME: usize = 255;
 
 /// A part of data, lent from where it stands.
@@ -92,7 +93,7 @@ fn first_part(piece: Piece, octets: &[u8]) -> Option<(Part<'_>, &[u8])>
     ensures { Cuts result (piece_front (piece_of piece) octets.now) }
 {
     match piece {
-        Piece::Fixed(count) => first_run(octets, count),
+        Piece::Fixed(fixed) => first_run(octets, fixed.width()),
         Piece::Domain => first_name(octets),
         Piece::String => first_run(octets, 1 + usize::from(*octets.first()?)),
         Piece::Strings => all_strings(octets),

@@ -2,18 +2,29 @@
 ghost use Rattle.std.specs.Prelude.{◌≡◌, map};
 ghost use Rattle.std.specs.Option.{option_map};
 ghost use Rattle.std.specs.List.{find};
-ghost use Rattle.dns_spec.specs.Data.{type_table, row_of, pieces_of};
+ghost use Rattle.dns_spec.specs.Data.{width, type_table, row_of, pieces_of};
 ghost use Rattle.dns_spec.specs.Names.{octets_equal};
 ghost use Rattle.dns_spec.specs.TypeText.{row_by_mnemonic, text_in_lower_case};
-ghost use Rattle.dns_rdata.specs.TypeRows.{row_for, pieces_in, has_number, has_mnemonic};
+ghost use Rattle.dns_rdata.specs.TypeRows.{fixed_of, row_for, pieces_in, has_number, has_mnemonic};
 
 use crate::rtype::RType;
+
+/// A piece of so many octets.
+#[derive(Clone, Copy, Debug)]
+pub(crate) enum Fixed {
+    /// Numbers of so many octets each.
+    Numbers { count: u8, octets: u8 },
+    /// An IPv4 address (RFC 1035 3.4.1).
+    Ipv4,
+    /// An IPv6 address (RFC 3596 2.2).
+    Ipv6,
+}
 
 /// A piece of data.
 #[derive(Clone, Copy, Debug)]
 pub(crate) enum Piece {
-    /// So many octets.
-    Fixed(usize),
+    /// Numbers or an address.
+    Fixed(Fixed),
     /// A domain name.
     Domain,
     /// A character-string (RFC 1035 3.3).
@@ -38,7 +49,7 @@ const TYPES: [TypeRow; 10] = [
     TypeRow {
         number: RType::A.0,
         mnemonic: b"A",
-        pieces: &[Piece::Fixed(4)],
+        pieces: &[Piece::Fixed(Fixed::Ipv4)],
         compresses: false,
     },
     TypeRow {
@@ -56,7 +67,14 @@ const TYPES: [TypeRow; 10] = [
     TypeRow {
         number: RType::SOA.0,
         mnemonic: b"SOA",
-        pieces: &[Piece::Domain, Piece::Domain, Piece::Fixed(20)],
+        pieces: &[
+            Piece::Domain,
+            Piece::Domain,
+            Piece::Fixed(Fixed::Numbers {
+                count: 5,
+                octets: 4,
+            }),
+        ],
         compresses: true,
     },
     TypeRow {
@@ -74,7 +92,13 @@ const TYPES: [TypeRow; 10] = [
     TypeRow {
         number: RType::MX.0,
         mnemonic: b"MX",
-        pieces: &[Piece::Fixed(2), Piece::Domain],
+        pieces: &[
+            Piece::Fixed(Fixed::Numbers {
+                count: 1,
+                octets: 2,
+            }),
+            Piece::Domain,
+        ],
         compresses: true,
     },
     TypeRow {
@@ -86,16 +110,35 @@ const TYPES: [TypeRow; 10] = [
     TypeRow {
         number: RType::AAAA.0,
         mnemonic: b"AAAA",
-        pieces: &[Piece::Fixed(16)],
+        pieces: &[Piece::Fixed(Fixed::Ipv6)],
         compresses: false,
     },
     TypeRow {
         number: RType::SRV.0,
         mnemonic: b"SRV",
-        pieces: &[Piece::Fixed(6), Piece::Domain],
+        pieces: &[
+            Piece::Fixed(Fixed::Numbers {
+                count: 3,
+                octets: 2,
+            }),
+            Piece::Domain,
+        ],
         compresses: false,
     },
 ];
+
+impl Fixed {
+    /// How many octets it has.
+    pub(crate) fn width(self) -> usize
+        ensures { result ≡ width (fixed_of self) }
+    {
+        match self {
+            Fixed::Numbers { count, octets } => usize::from(count) * usize::from(octets),
+            Fixed::Ipv4 => 4,
+            Fixed::Ipv6 => 16,
+        }
+    }
+}
 
 /// The table, by rising number.
 pub(crate) fn types() -> &'static [TypeRow]
