@@ -26,3 +26,4 @@ mod CheckRows
 mod AnswerRows
 mod ReadingRows
 mod TextRows
+mod DataRows

@@ -3,6 +3,9 @@ pub mod Names
 pub mod NameText
 pub mod Data
 pub mod TypeText
+pub mod AddressText
+pub mod DataText
+pub mod WrittenText
 pub mod Records
 pub mod Sets
 pub mod Tree
