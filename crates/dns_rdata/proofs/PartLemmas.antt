@@ -1,14 +1,15 @@
 -- Parts of data, one after another.
-use Rattle.std.proofs.Common.{◌≡◌, ℕ, suc, ◌≤◌, ◌==◌, true, Option, None, Some, All, List, [], ◌∷◌, ◌++◌, map, length, get_or, drop, refl, sym, ap, ◌∙◌, subst, arith, append_assoc, append-nil}
-use Rattle.std.proofs.lemmas.Bool.{false≢true, false_from_ne_true, eqb-true}
+use Rattle.std.proofs.Common.{Bool, false, nat_le, cond, ◌==◌, ◌≡◌, ℕ, suc, ◌≤◌, true, Option, None, Some, All, List, [], ◌∷◌, ◌++◌, map, length, get_or, drop, refl, sym, ap, ◌∙◌, subst, arith, append_assoc, append-nil}
+use Rattle.std.proofs.lemmas.Bool.{and_parts, leb-true, false≢true, false_from_ne_true, eqb-true}
 use Rattle.std.proofs.lemmas.List.{nil_from_length}
 use Rattle.std.proofs.lemmas.List.Concat.{flat_map-cons}
 use Rattle.std.proofs.lemmas.List.Elements.{All-nil, All-cons, All-head, All-tail}
 use Rattle.std.proofs.lemmas.Option.{none-some, same_Some}
+use Rattle.std.specs.List.{find, list_all, flat_map}
 use Rattle.std.specs.Option.{is_some, unwrap_or, option_map}
 use Rattle.std.specs.Char.{to_ascii_lowercase}
 use Rattle.dns_spec.specs.Names.{Octets}
-use Rattle.dns_spec.specs.Data.{width, fixed, domain, string, strings, anything, octets, name, part_octets, part_folded, joined, cut, piece_front, valid, lower_case}
+use Rattle.dns_spec.specs.Data.{width, fixed, domain, string, strings, anything, octets, name, part_octets, part_folded, joined, cut, piece_front, valid, lower_case, pieces_of, type_table, other_type}
 use Rattle.dns_spec.specs.Data as Data
 use Rattle.dns_spec.proofs.NameLaws.{IsName-is_name, map-lowercase-wire}
 use Rattle.dns_spec.proofs.WrittenData.{cut_into, name_part, octets_part, all_strings}
@@ -91,6 +92,49 @@ names_left ps os = go (cut (pieces_in ps) os) refl
     go : (y : Option (List Data.Part)) → cut (pieces_in ps) os ≡ y → All HasName (unwrap_or y [])
     go None e = All-nil HasName
     go (Some xs) e = cut_names (pieces_in ps) os xs e
+
+-- no type has more than three pieces
+few_found : (found : Bool) (row : Data.TypeRow) (rest : Option Data.TypeRow) → length row.pieces ≤ 3
+    → length (unwrap_or rest other_type).pieces ≤ 3 → length (unwrap_or (cond found (Some row) rest) other_type).pieces ≤ 3
+few_found true row rest h k = h
+few_found false row rest h k = k
+
+few_in : (t : ℕ) (rows : List Data.TypeRow) → list_all (λ (r : Data.TypeRow). nat_le (length r.pieces) 3) rows ≡ true
+    → length (unwrap_or (find (λ (r : Data.TypeRow). r.number == t) rows) other_type).pieces ≤ 3
+few_in t [] h = omega arith
+few_in t (row ∷ rows) h =
+    let p = and_parts (nat_le (length row.pieces) 3) (list_all (λ (r : Data.TypeRow). nat_le (length r.pieces) 3) rows) h in
+    few_found (row.number == t) row (find (λ (r : Data.TypeRow). r.number == t) rows) (leb-true (length row.pieces) 3 p.0) (few_in t rows p.1)
+
+few_pieces : (t : ℕ) → length (pieces_of t) ≤ 3
+few_pieces t = few_in t type_table refl
+
+cut_length : (ps : List Data.Piece) (os : Octets) (xs : List Data.Part) → cut ps os ≡ Some xs → length xs ≡ length ps
+unfolding cut
+cut_length [] [] xs h = ap length (sym (same_Some [] xs h))
+cut_length [] (o ∷ os) xs h = absurd (none-some xs h)
+cut_length (p ∷ ps) os xs h =
+    let c = cut_into p ps os xs h in
+    ap length (sym c.whole) ∙ ap suc (cut_length ps c.rest c.others c.more)
+
+pub few_parts : (t : ℕ) (ps : List Piece) (os : Octets) → pieces_in ps ≡ pieces_of t → length (parts_left ps os) ≤ 3
+few_parts t ps os e = go (cut (pieces_in ps) os) refl
+  where
+    go : (y : Option (List Data.Part)) → cut (pieces_in ps) os ≡ y → length (unwrap_or y []) ≤ 3
+    go None f = omega arith
+    go (Some xs) f = omega (arith, cut_length (pieces_in ps) os xs f, ap length e, few_pieces t)
+
+-- what a walk over the parts of data was lent is the data
+pub lent_joined : (xs : List Part) (ps : List Data.Part) → map shown_part xs ≡ map with_octets ps → flat_map part_lends xs ≡ joined ps
+lent_joined [] [] e = refl
+lent_joined [] (p ∷ ps) e = cc
+lent_joined (x ∷ xs) [] e = cc
+lent_joined (x ∷ xs) (p ∷ ps) e =
+    let first : part_lends x ≡ part_octets p = ap (λ (ys : List (Data.Part × Octets)). (get_or ys 0 (shown_part x)).1) e in
+    flat_map-cons part_lends x xs
+    ∙ ap (λ ys. ys ++ flat_map part_lends xs) first
+    ∙ ap (λ ys. part_octets p ++ ys) (lent_joined xs ps (ap (λ (ys : List (Data.Part × Octets)). drop 1 ys) e))
+    ∙ sym (flat_map-cons part_octets p ps)
 
 -- a part that is lent is shown with its octets
 lent_octets : (x : Part) → IsLent x → with_octets (part_for x) ≡ shown_part x

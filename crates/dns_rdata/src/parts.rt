@@ -1,5 +1,5 @@
 //! The parts of data: runs of octets, and names.
-ghost use Rattle.std.specs.Prelude.{◌≡◌, map, All, IfSome, IsNone};
+ghost use Rattle.std.specs.Prelude.{◌≡◌, ◌≤◌, map, length, All, IfSome, IsNone};
 ghost use Rattle.std.specs.Option.{is_some};
 ghost use Rattle.std.specs.Iterator.{YieldsFirstBy, item_count};
 ghost use Rattle.dns_spec.specs.Data.{Valid, parts, cut, piece_front, octets_front, domain, strings_front, are_strings};
@@ -48,6 +48,7 @@ impl<'a> Parts<'a> {
         requires { Valid rtype.0 octets.now }
         ensures parts { result ≡ parts rtype.0 octets.now }
         ensures names { All HasName result }
+        ensures count { length result ≤ 3 }
     {
         Parts {
             pieces: pieces_of_type(rtype),

@@ -61,11 +61,12 @@ impl Rdata {
     }
 
     /// The runs of octets and the names of valid data, in order, lent from where they stand. Letters may have either
-    /// case. Data of a type without a name is one run.
+    /// case. Data of a type without a name is one run. There are at most three parts.
     pub fn parts(rtype: RType, octets: &[u8]) -> Parts<'_>
         requires { Valid rtype.0 octets.now }
         ensures parts { result ≡ parts rtype.0 octets.now }
         ensures names { All HasName result }
+        ensures count { length result ≤ 3 }
     {
         Parts::new(rtype, octets)
     }

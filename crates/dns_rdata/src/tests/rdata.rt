@@ -1,5 +1,8 @@
+ghost use Rattle.std.specs.Prelude.{◌≡◌, length, IfOk};
+ghost use Rattle.dns_spec.specs.Data.{Valid, parts};
+
 use crate::{Part, RType, Rdata};
-use std::alloc::Global;
+use std::alloc::{AllocError, Global};
 use std::process::Abort;
 use std::test::Fail;
 
@@ -93,6 +96,28 @@ fn longest_data(rt: HostRuntime) -> Result<(), Fail> {
     Ok(())
 }
 
+// The parts of data, joined: the data.
+fn joined(alloc: Global, rtype: RType, octets: &[u8]) -> Result<Vec<u8>, AllocError>
+    requires { Valid rtype.0 octets.now }
+    ensures { IfOk result (λ v. v.items ≡ octets.now) }
+{
+    let mut joined = Vec::new(alloc);
+    'parts: for part in Rdata::parts(rtype, octets) {
+        match part {
+            Part::Octets(run) => joined.extend_from_slice(run)?,
+            Part::Name(name) => joined.extend_from_slice(name)?,
+        }
+    }
+    Ok(joined)
+}
+
+fn part_count(rtype: RType, octets: &[u8]) -> usize
+    requires { Valid rtype.0 octets.now }
+    ensures { result ≡ length (parts rtype.0 octets.now) }
+{
+    Rdata::parts(rtype, octets).count()
+}
+
 fn parts_are(
     rt: &impl Abort,
     alloc: Global,
@@ -103,6 +128,8 @@ fn parts_are(
     let Ok(_) = Rdata::from_wire(alloc, rtype, octets) else {
         return Err("data of its type".into());
     };
+    assert_eq!(rt; part_count(rtype, octets), wanted.len());
+    assert_eq!(rt; joined(alloc, rtype, octets)?.as_slice(), octets);
     let mut parts = Rdata::parts(rtype, octets);
     for part in wanted {
         assert_eq!(rt; parts.next(), Some(*part), "at {octets:?}");

@@ -1,0 +1,7 @@
+use Rattle.std.proofs.Common.{◌≡◌}
+use Rattle.std.specs.List.{flat_map}
+use Rattle.dns_rdata.specs.Parts.{part_lends}
+use Rattle.dns_rdata.proofs.tests.rdata.joined.Given as goal
+
+abbrev pub invariant-parts : goal.invariant-parts
+invariant-parts l = l.joined.items ≡ flat_map part_lends l.yielded
