@@ -26,4 +26,5 @@ mod CheckRows
 mod AnswerRows
 mod ReadingRows
 mod TextRows
+mod TypeRows
 mod DataRows
