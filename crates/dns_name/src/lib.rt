@@ -11,7 +11,7 @@ mod written;
 pub use label::Label;
 pub use name::{Labels, Name};
 pub use tally::{SinkFailed, SourceFailed, Tally};
-pub use text::NameFault;
+pub use text::{NameFault, first_octet};
 
 #[cfg(test)]
 mod tests;

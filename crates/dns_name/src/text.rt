@@ -127,9 +127,11 @@ fn label_text(text: &[u8]) -> Option<(ArrayVec<u8, KEPT_OCTETS>, &[u8])>
     Some((octets, rest))
 }
 
-// The octet that a text begins with, and the text behind its spelling.
+/// The octet that a text begins with, and the text behind its spelling: the octet itself, `\X` or `\DDD` (RFC 1035 5.1).
+///
+/// `None` at the end of the text, and where a backslash begins no escape. A dot is an octet as others are.
 #[tactic(auto, unfolding(crate::specs::TextForm::octet_at))]
-fn first_octet(text: &[u8]) -> Option<(u8, &[u8])>
+pub fn first_octet(text: &[u8]) -> Option<(u8, &[u8])>
     ensures { Gives result (octet_at text.now) }
 {
     let (first, rest) = text.split_first()?;

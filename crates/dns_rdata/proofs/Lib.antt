@@ -1,5 +1,10 @@
 pub mod TableRows
-pub mod Numbers
+pub mod TypeDigits
+pub mod NumberLemmas
+pub mod Ipv4Lemmas
+pub mod StringLemmas
+pub mod HexLemmas
+pub mod Ipv6Lemmas
 pub mod NameFronts
 pub mod PartLemmas
 pub mod Beginnings

@@ -1,5 +1,6 @@
 pub mod RdataFault
 pub mod TypeRows
-pub mod NumberText
+pub mod AddressForm
+pub mod HexForm
 pub mod Parts
 pub mod NameFront

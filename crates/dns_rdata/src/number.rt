@@ -1,24 +1,61 @@
 //! Numbers in the text of zone files.
-ghost use Rattle.std.specs.Prelude.{◌≡◌, ◌≢◌, ℕ, ◌<◌, ◌^◌, MatchOption};
-ghost use Rattle.std.specs.Fmt.{decimal};
-ghost use Rattle.dns_rdata.specs.NumberText.{begins_otherwise};
+ghost use Rattle.std.specs.Prelude.{◌≡◌, ◌↔◌, ℕ, ◌<◌, ◌≤◌, ◌^◌, Some, decimal, SomeIff, length, ◌+◌, ◌++◌};
+ghost use Rattle.std.specs.Str.Parse.{AllDigits, digits_value};
 
-/// The number below 2^32 that a word spells in decimal: `0`, or digits of which the first is 1 to 9.
-pub(crate) fn number(word: &[u8]) -> Option<u32>
-    ensures { MatchOption result ((n : ℕ) → n < 2 ^ 32 → word.now ≢ decimal n) (λ n. word.now ≡ decimal n) }
+use arrayvec::ArrayVec;
+
+/// The decimal text of a number of 32 bits has at most 10 octets.
+pub const MOST_NUMBER_OCTETS: usize = 10;
+
+/// The number, of at most `most`, that a word says in decimal: `0`, or digits that begin with 1 to 9.
+///
+/// `None` where the word is anything else, as `010`, or says a greater number.
+pub fn read_number(word: &[u8], most: u32) -> Option<u32>
+    ensures { (n : ℕ) → (result ≡ Some n) ↔ ((word.now ≡ decimal n) × (n ≤ most)) }
 {
-    if begins_otherwise(word) {
+    let first = *word.first()?;
+    if first == b'0' && word.len() != 1 {
         return None;
     }
-    match str::from_utf8(word) {
-        Ok(text) => text.parse().ok(),
-        Err(_) => None,
+    let number = number_of_digits(word)?;
+    if number > most {
+        return None;
     }
+    Some(number)
 }
 
-// A plus, or a zero before other digits: `parse` takes both.
-fn begins_otherwise(word: &[u8]) -> bool
-    ensures { result ≡ begins_otherwise word.now }
+// The number that digits say, zeros in front or not.
+fn number_of_digits(digits: &[u8]) -> Option<u32>
+    ensures { SomeIff result (AllDigits 10 digits.now × (digits_value 10 digits.now < 2 ^ 32)) (digits_value 10 digits.now) }
 {
-    matches!(word, [b'+', ..] | [b'0', _, ..])
+    let mut number: u32 = 0;
+    'digits: for digit in digits {
+        if !digit.is_ascii_digit() {
+            return None;
+        }
+        number = number
+            .checked_mul(10)?
+            .checked_add(u32::from(*digit - b'0'))?;
+    }
+    Some(number)
+}
+
+/// The text of a number in plain decimal, as in `65280`.
+pub fn number_text(number: u32) -> ArrayVec<u8, MOST_NUMBER_OCTETS>
+    ensures { result.items ≡ decimal number }
+{
+    let mut text = ArrayVec::new();
+    push_decimal(&mut text, number);
+    text
+}
+
+// Adds the decimal text of a number.
+fn push_decimal(text: &mut ArrayVec<u8, MOST_NUMBER_OCTETS>, number: u32)
+    requires { length text.old.items + length (decimal number) ≤ 10 }
+    ensures { text.new.items ≡ text.old.items ++ decimal number }
+{
+    if number >= 10 {
+        push_decimal(text, number / 10);
+    }
+    text.push(b'0' + (number % 10) as u8);
 }

@@ -5,7 +5,7 @@ ghost use Rattle.dns_spec.specs.Data.{compresses};
 ghost use Rattle.dns_spec.specs.TypeText.{NamesType, text_in_lower_case, numbered_type, type_text};
 ghost use Rattle.dns_name.specs.Counted.{failures_after, AppendsBeginning};
 
-use crate::number::number;
+use crate::number::read_number;
 use crate::table::{row_of_mnemonic, row_of_type, same_text};
 use dns_name::{SinkFailed, Tally};
 use itoa::Buffer;
@@ -86,10 +86,7 @@ fn read_numbered(word: &[u8]) -> Option<RType>
     if !same_text(prefix, b"TYPE") {
         return None;
     }
-    let number = number(digits)?;
-    if number > u32::from(u16::MAX) {
-        return None;
-    }
+    let number = read_number(digits, u32::from(u16::MAX))?;
     Some(RType(number as u16))
 }
 

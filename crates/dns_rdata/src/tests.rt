@@ -1,3 +1,8 @@
+mod hex;
+mod ipv4;
+mod ipv6;
+mod number;
 mod rdata;
 mod set;
+mod string;
 mod types;

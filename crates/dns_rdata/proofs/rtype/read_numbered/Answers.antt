@@ -1,15 +1,20 @@
-use Rattle.std.proofs.Common.{arith, sym, ◌∙◌}
-use Rattle.std.proofs.lemmas.Fmt.{decimal_injective}
-use Rattle.dns_rdata.proofs.Numbers.{type_digits}
+use Rattle.std.proofs.Common.{rules, ℕ, ◌≡◌, ◌<◌, sym, ◌∙◌, arith, None, Some}
+use Rattle.std.specs.Fmt.{decimal}
+use Rattle.dns_rdata.proofs.TypeDigits.{type_digits}
 use Rattle.dns_rdata.proofs.rtype.read_numbered.Goals as goal
+
+none_read : {n : ℕ} → None ≡ Some n → ⊥
+none_read e = cc
 
 pub returns-in_err-number : goal.returns-in_err-number
 returns-in_err-number c =
-    rw c.from_residual-in_err-number.ensures (λ t small e. c.in_err-number.ensures t (omega arith) (type_digits _ _ t (sym c.in_ok-prefix.ensures.cases.2) small e))
+    rw c.from_residual-in_err-number.ensures (λ t small e.
+      none_read (sym c.in_err-number.was ∙ (c.read_number.ensures t).1 (type_digits _ _ t (sym c.in_ok-prefix.ensures.cases.2) small e, omega arith)))
 
-pub returns-then-number-from : goal.returns-then-number-from
-returns-then-number-from c =
-    λ t small e.
-    let digits = type_digits _ _ t (sym c.in_ok-prefix.ensures.cases.2) small e in
-    let same = decimal_injective _ _ (omega arith) (omega arith) (sym digits ∙ c.in_ok-number.ensures) in
-    absurd (omega (arith, same))
+pub overflow_cast-result : goal.overflow_cast-result
+overflow_cast-result c = let most = ((c.read_number.ensures c.in_ok-number.number).0 c.in_ok-number.was).1 in omega (arith, most)
+
+pub returns : goal.returns
+returns c =
+    let digits : c.in_ok-prefix.digits.now ≡ decimal c.in_ok-number.number = ((c.read_number.ensures c.in_ok-number.number).0 c.in_ok-number.was).0 in
+    search rules

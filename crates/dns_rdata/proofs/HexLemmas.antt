@@ -1,0 +1,122 @@
+-- Hex digits read from left to right, two an octet.
+use Rattle.std.proofs.Common.{◌%◌, ◌&&◌, ◌≡◌, ℕ, ◌+◌, ◌*◌, ◌<◌, inl, inr, ◌⊎◌, true, false, [], ◌∷◌, ◌++◌, length, refl, sym, ◌∙◌, ap, arith}
+use Rattle.std.specs.Prelude.{Option, Some, None}
+use Rattle.std.specs.Option.{option_map, option_and_then}
+use Rattle.std.specs.Char.{is_ascii_hexdigit, digit_value}
+use Rattle.std.proofs.lemmas.List.{append_assoc, append-nil}
+use Rattle.std.proofs.lemmas.Bool.{cases_Bool}
+use Rattle.dns_spec.specs.Names.{Octets}
+use Rattle.dns_spec.specs.DataText.{hex_octets}
+use Rattle.dns_rdata.specs.HexForm.{hex_front, AppendsHex}
+
+none_is_some : {A : Type 0} (x : A) → None ≡ Some x → ⊥
+none_is_some x e = cc
+
+some_inner : {A : Type 0} (x y : A) → Some x ≡ Some y → x ≡ y
+some_inner x y e = cc
+
+-- what two digits and what stands behind them say
+front_says : (text : Octets) (x : ℕ) (others : Octets) → hex_front text ≡ Some (x, others) → hex_octets text ≡ option_map (λ d. x ∷ d) (hex_octets others)
+unfolding hex_front hex_octets
+front_says [] x others e = cc
+front_says (h ∷ []) x others e = cc
+front_says (h ∷ l ∷ rest) x others e = by_cases (cases_Bool (is_ascii_hexdigit h)) (cases_Bool (is_ascii_hexdigit l))
+  where
+    by_cases : (is_ascii_hexdigit h ≡ true) ⊎ (is_ascii_hexdigit h ≡ false) → (is_ascii_hexdigit l ≡ true) ⊎ (is_ascii_hexdigit l ≡ false) → hex_octets (h ∷ l ∷ rest) ≡ option_map (λ d. x ∷ d) (hex_octets others)
+    by_cases (inl high) (inl low) =
+        let f : Some (digit_value h * 16 + digit_value l, rest) ≡ Some (x, others) = rw (high, low) at e in
+        let parts = some_inner _ _ f in
+        let value : 16 * digit_value h + digit_value l ≡ x = omega (arith, ap (λ p. p.0) parts) in
+        rw (high, low) (ap (λ v. option_map (λ d. v ∷ d) (hex_octets rest)) value ∙ ap (λ r. option_map (λ d. x ∷ d) (hex_octets r)) (ap (λ p. p.1) parts))
+    by_cases (inl high) (inr low) = let f : None ≡ Some (x, others) = rw (high, low) at e in absurd (none_is_some _ f)
+    by_cases (inr high) low = let f : None ≡ Some (x, others) = rw high at e in absurd (none_is_some _ f)
+
+front_refuses : (text : Octets) → (text ≡ [] → ⊥) → hex_front text ≡ None → hex_octets text ≡ None
+unfolding hex_front hex_octets
+front_refuses [] more e = absurd (more refl)
+front_refuses (h ∷ []) more e = refl
+front_refuses (h ∷ l ∷ rest) more e = by_cases (cases_Bool (is_ascii_hexdigit h)) (cases_Bool (is_ascii_hexdigit l))
+  where
+    by_cases : (is_ascii_hexdigit h ≡ true) ⊎ (is_ascii_hexdigit h ≡ false) → (is_ascii_hexdigit l ≡ true) ⊎ (is_ascii_hexdigit l ≡ false) → hex_octets (h ∷ l ∷ rest) ≡ None
+    by_cases (inl high) (inl low) =
+        let f : Some (digit_value h * 16 + digit_value l, rest) ≡ None = rw (high, low) at e in
+        absurd (none_is_some _ (sym f))
+    by_cases (inl high) (inr low) = rw (high, low) refl
+    by_cases (inr high) low = rw high refl
+
+pub front_shorter : (text : Octets) (x : ℕ) (others : Octets) → hex_front text ≡ Some (x, others) → length others < length text
+unfolding hex_front
+front_shorter [] x others e = cc
+front_shorter (h ∷ []) x others e = cc
+front_shorter (h ∷ l ∷ rest) x others e = by_cases (cases_Bool (is_ascii_hexdigit h)) (cases_Bool (is_ascii_hexdigit l))
+  where
+    by_cases : (is_ascii_hexdigit h ≡ true) ⊎ (is_ascii_hexdigit h ≡ false) → (is_ascii_hexdigit l ≡ true) ⊎ (is_ascii_hexdigit l ≡ false) → length others < length (h ∷ l ∷ rest)
+    by_cases (inl high) (inl low) =
+        let f : Some (digit_value h * 16 + digit_value l, rest) ≡ Some (x, others) = rw (high, low) at e in
+        omega (arith, ap (λ p. length p.1) (some_inner _ _ f))
+    by_cases (inl high) (inr low) = let f : None ≡ Some (x, others) = rw (high, low) at e in absurd (none_is_some _ f)
+    by_cases (inr high) low = let f : None ≡ Some (x, others) = rw high at e in absurd (none_is_some _ f)
+
+-- what was read and what the rest says are what the text says
+pub record HexSoFar (text old octets rest : Octets) : Type 0 where
+  pub read : Octets
+  pub appended : octets ≡ old ++ read
+  pub whole : hex_octets text ≡ option_map (λ d. read ++ d) (hex_octets rest)
+
+pub HexSoFar-none : (text old : Octets) → HexSoFar text old old text
+HexSoFar-none text old = record { read = []; appended = sym (append-nil old); whole = same (hex_octets text) }
+  where
+    same : (o : Option Octets) → o ≡ option_map (λ d. [] ++ d) o
+    same None = refl
+    same (Some d) = refl
+
+pub HexSoFar-push : (text old octets rest : Octets) (x : ℕ) (others : Octets) → HexSoFar text old octets rest → hex_front rest ≡ Some (x, others) → HexSoFar text old (octets ++ x ∷ []) others
+HexSoFar-push text old octets rest x others so_far e = record {
+  read = so_far.read ++ x ∷ [];
+  appended = ap (λ o. o ++ x ∷ []) so_far.appended ∙ append_assoc old so_far.read (x ∷ []);
+  whole = so_far.whole ∙ ap (option_map (λ d. so_far.read ++ d)) (front_says rest x others e) ∙ joined (hex_octets others);
+}
+  where
+    joined : (o : Option Octets) → option_map (λ d. so_far.read ++ d) (option_map (λ d. x ∷ d) o) ≡ option_map (λ d. (so_far.read ++ x ∷ []) ++ d) o
+    joined None = refl
+    joined (Some d) = ap (λ k. Some k) (sym (append_assoc so_far.read (x ∷ []) d))
+
+pub HexSoFar-refuses : (text old octets rest new : Octets) → HexSoFar text old octets rest → (rest ≡ [] → ⊥) → hex_front rest ≡ None → AppendsHex text false old new
+HexSoFar-refuses text old octets rest new so_far more e =
+    so_far.whole ∙ ap (option_map (λ d. so_far.read ++ d)) (front_refuses rest more e)
+
+pub HexSoFar-end : (text old octets rest : Octets) → HexSoFar text old octets rest → rest ≡ [] → AppendsHex text true old octets
+unfolding hex_octets
+HexSoFar-end text old octets rest so_far empty = (
+  so_far.read,
+  so_far.whole ∙ ap (λ r. option_map (λ d. so_far.read ++ d) (hex_octets r)) empty ∙ ap (λ d. Some d) (append-nil so_far.read),
+  so_far.appended,
+)
+
+-- two texts of hex digits, one behind the other
+abbrev pub joined_octets : Option Octets → Option Octets → Option Octets
+joined_octets o p = option_and_then (λ d. option_map (λ e. d ++ e) p) o
+
+even-more : (h l : ℕ) (text : Octets) → length (h ∷ l ∷ text) % 2 ≡ 0 → length text % 2 ≡ 0
+even-more h l text e = omega (arith, e)
+
+pub hex_octets-append : (text others : Octets) → length text % 2 ≡ 0 → hex_octets (text ++ others) ≡ joined_octets (hex_octets text) (hex_octets others)
+unfolding hex_octets
+hex_octets-append [] others even = same (hex_octets others)
+  where
+    same : (o : Option Octets) → o ≡ option_map (λ e. [] ++ e) o
+    same None = refl
+    same (Some d) = refl
+hex_octets-append (h ∷ []) others even = absurd (omega (arith, even))
+hex_octets-append (h ∷ l ∷ text) others even =
+    by_cases (hex_octets-append text others (even-more h l text even)) (cases_Bool (is_ascii_hexdigit h && is_ascii_hexdigit l))
+  where
+    onto : (x : ℕ) (o p : Option Octets) → option_map (λ d. x ∷ d) (joined_octets o p) ≡ joined_octets (option_map (λ d. x ∷ d) o) p
+    onto x None p = refl
+    onto x (Some d) None = refl
+    onto x (Some d) (Some e) = refl
+
+    by_cases : hex_octets (text ++ others) ≡ joined_octets (hex_octets text) (hex_octets others) → ((is_ascii_hexdigit h && is_ascii_hexdigit l) ≡ true) ⊎ ((is_ascii_hexdigit h && is_ascii_hexdigit l) ≡ false) → hex_octets ((h ∷ l ∷ text) ++ others) ≡ joined_octets (hex_octets (h ∷ l ∷ text)) (hex_octets others)
+    by_cases behind (inl digits) =
+        rw digits (ap (option_map (λ d. (16 * digit_value h + digit_value l) ∷ d)) behind ∙ onto (16 * digit_value h + digit_value l) (hex_octets text) (hex_octets others))
+    by_cases behind (inr none) = rw none refl

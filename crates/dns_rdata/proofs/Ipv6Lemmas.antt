@@ -1,0 +1,405 @@
+-- Groups of an IPv6 address, read from left to right.
+use Rattle.std.proofs.Common.{◌≡◌, ℕ, zero, suc, ◌+◌, ◌-◌, ◌*◌, ◌^◌, ◌<◌, ◌≤◌, inl, inr, ◌⊎◌, Bool, true, false, ◌&&◌, ◌==◌, List, [], ◌∷◌, ◌++◌, length, take, drop, get_or, replicate, nat_lt, nat_le, refl, sym, ◌∙◌, ap, subst, arith, length-append, drop-cons, length-drop}
+use Rattle.std.specs.Prelude.{Option, Some, None, if◌then◌else◌, position, MatchOption}
+use Rattle.std.specs.Option.{option_map, option_and_then}
+use Rattle.std.specs.List.{list_all, slice_split, position_or_len, flat_map, onto_first}
+use Rattle.std.specs.Int.{bytes_high_first}
+use Rattle.std.specs.Bool.{OnTrue}
+use Rattle.std.specs.Char.{is_ascii_hexdigit, digit_value}
+use Rattle.std.specs.Str.Parse.{digits_value}
+use Rattle.std.proofs.lemmas.List.{append_assoc, append-nil, take_all, take_more, length-replicate}
+use Rattle.std.proofs.lemmas.List.Folds.{list_all_more}
+use Rattle.std.proofs.lemmas.List.Splits.{slice_split_first}
+use Rattle.std.proofs.lemmas.Bool.{cases_Bool, and_from, and_left, and_right, true≢false, false≢true, lt-ltb, eq-eqb, le-leb, lt-leb, ne_eqb, ltb-true, ltb-false, le-ltb, leb-false, and_parts}
+use Rattle.std.proofs.lemmas.Int.Digits.{digits_value_more}
+use Rattle.std.proofs.Math.Nat.{pow-le-pow_right, pow-suc}
+use Rattle.std.proofs.Math.Numerals.{add-one, suc-eq-add-one}
+use Rattle.dns_spec.specs.Names.{Octets}
+use Rattle.dns_spec.specs.AddressText.{is_group, group_values, groups_said, around_gap, filled_groups, eight_groups, groups_by, ipv6_groups, ipv6_octets}
+use Rattle.dns_rdata.specs.HexForm.{digit_of}
+use Rattle.dns_rdata.specs.AddressForm.{few_groups}
+
+some_inner : {A : Type 0} (x y : A) → Some x ≡ Some y → x ≡ y
+some_inner x y e = cc
+
+none_is_some : {A : Type 0} (x : A) → None ≡ Some x → ⊥
+none_is_some x e = cc
+
+-- a hex digit, and none
+digit_is : (c v : ℕ) → Some v ≡ digit_of c → (is_ascii_hexdigit c ≡ true) × (v ≡ digit_value c)
+digit_is c v e = by_cases (cases_Bool (is_ascii_hexdigit c))
+  where
+    by_cases : (is_ascii_hexdigit c ≡ true) ⊎ (is_ascii_hexdigit c ≡ false) → (is_ascii_hexdigit c ≡ true) × (v ≡ digit_value c)
+    by_cases (inl hex) = let f : Some v ≡ Some (digit_value c) = rw hex at e in (hex, some_inner _ _ f)
+    by_cases (inr none) = let f : Some v ≡ None = rw none at e in absurd (none_is_some v (sym f))
+
+digit_none : (c : ℕ) → None ≡ digit_of c → is_ascii_hexdigit c ≡ false
+digit_none c e = by_cases (cases_Bool (is_ascii_hexdigit c))
+  where
+    by_cases : (is_ascii_hexdigit c ≡ true) ⊎ (is_ascii_hexdigit c ≡ false) → is_ascii_hexdigit c ≡ false
+    by_cases (inl hex) = let f : None ≡ Some (digit_value c) = rw hex at e in absurd (none_is_some _ f)
+    by_cases (inr none) = none
+
+-- the digits of a group so far
+pub record GroupSoFar (text : Octets) (i value : ℕ) : Type 0 where
+  pub hex : list_all is_ascii_hexdigit (take i text) ≡ true
+  pub value_is : value ≡ digits_value 16 (take i text)
+  pub bound : value < 16 ^ i
+
+pub GroupSoFar-none : (text : Octets) → GroupSoFar text 0 0
+GroupSoFar-none text = record { hex = refl; value_is = refl; bound = omega arith }
+
+pub GroupSoFar-small : (text : Octets) (i value : ℕ) → GroupSoFar text i value → i < length text → length text ≤ 4 → value < 4096
+GroupSoFar-small text i value so_far inside short =
+    let most : 16 ^ i ≤ 16 ^ 3 = pow-le-pow_right {n = 16} (omega arith) {i = i} {j = 3} (omega arith) in
+    omega (arith, so_far.bound, most)
+
+pub GroupSoFar-push : (text : Octets) (i value v : ℕ) → GroupSoFar text i value → i < length text → Some v ≡ digit_of (get_or text i 0) → v < 16 → GroupSoFar text (i + 1) (value * 16 + v)
+GroupSoFar-push text i value v so_far inside e small =
+    let digit = digit_is (get_or text i 0) v e in
+    record {
+      hex = list_all_more is_ascii_hexdigit text i 0 inside ∙ and_from _ _ so_far.hex digit.0;
+      value_is = omega (arith, digits_value_more 16 text i inside, digit.1, ap (λ n. n * 16) so_far.value_is);
+      bound = let step : 16 ^ (i + 1) ≡ 16 ^ i * 16 = rw (add-one i) (pow-suc 16 i) in omega (arith, so_far.bound, step);
+    }
+
+-- a group has at most 4 digits, and one at least
+pub group_of : (text : Octets) → 0 < length text → length text ≤ 4 → list_all is_ascii_hexdigit text ≡ true → is_group text ≡ true
+group_of text some_digit short hex = and_from _ _ (and_from _ _ (lt-ltb _ _ some_digit) (le-leb _ _ short)) hex
+
+pub empty_group : (text : Octets) → length text ≡ 0 → is_group text ≡ false
+empty_group text empty = rw empty refl
+
+pub long_group : (text : Octets) → 4 < length text → is_group text ≡ false
+long_group text long = and_left _ _ (and_right _ _ (lt-leb _ _ long))
+
+pub no_hex_group : (text : Octets) (i : ℕ) → i < length text → None ≡ digit_of (get_or text i 0) → is_group text ≡ false
+no_hex_group text i inside e = and_right _ _ (not_all text i inside (digit_none (get_or text i 0) e))
+  where
+    not_all : (text : Octets) (i : ℕ) → i < length text → is_ascii_hexdigit (get_or text i 0) ≡ false → list_all is_ascii_hexdigit text ≡ false
+    not_all [] i inside h = absurd (omega (arith, inside))
+    not_all (c ∷ text) zero inside h = and_left _ _ h
+    not_all (c ∷ text) (suc i) inside h = and_right _ _ (not_all text i (omega (arith, inside)) h)
+
+pub group_read : (text : Octets) (i value : ℕ) (r : Option ℕ) → GroupSoFar text i value → 0 < length text → length text ≤ 4 → length text ≤ i → r ≡ Some value → r ≡ (if is_group text then Some (digits_value 16 text) else None)
+group_read text i value r so_far some_digit short end e =
+    let whole = take_all i text end in
+    let group = group_of text some_digit short (ap (list_all is_ascii_hexdigit) (sym whole) ∙ so_far.hex) in
+    e ∙ ap (λ v. Some v) (so_far.value_is ∙ ap (digits_value 16) whole) ∙ ap (λ t. if t then Some (digits_value 16 text) else None) (sym group)
+
+-- eight groups one by one
+pub eight : (gs : List ℕ) → length gs ≡ 8 → gs ≡ get_or gs 0 0 ∷ get_or gs 1 0 ∷ get_or gs 2 0 ∷ get_or gs 3 0 ∷ get_or gs 4 0 ∷ get_or gs 5 0 ∷ get_or gs 6 0 ∷ get_or gs 7 0 ∷ []
+eight gs e = listed gs e
+  where
+    listed : (gs : List ℕ) → length gs ≡ 8 → gs ≡ get_or gs 0 0 ∷ get_or gs 1 0 ∷ get_or gs 2 0 ∷ get_or gs 3 0 ∷ get_or gs 4 0 ∷ get_or gs 5 0 ∷ get_or gs 6 0 ∷ get_or gs 7 0 ∷ []
+    listed (a ∷ b ∷ c ∷ d ∷ f ∷ g ∷ h ∷ k ∷ []) e = refl
+    listed [] e = absurd (omega (arith, e))
+    listed (a ∷ []) e = absurd (omega (arith, e))
+    listed (a ∷ b ∷ []) e = absurd (omega (arith, e))
+    listed (a ∷ b ∷ c ∷ []) e = absurd (omega (arith, e))
+    listed (a ∷ b ∷ c ∷ d ∷ []) e = absurd (omega (arith, e))
+    listed (a ∷ b ∷ c ∷ d ∷ f ∷ []) e = absurd (omega (arith, e))
+    listed (a ∷ b ∷ c ∷ d ∷ f ∷ g ∷ []) e = absurd (omega (arith, e))
+    listed (a ∷ b ∷ c ∷ d ∷ f ∷ g ∷ h ∷ []) e = absurd (omega (arith, e))
+    listed (a ∷ b ∷ c ∷ d ∷ f ∷ g ∷ h ∷ k ∷ l ∷ gs) e = absurd (omega (arith, e))
+
+pub eight_octets : (gs a b c d f g h k : List ℕ) → length gs ≡ 8 → a ≡ bytes_high_first 2 (get_or gs 0 0) → b ≡ bytes_high_first 2 (get_or gs 1 0) → c ≡ bytes_high_first 2 (get_or gs 2 0) → d ≡ bytes_high_first 2 (get_or gs 3 0) → f ≡ bytes_high_first 2 (get_or gs 4 0) → g ≡ bytes_high_first 2 (get_or gs 5 0) → h ≡ bytes_high_first 2 (get_or gs 6 0) → k ≡ bytes_high_first 2 (get_or gs 7 0)
+    → Some (get_or a 0 0 ∷ get_or a 1 0 ∷ get_or b 0 0 ∷ get_or b 1 0 ∷ get_or c 0 0 ∷ get_or c 1 0 ∷ get_or d 0 0 ∷ get_or d 1 0 ∷ get_or f 0 0 ∷ get_or f 1 0 ∷ get_or g 0 0 ∷ get_or g 1 0 ∷ get_or h 0 0 ∷ get_or h 1 0 ∷ get_or k 0 0 ∷ get_or k 1 0 ∷ []) ≡ option_map (flat_map (bytes_high_first 2)) (eight_groups gs)
+eight_octets gs a b c d f g h k four ea eb ec ed ef eg eh ek =
+    let whole : eight_groups gs ≡ Some gs = rw four refl in
+    rw (ea, eb, ec, ed, ef, eg, eh, ek, whole) (ap (λ l. Some (flat_map (bytes_high_first 2) l)) (sym (eight gs four)))
+
+abbrev pub with_front : Octets → Octets × Octets → Octets × Octets
+with_front front r = (front ++ r.0, r.1)
+
+abbrev with_octet : ℕ → Octets × Octets → Octets × Octets
+with_octet c r = (c ∷ r.0, r.1)
+
+-- what stands before a place has no gap
+pub record GapSoFar (text : Octets) (place : ℕ) : Type 0 where
+  pub inside : place ≤ length text
+  pub whole : around_gap text ≡ option_map (with_front (take place text)) (around_gap (drop place text))
+
+pub GapSoFar-none : (text : Octets) → GapSoFar text 0
+GapSoFar-none text = record { inside = omega arith; whole = same (around_gap text) }
+  where
+    same : (o : Option (Octets × Octets)) → o ≡ option_map (with_front []) o
+    same None = refl
+    same (Some r) = refl
+
+-- the two octets at a place
+one_at : (text : Octets) (place : ℕ) → place < length text → drop place text ≡ get_or text place 0 ∷ drop (place + 1) text
+one_at text place inside =
+    let P : ℕ → Type 0 = λ k. drop place text ≡ get_or text place 0 ∷ drop k text in
+    subst P (suc-eq-add-one place) (drop-cons text place 0 inside)
+
+next_at : (text : Octets) (place : ℕ) → place + 1 < length text → drop (place + 1) text ≡ get_or text (place + 1) 0 ∷ drop (place + 2) text
+next_at text place inside =
+    let P : ℕ → Type 0 = λ k. drop (place + 1) text ≡ get_or text (place + 1) 0 ∷ drop k text in
+    let two : (place + 1) + 1 ≡ place + 2 = omega arith in
+    subst P two (one_at text (place + 1) inside)
+
+two_at : (text : Octets) (place : ℕ) → place + 1 < length text → drop place text ≡ get_or text place 0 ∷ get_or text (place + 1) 0 ∷ drop (place + 2) text
+two_at text place inside =
+    one_at text place (omega (arith, inside)) ∙ ap (λ t. get_or text place 0 ∷ t) (next_at text place inside)
+
+pub GapSoFar-push : (text : Octets) (place : ℕ) → GapSoFar text place → place + 1 < length text → ((get_or text place 0 ≡ 58 → ⊥) ⊎ (get_or text (place + 1) 0 ≡ 58 → ⊥)) → GapSoFar text (place + 1)
+GapSoFar-push text place so_far inside other = record {
+  inside = omega (arith, inside);
+  whole = so_far.whole ∙ ap (option_map (with_front (take place text))) (ap around_gap (two_at text place inside) ∙ passed) ∙ joined (around_gap (drop (place + 1) text));
+}
+  where
+    no_gap : ((get_or text place 0 ≡ 58 → ⊥) ⊎ (get_or text (place + 1) 0 ≡ 58 → ⊥)) → (get_or text place 0 == 58 && get_or text (place + 1) 0 == 58) ≡ false
+    no_gap (inl h) = and_left _ _ (ne_eqb _ _ h)
+    no_gap (inr h) = and_right _ _ (ne_eqb _ _ h)
+
+    passed : around_gap (get_or text place 0 ∷ get_or text (place + 1) 0 ∷ drop (place + 2) text) ≡ option_map (with_octet (get_or text place 0)) (around_gap (drop (place + 1) text))
+    passed = rw (no_gap other) (ap (λ t. option_map (with_octet (get_or text place 0)) (around_gap t)) (sym (next_at text place inside)))
+
+    joined : (o : Option (Octets × Octets)) → option_map (with_front (take place text)) (option_map (with_octet (get_or text place 0)) o) ≡ option_map (with_front (take (place + 1) text)) o
+    joined None = refl
+    joined (Some r) =
+        ap (λ f. Some (f, r.1))
+        (sym (append_assoc (take place text) (get_or text place 0 ∷ []) r.0) ∙ ap (λ f. f ++ r.0) (sym (take_more text place 0 (omega (arith, inside)))))
+
+pub GapSoFar-here : (text front back : Octets) (place : ℕ) → GapSoFar text place → place + 1 < length text → get_or text place 0 ≡ 58 → get_or text (place + 1) 0 ≡ 58 → front ≡ take place text → back ≡ drop (place + 2) text → around_gap text ≡ Some (front, back)
+GapSoFar-here text front back place so_far inside first second front_is back_is =
+    so_far.whole
+    ∙ ap (option_map (with_front (take place text))) (ap around_gap (two_at text place inside ∙ ap (λ c. c ∷ get_or text (place + 1) 0 ∷ drop (place + 2) text) first ∙ ap (λ c. 58 ∷ c ∷ drop (place + 2) text) second))
+    ∙ ap (λ f. Some (f, drop (place + 2) text)) (append-nil (take place text) ∙ sym front_is)
+    ∙ ap (λ b. Some (front, b)) (sym back_is)
+
+pub GapSoFar-end : (text : Octets) (place : ℕ) → GapSoFar text place → length text ≤ place + 1 → around_gap text ≡ None
+GapSoFar-end text place so_far end = so_far.whole ∙ ap (option_map (with_front (take place text))) (short (drop place text) (omega (arith, length-drop place text)))
+  where
+    short : (t : Octets) → length t ≤ 1 → around_gap t ≡ None
+    short [] h = refl
+    short (c ∷ []) h = refl
+    short (c ∷ d ∷ t) h = absurd (omega (arith, h))
+
+-- groups with colons between, one at least
+abbrev is_colon : ℕ → Bool
+is_colon o = o == 58
+
+abbrev one_or_more : Octets → Option (List ℕ)
+one_or_more text = group_values (slice_split is_colon text)
+
+abbrev group_then : Octets → Option (List ℕ) → Option (List ℕ)
+group_then text behind = if is_group text then option_map (λ gs. digits_value 16 text ∷ gs) behind else None
+
+one_or_more-said : (text : Octets) → (length text ≡ 0 → ⊥) → groups_said text ≡ one_or_more text
+one_or_more-said [] more = absurd (more refl)
+one_or_more-said (c ∷ text) more = refl
+
+place_is : (p : ℕ → Bool) (text : Octets) (end : ℕ) → Some end ≡ position p text → (position_or_len p text ≡ end) × (end < length text)
+place_is p text end e = by_cases (cases_Bool (nat_lt (position_or_len p text) (length text)))
+  where
+    by_cases : (nat_lt (position_or_len p text) (length text) ≡ true) ⊎ (nat_lt (position_or_len p text) (length text) ≡ false) → (position_or_len p text ≡ end) × (end < length text)
+    by_cases (inl inside) =
+        let f : Some end ≡ Some (position_or_len p text) = rw inside at e in
+        let one = some_inner _ _ f in
+        let below = ltb-true _ _ inside in
+        (sym one, omega (arith, one, below))
+    by_cases (inr none) = let f : Some end ≡ None = rw none at e in absurd (none_is_some end (sym f))
+
+first_group : (text : Octets) (end : ℕ) → Some end ≡ position is_colon text → one_or_more text ≡ group_then (take end text) (one_or_more (drop (end + 1) text))
+first_group text end e =
+    let place = place_is is_colon text end e in
+    ap group_values (slice_split_first is_colon text 0 (omega (arith, place.0, place.1)))
+    ∙ ap (λ k. group_then (take k text) (one_or_more (drop (k + 1) text))) place.0
+
+one_part : (p : ℕ → Bool) (text : Octets) → length text ≤ position_or_len p text → slice_split p text ≡ text ∷ []
+one_part p [] h = refl
+one_part p (x ∷ text) h = by_cases (one_part p text) (cases_Bool (p x))
+  where
+    by_cases : (length text ≤ position_or_len p text → slice_split p text ≡ text ∷ []) → (p x ≡ true) ⊎ (p x ≡ false) → slice_split p (x ∷ text) ≡ (x ∷ text) ∷ []
+    by_cases behind (inl passes) = let g : length (x ∷ text) ≤ 0 = rw passes at h in absurd (omega (arith, g))
+    by_cases behind (inr other) =
+        let g : length (x ∷ text) ≤ 1 + position_or_len p text = rw other at h in
+        rw other (ap (onto_first x) (behind (omega (arith, g))))
+
+no_colon : (text : Octets) → None ≡ position is_colon text → slice_split is_colon text ≡ text ∷ []
+no_colon text e = by_cases (cases_Bool (nat_lt (position_or_len is_colon text) (length text)))
+  where
+    by_cases : (nat_lt (position_or_len is_colon text) (length text) ≡ true) ⊎ (nat_lt (position_or_len is_colon text) (length text) ≡ false) → slice_split is_colon text ≡ text ∷ []
+    by_cases (inl inside) = let f : None ≡ Some (position_or_len is_colon text) = rw inside at e in absurd (none_is_some _ f)
+    by_cases (inr none) = one_part is_colon text (ltb-false _ _ none)
+
+last_group : (text : Octets) → None ≡ position is_colon text → one_or_more text ≡ group_then text (Some [])
+last_group text e = ap group_values (no_colon text e)
+
+-- the groups read so far, and the text behind them
+pub record GroupsSoFar (text : Octets) (groups : List ℕ) (rest : Octets) : Type 0 where
+  pub whole : one_or_more text ≡ option_map (λ gs. groups ++ gs) (one_or_more rest)
+  pub few : length groups ≤ 8
+
+pub GroupsSoFar-none : (text : Octets) → GroupsSoFar text [] text
+GroupsSoFar-none text = record { whole = same (one_or_more text); few = omega arith }
+  where
+    same : (o : Option (List ℕ)) → o ≡ option_map (λ gs. [] ++ gs) o
+    same None = refl
+    same (Some gs) = refl
+
+abbrev pub Pushes : Octets → List ℕ → List ℕ → Bool → Type 0
+Pushes text old new pushed = (pushed ≡ (is_group text && nat_lt (length old) 8)) × OnTrue pushed (new ≡ old ++ digits_value 16 text ∷ [])
+
+pushed_group : (text : Octets) (old new : List ℕ) → Pushes text old new true → (is_group text ≡ true) × (length old < 8) × (new ≡ old ++ digits_value 16 text ∷ [])
+pushed_group text old new (fits, value) =
+    let parts = and_parts (is_group text) _ (sym fits) in
+    (parts.0, ltb-true _ _ parts.1, value)
+
+joined_groups : (old gs : List ℕ) (v : ℕ) (o : Option (List ℕ)) → option_map (λ gs. old ++ gs) (option_map (λ gs. v ∷ gs) o) ≡ option_map (λ gs. (old ++ v ∷ []) ++ gs) o
+joined_groups old gs v None = refl
+joined_groups old gs v (Some hs) = ap (λ k. Some k) (sym (append_assoc old (v ∷ []) hs))
+
+pub GroupsSoFar-push : (text rest first : Octets) (old new : List ℕ) (end : ℕ) → GroupsSoFar text old rest → Some end ≡ position is_colon rest → first ≡ take end rest → Pushes first old new true → GroupsSoFar text new (drop (end + 1) rest)
+GroupsSoFar-push text rest first old new end so_far e first_is pushes =
+    let pushed = pushed_group first old new pushes in
+    let is_one : is_group (take end rest) ≡ true = ap is_group (sym first_is) ∙ pushed.0 in
+    let behind = one_or_more (drop (end + 1) rest) in
+    let read : one_or_more rest ≡ option_map (λ gs. digits_value 16 first ∷ gs) behind = first_group rest end e ∙ rw (sym first_is, pushed.0) refl in
+    let P : List ℕ → Type 0 = λ n. one_or_more text ≡ option_map (λ gs. n ++ gs) behind in
+    record {
+      whole = subst P (sym pushed.2) (so_far.whole ∙ ap (option_map (λ gs. old ++ gs)) read ∙ joined_groups old [] (digits_value 16 first) behind);
+      few = omega (arith, ap length pushed.2, length-append old (digits_value 16 first ∷ []), pushed.1);
+    }
+
+-- no group stands next, or there are too many
+refused_groups : (text : Octets) (old : List ℕ) (first : Octets) (behind : Option (List ℕ)) → one_or_more text ≡ option_map (λ gs. old ++ gs) (group_then first behind) → false ≡ (is_group first && nat_lt (length old) 8) → None ≡ option_and_then few_groups (one_or_more text)
+refused_groups text old first behind whole refused = sym (ap (option_and_then few_groups) whole ∙ by_cases (cases_Bool (is_group first)) behind)
+  where
+    too_many : (gs : List ℕ) → 8 ≤ length old → 0 < length gs → few_groups (old ++ gs) ≡ None
+    too_many gs full some_group =
+        let over : 8 < length (old ++ gs) = omega (arith, length-append old gs, full, some_group) in
+        let no_room : nat_le (length (old ++ gs)) 8 ≡ false = lt-leb _ _ over in
+        rw no_room refl
+
+    full : is_group first ≡ true → 8 ≤ length old
+    full group = ltb-false _ _ (sym (let f : false ≡ nat_lt (length old) 8 = rw group at refused in f))
+
+    by_cases : (is_group first ≡ true) ⊎ (is_group first ≡ false) → (behind : Option (List ℕ)) → option_and_then few_groups (option_map (λ gs. old ++ gs) (group_then first behind)) ≡ None
+    by_cases (inr none) behind = rw none refl
+    by_cases (inl group) None = rw group refl
+    by_cases (inl group) (Some gs) = rw group (too_many (digits_value 16 first ∷ gs) (full group) (omega arith))
+
+pub refused_before_colon : (text rest first : Octets) (old new : List ℕ) (end : ℕ) → GroupsSoFar text old rest → (length text ≡ 0 → ⊥) → Some end ≡ position is_colon rest → first ≡ take end rest → Pushes first old new false → None ≡ option_and_then few_groups (groups_said text)
+refused_before_colon text rest first old new end so_far more e first_is pushes =
+    refused_groups text old first (one_or_more (drop (end + 1) rest))
+    (so_far.whole ∙ ap (option_map (λ gs. old ++ gs)) (first_group rest end e ∙ ap (λ t. group_then t (one_or_more (drop (end + 1) rest))) (sym first_is))) pushes.0
+    ∙ ap (option_and_then few_groups) (sym (one_or_more-said text more))
+
+pub refused_last : (text rest : Octets) (old new : List ℕ) → GroupsSoFar text old rest → (length text ≡ 0 → ⊥) → None ≡ position is_colon rest → Pushes rest old new false → None ≡ option_and_then few_groups (groups_said text)
+refused_last text rest old new so_far more e pushes =
+    refused_groups text old rest (Some []) (so_far.whole ∙ ap (option_map (λ gs. old ++ gs)) (last_group rest e)) pushes.0
+    ∙ ap (option_and_then few_groups) (sym (one_or_more-said text more))
+
+pub all_groups : (text rest : Octets) (old new : List ℕ) → GroupsSoFar text old rest → (length text ≡ 0 → ⊥) → None ≡ position is_colon rest → Pushes rest old new true → Some new ≡ option_and_then few_groups (groups_said text)
+all_groups text rest old new so_far more e pushes =
+    let pushed = pushed_group rest old new pushes in
+    let last : one_or_more rest ≡ Some (digits_value 16 rest ∷ []) = last_group rest e ∙ rw pushed.0 refl in
+    let whole : groups_said text ≡ Some new = one_or_more-said text more ∙ so_far.whole ∙ ap (option_map (λ gs. old ++ gs)) last ∙ ap (λ k. Some k) (sym pushed.2) in
+    let room : nat_le (length new) 8 ≡ true = le-leb _ _ (omega (arith, ap length pushed.2, length-append old (digits_value 16 rest ∷ []), pushed.1)) in
+    let few : few_groups new ≡ Some new = rw room refl in
+    sym (ap (option_and_then few_groups) whole ∙ few)
+
+-- a part of a slice up to its end
+pub to_end : (text : Octets) (from : ℕ) → take (length text - from) (drop from text) ≡ drop from text
+to_end text from = take_all (length text - from) (drop from text) (omega (arith, length-drop from text))
+
+-- zero groups behind those in front, as far as there is room for those behind
+pub record FilledSoFar (old groups back : List ℕ) : Type 0 where
+  pub zeros : groups ≡ old ++ replicate (length groups - length old) 0
+  pub grown : length old ≤ length groups
+  pub room : length groups + length back ≤ 8
+
+-- what `few_groups` keeps
+few_some : (gs o : List ℕ) → Some gs ≡ few_groups o → o ≡ gs
+few_some gs o e = by_cases (cases_Bool (nat_le (length o) 8))
+  where
+    by_cases : (nat_le (length o) 8 ≡ true) ⊎ (nat_le (length o) 8 ≡ false) → o ≡ gs
+    by_cases (inl room) = let f : Some gs ≡ Some o = rw room at e in sym (some_inner _ _ f)
+    by_cases (inr none) = let f : Some gs ≡ None = rw none at e in absurd (none_is_some gs (sym f))
+
+few_none : (o : List ℕ) → None ≡ few_groups o → 8 < length o
+few_none o e = by_cases (cases_Bool (nat_le (length o) 8))
+  where
+    by_cases : (nat_le (length o) 8 ≡ true) ⊎ (nat_le (length o) 8 ≡ false) → 8 < length o
+    by_cases (inl room) = let f : None ≡ Some o = rw room at e in absurd (none_is_some o f)
+    by_cases (inr none) = leb-false _ _ none
+
+pub all_said : (gs : List ℕ) (o : Option (List ℕ)) → Some gs ≡ option_and_then few_groups o → o ≡ Some gs
+all_said gs None e = absurd (none_is_some gs (sym e))
+all_said gs (Some hs) e = ap (λ k. Some k) (few_some gs hs e)
+
+abbrev octets_of : Option (List ℕ) → Option Octets
+octets_of = option_map (flat_map (bytes_high_first 2))
+
+by_gap : (word : Octets) (r : Option (Octets × Octets)) → around_gap word ≡ r → ipv6_octets word ≡ octets_of (groups_by word r)
+unfolding ipv6_groups
+by_gap word r e = ap (λ g. octets_of (groups_by word g)) e
+
+pub refused_whole : (word : Octets) → around_gap word ≡ None → None ≡ option_and_then few_groups (groups_said word) → ipv6_octets word ≡ None
+refused_whole word gap e = by_gap word None gap ∙ ap octets_of (not_eight (groups_said word) e)
+  where
+    not_eight : (o : Option (List ℕ)) → None ≡ option_and_then few_groups o → option_and_then eight_groups o ≡ None
+    not_eight None e = refl
+    not_eight (Some gs) e =
+        let more = few_none gs e in
+        let test : (length gs == 8) ≡ false = ne_eqb _ _ (λ f. omega (arith, more, f)) in
+        rw test refl
+
+pub whole_word : (word : Octets) (gs : List ℕ) (r : Option Octets) → around_gap word ≡ None → Some gs ≡ option_and_then few_groups (groups_said word) → r ≡ octets_of (eight_groups gs) → r ≡ ipv6_octets word
+whole_word word gs r gap e f =
+    f ∙ ap (λ o. octets_of (option_and_then eight_groups o)) (sym (all_said gs (groups_said word) e)) ∙ sym (by_gap word None gap)
+
+too_long : (front back : List ℕ) → 8 ≤ length front + length back → filled_groups front back ≡ None
+too_long front back long = let test : nat_lt (length front + length back) 8 ≡ false = le-ltb _ _ long in rw test refl
+
+pub refused_front : (word front back : Octets) → around_gap word ≡ Some (front, back) → None ≡ option_and_then few_groups (groups_said front) → ipv6_octets word ≡ None
+refused_front word front back gap e = by_gap word (Some (front, back)) gap ∙ ap octets_of (none_filled (groups_said front) e (groups_said back))
+  where
+    none_filled : (o : Option (List ℕ)) → None ≡ option_and_then few_groups o → (b : Option (List ℕ)) → option_and_then (λ f. option_and_then (filled_groups f) b) o ≡ None
+    none_filled None e b = refl
+    none_filled (Some gs) e None = refl
+    none_filled (Some gs) e (Some hs) = too_long gs hs (omega (arith, few_none gs e))
+
+pub refused_back : (word front back : Octets) (gs : List ℕ) → around_gap word ≡ Some (front, back) → Some gs ≡ option_and_then few_groups (groups_said front) → None ≡ option_and_then few_groups (groups_said back) → ipv6_octets word ≡ None
+refused_back word front back gs gap e f =
+    by_gap word (Some (front, back)) gap
+    ∙ ap (λ o. octets_of (option_and_then (λ k. option_and_then (filled_groups k) (groups_said back)) o)) (all_said gs (groups_said front) e)
+    ∙ ap octets_of (none_filled (groups_said back) f)
+  where
+    none_filled : (o : Option (List ℕ)) → None ≡ option_and_then few_groups o → option_and_then (filled_groups gs) o ≡ None
+    none_filled None f = refl
+    none_filled (Some hs) f = too_long gs hs (omega (arith, few_none hs f))
+
+around : (word front back : Octets) (gs hs : List ℕ) → around_gap word ≡ Some (front, back) → Some gs ≡ option_and_then few_groups (groups_said front) → Some hs ≡ option_and_then few_groups (groups_said back) → ipv6_octets word ≡ octets_of (filled_groups gs hs)
+around word front back gs hs gap e f =
+    by_gap word (Some (front, back)) gap
+    ∙ ap (λ o. octets_of (option_and_then (λ k. option_and_then (filled_groups k) (groups_said back)) o)) (all_said gs (groups_said front) e)
+    ∙ ap (λ o. octets_of (option_and_then (filled_groups gs) o)) (all_said hs (groups_said back) f)
+
+-- what `fill` answers
+abbrev pub Fills : List ℕ → List ℕ → Bool → List ℕ → Type 0
+Fills old back filled new = MatchOption (filled_groups old back) (filled ≡ false) (λ gs. (filled ≡ true) × (new ≡ gs))
+
+pub refused_sum : (word front back : Octets) (gs hs new : List ℕ) → around_gap word ≡ Some (front, back) → Some gs ≡ option_and_then few_groups (groups_said front) → Some hs ≡ option_and_then few_groups (groups_said back) → Fills gs hs false new → ipv6_octets word ≡ None
+refused_sum word front back gs hs new gap e f fills = around word front back gs hs gap e f ∙ ap octets_of (by_cases (filled_groups gs hs) fills)
+  where
+    by_cases : (o : Option (List ℕ)) → MatchOption o (false ≡ false) (λ gs. (false ≡ true) × (new ≡ gs)) → o ≡ None
+    by_cases None h = refl
+    by_cases (Some k) h = absurd (false≢true h.0)
+
+pub filled_word : (word front back : Octets) (gs hs new : List ℕ) (r : Option Octets) → around_gap word ≡ Some (front, back) → Some gs ≡ option_and_then few_groups (groups_said front) → Some hs ≡ option_and_then few_groups (groups_said back) → Fills gs hs true new → r ≡ octets_of (eight_groups new) → r ≡ ipv6_octets word
+filled_word word front back gs hs new r gap e f fills g =
+    g ∙ ap octets_of (by_cases (cases_Bool (nat_lt (length gs + length hs) 8))) ∙ sym (around word front back gs hs gap e f)
+  where
+    is_eight : (zeros : ℕ) → zeros ≡ 8 - (length gs + length hs) → length gs + length hs < 8 → length ((gs ++ replicate zeros 0) ++ hs) ≡ 8
+    is_eight zeros count room = omega (arith, length-append (gs ++ replicate zeros 0) hs, length-append gs (replicate zeros 0), length-replicate {A = ℕ} zeros 0, count, room)
+
+    by_cases : (nat_lt (length gs + length hs) 8 ≡ true) ⊎ (nat_lt (length gs + length hs) 8 ≡ false) → eight_groups new ≡ filled_groups gs hs
+    by_cases (inl room) =
+        let h : (true ≡ true) × (new ≡ (gs ++ replicate (8 - (length gs + length hs)) 0) ++ hs) = rw room at fills in
+        let eight_long : (length new == 8) ≡ true = eq-eqb _ _ (ap length h.1 ∙ is_eight _ refl (ltb-true _ _ room)) in
+        rw (eight_long, room) (ap (λ k. Some k) h.1)
+    by_cases (inr none) = let h : true ≡ false = rw none at fills in absurd (true≢false h)

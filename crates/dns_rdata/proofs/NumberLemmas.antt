@@ -1,0 +1,156 @@
+-- Digits read from left to right say a number, and only a number's own text says it.
+use Rattle.std.proofs.Common.{◌≡◌, ◌↔◌, ℕ, zero, suc, [], ◌∷◌, ◌+◌, ◌-◌, ◌*◌, ◌<◌, ◌≤◌, ◌^◌, ◌/◌, ◌%◌, ◌++◌, length-append, List, length, take, get_or, inl, inr, refl, sym, ◌∙◌, ap, subst, arith, decimal}
+use Rattle.std.proofs.lemmas.List.{take_all, append_assoc, length-take}
+use Rattle.std.specs.Prelude.{Option, Some, None, SomeIff}
+use Rattle.std.proofs.lemmas.Bool.{cases_lt}
+use Rattle.std.specs.Char.{digit_value, IsAsciiDigit, IsNotAsciiDigit}
+use Rattle.std.specs.Int.{IsInRange}
+use Rattle.std.specs.Str.Parse.{AllDigits, digits_value}
+use Rattle.std.proofs.lemmas.Int.Digits.{digits_value_more, digits_more}
+use Rattle.std.proofs.lemmas.Str.Parse.{digit_at, digits_value-take-le, numerals_by_value, tells_digits}
+use Rattle.std.specs.Fmt.{digits}
+use Rattle.dns_spec.specs.Names.{Octets}
+use Rattle.std.proofs.lemmas.Fmt.{decimal_is_IsNumeral, decimal-digits_value, first_decimal, decimal_step, decimal_digit, decimal_nonempty, length-decimal-le}
+
+-- an octet that is no digit
+pub no_digit : (ds : List ℕ) (i : ℕ) → i < length ds → IsNotAsciiDigit (get_or ds i 0) → AllDigits 10 ds → ⊥
+no_digit ds i inside out all = between (get_or ds i 0) (digit_at ds i all inside) out
+  where
+    between : (c : ℕ) → IsInRange 48 57 c → IsNotAsciiDigit c → ⊥
+    between c h (inl low) = omega (arith, h.0)
+    between c h (inr high) = omega (arith, h.1)
+
+digit_is : (c : ℕ) → IsAsciiDigit c → digit_value c ≡ c - 48
+digit_is c h = grind (arith, h.0, h.1)
+
+-- one digit more
+pub digit_more : (ds : List ℕ) (i n : ℕ) → i < length ds → IsAsciiDigit (get_or ds i 0) → n ≡ digits_value 10 (take i ds) → digits_value 10 (take (i + 1) ds) ≡ n * 10 + (get_or ds i 0 - 48)
+digit_more ds i n inside digit value =
+    omega (arith, digits_value_more 10 ds i inside, digit_is (get_or ds i 0) digit, ap (λ k. k * 10) value)
+
+-- too many of them for the bound
+pub past_bound : (ds : List ℕ) (i n bound : ℕ) → i < length ds → IsAsciiDigit (get_or ds i 0) → n ≡ digits_value 10 (take i ds) → bound ≤ n * 10 + (get_or ds i 0 - 48) → digits_value 10 ds < bound → ⊥
+past_bound ds i n bound inside digit value over small =
+    omega (arith, digit_more ds i n inside digit value, digits_value-take-le 10 ds (i + 1) (omega arith))
+
+pub all_more : (ds : List ℕ) (i : ℕ) → i < length ds → IsAsciiDigit (get_or ds i 0) → AllDigits 10 (take i ds) → AllDigits 10 (take (i + 1) ds)
+all_more ds i inside digit all = digits_more 10 ds i inside all (omega (arith, digit_is (get_or ds i 0) digit, digit.0, digit.1))
+
+-- nothing is answered
+pub none_iff : {P : Type 0} (o : Option ℕ) (v : ℕ) → o ≡ None → (P → ⊥) → SomeIff o P v
+none_iff None v e refuted = refuted
+none_iff (Some x) v e refuted = absurd (some_is_none x e)
+  where
+    some_is_none : (x : ℕ) → Some x ≡ None → ⊥
+    some_is_none x e = cc
+
+pub not_below : (n bound : ℕ) → (n < bound → ⊥) → bound ≤ n
+not_below n bound h = elim (cases_lt n bound) [ inl below ↦ absurd (h below) | inr above ↦ above ]
+
+-- all digits are read
+pub all_read : (ds : List ℕ) (i n bound : ℕ) → length ds ≤ i → AllDigits 10 (take i ds) → n ≡ digits_value 10 (take i ds) → n < bound → (AllDigits 10 ds × (digits_value 10 ds < bound)) × (n ≡ digits_value 10 ds)
+all_read ds i n bound end all value small =
+    let whole = take_all i ds end in
+    let e : n ≡ digits_value 10 ds = value ∙ ap (digits_value 10) whole in
+    let P : List ℕ → Type 0 = AllDigits 10 in
+    ((subst P whole all, omega (arith, e)), e)
+
+-- the result is the number that the text says, if it says one
+abbrev pub SaysIff : Octets → ℕ → Option ℕ → Type 0
+SaysIff text most r = (n : ℕ) → (r ≡ Some n) ↔ ((text ≡ decimal n) × (n ≤ most))
+
+pub SaysIff-none : (text : Octets) (most : ℕ) (r : Option ℕ) → r ≡ None → ((n : ℕ) → text ≡ decimal n → n ≤ most → ⊥) → SaysIff text most r
+SaysIff-none text most r none refuted = λ n. (λ h. absurd (none_is_some n (sym none ∙ h)), λ h. absurd (refuted n h.0 h.1))
+  where
+    none_is_some : (n : ℕ) → None ≡ Some n → ⊥
+    none_is_some n e = cc
+
+pub says_digits : (text : Octets) (n : ℕ) → n < 2 ^ 32 → text ≡ decimal n → AllDigits 10 text × (digits_value 10 text ≡ n) × (0 < length text)
+says_digits text n small e =
+    let P : Octets → Type 0 = λ t. AllDigits 10 t × (digits_value 10 t ≡ n) × (0 < length t) in
+    let numeral = decimal_is_IsNumeral n (omega arith) in
+    subst P (sym e) (numeral.0.1, numeral.1, numeral.0.0)
+
+-- an empty text
+pub no_text : (text : Octets) (most : ℕ) → most < 2 ^ 32 → length text ≡ 0 → (n : ℕ) → text ≡ decimal n → n ≤ most → ⊥
+no_text text most small empty n e le = let said = says_digits text n (omega arith) e in omega (arith, said.2)
+
+zero_text : decimal 0 ≡ 48 ∷ []
+unfolding digits
+zero_text = refl
+
+-- a zero in front of other octets
+pub zero_in_front : (text : Octets) (most : ℕ) → most < 2 ^ 32 → get_or text 0 0 ≡ 48 → (length text ≡ 1 → ⊥) → (n : ℕ) → text ≡ decimal n → n ≤ most → ⊥
+zero_in_front text most small zero_first more n e le = by_cases n e le
+  where
+    by_cases : (n : ℕ) → text ≡ decimal n → n ≤ most → ⊥
+    by_cases zero e le = more (ap length e ∙ ap length zero_text)
+    by_cases (suc k) e le =
+        omega (arith, first_decimal (suc k) (omega arith) (omega arith), ap (λ t. get_or t 0 0) e)
+
+-- no digits, or digits of too great a number
+pub no_digits : (text : Octets) (most : ℕ) → most < 2 ^ 32 → (AllDigits 10 text × (digits_value 10 text < 2 ^ 32) → ⊥) → (n : ℕ) → text ≡ decimal n → n ≤ most → ⊥
+no_digits text most small refuted n e le =
+    let said = says_digits text n (omega arith) e in
+    refuted (said.0, omega (arith, said.1))
+
+pub greater : (text : Octets) (most : ℕ) → most < 2 ^ 32 → most < digits_value 10 text → (n : ℕ) → text ≡ decimal n → n ≤ most → ⊥
+greater text most small over n e le = let said = says_digits text n (omega arith) e in omega (arith, said.1)
+
+-- digits with no zero in front of others say their value alone
+pub SaysIff-some : (text : Octets) (most k : ℕ) (r : Option ℕ) → r ≡ Some k → k ≡ digits_value 10 text → k ≤ most → most < 2 ^ 32 → AllDigits 10 text → 0 < length text → (get_or text 0 0 ≡ 48 → length text ≡ 1) → SaysIff text most r
+SaysIff-some text most k r some value le small all some_octet zero_alone = λ n. (
+  λ h. (let one : k ≡ n = only k n (sym some ∙ h) in (text_is ∙ ap decimal one, omega (arith, one))),
+  λ h. some ∙ ap (λ j. Some j) (value ∙ (says_digits text n (omega (arith, h.1)) h.0).1),
+)
+  where
+    only : (k n : ℕ) → Some k ≡ Some n → k ≡ n
+    only k n e = cc
+
+    text_is : text ≡ decimal k
+    text_is =
+        sym (decimal-digits_value (numerals_by_value (AllDigits 10) tells_digits) text all some_octet zero_alone (omega (arith, value)))
+        ∙ ap decimal (sym value)
+
+-- a number's text is that of its tenth and its last digit
+pub decimal-parts : (n : ℕ) → 10 ≤ n → n < 2 ^ 32 → (decimal n ≡ decimal (n / 10) ++ (48 + n % 10) ∷ []) × (length (decimal n) ≡ length (decimal (n / 10)) + 1)
+decimal-parts n large small =
+    let e = decimal_step n large (omega arith) in
+    (e, ap length e ∙ length-append (decimal (n / 10)) ((48 + n % 10) ∷ []))
+
+pub decimal-short : (n : ℕ) → n < 2 ^ 32 → length (decimal n) ≤ 10
+decimal-short n small = length-decimal-le 10 n (omega arith) (omega arith) (omega arith)
+
+pub decimal-octet : (n : ℕ) → n < 256 → length (decimal n) ≤ 3
+decimal-octet n small = length-decimal-le 3 n (omega arith) (omega arith) (omega arith)
+
+-- room for the last digit, behind the others and alone
+pub room_behind : (old new : Octets) (n : ℕ) → 10 ≤ n → n < 2 ^ 32 → length old + length (decimal n) ≤ 10 → new ≡ old ++ decimal (n / 10) → length new < 10
+room_behind old new n large small room e =
+    omega (arith, (decimal-parts n large small).1, room, ap length e, length-append old (decimal (n / 10)))
+
+pub room_alone : (old : Octets) (n : ℕ) → n < 10 → length old + length (decimal n) ≤ 10 → length old < 10
+room_alone old n small room = omega (arith, decimal_nonempty n (omega arith), room)
+
+-- the last digit, behind the others and alone
+pub written_behind : (old new whole : Octets) (n : ℕ) → 10 ≤ n → n < 2 ^ 32 → new ≡ old ++ decimal (n / 10) → whole ≡ new ++ (48 + n % 10) ∷ [] → whole ≡ old ++ decimal n
+written_behind old new whole n large small e f =
+    f ∙ ap (λ t. t ++ (48 + n % 10) ∷ []) e ∙ append_assoc old (decimal (n / 10)) ((48 + n % 10) ∷ [])
+    ∙ ap (λ t. old ++ t) (sym (decimal-parts n large small).0)
+
+pub written_alone : (old whole : Octets) (n : ℕ) → n < 10 → whole ≡ old ++ (48 + n % 10) ∷ [] → whole ≡ old ++ decimal n
+written_alone old whole n small f =
+    let digit : n % 10 ≡ n = omega (arith, small) in
+    f ∙ ap (λ d. old ++ (48 + d) ∷ []) digit ∙ ap (λ t. old ++ t) (sym (decimal_digit n small))
+
+-- the text of an octet has at most three digits
+three_digits : (digits text : Octets) (n k : ℕ) → digits ≡ text → text ≡ decimal k → k ≡ n → n < 256 → length digits ≤ 3
+three_digits digits text n k e f g small = omega (arith, ap length (e ∙ f ∙ ap decimal g), decimal-octet n small)
+
+pub octet_short : (old new digits text : Octets) (n k i : ℕ) → new ≡ old ++ take i digits → digits ≡ text → text ≡ decimal k → k ≡ n → n < 256 → length new ≤ length old + 3
+octet_short old new digits text n k i h e f g small =
+    omega (arith, ap length h, length-append old (take i digits), length-take i digits, three_digits digits text n k e f g small)
+
+pub octet_room : (old new digits text : Octets) (n k i : ℕ) → new ≡ old ++ take i digits → digits ≡ text → text ≡ decimal k → k ≡ n → n < 256 → i < length digits → length old + 3 ≤ 15 → length new < 15
+octet_room old new digits text n k i h e f g small inside room =
+    omega (arith, ap length h, length-append old (take i digits), length-take i digits, three_digits digits text n k e f g small)

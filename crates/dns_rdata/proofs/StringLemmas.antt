@@ -1,0 +1,131 @@
+-- Reading a string from left to right finds what it spells, and nothing else.
+use Rattle.std.proofs.Common.{◌≡◌, ◌↔◌, ℕ, ◌<◌, ◌≤◌, inl, inr, ◌==◌, [], ◌∷◌, ◌++◌, length, refl, sym, ◌∙◌, ap, subst, arith, length-append}
+use Rattle.std.specs.Prelude.{Some, None}
+use Rattle.std.proofs.lemmas.List.{append_assoc, append-nil}
+use Rattle.std.proofs.lemmas.Bool.{cases_Bool, eqb-true}
+use Rattle.dns_spec.specs.Names.{Octets}
+use Rattle.dns_spec.specs.DataText.{SpellsString, SpellsStringOctet}
+use Rattle.dns_name.specs.TextForm.{octet_at}
+use Rattle.dns_name.proofs.TextLemmas.{octet_at-OctetThen, OctetThen-octet_at}
+
+-- a text is the spelling of an octet of a string, and others
+abbrev pub StringOctetThen : Octets → ℕ → Octets → Type 0
+StringOctetThen text x others = (first : Octets) × (text ≡ first ++ others) × SpellsStringOctet first x
+
+spelled_read : (text : Octets) (x : ℕ) (others : Octets) → StringOctetThen text x others → octet_at text ≡ Some (x, others)
+unfolding octet_at
+spelled_read text x others (first, e, inl spelled) = octet_at-OctetThen text x others (first, e, spelled)
+spelled_read text x others (first, e, inr (dot, is_dot)) =
+    ap octet_at (e ∙ ap (λ f. f ++ others) dot) ∙ ap (λ y. Some (y, others)) (sym is_dot)
+
+some_inner : {A : Type 0} (x y : A) → Some x ≡ Some y → x ≡ y
+some_inner x y e = cc
+
+some_parts : (v w : ℕ × Octets) → Some v ≡ Some w → (v.0 ≡ w.0) × (v.1 ≡ w.1)
+some_parts v w e = let pairs = some_inner v w e in (ap (λ u. u.0) pairs, ap (λ u. u.1) pairs)
+
+read_spelled : (text : Octets) (x : ℕ) (others : Octets) → octet_at text ≡ Some (x, others) → StringOctetThen text x others
+unfolding octet_at
+read_spelled [] x others e = cc
+read_spelled (a ∷ rest) x others e =
+    elim (cases_Bool (a == 46)) [
+      | inl dot ↦
+          let is_dot = eqb-true a 46 dot in
+          let read = some_parts (46, rest) (x, others) (ap (λ b. octet_at (b ∷ rest)) (sym is_dot) ∙ e) in
+          (a ∷ [], ap (λ r. a ∷ r) read.1, inr (ap (λ b. b ∷ []) is_dot, sym read.0))
+      | inr other ↦
+          let spelled = OctetThen-octet_at (a ∷ rest) x others other e in
+          (spelled.0, spelled.1, inl spelled.2)
+    ]
+
+-- the octets of a string that were read, and the text behind them, where the text spells what they and the rest spell
+pub record StringSoFar (text read rest : Octets) : Type 0 where
+  pub all : (s : Octets) → SpellsString rest s → SpellsString text (read ++ s)
+  pub only : (s : Octets) → SpellsString text s → (t : Octets) × (s ≡ read ++ t) × SpellsString rest t
+
+pub StringSoFar-none : (text : Octets) → StringSoFar text [] text
+StringSoFar-none text = record { all = λ s h. h; only = λ s h. (s, refl, h) }
+
+none_is_some : {A : Type 0} (x : A) → None ≡ Some x → ⊥
+none_is_some x e = cc
+
+pub StringSoFar-push : (text read rest : Octets) (x : ℕ) (others : Octets) → StringSoFar text read rest → octet_at rest ≡ Some (x, others) → StringSoFar text (read ++ x ∷ []) others
+unfolding octet_at
+StringSoFar-push text read rest x others so_far e = record { all = all; only = only }
+  where
+    all : (s : Octets) → SpellsString others s → SpellsString text ((read ++ x ∷ []) ++ s)
+    all s h =
+        let next = read_spelled rest x others e in
+        let P : Octets → Type 0 = SpellsString text in
+        subst P (sym (append_assoc read (x ∷ []) s)) (so_far.all (x ∷ s) (next.0, others, next.1, next.2, h))
+
+    behind : (t : Octets) → SpellsString rest t → (u : Octets) × (t ≡ x ∷ u) × SpellsString others u
+    behind [] empty = absurd (none_is_some (x, others) (ap octet_at (sym empty) ∙ e))
+    behind (y ∷ u) (first, more, f, spelled, h) =
+        let one = some_parts (y, more) (x, others) (sym (spelled_read rest y more (first, f, spelled)) ∙ e) in
+        let P : Octets → Type 0 = λ r. SpellsString r u in
+        (u, ap (λ k. k ∷ u) one.0, subst P one.1 h)
+
+    only : (s : Octets) → SpellsString text s → (t : Octets) × (s ≡ (read ++ x ∷ []) ++ t) × SpellsString others t
+    only s h =
+        let rest_of = so_far.only s h in
+        let next = behind rest_of.0 rest_of.2 in
+        (next.0, rest_of.1 ∙ ap (λ t. read ++ t) next.1 ∙ sym (append_assoc read (x ∷ []) next.0), next.2)
+
+pub none_left : (text : Octets) → length text ≡ 0 → text ≡ []
+none_left [] e = refl
+none_left (o ∷ text) e = absurd (omega (arith, e))
+
+-- all of the text is read
+pub StringSoFar-end : (text read rest : Octets) → StringSoFar text read rest → rest ≡ [] → SpellsString text read
+StringSoFar-end text read rest so_far empty =
+    let P : Octets → Type 0 = SpellsString text in
+    subst P (append-nil read) (so_far.all [] empty)
+
+-- and nothing else is spelled
+pub StringSoFar-only : (text read rest : Octets) → StringSoFar text read rest → rest ≡ [] → (s : Octets) → SpellsString text s → s ≡ read
+unfolding octet_at
+StringSoFar-only text read rest so_far empty s h =
+    let behind = so_far.only s h in
+    behind.1 ∙ ap (λ t. read ++ t) (by_cases behind.0 behind.2) ∙ append-nil read
+  where
+    by_cases : (t : Octets) → SpellsString rest t → t ≡ []
+    by_cases [] spelled = refl
+    by_cases (y ∷ t) (first, others, e, spelled, g) =
+        absurd (none_is_some (y, others) (ap octet_at (sym empty) ∙ spelled_read rest y others (first, e, spelled)))
+
+pub StringSoFar-iff : (text read rest : Octets) → StringSoFar text read rest → rest ≡ [] → (s : Octets) → SpellsString text s ↔ (s ≡ read)
+StringSoFar-iff text read rest so_far empty s = (
+  λ h. StringSoFar-only text read rest so_far empty s h,
+  λ e. (let P : Octets → Type 0 = SpellsString text in subst P (sym e) (StringSoFar-end text read rest so_far empty)),
+)
+
+-- nothing is spelled where the text does not go on
+pub no_string : (text read rest : Octets) → StringSoFar text read rest → (rest ≡ [] → ⊥) → octet_at rest ≡ None → (s : Octets) → SpellsString text s → ⊥
+no_string text read rest so_far more none s h =
+    let behind = so_far.only s h in
+    by_cases behind.0 behind.2
+  where
+    by_cases : (t : Octets) → SpellsString rest t → ⊥
+    by_cases [] empty = more empty
+    by_cases (y ∷ t) (first, others, e, spelled, g) =
+        none_is_some (y, others) (sym none ∙ spelled_read rest y others (first, e, spelled))
+
+-- a string of 255 octets has no more
+pub string_is_long : (text read rest : Octets) → StringSoFar text read rest → (rest ≡ [] → ⊥) → length read ≡ 255 → (s : Octets) → SpellsString text s → length s ≤ 255 → ⊥
+string_is_long text read rest so_far more full s h short =
+    let behind = so_far.only s h in
+    by_cases behind.0 behind.2 (omega (arith, ap length behind.1, length-append read behind.0))
+  where
+    by_cases : (t : Octets) → SpellsString rest t → length t ≡ 0 → ⊥
+    by_cases [] empty none = more empty
+    by_cases (y ∷ t) spelled none = omega (arith, none)
+
+-- a spelling has an octet or more
+pub octet_at-shorter : (text : Octets) (x : ℕ) (others : Octets) → octet_at text ≡ Some (x, others) → length others < length text
+octet_at-shorter text x others e = let spelled = read_spelled text x others e in by_cases spelled.0 spelled.1 spelled.2
+  where
+    by_cases : (first : Octets) → text ≡ first ++ others → SpellsStringOctet first x → length others < length text
+    by_cases [] f (inl h) = absurd h
+    by_cases [] f (inr (h, k)) = omega (arith, ap length h)
+    by_cases (a ∷ first) f h = omega (arith, ap length f, length-append first others)

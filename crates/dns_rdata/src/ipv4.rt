@@ -1,0 +1,78 @@
+//! IPv4 addresses in the text of zone files.
+ghost use Rattle.std.specs.Prelude.{◌≡◌, ◌↔◌, ℕ, IsNone, IfSome, Some, ◌≤◌, decimal, ◌==◌, ◌+◌, ◌++◌, length, position};
+ghost use Rattle.dns_spec.specs.Names.{Octets};
+ghost use Rattle.dns_spec.specs.AddressText.{SaysIpv4, ipv4_text};
+ghost use Rattle.dns_rdata.specs.AddressForm.{OctetThen};
+
+use crate::number::{number_text, read_number};
+use arrayvec::ArrayVec;
+
+/// The text of an IPv4 address has at most 15 octets.
+pub const MOST_IPV4_OCTETS: usize = 15;
+
+/// The IPv4 address that a word says: four decimals 0 to 255 with dots between (RFC 1035 3.4.1).
+///
+/// `None` where the word is anything else, as `192.0.2.01`.
+pub fn read_ipv4(word: &[u8]) -> Option<[u8; 4]>
+    ensures { (d : Octets) → (result ≡ Some d) ↔ SaysIpv4 word.now d }
+{
+    let (first, rest) = octet_and_dot(word)?;
+    let (second, rest) = octet_and_dot(rest)?;
+    let (third, rest) = octet_and_dot(rest)?;
+    let fourth = read_octet(rest)?;
+    Some([first, second, third, fourth])
+}
+
+/// The text of an IPv4 address, as in `192.0.2.1` (RFC 1035 3.4.1).
+pub fn text_of_ipv4(address: &[u8; 4]) -> ArrayVec<u8, MOST_IPV4_OCTETS>
+    ensures { result.items ≡ ipv4_text address.now }
+{
+    let [first, second, third, fourth] = *address;
+    let mut text = ArrayVec::new();
+    push_octet(&mut text, first);
+    text.push(b'.');
+    push_octet(&mut text, second);
+    text.push(b'.');
+    push_octet(&mut text, third);
+    text.push(b'.');
+    push_octet(&mut text, fourth);
+    text
+}
+
+// Adds the decimal text of an octet, which has at most three.
+fn push_octet(text: &mut ArrayVec<u8, MOST_IPV4_OCTETS>, octet: u8)
+    requires { length text.old.items + 3 ≤ 15 }
+    ensures text { text.new.items ≡ text.old.items ++ decimal octet }
+    ensures short { length text.new.items ≤ length text.old.items + 3 }
+{
+    let number = number_text(u32::from(octet));
+    let digits = number.as_slice();
+    'digits: for digit in digits {
+        text.push(*digit);
+    }
+}
+
+// The number up to the first dot, and the text behind the dot.
+fn octet_and_dot(text: &[u8]) -> Option<(u8, &[u8])>
+    ensures some { IfSome result (λ x. OctetThen text.now x.0 x.1.now) }
+    ensures none { IsNone result → (n : ℕ) (rest : Octets) → OctetThen text.now n rest → ⊥ }
+{
+    let end = place_of(text, b'.')?;
+    let (number, dot_and_rest) = text.split_at(end);
+    let (_, rest) = dot_and_rest.split_first()?;
+    Some((read_octet(number)?, rest))
+}
+
+fn read_octet(text: &[u8]) -> Option<u8>
+    ensures { (n : ℕ) → (result ≡ Some n) ↔ ((text.now ≡ decimal n) × (n ≤ 255)) }
+{
+    let number = read_number(text, 255)?;
+    u8::try_from(number).ok()
+}
+
+// Where the first such octet stands.
+pub(crate) fn place_of(text: &[u8], wanted: u8) -> Option<usize>
+    ensures { result ≡ position (λ octet. octet == wanted) text.now }
+{
+    text.iter().position(|octet| *octet == wanted)
+}

@@ -1,0 +1,40 @@
+use crate::{number_text, read_number};
+use std::test::Fail;
+
+#[test]
+fn numbers_read(rt: HostRuntime) -> Result<(), Fail> {
+    let rows: [(&[u8], Option<u32>); 11] = [
+        (b"0", Some(0)),
+        (b"9", Some(9)),
+        (b"10", Some(10)),
+        (b"65535", Some(65535)),
+        (b"65536", None),
+        (b"4294967296", None),
+        (b"010", None),
+        (b"00", None),
+        (b"", None),
+        (b"1a", None),
+        (b"+1", None),
+    ];
+    for (word, number) in rows {
+        assert_eq!(rt; read_number(word, 65535), number, "at {word:?}");
+    }
+    assert_eq!(rt; read_number(b"4294967295", u32::MAX), Some(u32::MAX));
+    assert_eq!(rt; read_number(b"4294967296", u32::MAX), None);
+    Ok(())
+}
+
+#[test]
+fn numbers_written(rt: HostRuntime) -> Result<(), Fail> {
+    let rows: [(u32, &[u8]); 5] = [
+        (0, b"0"),
+        (9, b"9"),
+        (10, b"10"),
+        (65280, b"65280"),
+        (4294967295, b"4294967295"),
+    ];
+    for (number, text) in rows {
+        assert_eq!(rt; number_text(number).as_slice(), text);
+    }
+    Ok(())
+}
