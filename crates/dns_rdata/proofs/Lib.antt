@@ -5,6 +5,7 @@ pub mod Ipv4Lemmas
 pub mod StringLemmas
 pub mod HexLemmas
 pub mod Ipv6Lemmas
+pub mod Ipv6TextLemmas
 pub mod NameFronts
 pub mod PartLemmas
 pub mod Beginnings

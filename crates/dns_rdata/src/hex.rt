@@ -31,7 +31,7 @@ pub fn hex_digits(octet: u8) -> [u8; 2]
     [hex_digit(octet / 16), hex_digit(octet % 16)]
 }
 
-fn hex_digit(value: u8) -> u8
+pub(crate) fn hex_digit(value: u8) -> u8
     requires { value < 16 }
     ensures { result ≡ digit_char value }
 {

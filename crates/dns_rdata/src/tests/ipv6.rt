@@ -1,4 +1,4 @@
-use crate::read_ipv6;
+use crate::{read_ipv6, text_of_ipv6};
 use std::test::Fail;
 
 #[test]
@@ -78,6 +78,32 @@ fn ipv6_refused(rt: HostRuntime) -> Result<(), Fail> {
     ];
     for word in words {
         assert!(rt; read_ipv6(word).is_none(), "at {word:?}");
+    }
+    Ok(())
+}
+
+#[test]
+fn ipv6_written(rt: HostRuntime) -> Result<(), Fail> {
+    let words: [&[u8]; 10] = [
+        b"1:0:2:3:4:5:6:7",
+        b"2001:db8::1:0:0:1",
+        b"1:2:3:4:5:6:7:0",
+        b"::",
+        b"::1",
+        b"1::",
+        b"1:0:0:2:3::",
+        b"::2:3:4:5:6:7",
+        b"ffff:1fff:1ff:1f:f:fff0:ff00:f000",
+        b"a::b:c:0:0",
+    ];
+    for word in words {
+        let address = read_ipv6(word);
+        let text = address.as_ref().map(text_of_ipv6);
+        assert_eq!(rt;
+            text.as_ref().map(|text| text.as_slice()),
+            Some(word),
+            "at {word:?}"
+        );
     }
     Ok(())
 }

@@ -1,4 +1,4 @@
-use Rattle.std.proofs.Common.{rules, ℕ, ◌≡◌, ◌<◌, sym, ◌∙◌, arith, None, Some}
+use Rattle.std.proofs.Common.{rules, ℕ, ◌≡◌, sym, ◌∙◌, arith, None, Some}
 use Rattle.std.specs.Fmt.{decimal}
 use Rattle.dns_rdata.proofs.TypeDigits.{type_digits}
 use Rattle.dns_rdata.proofs.rtype.read_numbered.Goals as goal
@@ -9,7 +9,7 @@ none_read e = cc
 pub returns-in_err-number : goal.returns-in_err-number
 returns-in_err-number c =
     rw c.from_residual-in_err-number.ensures (λ t small e.
-      none_read (sym c.in_err-number.was ∙ (c.read_number.ensures t).1 (type_digits _ _ t (sym c.in_ok-prefix.ensures.cases.2) small e, omega arith)))
+    none_read (sym c.in_err-number.was ∙ (c.read_number.ensures t).1 (type_digits _ _ t (sym c.in_ok-prefix.ensures.cases.2) small e, omega arith)))
 
 pub overflow_cast-result : goal.overflow_cast-result
 overflow_cast-result c = let most = ((c.read_number.ensures c.in_ok-number.number).0 c.in_ok-number.was).1 in omega (arith, most)

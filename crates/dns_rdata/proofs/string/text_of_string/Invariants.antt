@@ -1,4 +1,4 @@
-use Rattle.std.proofs.Common.{◌≡◌, ◌+◌, ◌*◌, ◌≤◌, ◌∷◌, ◌++◌, length, take}
+use Rattle.std.proofs.Common.{◌≡◌, ◌+◌, ◌*◌, ◌≤◌, ◌∷◌, length, take}
 use Rattle.std.specs.List.{flat_map}
 use Rattle.dns_spec.specs.WrittenText.{string_octet_text}
 use Rattle.dns_rdata.proofs.string.text_of_string.Given as goal

@@ -1,0 +1,249 @@
+-- The text of an IPv6 address, group by group.
+use Rattle.std.proofs.Common.{◌≡◌, ◌≢◌, ℕ, zero, suc, ◌+◌, ◌-◌, ◌*◌, ◌/◌, ◌%◌, ◌<◌, ◌≤◌, max, inl, inr, ◌⊎◌, Bool, true, false, ◌==◌, List, [], ◌∷◌, ◌++◌, length, take, drop, get_or, fold, refl, sym, ◌∙◌, ap, subst, arith, length-append, length-drop, drop-cons}
+use Rattle.std.specs.List.{prefix_len, position_or_len}
+use Rattle.std.specs.Char.{digit_char}
+use Rattle.std.specs.Fmt.{digits}
+use Rattle.std.proofs.lemmas.List.{append_assoc, take_more, take_all, drop_all}
+use Rattle.std.proofs.lemmas.Fmt.{hex_one_digit, hex_two_digits}
+use Rattle.std.proofs.lemmas.Bool.{ne_eqb, eq-eqb, cases_Bool, cases_lt}
+use Rattle.std.proofs.Math.Numerals.{suc-eq-add-one}
+use Rattle.dns_spec.specs.Names.{Octets}
+use Rattle.dns_spec.specs.AddressText.{groups_text, zero_runs, longest_run, longest_place}
+
+-- the digits of an octet, and of two
+pub one_digit : (n : ℕ) → n < 16 → digits 16 false n ≡ digit_char n ∷ []
+one_digit n small = hex_one_digit false n small
+
+pub two_digits : (n : ℕ) → 16 ≤ n → n < 256 → digits 16 false n ≡ digit_char (n / 16) ∷ digit_char (n % 16) ∷ []
+two_digits n large small = hex_two_digits false n large small
+
+three_of : (n : ℕ) → 256 ≤ n → n < 4096 → digits 16 false n ≡ digit_char (n / 16 / 16 % 16) ∷ digit_char (n / 16 % 16) ∷ digit_char (n % 16) ∷ []
+unfolding digits
+three_of n large small =
+    let a : (n / 16 == 0) ≡ false = ne_eqb _ _ (λ e. omega (arith, e)) in
+    let b : (n / 16 / 16 == 0) ≡ false = ne_eqb _ _ (λ e. omega (arith, e)) in
+    let c : (n / 16 / 16 / 16 == 0) ≡ true = eq-eqb _ _ (omega arith) in
+    rw (a, b, c) refl
+
+four_of : (n : ℕ) → 4096 ≤ n → n < 65536 → digits 16 false n ≡ digit_char (n / 16 / 16 / 16 % 16) ∷ digit_char (n / 16 / 16 % 16) ∷ digit_char (n / 16 % 16) ∷ digit_char (n % 16) ∷ []
+unfolding digits
+four_of n large small =
+    let a : (n / 16 == 0) ≡ false = ne_eqb _ _ (λ e. omega (arith, e)) in
+    let b : (n / 16 / 16 == 0) ≡ false = ne_eqb _ _ (λ e. omega (arith, e)) in
+    let c : (n / 16 / 16 / 16 == 0) ≡ false = ne_eqb _ _ (λ e. omega (arith, e)) in
+    let d : (n / 16 / 16 / 16 / 16 == 0) ≡ true = eq-eqb _ _ (omega arith) in
+    rw (a, b, c, d) refl
+
+pub split_digits : (n : ℕ) → 256 ≤ n → n < 65536 → digits 16 false n ≡ digits 16 false (n / 256) ++ digit_char (n % 256 / 16) ∷ digit_char (n % 256 % 16) ∷ []
+split_digits n large small = elim (cases_lt n 4096) [ inl below ↦ three below | inr above ↦ four above ]
+  where
+    second : n / 16 % 16 ≡ n % 256 / 16
+    second = omega arith
+
+    last : n % 16 ≡ n % 256 % 16
+    last = omega arith
+
+    tail : (c : ℕ) → digit_char (n / 16 % 16) ∷ digit_char (n % 16) ∷ [] ≡ digit_char (n % 256 / 16) ∷ digit_char (n % 256 % 16) ∷ []
+    tail c = ap (λ d. digit_char d ∷ digit_char (n % 16) ∷ []) second ∙ ap (λ d. digit_char (n % 256 / 16) ∷ digit_char d ∷ []) last
+
+    three : n < 4096 → digits 16 false n ≡ digits 16 false (n / 256) ++ digit_char (n % 256 / 16) ∷ digit_char (n % 256 % 16) ∷ []
+    three below =
+        let first : n / 16 / 16 % 16 ≡ n / 256 = omega arith in
+        three_of n large below ∙ ap (λ d. digit_char d ∷ digit_char (n / 16 % 16) ∷ digit_char (n % 16) ∷ []) first ∙ ap (λ t. digit_char (n / 256) ∷ t) (tail 0)
+        ∙ ap (λ t. t ++ digit_char (n % 256 / 16) ∷ digit_char (n % 256 % 16) ∷ []) (sym (one_digit (n / 256) (omega arith)))
+
+    four : 4096 ≤ n → digits 16 false n ≡ digits 16 false (n / 256) ++ digit_char (n % 256 / 16) ∷ digit_char (n % 256 % 16) ∷ []
+    four above =
+        let first : n / 16 / 16 / 16 % 16 ≡ n / 256 / 16 = omega arith in
+        let next : n / 16 / 16 % 16 ≡ n / 256 % 16 = omega arith in
+        four_of n above small ∙ ap (λ d. digit_char d ∷ digit_char (n / 16 / 16 % 16) ∷ digit_char (n / 16 % 16) ∷ digit_char (n % 16) ∷ []) first
+        ∙ ap (λ d. digit_char (n / 256 / 16) ∷ digit_char d ∷ digit_char (n / 16 % 16) ∷ digit_char (n % 16) ∷ []) next
+        ∙ ap (λ t. digit_char (n / 256 / 16) ∷ digit_char (n / 256 % 16) ∷ t) (tail 0)
+        ∙ ap (λ t. t ++ digit_char (n % 256 / 16) ∷ digit_char (n % 256 % 16) ∷ []) (sym (two_digits (n / 256) (omega arith) (omega arith)))
+
+-- one group more
+pub groups_text-push : (g x : ℕ) (gs : List ℕ) → groups_text (g ∷ gs ++ x ∷ []) ≡ groups_text (g ∷ gs) ++ 58 ∷ digits 16 false x
+groups_text-push g x [] = refl
+groups_text-push g x (h ∷ gs) =
+    ap (λ t. digits 16 false g ++ (58 ∷ t)) (groups_text-push h x gs) ∙ sym (append_assoc (digits 16 false g) (58 ∷ groups_text (h ∷ gs)) (58 ∷ digits 16 false x))
+
+-- the zero groups from a place on
+abbrev is_zero : ℕ → Bool
+is_zero n = n == 0
+
+pub one_group_at : (gs : List ℕ) (i : ℕ) → i < length gs → drop i gs ≡ get_or gs i 0 ∷ drop (i + 1) gs
+one_group_at gs i inside =
+    let P : ℕ → Type 0 = λ k. drop i gs ≡ get_or gs i 0 ∷ drop k gs in
+    subst P (suc-eq-add-one i) (drop-cons gs i 0 inside)
+
+pub record RunSoFar (gs : List ℕ) (i run : ℕ) : Type 0 where
+  pub whole : prefix_len is_zero gs ≡ run + prefix_len is_zero (drop i gs)
+  pub run_is : run ≡ i
+
+pub RunSoFar-none : (gs : List ℕ) → RunSoFar gs 0 0
+RunSoFar-none gs = record { whole = omega arith; run_is = refl }
+
+pub RunSoFar-push : (gs : List ℕ) (i run : ℕ) → RunSoFar gs i run → i < length gs → get_or gs i 0 ≡ 0 → RunSoFar gs (i + 1) (run + 1)
+RunSoFar-push gs i run so_far inside is_0 =
+    let step : prefix_len is_zero (drop i gs) ≡ 1 + prefix_len is_zero (drop (i + 1) gs) = ap (prefix_len is_zero) (one_group_at gs i inside ∙ ap (λ g. g ∷ drop (i + 1) gs) is_0) in
+    record { whole = omega (arith, so_far.whole, step); run_is = omega (arith, so_far.run_is) }
+
+pub RunSoFar-here : (gs : List ℕ) (i run : ℕ) → RunSoFar gs i run → i < length gs → (get_or gs i 0 ≡ 0 → ⊥) → run ≡ prefix_len is_zero gs
+RunSoFar-here gs i run so_far inside other =
+    let test : is_zero (get_or gs i 0) ≡ false = ne_eqb _ _ other in
+    let none : prefix_len is_zero (get_or gs i 0 ∷ drop (i + 1) gs) ≡ 0 = rw test refl in
+    omega (arith, so_far.whole, ap (prefix_len is_zero) (one_group_at gs i inside) ∙ none)
+
+pub RunSoFar-end : (gs : List ℕ) (i run : ℕ) → RunSoFar gs i run → length gs ≤ i → run ≡ prefix_len is_zero gs
+RunSoFar-end gs i run so_far end =
+    omega (arith, so_far.whole, ap (prefix_len is_zero) (drop_all i gs end))
+
+pub push_one : (old new : Octets) (r n : ℕ) → new ≡ old ++ r ∷ [] → r ≡ digit_char n → n < 16 → new ≡ old ++ digits 16 false n
+push_one old new r n e f small = e ∙ ap (λ d. old ++ d ∷ []) f ∙ ap (λ t. old ++ t) (sym (one_digit n small))
+
+pushed_two : (old mid new : Octets) (r s a b : ℕ) → mid ≡ old ++ r ∷ [] → new ≡ mid ++ s ∷ [] → r ≡ digit_char a → s ≡ digit_char b → new ≡ old ++ digit_char a ∷ digit_char b ∷ []
+pushed_two old mid new r s a b e f g h =
+    f ∙ ap (λ m. m ++ s ∷ []) e ∙ append_assoc old (r ∷ []) (s ∷ []) ∙ ap (λ d. old ++ d ∷ s ∷ []) g ∙ ap (λ d. old ++ digit_char a ∷ d ∷ []) h
+
+pub push_two : (old mid new : Octets) (r s n : ℕ) → mid ≡ old ++ r ∷ [] → new ≡ mid ++ s ∷ [] → r ≡ digit_char (n / 16) → s ≡ digit_char (n % 16) → 16 ≤ n → n < 256 → new ≡ old ++ digits 16 false n
+push_two old mid new r s n e f g h large small =
+    pushed_two old mid new r s (n / 16) (n % 16) e f g h ∙ ap (λ t. old ++ t) (sym (two_digits n large small))
+
+pub push_split : (old high mid new : Octets) (r s n : ℕ) → high ≡ old ++ digits 16 false (n / 256) → mid ≡ high ++ r ∷ [] → new ≡ mid ++ s ∷ [] → r ≡ digit_char (n % 256 / 16) → s ≡ digit_char (n % 256 % 16) → (n / 256 ≡ 0 → ⊥) → n < 65536 → new ≡ old ++ digits 16 false n
+push_split old high mid new r s n d e f g h large small =
+    pushed_two high mid new r s (n % 256 / 16) (n % 256 % 16) e f g h
+    ∙ ap (λ t. t ++ digit_char (n % 256 / 16) ∷ digit_char (n % 256 % 16) ∷ []) d
+    ∙ append_assoc old (digits 16 false (n / 256)) (digit_char (n % 256 / 16) ∷ digit_char (n % 256 % 16) ∷ [])
+    ∙ ap (λ t. old ++ t) (sym (split_digits n (omega (arith, large)) small))
+
+-- groups written so far
+pub record GroupsWritten (old : Octets) (groups others : List ℕ) (i : ℕ) (text : Octets) : Type 0 where
+  pub first : ℕ
+  pub is : groups ≡ first ∷ others
+  pub written : text ≡ old ++ groups_text (first ∷ take i others)
+  pub short : length text ≤ length old + 4 + 5 * i
+
+pub GroupsWritten-one : (old text : Octets) (groups others : List ℕ) (first : ℕ) → groups ≡ first ∷ others → text ≡ old ++ digits 16 false first → length text ≤ length old + 4 → GroupsWritten old groups others 0 text
+GroupsWritten-one old text groups others first e f short = record { first = first; is = e; written = f; short = omega (arith, short) }
+
+pub GroupsWritten-push : (old text colon new : Octets) (groups others : List ℕ) (i : ℕ) → GroupsWritten old groups others i text → i < length others → colon ≡ text ++ 58 ∷ [] → new ≡ colon ++ digits 16 false (get_or others i 0) → length new ≤ length colon + 4 → GroupsWritten old groups others (i + 1) new
+GroupsWritten-push old text colon new groups others i so_far inside e f short =
+    let x = get_or others i 0 in
+    let front = groups_text (so_far.first ∷ take i others) in
+    record {
+      first = so_far.first;
+      is = so_far.is;
+      written = f ∙ ap (λ c. c ++ digits 16 false x) e ∙ append_assoc text (58 ∷ []) (digits 16 false x) ∙ ap (λ t. t ++ 58 ∷ digits 16 false x) so_far.written
+          ∙ append_assoc old front (58 ∷ digits 16 false x) ∙ ap (λ t. old ++ t) (sym (groups_text-push so_far.first x (take i others)))
+          ∙ ap (λ gs. old ++ groups_text (so_far.first ∷ gs)) (sym (take_more others i 0 inside));
+      short = omega (arith, short, so_far.short, ap length e, length-append text (58 ∷ []));
+    }
+
+pub GroupsWritten-room : (old text : Octets) (groups others : List ℕ) (i : ℕ) → GroupsWritten old groups others i text → i < length others → length old + 5 * length groups ≤ 40 → length text < 35
+GroupsWritten-room old text groups others i so_far inside room =
+    omega (arith, inside, room, so_far.short, ap length so_far.is)
+
+pub GroupsWritten-end : (old text : Octets) (groups others : List ℕ) (i : ℕ) → GroupsWritten old groups others i text → length others ≤ i → text ≡ old ++ groups_text groups
+GroupsWritten-end old text groups others i so_far end =
+    so_far.written ∙ ap (λ gs. old ++ groups_text (so_far.first ∷ gs)) (take_all i others end) ∙ ap (λ gs. old ++ groups_text gs) (sym so_far.is)
+
+pub GroupsWritten-short : (old text : Octets) (groups others : List ℕ) (i : ℕ) → GroupsWritten old groups others i text → i ≤ length others → length text ≤ length old + (5 * length groups - 1)
+GroupsWritten-short old text groups others i so_far most = omega (arith, most, so_far.short, ap length so_far.is)
+
+-- the first place of a number in a list
+first_place : (v : ℕ) (xs : List ℕ) (i : ℕ) → i < length xs → get_or xs i 0 ≡ v → ((k : ℕ) → k < i → get_or xs k 0 ≢ v) → position_or_len (λ k. k == v) xs ≡ i
+first_place v [] i inside e others = absurd (omega (arith, inside))
+first_place v (x ∷ xs) zero inside e others = rw (eq-eqb x v e) refl
+first_place v (x ∷ xs) (suc i) inside e others =
+    let no : (x == v) ≡ false = ne_eqb x v (others 0 (omega arith)) in
+    rw no (omega (arith, first_place v xs i (omega (arith, inside)) e (λ k below. others (suc k) (omega (arith, below)))))
+
+length-zero_runs : (gs : List ℕ) → length (zero_runs gs) ≡ length gs
+length-zero_runs [] = refl
+length-zero_runs (g ∷ gs) = omega (arith, length-zero_runs gs)
+
+run_at : (gs : List ℕ) (i : ℕ) → i < length gs → get_or (zero_runs gs) i 0 ≡ prefix_len is_zero (drop i gs)
+run_at [] i inside = absurd (omega (arith, inside))
+run_at (g ∷ gs) zero inside = refl
+run_at (g ∷ gs) (suc i) inside = run_at gs i (omega (arith, inside))
+
+-- the longest run among the first, and where it begins
+pub record LongestSoFar (gs : List ℕ) (i place longest : ℕ) : Type 0 where
+  pub place_is : position_or_len (λ k. k == longest) (zero_runs gs) ≡ place
+  pub most : (k : ℕ) → k < i → get_or (zero_runs gs) k 0 ≤ longest
+  pub whole : fold max 0 (zero_runs gs) ≡ fold max longest (zero_runs (drop i gs))
+  pub inside : place + longest ≤ length gs
+
+run_short : (gs : List ℕ) → prefix_len is_zero gs ≤ length gs
+run_short [] = omega arith
+run_short (g ∷ gs) = by_cases (run_short gs) (cases_Bool (is_zero g))
+  where
+    by_cases : prefix_len is_zero gs ≤ length gs → (is_zero g ≡ true) ⊎ (is_zero g ≡ false) → prefix_len is_zero (g ∷ gs) ≤ length (g ∷ gs)
+    by_cases short (inl z) = rw z (omega (arith, short))
+    by_cases short (inr other) = rw other (omega arith)
+
+runs_at : (gs : List ℕ) (i : ℕ) → i < length gs → zero_runs (drop i gs) ≡ prefix_len is_zero (drop i gs) ∷ zero_runs (drop (i + 1) gs)
+runs_at gs i inside =
+    let f = one_group_at gs i inside in
+    ap zero_runs f ∙ ap (λ t. prefix_len is_zero t ∷ zero_runs (drop (i + 1) gs)) (sym f)
+
+pub LongestSoFar-first : (gs : List ℕ) (r : ℕ) → r ≡ prefix_len is_zero gs → LongestSoFar gs 1 0 r
+LongestSoFar-first [] r e = record {
+  place_is = refl;
+  most = λ k below. omega arith;
+  whole = sym e;
+  inside = omega (arith, e);
+}
+LongestSoFar-first (g ∷ gs) r e =
+    let run = prefix_len is_zero (g ∷ gs) in
+    let largest : max 0 run ≡ r = omega (arith, e) in
+    record {
+      place_is = first_place r (zero_runs (g ∷ gs)) 0 (omega arith) (sym e) (λ k below. absurd (omega (arith, below)));
+      most = first_most;
+      whole = ap (λ m. fold max m (zero_runs gs)) largest;
+      inside = omega (arith, e, run_short (g ∷ gs));
+    }
+  where
+    first_most : (k : ℕ) → k < 1 → get_or (zero_runs (g ∷ gs)) k 0 ≤ r
+    first_most zero below = omega (arith, e)
+    first_most (suc k) below = absurd (omega (arith, below))
+
+most_more : (gs : List ℕ) (i run longest : ℕ) → i < length gs → run ≡ prefix_len is_zero (drop i gs) → ((k : ℕ) → k < i → get_or (zero_runs gs) k 0 ≤ longest) → run ≤ longest → (k : ℕ) → k < i + 1 → get_or (zero_runs gs) k 0 ≤ longest
+most_more gs i run longest inside e most fits k below =
+    elim (cases_lt k i) [
+      | inl before ↦ most k before
+      | inr here ↦
+          let same : k ≡ i = omega (arith, below, here) in
+          omega (arith, ap (λ j. get_or (zero_runs gs) j 0) same, run_at gs i inside, e, fits)
+    ]
+
+pub LongestSoFar-longer : (gs : List ℕ) (i place longest run : ℕ) → LongestSoFar gs i place longest → i < length gs → run ≡ prefix_len is_zero (drop i gs) → longest < run → LongestSoFar gs (i + 1) i run
+LongestSoFar-longer gs i place longest run so_far inside e longer =
+    let largest : max longest run ≡ run = omega (arith, longer) in
+    record {
+      place_is = first_place run (zero_runs gs) i (omega (arith, inside, length-zero_runs gs)) (run_at gs i inside ∙ sym e)
+          (λ k below f. omega (arith, so_far.most k below, f, longer));
+      most = most_more gs i run run inside e (λ k below. omega (arith, so_far.most k below, longer)) (omega arith);
+      whole = so_far.whole ∙ ap (fold max longest) (runs_at gs i inside) ∙ ap (λ r. fold max (max longest r) (zero_runs (drop (i + 1) gs))) (sym e)
+          ∙ ap (λ m. fold max m (zero_runs (drop (i + 1) gs))) largest;
+      inside = omega (arith, inside, e, run_short (drop i gs), length-drop i gs);
+    }
+
+pub LongestSoFar-other : (gs : List ℕ) (i place longest run : ℕ) → LongestSoFar gs i place longest → i < length gs → run ≡ prefix_len is_zero (drop i gs) → run ≤ longest → LongestSoFar gs (i + 1) place longest
+LongestSoFar-other gs i place longest run so_far inside e shorter =
+    let largest : max longest run ≡ longest = omega (arith, shorter) in
+    record {
+      place_is = so_far.place_is;
+      most = most_more gs i run longest inside e so_far.most shorter;
+      whole = so_far.whole ∙ ap (fold max longest) (runs_at gs i inside) ∙ ap (λ r. fold max (max longest r) (zero_runs (drop (i + 1) gs))) (sym e)
+          ∙ ap (λ m. fold max m (zero_runs (drop (i + 1) gs))) largest;
+      inside = so_far.inside;
+    }
+
+pub LongestSoFar-run : (gs : List ℕ) (i place longest : ℕ) → LongestSoFar gs i place longest → length gs ≤ i → longest ≡ longest_run gs
+LongestSoFar-run gs i place longest so_far end =
+    sym (so_far.whole ∙ ap (λ t. fold max longest (zero_runs t)) (drop_all i gs end))
+
+pub LongestSoFar-place : (gs : List ℕ) (i place longest : ℕ) → LongestSoFar gs i place longest → length gs ≤ i → place ≡ longest_place gs
+LongestSoFar-place gs i place longest so_far end =
+    sym so_far.place_is ∙ ap (λ v. position_or_len (λ k. k == v) (zero_runs gs)) (LongestSoFar-run gs i place longest so_far end)

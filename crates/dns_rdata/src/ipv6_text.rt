@@ -1,0 +1,135 @@
+//! The text of IPv6 addresses.
+ghost use Rattle.std.specs.Prelude.{◌≡◌, ◌≤◌, ◌+◌, ◌*◌, ◌-◌, ◌++◌, false, length, ◌==◌};
+ghost use Rattle.std.specs.Fmt.{digits};
+ghost use Rattle.std.specs.List.{prefix_len};
+ghost use Rattle.dns_spec.specs.AddressText.{groups_of, groups_text, longest_run, longest_place, ipv6_text};
+
+use crate::hex::hex_digit;
+use arrayvec::ArrayVec;
+
+/// The text of an IPv6 address has at most 39 octets: eight groups of four digits, and seven colons.
+pub const MOST_IPV6_OCTETS: usize = 39;
+
+/// The text of an IPv6 address, as in `2001:db8::1:0:0:1`: groups in lower case without zeros in front, and `::` for the
+/// longest run of two zero groups or more, the first of equals (RFC 5952 4).
+pub fn text_of_ipv6(address: &[u8; 16]) -> ArrayVec<u8, MOST_IPV6_OCTETS>
+    ensures { result.items ≡ ipv6_text address.now }
+{
+    let groups = groups_of_octets(address);
+    let groups = groups.as_slice();
+    let (place, run) = longest_zero_run(groups);
+    let mut text = ArrayVec::new();
+    if run < 2 {
+        push_groups(&mut text, groups);
+        return text;
+    }
+    let (front, zeros_and_back) = groups.split_at(place);
+    let (_, back) = zeros_and_back.split_at(run);
+    push_groups(&mut text, front);
+    text.push(b':');
+    text.push(b':');
+    push_groups(&mut text, back);
+    text
+}
+
+// The groups of an address, each of two octets.
+fn groups_of_octets(address: &[u8; 16]) -> [u16; 8]
+    ensures { result ≡ groups_of address.now }
+{
+    let [a, b, c, d, e, f, g, h, i, j, k, l, m, n, o, p] = *address;
+    [
+        group_of(a, b),
+        group_of(c, d),
+        group_of(e, f),
+        group_of(g, h),
+        group_of(i, j),
+        group_of(k, l),
+        group_of(m, n),
+        group_of(o, p),
+    ]
+}
+
+fn group_of(high: u8, low: u8) -> u16
+    ensures { result ≡ 256 * high + low }
+{
+    256 * u16::from(high) + u16::from(low)
+}
+
+// Where the first of the longest runs of zero groups begins, and how many groups it has.
+fn longest_zero_run(groups: &[u16]) -> (usize, usize)
+    ensures place { result.0 ≡ longest_place groups.now }
+    ensures run { result.1 ≡ longest_run groups.now }
+    ensures inside { result.0 + result.1 ≤ length groups.now }
+{
+    let mut place = 0;
+    let mut longest = zero_run(groups);
+    'places: for start in 1..groups.len() {
+        let run = zero_run(&groups[start..]);
+        if run > longest {
+            place = start;
+            longest = run;
+        }
+    }
+    (place, longest)
+}
+
+// How many zero groups stand in front.
+fn zero_run(groups: &[u16]) -> usize
+    ensures { result ≡ prefix_len (λ n. n == 0) groups.now }
+{
+    let mut run = 0;
+    'groups: for group in groups {
+        if *group != 0 {
+            return run;
+        }
+        run += 1;
+    }
+    run
+}
+
+// Adds groups with colons between.
+fn push_groups(text: &mut ArrayVec<u8, MOST_IPV6_OCTETS>, groups: &[u16])
+    requires { length text.old.items + 5 * length groups.now ≤ 40 }
+    ensures text { text.new.items ≡ text.old.items ++ groups_text groups.now }
+    ensures short { length text.new.items ≤ length text.old.items + (5 * length groups.now - 1) }
+{
+    let Some((first, others)) = groups.split_first() else {
+        return;
+    };
+    push_group(text, *first);
+    'groups: for group in others {
+        text.push(b':');
+        push_group(text, *group);
+    }
+}
+
+// Adds the digits of a group.
+fn push_group(text: &mut ArrayVec<u8, MOST_IPV6_OCTETS>, group: u16)
+    requires { length text.old.items + 4 ≤ 39 }
+    ensures text { text.new.items ≡ text.old.items ++ digits 16 false group }
+    ensures short { length text.new.items ≤ length text.old.items + 4 }
+{
+    let high = (group / 256) as u8;
+    let low = (group % 256) as u8;
+    if high == 0 {
+        push_octet(text, low);
+        return;
+    }
+    push_octet(text, high);
+    text.push(hex_digit(low / 16));
+    text.push(hex_digit(low % 16));
+}
+
+// Adds the digits of an octet, without a zero in front.
+fn push_octet(text: &mut ArrayVec<u8, MOST_IPV6_OCTETS>, octet: u8)
+    requires { length text.old.items + 2 ≤ 39 }
+    ensures text { text.new.items ≡ text.old.items ++ digits 16 false octet }
+    ensures short { length text.new.items ≤ length text.old.items + 2 }
+{
+    if octet < 16 {
+        text.push(hex_digit(octet));
+        return;
+    }
+    text.push(hex_digit(octet / 16));
+    text.push(hex_digit(octet % 16));
+}
