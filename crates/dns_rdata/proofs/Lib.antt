@@ -6,6 +6,7 @@ pub mod StringLemmas
 pub mod HexLemmas
 pub mod Ipv6Lemmas
 pub mod Ipv6TextLemmas
+pub mod OneReading
 pub mod NameFronts
 pub mod PartLemmas
 pub mod Beginnings
