@@ -7,6 +7,10 @@ pub mod HexLemmas
 pub mod Ipv6Lemmas
 pub mod Ipv6TextLemmas
 pub mod OneReading
+pub mod UnknownLemmas
+pub mod FormWords
+pub mod SaidData
+pub mod WordsLoop
 pub mod NameFronts
 pub mod PartLemmas
 pub mod Beginnings

@@ -4,14 +4,20 @@ use Rattle.dns_spec.specs.Names.{Octets, octets_equal}
 use Rattle.dns_spec.specs.TypeText.{text_in_lower_case}
 use Rattle.dns_spec.specs.Data as Data
 use Rattle.dns_spec.specs.Data.{numbers, ipv4, ipv6, fixed, domain, string, strings, anything}
+use Rattle.dns_rdata.specs.declared.table.NumberSize.{NumberSize}
+use Rattle.dns_rdata.specs.declared.table.NumberSize.TheVariants.{Two, Four}
 use Rattle.dns_rdata.specs.declared.table.Fixed.{Fixed}
 use Rattle.dns_rdata.specs.declared.table.Fixed.TheVariants.{Numbers, Ipv4, Ipv6}
 use Rattle.dns_rdata.specs.declared.table.Piece.{Piece}
 use Rattle.dns_rdata.specs.declared.table.Piece.TheVariants.{Fixed as FixedPiece, Domain, String, Strings, Anything}
 use Rattle.dns_rdata.specs.declared.table.TypeRow.{TypeRow}
 
+abbrev pub size_of : NumberSize → ℕ
+size_of Two = 2
+size_of Four = 4
+
 abbrev pub fixed_of : Fixed → Data.Fixed
-fixed_of (Numbers m k) = numbers m k
+fixed_of (Numbers m s) = numbers m (size_of s)
 fixed_of Ipv4 = ipv4
 fixed_of Ipv6 = ipv6
 

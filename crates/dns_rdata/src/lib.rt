@@ -9,10 +9,14 @@ mod ipv6_text;
 mod number;
 mod parts;
 mod rdata;
+mod read;
 mod rtype;
 mod set;
 mod string;
 mod table;
+mod typed;
+mod unknown;
+mod word;
 
 pub use fault::RdataFault;
 pub use hex::{append_hex, hex_digits};
@@ -25,6 +29,7 @@ pub use rdata::Rdata;
 pub use rtype::RType;
 pub use set::SetView;
 pub use string::{MOST_STRING_OCTETS, MOST_STRING_TEXT, read_string, text_of_string};
+pub use word::Word;
 
 #[cfg(test)]
 mod tests;

@@ -11,7 +11,7 @@ use std::alloc::{AllocError, Global};
 use std::marker::Model;
 
 /// Data has at most 65,535 octets (RFC 1035 3.2.1).
-const MAX_OCTETS: usize = 65_535;
+pub(crate) const MAX_OCTETS: usize = 65_535;
 
 /// Data of a record: its octets without compression, names in lower case.
 ///

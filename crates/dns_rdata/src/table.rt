@@ -5,15 +5,24 @@ ghost use Rattle.std.specs.List.{find};
 ghost use Rattle.dns_spec.specs.Data.{width, type_table, row_of, pieces_of};
 ghost use Rattle.dns_spec.specs.Names.{octets_equal};
 ghost use Rattle.dns_spec.specs.TypeText.{row_by_mnemonic, text_in_lower_case};
-ghost use Rattle.dns_rdata.specs.TypeRows.{fixed_of, row_for, pieces_in, has_number, has_mnemonic};
+ghost use Rattle.dns_rdata.specs.TypeRows.{size_of, fixed_of, row_for, pieces_in, has_number, has_mnemonic};
 
 use crate::rtype::RType;
+
+/// How many octets a number has.
+#[derive(Clone, Copy, Debug)]
+pub(crate) enum NumberSize {
+    /// 16 bits.
+    Two,
+    /// 32 bits.
+    Four,
+}
 
 /// A piece of so many octets.
 #[derive(Clone, Copy, Debug)]
 pub(crate) enum Fixed {
-    /// Numbers of so many octets each.
-    Numbers { count: u8, octets: u8 },
+    /// So many numbers.
+    Numbers { count: u8, size: NumberSize },
     /// An IPv4 address (RFC 1035 3.4.1).
     Ipv4,
     /// An IPv6 address (RFC 3596 2.2).
@@ -72,7 +81,7 @@ const TYPES: [TypeRow; 10] = [
             Piece::Domain,
             Piece::Fixed(Fixed::Numbers {
                 count: 5,
-                octets: 4,
+                size: NumberSize::Four,
             }),
         ],
         compresses: true,
@@ -95,7 +104,7 @@ const TYPES: [TypeRow; 10] = [
         pieces: &[
             Piece::Fixed(Fixed::Numbers {
                 count: 1,
-                octets: 2,
+                size: NumberSize::Two,
             }),
             Piece::Domain,
         ],
@@ -119,7 +128,7 @@ const TYPES: [TypeRow; 10] = [
         pieces: &[
             Piece::Fixed(Fixed::Numbers {
                 count: 3,
-                octets: 2,
+                size: NumberSize::Two,
             }),
             Piece::Domain,
         ],
@@ -127,13 +136,25 @@ const TYPES: [TypeRow; 10] = [
     },
 ];
 
+impl NumberSize {
+    /// How many octets it is.
+    pub(crate) fn octets(self) -> usize
+        ensures { result ≡ size_of self }
+    {
+        match self {
+            NumberSize::Two => 2,
+            NumberSize::Four => 4,
+        }
+    }
+}
+
 impl Fixed {
     /// How many octets it has.
     pub(crate) fn width(self) -> usize
         ensures { result ≡ width (fixed_of self) }
     {
         match self {
-            Fixed::Numbers { count, octets } => usize::from(count) * usize::from(octets),
+            Fixed::Numbers { count, size } => usize::from(count) * size.octets(),
             Fixed::Ipv4 => 4,
             Fixed::Ipv6 => 16,
         }

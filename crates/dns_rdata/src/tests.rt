@@ -6,3 +6,4 @@ mod rdata;
 mod set;
 mod string;
 mod types;
+mod unknown;

@@ -1,0 +1,135 @@
+-- Words of hex digits read from left to right, each of whole octets.
+use Rattle.std.proofs.Common.{◌≡◌, drop, get_or, subst, ◌↔◌, Bool, ◌%◌, ◌+◌, ◌^◌, ◌<◌, ◌≤◌, ℕ, true, false, List, [], ◌∷◌, ◌++◌, length, refl, sym, ◌∙◌, ap, arith, decimal, IsTrue, length-append}
+use Rattle.std.specs.Prelude.{Option, Some, None, ◌&&◌, not, nat_lt, ◌==◌}
+use Rattle.std.specs.List.{list_all, flat_map}
+use Rattle.std.specs.Option.{option_map}
+use Rattle.std.specs.Prelude.{Result, Ok, Err, IfErr}
+use Rattle.std.specs.Result.{IsErrAnd}
+use Rattle.std.proofs.lemmas.List.{append_assoc, append-nil, drop_all, drop_more}
+use Rattle.std.proofs.lemmas.Bool.{eqb-true}
+use Rattle.std.proofs.lemmas.Fmt.{decimal_injective}
+use Rattle.dns_spec.specs.Names.{Octets}
+use Rattle.dns_spec.specs.DataText.{Word, is_hex_word, hex_octets, SaysHex, SaysUnknown}
+use Rattle.dns_rdata.specs.UnknownForm.{SaysHexWord, AppendsWord}
+use Rattle.dns_rdata.proofs.HexLemmas.{joined_octets, hex_octets-append}
+
+-- the digits of words, one behind the other
+abbrev pub digits_in : List Word → Octets
+digits_in ws = flat_map (λ (w : Word). w.raw) ws
+
+and_left : (a b : Bool) → (a && b) ≡ true → a ≡ true
+and_left true b e = refl
+and_left false b e = e
+
+and_right : (a b : Bool) → (a && b) ≡ true → b ≡ true
+and_right true b e = e
+and_right false b e = cc
+
+and_both : (a b : Bool) → a ≡ true → (a && b) ≡ b
+and_both a b e = rw e refl
+
+even : (w : Word) → IsTrue (is_hex_word w) → length w.raw % 2 ≡ 0
+even w h = eqb-true _ _ (and_right _ _ h)
+
+joined : (ws : List Word) (w : Word) → IsTrue (is_hex_word w) → hex_octets (digits_in (w ∷ ws)) ≡ joined_octets (hex_octets w.raw) (hex_octets (digits_in ws))
+joined ws w h = hex_octets-append w.raw (digits_in ws) (even w h)
+
+-- the words are of whole octets where the rest are, and say the octets so far and then what the rest says
+pub record WordsSoFar (ws rest : List Word) (octets : Octets) : Type 0 where
+  pub hex : list_all is_hex_word ws ≡ list_all is_hex_word rest
+  pub whole : hex_octets (digits_in ws) ≡ option_map (λ d. octets ++ d) (hex_octets (digits_in rest))
+
+pub WordsSoFar-none : (ws : List Word) → WordsSoFar ws ws []
+WordsSoFar-none ws = record { hex = refl; whole = same (hex_octets (digits_in ws)) }
+  where
+    same : (o : Option Octets) → o ≡ option_map (λ d. [] ++ d) o
+    same None = refl
+    same (Some d) = refl
+
+pub WordsSoFar-more : (ws rest : List Word) (w : Word) (old new : Octets) → WordsSoFar ws (w ∷ rest) old → AppendsWord w old new → WordsSoFar ws rest new
+WordsSoFar-more ws rest w old new so_far (d, said, e) = record {
+  hex = so_far.hex ∙ and_both _ _ said.0;
+  whole =
+      so_far.whole ∙ ap (option_map (λ x. old ++ x)) (joined rest w said.0 ∙ ap (λ o. joined_octets o (hex_octets (digits_in rest))) said.1)
+      ∙ onto (hex_octets (digits_in rest)) ∙ ap (λ o. option_map (λ x. o ++ x) (hex_octets (digits_in rest))) (sym e);
+}
+  where
+    onto : (o : Option Octets) → option_map (λ x. old ++ x) (joined_octets (Some d) o) ≡ option_map (λ x. (old ++ d) ++ x) o
+    onto None = refl
+    onto (Some x) = ap (λ k. Some k) (sym (append_assoc old d x))
+
+pub WordsSoFar-end : (ws : List Word) (octets : Octets) → WordsSoFar ws [] octets → SaysHex ws octets
+unfolding hex_octets
+WordsSoFar-end ws octets so_far = (so_far.hex, so_far.whole ∙ ap (λ d. Some d) (append-nil octets))
+
+-- what the rest says stands behind the octets so far
+pub rest_says : (ws rest : List Word) (octets d : Octets) → WordsSoFar ws rest octets → SaysHex ws d → (e : Octets) × SaysHex rest e × (d ≡ octets ++ e)
+rest_says ws rest octets d so_far (all, says) = by_cases (hex_octets (digits_in rest)) refl
+  where
+    by_cases : (o : Option Octets) → hex_octets (digits_in rest) ≡ o → (e : Octets) × SaysHex rest e × (d ≡ octets ++ e)
+    by_cases None none =
+        let f : Some d ≡ None = sym says ∙ so_far.whole ∙ ap (option_map (λ x. octets ++ x)) none in
+        absurd cc
+    by_cases (Some e) some =
+        let f : Some d ≡ Some (octets ++ e) = sym says ∙ so_far.whole ∙ ap (option_map (λ x. octets ++ x)) some in
+        (e, (sym so_far.hex ∙ all, some), cc)
+
+-- the first word says octets where all of them do
+pub first_says : (w : Word) (ws : List Word) (d : Octets) → SaysHex (w ∷ ws) d → (e : Octets) × SaysHexWord w e
+first_says w ws d (all, says) = by_cases (hex_octets w.raw) refl
+  where
+    by_cases : (o : Option Octets) → hex_octets w.raw ≡ o → (e : Octets) × SaysHexWord w e
+    by_cases None none =
+        let f : Some d ≡ None = sym says ∙ joined ws w (and_left _ _ all) ∙ ap (λ o. joined_octets o (hex_octets (digits_in ws))) none in
+        absurd cc
+    by_cases (Some e) some = (e, (and_left _ _ all, some))
+
+-- a number in an unquoted word
+pub says_count : (w : Word) (text : Octets) (most : ℕ) (r : Option ℕ) → w.is_quoted ≡ false → text ≡ w.raw → ((n : ℕ) → (r ≡ Some n) ↔ ((text ≡ decimal n) × (n ≤ most))) → (n : ℕ) → (r ≡ Some n) ↔ (IsTrue (not w.is_quoted) × (w.raw ≡ decimal n) × (n ≤ most))
+says_count w text most r unquoted same h n = (
+  λ e. let said = (h n).0 e in (rw unquoted refl, sym same ∙ said.0, said.1),
+  λ said. (h n).1 (same ∙ said.1, said.2),
+)
+
+-- data as long as a first word says, of the octets of the other words
+pub says_unknown : (w : Word) (ws : List Word) (count : ℕ) (octets : Octets) → IsTrue (not w.is_quoted) → w.raw ≡ decimal count → length octets ≡ count → WordsSoFar ws [] octets → SaysUnknown (w ∷ ws) octets
+says_unknown w ws count octets unquoted number long so_far = (unquoted, number ∙ ap decimal (sym long), WordsSoFar-end ws octets so_far)
+
+-- data that the words say is as long as the first word says
+pub count_is_length : (w : Word) (count : ℕ) (d : Octets) → w.raw ≡ decimal count → w.raw ≡ decimal (length d) → count ≤ 65535 → length d ≤ 65535 → length d ≡ count
+count_is_length w count d number says few short = decimal_injective (length d) count (omega (arith, short)) (omega (arith, few)) (sym says ∙ number)
+
+-- the words say only the octets that were read
+pub only_octets : (w : Word) (ws : List Word) (octets d : Octets) → WordsSoFar ws [] octets → SaysUnknown (w ∷ ws) d → d ≡ octets
+unfolding hex_octets
+only_octets w ws octets d so_far said = some_inner (sym said.2.1 ∙ (WordsSoFar-end ws octets so_far).1)
+  where
+    some_inner : Some d ≡ Some octets → d ≡ octets
+    some_inner e = cc
+
+-- more octets than the first word says
+pub past_count : (w : Word) (ws rest : List Word) (count : ℕ) (octets d : Octets) → WordsSoFar ws rest octets → w.raw ≡ decimal count → count < length octets → count ≤ 65535 → SaysUnknown (w ∷ ws) d → length d ≤ 65535 → ⊥
+past_count w ws rest count octets d so_far number over few said short =
+    let (e, says, split) = rest_says ws rest octets d so_far said.2 in
+    omega (arith, over, count_is_length w count d number said.1 few short, ap length split, length-append octets e)
+
+-- a word that does not say octets
+pub word_refused : (w : Word) (ws rest : List Word) (octets d : Octets) → WordsSoFar ws (w ∷ rest) octets → ((e : Octets) → SaysHexWord w e → ⊥) → SaysHex ws d → ⊥
+word_refused w ws rest octets d so_far none said =
+    let (e, says, split) = rest_says ws (w ∷ rest) octets d so_far said in
+    let (first, says_first) = first_says w rest e says in
+    none first says_first
+
+-- the next word is the first of the rest
+pub at_word : (ws : List Word) (i : ℕ) (w : Word) (octets : Octets) → i < length ws → w ≡ get_or ws i w → WordsSoFar ws (drop i ws) octets → WordsSoFar ws (w ∷ drop (i + 1) ws) octets
+at_word ws i w octets inside is so_far =
+    subst (λ rest. WordsSoFar ws rest octets) (drop_more ws i w inside ∙ ap (λ v. v ∷ drop (i + 1) ws) (sym is)) so_far
+
+-- behind the last word there is none
+pub at_end : (ws : List Word) (i : ℕ) (octets : Octets) → length ws ≤ i → WordsSoFar ws (drop i ws) octets → WordsSoFar ws [] octets
+at_end ws i octets end so_far = subst (λ rest. WordsSoFar ws rest octets) (drop_all i ws end) so_far
+
+-- an error handed on is the same
+pub same_fault : {X E : Type 0} (r : Result X E) (Q : E → Type 0) (f : E) → IsErrAnd r (λ e. e ≡ f) → Q f → IfErr r Q
+same_fault (Ok x) Q f e q = tt
+same_fault (Err g) Q f e q = subst Q (sym e) q

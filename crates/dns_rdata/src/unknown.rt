@@ -1,0 +1,74 @@
+//! Data in the form that serves any type: its length and its octets in hex digits (RFC 3597 5).
+ghost use Rattle.std.specs.Prelude.{◌≡◌, ◌≢◌, ◌≤◌, ◌↔◌, ℕ, length, not, decimal, Some, IfOk, IfErr, IsTrue};
+ghost use Rattle.dns_spec.specs.Names.{Octets};
+ghost use Rattle.dns_spec.specs.DataText.{SaysUnknown, is_unknown_mark};
+ghost use Rattle.dns_rdata.specs.UnknownForm.{AppendsWord, SaysHexWord};
+
+use crate::fault::RdataFault;
+use crate::hex::append_hex;
+use crate::number::read_number;
+use crate::word::Word;
+use std::alloc::Global;
+
+// Data has at most 65,535 octets (RFC 1035 3.2.1).
+const MOST_OCTETS: u32 = 65_535;
+
+/// Whether the form begins with this word: the unquoted `\#`.
+pub(crate) fn is_unknown_mark(word: &Word<'_>) -> bool
+    ensures { result ≡ is_unknown_mark word.now }
+{
+    !word.quoted && word.raw == b"\\#".as_slice()
+}
+
+/// The octets that the words behind `\#` say: their number, and then words of whole octets.
+///
+/// The error is `NoMemory` only where no memory was found, and else `BadHex`.
+pub(crate) fn unknown_octets(alloc: Global, words: &[Word<'_>]) -> Result<Vec<u8>, RdataFault>
+    ensures ok { IfOk result (λ octets. SaysUnknown words.now octets.items) }
+    ensures only { IfOk result (λ octets. (d : Octets) → SaysUnknown words.now d → d ≡ octets.items) }
+    ensures fault { IfErr result (λ fault. fault ≢ RdataFault.NoMemory → (d : Octets) → SaysUnknown words.now d → length d ≤ 65535 → ⊥) }
+    ensures kind { IfErr result (λ fault. fault ≢ RdataFault.NoMemory → fault ≡ RdataFault.BadHex) }
+{
+    let Some((first, others)) = words.split_first() else {
+        return Err(RdataFault::BadHex);
+    };
+    let count = octet_count(first).ok_or(RdataFault::BadHex)?;
+    let mut octets = Vec::new(alloc);
+    'words: for word in others {
+        append_word(word, &mut octets)?;
+        if octets.len() > count as usize {
+            return Err(RdataFault::BadHex);
+        }
+    }
+    if octets.len() != count as usize {
+        return Err(RdataFault::BadHex);
+    }
+    Ok(octets)
+}
+
+// The number of octets that an unquoted word says.
+fn octet_count(word: &Word<'_>) -> Option<u32>
+    ensures { (n : ℕ) → (result ≡ Some n) ↔ (IsTrue (not word.now.is_quoted) × (word.now.raw ≡ decimal n) × (n ≤ 65535)) }
+{
+    if word.quoted {
+        return None;
+    }
+    read_number(word.raw, MOST_OCTETS)
+}
+
+// Appends the octets that an unquoted word of whole octets says, one at least.
+fn append_word(word: &Word<'_>, octets: &mut Vec<u8>) -> Result<(), RdataFault>
+    ensures ok { IfOk result (λ _. AppendsWord word.now octets.old.items octets.new.items) }
+    ensures fault { IfErr result (λ fault. fault ≢ RdataFault.NoMemory → (d : Octets) → SaysHexWord word.now d → ⊥) }
+    ensures kind { IfErr result (λ fault. fault ≢ RdataFault.NoMemory → fault ≡ RdataFault.BadHex) }
+{
+    let digits = word.raw.len();
+    if word.quoted || digits == 0 || digits % 2 != 0 {
+        return Err(RdataFault::BadHex);
+    }
+    match append_hex(word.raw, octets) {
+        Ok(true) => Ok(()),
+        Ok(false) => Err(RdataFault::BadHex),
+        Err(_) => Err(RdataFault::NoMemory),
+    }
+}
