@@ -120,3 +120,15 @@ hex_octets-append (h ∷ l ∷ text) others even =
     by_cases behind (inl digits) =
         rw digits (ap (option_map (λ d. (16 * digit_value h + digit_value l) ∷ d)) behind ∙ onto (16 * digit_value h + digit_value l) (hex_octets text) (hex_octets others))
     by_cases behind (inr none) = rw none refl
+
+-- digits that say octets are of an even number
+pub even_digits : (text d : Octets) → hex_octets text ≡ Some d → length text % 2 ≡ 0
+unfolding hex_octets
+even_digits [] d e = refl
+even_digits (h ∷ []) d e = absurd (none_is_some d e)
+even_digits (h ∷ l ∷ text) d e = by_cases (even_digits text) (hex_octets text) refl (cases_Bool (is_ascii_hexdigit h && is_ascii_hexdigit l))
+  where
+    by_cases : ((x : Octets) → hex_octets text ≡ Some x → length text % 2 ≡ 0) → (o : Option Octets) → hex_octets text ≡ o → ((is_ascii_hexdigit h && is_ascii_hexdigit l) ≡ true) ⊎ ((is_ascii_hexdigit h && is_ascii_hexdigit l) ≡ false) → length (h ∷ l ∷ text) % 2 ≡ 0
+    by_cases even None none (inl digits) = let f : None ≡ Some d = rw (digits, none) at e in absurd (none_is_some d f)
+    by_cases even (Some x) some (inl digits) = omega (arith, even x some)
+    by_cases even o is (inr bad) = let f : None ≡ Some d = rw bad at e in absurd (none_is_some d f)

@@ -1,35 +1,28 @@
 -- Words of hex digits read from left to right, each of whole octets.
-use Rattle.std.proofs.Common.{◌≡◌, drop, get_or, subst, ◌↔◌, Bool, ◌%◌, ◌+◌, ◌^◌, ◌<◌, ◌≤◌, ℕ, true, false, List, [], ◌∷◌, ◌++◌, length, refl, sym, ◌∙◌, ap, arith, decimal, IsTrue, length-append}
+use Rattle.std.proofs.Common.{◌≡◌, drop, get_or, subst, ◌↔◌, Bool, ◌%◌, ◌+◌, ◌<◌, ◌≤◌, ℕ, true, false, List, [], ◌∷◌, ◌++◌, length, refl, sym, ◌∙◌, ap, arith, decimal, IsTrue, length-append}
 use Rattle.std.specs.Prelude.{Option, Some, None, ◌&&◌, not, nat_lt, ◌==◌}
 use Rattle.std.specs.List.{list_all, flat_map}
 use Rattle.std.specs.Option.{option_map}
 use Rattle.std.specs.Prelude.{Result, Ok, Err, IfErr}
 use Rattle.std.specs.Result.{IsErrAnd}
 use Rattle.std.proofs.lemmas.List.{append_assoc, append-nil, drop_all, drop_more}
-use Rattle.std.proofs.lemmas.Bool.{eqb-true}
+use Rattle.std.proofs.lemmas.Bool.{and_parts, eqb-true, eq-eqb, lt-ltb}
 use Rattle.std.proofs.lemmas.Fmt.{decimal_injective}
 use Rattle.dns_spec.specs.Names.{Octets}
 use Rattle.dns_spec.specs.DataText.{Word, is_hex_word, hex_octets, SaysHex, SaysUnknown}
+use Rattle.dns_rdata.specs.HexForm.{AppendsHex}
 use Rattle.dns_rdata.specs.UnknownForm.{SaysHexWord, AppendsWord}
-use Rattle.dns_rdata.proofs.HexLemmas.{joined_octets, hex_octets-append}
+use Rattle.dns_rdata.proofs.HexLemmas.{joined_octets, hex_octets-append, even_digits}
 
 -- the digits of words, one behind the other
 abbrev pub digits_in : List Word → Octets
 digits_in ws = flat_map (λ (w : Word). w.raw) ws
 
-and_left : (a b : Bool) → (a && b) ≡ true → a ≡ true
-and_left true b e = refl
-and_left false b e = e
-
-and_right : (a b : Bool) → (a && b) ≡ true → b ≡ true
-and_right true b e = e
-and_right false b e = cc
-
 and_both : (a b : Bool) → a ≡ true → (a && b) ≡ b
 and_both a b e = rw e refl
 
 even : (w : Word) → IsTrue (is_hex_word w) → length w.raw % 2 ≡ 0
-even w h = eqb-true _ _ (and_right _ _ h)
+even w h = eqb-true _ _ (and_parts _ _ h).1
 
 joined : (ws : List Word) (w : Word) → IsTrue (is_hex_word w) → hex_octets (digits_in (w ∷ ws)) ≡ joined_octets (hex_octets w.raw) (hex_octets (digits_in ws))
 joined ws w h = hex_octets-append w.raw (digits_in ws) (even w h)
@@ -80,9 +73,9 @@ first_says w ws d (all, says) = by_cases (hex_octets w.raw) refl
   where
     by_cases : (o : Option Octets) → hex_octets w.raw ≡ o → (e : Octets) × SaysHexWord w e
     by_cases None none =
-        let f : Some d ≡ None = sym says ∙ joined ws w (and_left _ _ all) ∙ ap (λ o. joined_octets o (hex_octets (digits_in ws))) none in
+        let f : Some d ≡ None = sym says ∙ joined ws w (and_parts _ _ all).0 ∙ ap (λ o. joined_octets o (hex_octets (digits_in ws))) none in
         absurd cc
-    by_cases (Some e) some = (e, (and_left _ _ all, some))
+    by_cases (Some e) some = (e, ((and_parts _ _ all).0, some))
 
 -- a number in an unquoted word
 pub says_count : (w : Word) (text : Octets) (most : ℕ) (r : Option ℕ) → w.is_quoted ≡ false → text ≡ w.raw → ((n : ℕ) → (r ≡ Some n) ↔ ((text ≡ decimal n) × (n ≤ most))) → (n : ℕ) → (r ≡ Some n) ↔ (IsTrue (not w.is_quoted) × (w.raw ≡ decimal n) × (n ≤ most))
@@ -133,3 +126,11 @@ at_end ws i octets end so_far = subst (λ rest. WordsSoFar ws rest octets) (drop
 pub same_fault : {X E : Type 0} (r : Result X E) (Q : E → Type 0) (f : E) → IsErrAnd r (λ e. e ≡ f) → Q f → IfErr r Q
 same_fault (Ok x) Q f e q = tt
 same_fault (Err g) Q f e q = subst Q (sym e) q
+
+-- an unquoted word that is not empty
+pub word_appends : (w : Word) (text old new : Octets) → w.is_quoted ≡ false → text ≡ w.raw → (length text ≡ 0 → ⊥) → AppendsHex text true old new → AppendsWord w old new
+word_appends w text old new unquoted same more (d, says, e) =
+    let said : hex_octets w.raw ≡ Some d = ap hex_octets (sym same) ∙ says in
+    let some : nat_lt 0 (length w.raw) ≡ true = lt-ltb 0 (length w.raw) (omega (arith, more, ap length same)) in
+    let even : (length w.raw % 2 == 0) ≡ true = eq-eqb _ _ (even_digits w.raw d said) in
+    (d, (rw (unquoted, some, even) refl, said), e)

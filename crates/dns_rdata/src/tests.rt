@@ -7,3 +7,4 @@ mod set;
 mod string;
 mod types;
 mod unknown;
+mod words;

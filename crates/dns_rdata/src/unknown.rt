@@ -62,8 +62,7 @@ fn append_word(word: &Word<'_>, octets: &mut Vec<u8>) -> Result<(), RdataFault>
     ensures fault { IfErr result (λ fault. fault ≢ RdataFault.NoMemory → (d : Octets) → SaysHexWord word.now d → ⊥) }
     ensures kind { IfErr result (λ fault. fault ≢ RdataFault.NoMemory → fault ≡ RdataFault.BadHex) }
 {
-    let digits = word.raw.len();
-    if word.quoted || digits == 0 || digits % 2 != 0 {
+    if word.quoted || word.raw.is_empty() {
         return Err(RdataFault::BadHex);
     }
     match append_hex(word.raw, octets) {

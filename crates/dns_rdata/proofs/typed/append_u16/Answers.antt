@@ -1,4 +1,4 @@
-use Rattle.std.proofs.Common.{◌≡◌, Some, arith, ◌∙◌, sym}
+use Rattle.std.proofs.Common.{arith, ◌∙◌, sym}
 use Rattle.dns_rdata.proofs.FormWords.{ok_or-some, number_appended, OnOk-map}
 use Rattle.dns_rdata.proofs.typed.append_u16.Goals as goal
 

@@ -1,8 +1,7 @@
-use Rattle.std.proofs.Common.{◌≡◌, Some, length, sym, ap, ◌∙◌, arith}
+use Rattle.std.proofs.Common.{length, sym, ap, ◌∙◌, arith}
 use Rattle.std.proofs.lemmas.List.{length-map}
 use Rattle.dns_rdata.specs.WordForms.{form_of}
 use Rattle.std.specs.Option.{option_map}
-use Rattle.dns_spec.specs.Data.{row_of}
 use Rattle.dns_rdata.specs.TypeRows.{row_for}
 use Rattle.dns_rdata.proofs.FormWords.{ok_or-some}
 use Rattle.dns_rdata.proofs.WordsLoop.{other_count}

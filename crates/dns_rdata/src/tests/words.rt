@@ -1,0 +1,151 @@
+use crate::{RType, Rdata, RdataFault, Word};
+use dns_name::Name;
+use std::alloc::Global;
+use std::test::Fail;
+
+// Words as a zone file has them, one space between them: those in quotation marks hold no space here.
+fn words<'a>(alloc: Global, text: &'a [u8]) -> Result<Vec<Word<'a>>, Fail> {
+    let mut words = Vec::new(alloc);
+    if text.is_empty() {
+        return Ok(words);
+    }
+    for spelled in text.split(|octet| *octet == b' ') {
+        let word = match spelled {
+            [b'"', raw @ .., b'"'] => Word { raw, quoted: true },
+            _ => Word {
+                raw: spelled,
+                quoted: false,
+            },
+        };
+        words.push(word)?;
+    }
+    Ok(words)
+}
+
+fn read(alloc: Global, rtype: RType, text: &[u8]) -> Result<Result<Rdata, RdataFault>, Fail> {
+    let origin = Name::read_text(b"Example.", &Name::root())?;
+    let words = words(alloc, text)?;
+    Ok(Rdata::read_words(alloc, rtype, words.as_slice(), &origin))
+}
+
+const ANY: RType = RType(65280);
+
+#[test]
+fn data_that_words_say(rt: HostRuntime) -> Result<(), Fail> {
+    let rows: [(RType, &[u8], &[u8]); 19] = [
+        (RType::A, b"192.0.2.1", b"\xc0\x00\x02\x01"),
+        (RType::A, b"\\# 4 C0000201", b"\xc0\x00\x02\x01"),
+        (RType::NS, b"@", b"\x07example\x00"),
+        (RType::NS, b"Ns", b"\x02ns\x07example\x00"),
+        (RType::CNAME, b"A\\.b.", b"\x03a.b\x00"),
+        (
+            RType::SOA,
+            b". a 1 0 4294967295 2 3",
+            b"\x00\x01a\x07example\x00\x00\x00\x00\x01\x00\x00\x00\x00\xff\xff\xff\xff\x00\x00\x00\x02\x00\x00\x00\x03",
+        ),
+        (RType::PTR, b".", b"\x00"),
+        (RType::HINFO, b"\"\" b", b"\x00\x01b"),
+        (RType::MX, b"10 Mail", b"\x00\x0a\x04mail\x07example\x00"),
+        (RType::TXT, b"\"a\\\"b\\009\"", b"\x04a\"b\x09"),
+        (RType::TXT, b"A \"\\#\" .", b"\x01A\x01#\x01."),
+        (
+            RType::AAAA,
+            b"1:0:2:3:4:5:6:7",
+            b"\x00\x01\x00\x00\x00\x02\x00\x03\x00\x04\x00\x05\x00\x06\x00\x07",
+        ),
+        (
+            RType::AAAA,
+            b"2001:DB8:0:0:1:0:0:1",
+            b"\x20\x01\x0d\xb8\x00\x00\x00\x00\x00\x01\x00\x00\x00\x00\x00\x01",
+        ),
+        (
+            RType::AAAA,
+            b"1:2:3:4:5:6:7::",
+            b"\x00\x01\x00\x02\x00\x03\x00\x04\x00\x05\x00\x06\x00\x07\x00\x00",
+        ),
+        (
+            RType::SRV,
+            b"0 65535 53 Ns.",
+            b"\x00\x00\xff\xff\x00\x35\x02ns\x00",
+        ),
+        (RType::MX, b"\\# 5 0001014100", b"\x00\x01\x01a\x00"),
+        (ANY, b"\\# 0", b""),
+        (ANY, b"\\# 3 ab CDef", b"\xab\xcd\xef"),
+        (RType(0), b"\\# 2 c00c", b"\xc0\x0c"),
+    ];
+    for (rtype, text, wanted) in rows {
+        match read(rt.alloc(), rtype, text)? {
+            Ok(data) => assert_eq!(rt; data.octets(), wanted, "at {text:?}"),
+            Err(_) => return Err("words that say data".into()),
+        }
+    }
+    Ok(())
+}
+
+#[test]
+fn faults_in_their_order(rt: HostRuntime) -> Result<(), Fail> {
+    let rows: [(RType, &[u8], RdataFault); 34] = [
+        (RType::HINFO, b"a", RdataFault::WordCount),
+        (RType::TXT, b"", RdataFault::WordCount),
+        (RType::A, b"", RdataFault::WordCount),
+        (RType::A, b"x 192.0.2.1", RdataFault::WordCount),
+        (RType::SOA, b"a..b . 1 2 3 4", RdataFault::WordCount),
+        (RType::MX, b"010 mail", RdataFault::BadNumber),
+        (RType::MX, b"65536 a..b", RdataFault::BadNumber),
+        (RType::MX, b"\"10\" mail", RdataFault::BadNumber),
+        (RType::MX, b"10 a..b", RdataFault::BadName),
+        (RType::SOA, b". . 4294967296 2 3 4 5", RdataFault::BadNumber),
+        (RType::SOA, b". . 1 +2 3 4 5", RdataFault::BadNumber),
+        (RType::SRV, b"0 0 -1 a..b", RdataFault::BadNumber),
+        (RType::A, b"192.0.2.256", RdataFault::BadAddress),
+        (RType::A, b"192.0.2.01", RdataFault::BadAddress),
+        (RType::A, b"\"192.0.2.1\"", RdataFault::BadAddress),
+        (RType::AAAA, b"1:2:3:4:5:6:7:8::", RdataFault::BadAddress),
+        (RType::AAAA, b"::1.2.3.4", RdataFault::BadAddress),
+        (RType::AAAA, b"\"::\"", RdataFault::BadAddress),
+        (RType::NS, b"\"ns\"", RdataFault::BadName),
+        (RType::NS, b"\\256", RdataFault::BadName),
+        (RType::TXT, b"a \\256", RdataFault::BadString),
+        (RType::TXT, b"\"\\9\"", RdataFault::BadString),
+        (RType::A, b"\\#", RdataFault::BadHex),
+        (RType::A, b"\\# x", RdataFault::BadHex),
+        (RType::A, b"\\# 4", RdataFault::BadHex),
+        (RType::A, b"\\# \"4\" c0000201", RdataFault::BadHex),
+        (RType::A, b"\\# 4 c000020", RdataFault::BadHex),
+        (RType::A, b"\\# 3 c00002", RdataFault::NotOfType),
+        (RType::A, b"\\# 0", RdataFault::NotOfType),
+        (RType::NS, b"\\# 2 c00c", RdataFault::NotOfType),
+        (ANY, b"\\# 2 abc d", RdataFault::BadHex),
+        (ANY, b"\\# 65536", RdataFault::BadHex),
+        (ANY, b"", RdataFault::BadHex),
+        (ANY, b"\"\\#\" 0", RdataFault::BadHex),
+    ];
+    for (rtype, text, wanted) in rows {
+        let found = read(rt.alloc(), rtype, text)?.err();
+        assert_eq!(rt; found, Some(wanted), "at {text:?}");
+    }
+    Ok(())
+}
+
+// 256 strings of 255 octets are 65,536, and with one octet less they are the most.
+#[test]
+fn most_data(rt: HostRuntime) -> Result<(), Fail> {
+    let full = [b'x'; 255];
+    let mut words = Vec::new(rt.alloc());
+    for _ in 0..255 {
+        words.push(Word {
+            raw: full.as_slice(),
+            quoted: true,
+        })?;
+    }
+    for (raw, wanted) in [
+        (&full[..254], None),
+        (full.as_slice(), Some(RdataFault::BadString)),
+    ] {
+        words.push(Word { raw, quoted: true })?;
+        let found = Rdata::read_words(rt.alloc(), RType::TXT, words.as_slice(), &Name::root());
+        assert_eq!(rt; found.err(), wanted);
+        words.pop();
+    }
+    Ok(())
+}
