@@ -1,5 +1,5 @@
 -- What is appended for a word by its form.
-use Rattle.std.proofs.Common.{◌≡◌, ◌≢◌, ℕ, ◌<◌, ◌≤◌, ◌^◌, ◌++◌, ◌∙◌, ◌||◌, not, IsTrue, Option, None, Some, Result, Ok, Err, OnOk, IfErr, IsErrAnd, decimal, subst, sym, arith}
+use Rattle.std.proofs.Common.{◌≡◌, ◌≢◌, ℕ, ◌<◌, ◌^◌, ◌++◌, ◌||◌, not, IsTrue, Option, None, Some, Result, Ok, Err, OnOk, IfErr, IsErrAnd, decimal, subst, sym, arith}
 use Rattle.std.specs.Option.{ok_or}
 use Rattle.std.specs.Int.{bytes_high_first}
 use Rattle.dns_spec.specs.Names.{Octets, DomainName}

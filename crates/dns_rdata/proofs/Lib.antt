@@ -9,7 +9,6 @@ pub mod Ipv6TextLemmas
 pub mod OneReading
 pub mod UnknownLemmas
 pub mod FormWords
-pub mod SaidData
 pub mod WordsLoop
 pub mod NameFronts
 pub mod PartLemmas

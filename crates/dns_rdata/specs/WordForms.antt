@@ -1,7 +1,7 @@
 -- What a reader learns here: what the code's forms of words are in the words of the definitions, and what is appended for
 -- a word.
-use Rattle.std.specs.Prelude.{◌≡◌, ◌++◌, List}
-use Rattle.dns_spec.specs.Names.{Octets, DomainName}
+use Rattle.std.specs.Prelude.{◌≡◌, ◌++◌}
+use Rattle.dns_spec.specs.Names.{Octets}
 use Rattle.dns_spec.specs.DataText as text
 use Rattle.dns_spec.specs.DataText.{number_word, ipv4_word, ipv6_word, name_word, string_word, SaysForm, SaysWord, SaysForms}
 use Rattle.dns_rdata.specs.TypeRows.{size_of}
