@@ -103,8 +103,8 @@ few_in : (t : ℕ) (rows : List Data.TypeRow) → list_all (λ (r : Data.TypeRow
     → length (unwrap_or (find (λ (r : Data.TypeRow). r.number == t) rows) other_type).pieces ≤ 3
 few_in t [] h = omega arith
 few_in t (row ∷ rows) h =
-    let p = and_parts (nat_le (length row.pieces) 3) (list_all (λ (r : Data.TypeRow). nat_le (length r.pieces) 3) rows) h in
-    few_found (row.number == t) row (find (λ (r : Data.TypeRow). r.number == t) rows) (leb-true (length row.pieces) 3 p.0) (few_in t rows p.1)
+    let tests = and_parts (nat_le (length row.pieces) 3) (list_all (λ (r : Data.TypeRow). nat_le (length r.pieces) 3) rows) h in
+    few_found (row.number == t) row (find (λ (r : Data.TypeRow). r.number == t) rows) (leb-true (length row.pieces) 3 tests.0) (few_in t rows tests.1)
 
 few_pieces : (t : ℕ) → length (pieces_of t) ≤ 3
 few_pieces t = few_in t type_table refl
