@@ -169,7 +169,7 @@ no_octets = record {
 }
 
 no_octets_written : data_text 65280 [] ≡ 92 ∷ codes "# 0"
-unfolding data_text
+unfolding data_text digits
 no_octets_written = refl
 
 some_octets_written : data_text 65280 (hex (codes "0aFF")) ≡ 92 ∷ codes "# 2 0aff"

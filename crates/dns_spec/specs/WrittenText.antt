@@ -1,5 +1,5 @@
--- What a reader learns here: how the data of a record is written.
-use Rattle.std.specs.Prelude.{ℕ, zero, suc, ◌+◌, ◌/◌, ◌%◌, ◌&&◌, ◌||◌, List, [], ◌∷◌, ◌++◌, length, take, drop, nat_le, ◌==◌, if◌then◌else◌, codes, decimal}
+-- What a reader learns here: how the data of a record is written, word by word.
+use Rattle.std.specs.Prelude.{ℕ, zero, suc, ◌+◌, ◌/◌, ◌%◌, ◌&&◌, ◌||◌, true, false, List, [], ◌∷◌, ◌++◌, map, length, take, drop, nat_le, ◌==◌, if◌then◌else◌, codes, decimal}
 use Rattle.std.specs.Prelude.{Option, None, Some}
 use Rattle.std.specs.List.{flat_map, join_with_byte}
 use Rattle.std.specs.Char.{digit_char}
@@ -7,44 +7,57 @@ use Rattle.dns_spec.specs.Names.{Octets, DomainName, name_of}
 use Rattle.dns_spec.specs.Data.{number_of}
 use Rattle.dns_spec.specs.NameText.{three_digits, name_text}
 use Rattle.dns_spec.specs.AddressText.{ipv4_text, ipv6_text}
-use Rattle.dns_spec.specs.DataText.{WordForm, number_word, ipv4_word, ipv6_word, name_word, string_word, forms_of}
+use Rattle.dns_spec.specs.DataText.{Word, WordForm, number_word, ipv4_word, ipv6_word, name_word, string_word, forms_of}
 
--- RFC 1035 5.1: a string stands in quotation marks; `"` and `\` have a backslash, and octets that are not printable are
--- `\DDD`
+abbrev pub plain : Octets → Word
+plain text = record { raw = text; is_quoted = false }
+
+-- RFC 1035 5.1: in quotation marks `"` and `\` have a backslash, and octets that are not printable are `\DDD`
 abbrev pub string_octet_text : ℕ → Octets
 string_octet_text o =
     if o == 34 || o == 92 then 92 ∷ o ∷ []
     else if nat_le 32 o && nat_le o 126 then o ∷ []
     else 92 ∷ three_digits o
 
+abbrev pub quoted : Octets → Word
+quoted s = record { raw = flat_map string_octet_text s; is_quoted = true }
+
+-- a word as it stands in the text
+abbrev pub word_text : Word → Octets
+word_text w = if w.is_quoted then 34 ∷ (w.raw ++ 34 ∷ []) else w.raw
+
 abbrev pub string_text : Octets → Octets
-string_text s = 34 ∷ (flat_map string_octet_text s ++ 34 ∷ [])
+string_text s = word_text (quoted s)
 
 -- two hex digits an octet, in lower case
 abbrev pub hex_text : Octets → Octets
 hex_text d = flat_map (λ o. digit_char (o / 16) ∷ digit_char (o % 16) ∷ []) d
 
+-- all octets in one word, if there are any
+abbrev pub hex_words : Octets → List Word
+hex_words [] = []
+hex_words (o ∷ d) = plain (hex_text (o ∷ d)) ∷ []
+
 -- RFC 3597 section 5: the form for data of any type
-abbrev pub unknown_text : Octets → Octets
-unknown_text [] = 92 ∷ codes "# 0"
-unknown_text (o ∷ d) = 92 ∷ codes "# " ++ decimal (length (o ∷ d)) ++ 32 ∷ hex_text (o ∷ d)
+abbrev pub unknown_words : Octets → List Word
+unknown_words d = plain (92 ∷ codes "#") ∷ plain (decimal (length d)) ∷ hex_words d
 
 -- The word that data begins with, as it is written, and the data behind it.
-abbrev pub name_front : Option (DomainName × Octets) → Octets × Octets
-name_front None = ([], [])
-name_front (Some (n, d)) = (name_text n, d)
+abbrev pub name_front : Option (DomainName × Octets) → Word × Octets
+name_front None = (plain [], [])
+name_front (Some (n, d)) = (plain (name_text n), d)
 
-abbrev pub word_front : WordForm → Octets → Octets × Octets
-word_front (number_word k) d = (decimal (number_of (take k d)), drop k d)
-word_front ipv4_word d = (ipv4_text (take 4 d), drop 4 d)
-word_front ipv6_word d = (ipv6_text (take 16 d), drop 16 d)
+abbrev pub word_front : WordForm → Octets → Word × Octets
+word_front (number_word k) d = (plain (decimal (number_of (take k d))), drop k d)
+word_front ipv4_word d = (plain (ipv4_text (take 4 d)), drop 4 d)
+word_front ipv6_word d = (plain (ipv6_text (take 16 d)), drop 16 d)
 word_front name_word d = name_front (name_of d)
-word_front string_word [] = ([], [])
-word_front string_word (k ∷ d) = (string_text (take k d), drop k d)
+word_front string_word [] = (quoted [], [])
+word_front string_word (k ∷ d) = (quoted (take k d), drop k d)
 
-abbrev pub words_text : List WordForm → Octets → List Octets
-words_text [] d = []
-words_text (f ∷ fs) d = (word_front f d).0 ∷ words_text fs (word_front f d).1
+abbrev pub form_words : List WordForm → Octets → List Word
+form_words [] d = []
+form_words (f ∷ fs) d = (word_front f d).0 ∷ form_words fs (word_front f d).1
 
 -- how many character-strings stand in the data (RFC 1035 3.3), where k octets of the one at hand are still to come
 abbrev pub string_count : ℕ → Octets → ℕ
@@ -52,11 +65,15 @@ string_count k [] = 0
 string_count zero (k ∷ d) = 1 + string_count k d
 string_count (suc k) (o ∷ d) = string_count k d
 
-abbrev pub text_by : Option (List WordForm) → Octets → Octets
-text_by None d = unknown_text d
-text_by (Some fs) d = join_with_byte 32 (words_text fs d)
+abbrev pub words_by : Option (List WordForm) → Octets → List Word
+words_by None d = unknown_words d
+words_by (Some fs) d = form_words fs d
 
--- The text of data of a type, which is valid for it: its words with one space between, or for a type without a
--- mnemonic the form for data of any type.
+-- The words of data of a type, which is valid for it: those of its forms, or for a type without a mnemonic those of
+-- the form for data of any type.
+abbrev pub written_words : ℕ → Octets → List Word
+written_words t d = words_by (forms_of t (string_count 0 d)) d
+
+-- the text of data of a type: its words with one space between
 unfoldable pub data_text : ℕ → Octets → Octets
-data_text t d = text_by (forms_of t (string_count 0 d)) d
+data_text t d = join_with_byte 32 (map word_text (written_words t d))
