@@ -173,14 +173,23 @@ impl Name {
         labels
     }
 
+    /// The name whose wire form the octets are, as the octets of a name in data. It takes no memory.
+    pub fn from_octets(octets: &[u8]) -> Name
+        requires { IsWireForm octets.now }
+        ensures value { result ≡ labels_of octets.now }
+        ensures is_name { IsTrue (is_name result) }
+    {
+        let mut name = ArrayVec::new();
+        append_octets(&mut name, octets);
+        Name { octets: name }
+    }
+
     /// A second name with the same octets. It takes no memory.
     pub fn copied(&self) -> Name
         ensures value { result ≡ self.now }
         ensures is_name { IsTrue (is_name result) }
     {
-        let mut octets = ArrayVec::new();
-        append_octets(&mut octets, self.octets());
-        Name { octets }
+        Name::from_octets(self.octets())
     }
 }
 

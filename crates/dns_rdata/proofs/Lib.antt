@@ -13,3 +13,7 @@ pub mod WordsLoop
 pub mod NameFronts
 pub mod PartLemmas
 pub mod Beginnings
+pub mod WrittenLoop
+pub mod SpacedWords
+pub mod NumberSpelled
+pub mod WrittenPieces

@@ -6,3 +6,4 @@ pub mod HexForm
 pub mod UnknownForm
 pub mod Parts
 pub mod NameFront
+pub mod WrittenForm

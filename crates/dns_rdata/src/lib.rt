@@ -17,6 +17,7 @@ mod table;
 mod typed;
 mod unknown;
 mod word;
+mod write;
 
 pub use fault::RdataFault;
 pub use hex::{append_hex, hex_digits};

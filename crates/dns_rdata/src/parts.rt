@@ -110,7 +110,7 @@ fn first_run(octets: &[u8], count: usize) -> Option<(Part<'_>, &[u8])>
 }
 
 // RFC 1035 3.1
-fn first_name(octets: &[u8]) -> Option<(Part<'_>, &[u8])>
+pub(crate) fn first_name(octets: &[u8]) -> Option<(Part<'_>, &[u8])>
     ensures { Cuts result (piece_front domain octets.now) }
 {
     let behind = behind_labels(octets)?;

@@ -1,0 +1,39 @@
+-- What a reader learns here: how the words of data are written from left to right, by the cases of the code.
+use Rattle.std.specs.Prelude.{Bool, List, [], ◌∷◌, ◌++◌, length, nat_lt}
+use Rattle.std.specs.List.{list_all}
+use Rattle.dns_spec.specs.Names.{Octets}
+use Rattle.dns_spec.specs.Data.{Piece}
+use Rattle.dns_spec.specs.DataText.{Word, WordForm, forms_in}
+use Rattle.dns_spec.specs.WrittenText.{word_text, word_front, form_words, string_count}
+
+-- words, the first behind `before` and each other behind a space
+abbrev pub spaced : Octets → List Word → Octets
+spaced before [] = []
+spaced before (w ∷ ws) = before ++ (word_text w ++ spaced (32 ∷ []) ws)
+
+-- the data behind the words of forms
+abbrev pub form_rest : List WordForm → Octets → Octets
+form_rest [] d = d
+form_rest (f ∷ fs) d = form_rest fs (word_front f d).1
+
+-- the forms of the words of the piece that octets begin with
+abbrev pub piece_forms : Piece → Octets → List WordForm
+piece_forms p d = forms_in (string_count 0 d) p
+
+abbrev pub piece_words : Piece → Octets → List Word
+piece_words p d = form_words (piece_forms p d) d
+
+abbrev pub piece_rest : Piece → Octets → Octets
+piece_rest p d = form_rest (piece_forms p d) d
+
+-- the words of pieces, one piece behind the other
+abbrev pub pieces_words : List Piece → Octets → List Word
+pieces_words [] d = []
+pieces_words (p ∷ ps) d = piece_words p d ++ pieces_words ps (piece_rest p d)
+
+-- a piece that is written has a word
+abbrev pub has_words : Piece → Bool
+has_words p = nat_lt 0 (length (forms_in 1 p))
+
+abbrev pub have_words : List Piece → Bool
+have_words = list_all has_words
