@@ -8,3 +8,4 @@ mod string;
 mod types;
 mod unknown;
 mod words;
+mod write;
