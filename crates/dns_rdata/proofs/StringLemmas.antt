@@ -129,18 +129,3 @@ octet_at-shorter text x others e = let spelled = read_spelled text x others e in
     by_cases [] f (inl h) = absurd h
     by_cases [] f (inr (h, k)) = omega (arith, ap length h)
     by_cases (a ∷ first) f h = omega (arith, ap length f, length-append first others)
-
--- a text spells at most one string
-pub string_once : (text s t : Octets) → SpellsString text s → SpellsString text t → s ≡ t
-unfolding octet_at
-string_once text [] [] h k = refl
-string_once text [] (y ∷ t) empty (first, others, e, spelled, k) =
-    absurd (none_is_some (y, others) (ap octet_at (sym empty) ∙ spelled_read text y others (first, e, spelled)))
-string_once text (x ∷ s) [] (first, others, e, spelled, h) empty =
-    absurd (none_is_some (x, others) (ap octet_at (sym empty) ∙ spelled_read text x others (first, e, spelled)))
-string_once text (x ∷ s) (y ∷ t) (first, others, e, spelled, h) (first', others', e', spelled', k) =
-    let one = spelled_read text x others (first, e, spelled) in
-    let two = spelled_read text y others' (first', e', spelled') in
-    let same = some_parts (x, others) (y, others') (sym one ∙ two) in
-    let P : Octets → Type 0 = λ r. SpellsString r t in
-    ap (λ o. o ∷ s) same.0 ∙ ap (λ r. y ∷ r) (string_once others s t h (subst P (sym same.1) k))

@@ -1,18 +1,18 @@
 -- The plain layout spells its message.
-use Rattle.std.proofs.Common.{◌≡◌, ℕ, ◌+◌, ◌^◌, ◌<◌, Bool, true, false, cond, nat_le, List, [], ◌∷◌, ◌++◌, map, length, take, drop, is_some, All, filter, flat_map, refl, sym, ap, ◌∙◌, subst, arith, append_assoc, append-nil, length-append, zero-add}
+use Rattle.std.proofs.Common.{◌≡◌, ℕ, ◌+◌, ◌^◌, ◌<◌, Bool, true, false, cond, nat_le, List, [], ◌∷◌, ◌++◌, map, length, take, drop, is_some, All, filter, flat_map, refl, sym, ap, ◌∙◌, subst, arith, append_assoc, length-append, zero-add}
 use Rattle.std.proofs.lemmas.Bool.{and_parts, leb-true}
 use Rattle.std.proofs.lemmas.List.{length-map, take_at, drop_at}
 use Rattle.std.proofs.lemmas.List.Elements.{All-head, All-tail, All-same, All-take, All-drop, All-weaker}
 use Rattle.std.proofs.lemmas.List.Concat.{flat_map-append}
 use Rattle.std.specs.List.{list_all}
 use Rattle.dns_spec.specs.Names.{Octets, DomainName, wire, is_name, names_equal}
-use Rattle.dns_spec.specs.Data.{class_in, type_a, pieces_of, cut}
+use Rattle.dns_spec.specs.Data.{class_in, pieces_of, cut}
 use Rattle.dns_spec.specs.Records.{ResourceRecord}
-use Rattle.dns_spec.specs.Reading.{Header, MessageQuestion, NameAt, OctetsAt, NumberAt, DataAt, QuestionsAt, RecordAt, RecordsAt, Spells}
+use Rattle.dns_spec.specs.Reading.{Header, MessageQuestion, NameAt, NumberAt, DataAt, QuestionsAt, RecordAt, RecordsAt, Spells}
 use Rattle.dns_spec.specs.Layout.{octets16, octets32, pointer, Section, answer, authority, additional, Item, is_section, records_of, in_section, record_tail, question_octets, header_octets, reply_header, plain_owner, plain_record, plain_layout, message_record, message_of}
-use Rattle.dns_spec.specs.Laws.{section_rank, sections_in_order, IsWritable, IsAddressRecord, HasRoom}
+use Rattle.dns_spec.specs.Laws.{section_rank, sections_in_order, IsWritable, HasRoom}
 use Rattle.dns_spec.proofs.NameLaws.{names_equal-decides}
-use Rattle.dns_spec.proofs.Places.{Stands, stands_front, stands_rest, stands_behind, stands_all, stands_within, number_at, octets_at, name_written, name_pointed}
+use Rattle.dns_spec.proofs.Places.{Stands, stands_front, stands_rest, stands_behind, stands_all, number_at, name_written, name_pointed}
 use Rattle.dns_spec.proofs.WrittenData.{data_written}
 
 -- what a record must be like to be read back where it is written in b
@@ -249,31 +249,6 @@ spells_where b h q items ok readable whole =
       authorities = records_read B behind_a (omega (arith, beyond)) (All-front (IsReadable b) B C read_later) (stands_front (w B) (w C) later);
       additionals = subst (RecordsAt b behind_b (map message_record C)) end (records_read C behind_b (omega (arith, beyond)) (All-back (IsReadable b) B C read_later) last);
     }
-
--- an address of 4 octets
-address_at : {b : Octets} {i : ℕ} (d : Octets) → length d ≡ 4 → Stands b i d → DataAt b type_a class_in i (i + length d) d
-address_at {b} {i} d four at = (
-  omega arith,
-  stands_within d at,
-  (d, [], subst (λ x. OctetsAt b i (i + x) d) four (octets_at d at), sym (append-nil d), (omega (arith, four), refl)),
-)
-
-address_readable : (b : Octets) (r : ResourceRecord) → IsAddressRecord r → IsReadable b r
-address_readable b r ok = record {
-  owner = ok.owner;
-  rtype = omega (arith, ok.rtype);
-  ttl = ok.ttl;
-  rdata = omega (arith, ok.rdata);
-  data_at = λ i at. subst (λ t. DataAt b t class_in i (i + length r.rdata) r.rdata) (sym ok.rtype) (address_at r.rdata ok.rdata at);
-}
-
--- The plain layout of addresses spells its message.
-pub plain_addresses_spell : (h : Header) (q : MessageQuestion) (items : List Item) → HasRoom h q items → All IsAddressRecord (records_of items)
-    → Spells (plain_layout h q items) (message_of h q items)
-unfolding plain_layout
-plain_addresses_spell h q items ok addresses =
-    let b = plain_layout h q items in
-    spells_where b h q items ok (All-weaker IsAddressRecord (IsReadable b) (address_readable b) (records_of items) addresses) refl
 
 writable_readable : (b : Octets) (r : ResourceRecord) → IsWritable r → IsReadable b r
 writable_readable b r ok = record {

@@ -3,7 +3,7 @@ use Rattle.std.specs.Prelude.{◌≡◌, ℕ, ◌+◌, ◌*◌, ◌%◌, ◌^◌
 use Rattle.std.specs.Prelude.{Option, None, Some}
 use Rattle.std.specs.Bool.{MatchBool}
 use Rattle.std.specs.Option.{option_map}
-use Rattle.std.specs.List.{list_all, find, flat_map}
+use Rattle.std.specs.List.{list_all, flat_map}
 use Rattle.std.specs.Int.{bytes_high_first}
 use Rattle.std.specs.Char.{is_ascii_hexdigit, digit_value}
 use Rattle.dns_spec.specs.Names.{Octets, DomainName, wire, octets_equal}

@@ -2,7 +2,7 @@
 use Rattle.std.specs.Prelude.{◌≡◌, ℕ, ◌<◌, ◌^◌, Bool, true, ◌&&◌, List, [], ◌∷◌, length, take, nat_le, IsTrue}
 use Rattle.std.specs.List.{list_all}
 use Rattle.dns_spec.specs.Names.{is_name}
-use Rattle.dns_spec.specs.Data.{type_a, Valid}
+use Rattle.dns_spec.specs.Data.{Valid}
 use Rattle.dns_spec.specs.Records.{ResourceRecord, ZoneContents}
 use Rattle.dns_spec.specs.Reading.{Header, MessageQuestion}
 use Rattle.dns_spec.specs.Layout.{Section, answer, authority, additional, Item, in_section, plain_size}
@@ -26,13 +26,6 @@ pub record IsWritable (r : ResourceRecord) : Type 0 where
   pub rtype : r.rtype < 2 ^ 16
   pub ttl : r.ttl < 2 ^ 32
   pub rdata : Valid r.rtype r.rdata
-
--- RFC 1035 3.4.1: the same of a record of an address
-pub record IsAddressRecord (r : ResourceRecord) : Type 0 where
-  pub owner : IsTrue (is_name r.owner)
-  pub rtype : r.rtype ≡ type_a
-  pub ttl : r.ttl < 2 ^ 32
-  pub rdata : length r.rdata ≡ 4
 
 -- RFC 1035 4.1: header, question and counts fit the fields of a message, and the sets stand in the order of its sections
 pub record HasRoom (h : Header) (q : MessageQuestion) (items : List Item) : Type 0 where

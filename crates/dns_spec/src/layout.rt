@@ -4,17 +4,11 @@ ghost use Rattle.std.specs.Prelude.{◌≡◌, ℕ, List, [], ◌<◌, ◌≤◌
 ghost use Rattle.dns_spec.specs.Reading.{Header, MessageQuestion, Spells};
 ghost use Rattle.dns_spec.specs.Layout.{Item, records_of, header_octets, layout, size, plain_layout, plain_size, message_of};
 ghost use Rattle.dns_spec.specs.Sharing.{Sharing};
-ghost use Rattle.dns_spec.specs.Laws.{IsWritable, IsAddressRecord, HasRoom};
+ghost use Rattle.dns_spec.specs.Laws.{IsWritable, HasRoom};
 
 /// The plain layout of a question and of sets spells their message (RFC 1035 4.1).
 pub fn plain_layout_is_spelled()
     ensures { (h : Header) (q : MessageQuestion) (items : List Item) → HasRoom h q items → All IsWritable (records_of items)
-        → Spells (plain_layout h q items) (message_of h q items) }
-{}
-
-/// The plain layout of a question and of addresses spells their message (RFC 1035 4.1).
-pub fn plain_addresses_are_spelled()
-    ensures { (h : Header) (q : MessageQuestion) (items : List Item) → HasRoom h q items → All IsAddressRecord (records_of items)
         → Spells (plain_layout h q items) (message_of h q items) }
 {}
 
