@@ -10,7 +10,7 @@ use std::alloc::AllocError;
 ///
 /// False where the text has another octet or an odd number of digits; `octets` has then grown by some of them. The error
 /// comes where no memory was found.
-pub fn append_hex(text: &[u8], octets: &mut Vec<u8>) -> Result<bool, AllocError>
+pub(crate) fn append_hex(text: &[u8], octets: &mut Vec<u8>) -> Result<bool, AllocError>
     ensures { IfOk result (λ said. AppendsHex text.now said octets.old.items octets.new.items) }
 {
     let mut rest = text;
@@ -25,7 +25,7 @@ pub fn append_hex(text: &[u8], octets: &mut Vec<u8>) -> Result<bool, AllocError>
 }
 
 /// The two hex digits of an octet, in lower case.
-pub fn hex_digits(octet: u8) -> [u8; 2]
+pub(crate) fn hex_digits(octet: u8) -> [u8; 2]
     ensures { result ≡ digit_char (octet / 16) ∷ digit_char (octet % 16) ∷ [] }
 {
     [hex_digit(octet / 16), hex_digit(octet % 16)]

@@ -8,12 +8,12 @@ use crate::number::{number_text, read_number};
 use arrayvec::ArrayVec;
 
 /// The text of an IPv4 address has at most 15 octets.
-pub const MOST_IPV4_OCTETS: usize = 15;
+pub(crate) const MOST_IPV4_OCTETS: usize = 15;
 
 /// The IPv4 address that a word says: four decimals 0 to 255 with dots between (RFC 1035 3.4.1).
 ///
 /// `None` where the word is anything else, as `192.0.2.01`.
-pub fn read_ipv4(word: &[u8]) -> Option<[u8; 4]>
+pub(crate) fn read_ipv4(word: &[u8]) -> Option<[u8; 4]>
     ensures { (d : Octets) → (result ≡ Some d) ↔ SaysIpv4 word.now d }
 {
     let (first, rest) = octet_and_dot(word)?;
@@ -24,7 +24,7 @@ pub fn read_ipv4(word: &[u8]) -> Option<[u8; 4]>
 }
 
 /// The text of an IPv4 address, as in `192.0.2.1` (RFC 1035 3.4.1).
-pub fn text_of_ipv4(address: &[u8; 4]) -> ArrayVec<u8, MOST_IPV4_OCTETS>
+pub(crate) fn text_of_ipv4(address: &[u8; 4]) -> ArrayVec<u8, MOST_IPV4_OCTETS>
     ensures { result.items ≡ ipv4_text address.now }
 {
     let [first, second, third, fourth] = *address;

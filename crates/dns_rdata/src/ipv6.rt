@@ -19,7 +19,7 @@ const GROUPS: usize = 8;
 /// with `::` once for one or more zero groups (RFC 4291 2.2).
 ///
 /// `None` where the word is anything else, as `::1.2.3.4`.
-pub fn read_ipv6(word: &[u8]) -> Option<[u8; 16]>
+pub(crate) fn read_ipv6(word: &[u8]) -> Option<[u8; 16]>
     ensures { result ≡ ipv6_octets word.now }
 {
     let Some((front, back)) = split_at_gap(word) else {

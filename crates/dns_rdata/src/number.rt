@@ -5,12 +5,12 @@ ghost use Rattle.std.specs.Str.Parse.{AllDigits, digits_value};
 use arrayvec::ArrayVec;
 
 /// The decimal text of a number of 32 bits has at most 10 octets.
-pub const MOST_NUMBER_OCTETS: usize = 10;
+pub(crate) const MOST_NUMBER_OCTETS: usize = 10;
 
 /// The number, of at most `most`, that a word says in decimal: `0`, or digits that begin with 1 to 9.
 ///
 /// `None` where the word is anything else, as `010`, or says a greater number.
-pub fn read_number(word: &[u8], most: u32) -> Option<u32>
+pub(crate) fn read_number(word: &[u8], most: u32) -> Option<u32>
     ensures { (n : ℕ) → (result ≡ Some n) ↔ ((word.now ≡ decimal n) × (n ≤ most)) }
 {
     let first = *word.first()?;
@@ -41,7 +41,7 @@ fn number_of_digits(digits: &[u8]) -> Option<u32>
 }
 
 /// The text of a number in plain decimal, as in `65280`.
-pub fn number_text(number: u32) -> ArrayVec<u8, MOST_NUMBER_OCTETS>
+pub(crate) fn number_text(number: u32) -> ArrayVec<u8, MOST_NUMBER_OCTETS>
     ensures { result.items ≡ decimal number }
 {
     let mut text = ArrayVec::new();

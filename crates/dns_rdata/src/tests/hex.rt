@@ -1,4 +1,4 @@
-use crate::{append_hex, hex_digits};
+use crate::hex::{append_hex, hex_digits};
 use std::test::Fail;
 
 #[test]

@@ -1,4 +1,4 @@
-use crate::{read_ipv4, text_of_ipv4};
+use crate::ipv4::{read_ipv4, text_of_ipv4};
 use std::test::Fail;
 
 #[test]

@@ -1,4 +1,5 @@
-use crate::{read_ipv6, text_of_ipv6};
+use crate::ipv6::read_ipv6;
+use crate::ipv6_text::text_of_ipv6;
 use std::test::Fail;
 
 #[test]

@@ -1,4 +1,4 @@
-use crate::{number_text, read_number};
+use crate::number::{number_text, read_number};
 use std::test::Fail;
 
 #[test]

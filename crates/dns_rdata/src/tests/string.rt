@@ -1,4 +1,4 @@
-use crate::{read_string, text_of_string};
+use crate::string::{read_string, text_of_string};
 use std::test::Fail;
 
 const LONG: [u8; 256] = [b'x'; 256];
