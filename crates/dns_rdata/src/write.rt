@@ -244,8 +244,8 @@ fn write_string<'a, W: Write>(
         unreachable!();
     };
     let (string, rest) = others.split_at(usize::from(*length));
-    let text = text_of_string(string);
-    sink.write_parts(&[before, text.as_slice()])?;
+    let quoted = text_of_string(string);
+    sink.write_parts(&[before, quoted.as_slice()])?;
     Ok(rest)
 }
 
