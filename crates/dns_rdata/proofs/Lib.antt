@@ -17,3 +17,4 @@ pub mod WrittenLoop
 pub mod SpacedWords
 pub mod NumberSpelled
 pub mod WrittenPieces
+pub mod LoweredInPlace

@@ -1,25 +1,22 @@
 -- Parts of data, one after another.
-use Rattle.std.proofs.Common.{Bool, false, nat_le, cond, ◌==◌, ◌≡◌, ℕ, suc, ◌≤◌, true, Option, None, Some, All, List, [], ◌∷◌, ◌++◌, map, length, get_or, drop, refl, sym, ap, ◌∙◌, subst, arith, append_assoc, append-nil}
+use Rattle.std.proofs.Common.{Bool, false, nat_le, cond, ◌==◌, ◌≡◌, ℕ, suc, ◌≤◌, true, Option, None, Some, All, List, [], ◌∷◌, ◌++◌, map, length, get_or, drop, refl, sym, ap, ◌∙◌, subst, arith}
 use Rattle.std.proofs.lemmas.Bool.{and_parts, leb-true, false≢true, false_from_ne_true, eqb-true}
 use Rattle.std.proofs.lemmas.List.{nil_from_length}
 use Rattle.std.proofs.lemmas.List.Concat.{flat_map-cons}
-use Rattle.std.proofs.lemmas.List.Elements.{All-nil, All-cons, All-head, All-tail}
+use Rattle.std.proofs.lemmas.List.Elements.{All-nil, All-cons}
 use Rattle.std.proofs.lemmas.Option.{none-some, same_Some}
 use Rattle.std.specs.List.{find, list_all, flat_map}
 use Rattle.std.specs.Option.{is_some, unwrap_or, option_map}
-use Rattle.std.specs.Char.{to_ascii_lowercase}
 use Rattle.dns_spec.specs.Names.{Octets}
 use Rattle.dns_spec.specs.Data.{width, fixed, domain, string, strings, anything, octets, name, part_octets, part_folded, joined, cut, piece_front, valid, lower_case, pieces_of, type_table, other_type}
 use Rattle.dns_spec.specs.Data as Data
-use Rattle.dns_spec.proofs.NameLaws.{IsName-is_name, map-lowercase-wire}
 use Rattle.dns_spec.proofs.WrittenData.{cut_into, name_part, octets_part, all_strings}
 use Rattle.dns_spec.proofs.LoweredData.{cut_data, lowered_data}
-use Rattle.dns_name.specs.WireForm.{labels_of}
 use Rattle.dns_rdata.specs.declared.table.Piece.{Piece}
 use Rattle.dns_rdata.specs.declared.parts.Part.{Part}
 use Rattle.dns_rdata.specs.declared.parts.Part.TheVariants.{Octets as Run, Name}
 use Rattle.dns_rdata.specs.TypeRows.{piece_of, pieces_in}
-use Rattle.dns_rdata.specs.Parts.{part_for, part_lends, part_lowered, shown_part, with_octets, parts_left, AreCut, IsLent, HasName}
+use Rattle.dns_rdata.specs.Parts.{part_for, part_lends, shown_part, with_octets, parts_left, AreCut, IsLent, HasName}
 
 -- what is cut behind the first part
 pub cut_more : (p : Data.Piece) (ps : List Data.Piece) (os : Octets) (part : Data.Part) (rest : Octets) → piece_front p os ≡ Some (part, rest)
@@ -146,52 +143,6 @@ pub shown_first : (p : Piece) (ps : List Piece) (os : Octets) (x : Part) (rest :
 shown_first p ps os x rest left e lent are view =
     ap (map with_octets) (sym view ∙ parts_left-cons p ps os (part_for x) rest e are)
     ∙ ap (λ y. y ∷ map with_octets (parts_left ps rest)) (lent_octets x lent)
-
--- the parts in lower case: those that are done, and those that are still to come
-pub record Lowers (whole : List Data.Part) (done : Octets) (rest : List Data.Part) : Type 0 where
-  pub names : All HasName rest
-  pub whole_is : joined (map part_folded whole) ≡ done ++ joined (map part_folded rest)
-
-pub Lowers-whole : (whole rest : List Data.Part) (done : Octets) → rest ≡ whole → done ≡ [] → All HasName rest → Lowers whole done rest
-Lowers-whole whole rest done e f names = record {
-  names = names;
-  whole_is = ap (λ xs. joined (map part_folded xs)) (sym e) ∙ ap (λ xs. xs ++ joined (map part_folded rest)) (sym f);
-}
-
--- a name in lower case
-lowered_part : (x : Part) → HasName (part_for x) → part_octets (part_for x) ≡ part_lends x → part_lowered x ≡ part_octets (part_folded (part_for x))
-lowered_part (Run o) ok e = refl
-lowered_part (Name o) ok e = ap (map to_ascii_lowercase) (sym e) ∙ map-lowercase-wire (labels_of o.now) (IsName-is_name (labels_of o.now) ok).labels
-
-unshown : (xs : List Data.Part) → map (λ (y : Data.Part × Octets). y.0) (map with_octets xs) ≡ xs
-unshown [] = refl
-unshown (x ∷ xs) = ap (λ ys. x ∷ ys) (unshown xs)
-
-pub Lowers-next : (whole old new : List Data.Part) (done more : Octets) (x : Part) → Lowers whole done old → map with_octets old ≡ shown_part x ∷ map with_octets new
-    → more ≡ done ++ part_lowered x → Lowers whole more new
-Lowers-next whole [] new done more x h e f = absurd (no_shown e)
-  where
-    no_shown : ◌≡◌ {A = List (Data.Part × Octets)} [] (shown_part x ∷ map with_octets new) → ⊥
-    no_shown g = cc
-Lowers-next whole (p ∷ ps) new done more x h e f =
-    let first : with_octets p ≡ shown_part x = ap (λ (xs : List (Data.Part × Octets)). get_or xs 0 (shown_part x)) e in
-    let same : p ≡ part_for x = ap (λ y. y.0) first in
-    let lends : part_octets (part_for x) ≡ part_lends x = ap part_octets (sym same) ∙ ap (λ y. y.1) first in
-    let others : ps ≡ new = sym (unshown ps) ∙ ap (λ (xs : List (Data.Part × Octets)). map (λ y. y.0) (drop 1 xs)) e ∙ unshown new in
-    let named : HasName (part_for x) = subst HasName same (All-head HasName p ps h.names) in
-    let lower : part_lowered x ≡ part_octets (part_folded p) = lowered_part x named lends ∙ ap (λ y. part_octets (part_folded y)) (sym same) in
-    record {
-      names = subst (All HasName) others (All-tail HasName p ps h.names);
-      whole_is =
-          h.whole_is ∙ ap (λ xs. done ++ xs) (flat_map-cons part_octets (part_folded p) (map part_folded ps))
-          ∙ sym (append_assoc done (part_octets (part_folded p)) (joined (map part_folded ps)))
-          ∙ ap (λ xs. (done ++ xs) ++ joined (map part_folded ps)) (sym lower)
-          ∙ ap (λ xs. xs ++ joined (map part_folded ps)) (sym f) ∙ ap (λ xs. more ++ joined (map part_folded xs)) others;
-    }
-
-pub Lowers-all : (whole rest : List Data.Part) (done : Octets) → Lowers whole done rest → map with_octets rest ≡ [] → done ≡ joined (map part_folded whole)
-Lowers-all whole [] done h e = sym (h.whole_is ∙ append-nil done)
-Lowers-all whole (p ∷ ps) done h e = cc
 
 pub length-lower_case : (t : ℕ) (d : Octets) → valid t d ≡ true → length (lower_case t d) ≤ 65535
 length-lower_case t d ok = (cut_data t (lower_case t d) (lowered_data t d ok).0).short

@@ -1,10 +1,9 @@
 -- What a reader learns here: how a borrowed part of data stands for a part of the definitions.
-use Rattle.std.specs.Prelude.{◌≡◌, ⊤, List, [], map, Option, Some, None, IsTrue}
+use Rattle.std.specs.Prelude.{◌≡◌, ⊤, ℕ, List, [], ◌++◌, length, Option, Some, None, IsTrue}
 use Rattle.std.specs.Borrow.{Bor}
 use Rattle.std.specs.Option.{unwrap_or, is_some}
-use Rattle.std.specs.Char.{to_ascii_lowercase}
 use Rattle.dns_spec.specs.Names.{Octets, is_name}
-use Rattle.dns_spec.specs.Data.{octets, name, part_octets, cut}
+use Rattle.dns_spec.specs.Data.{octets, name, part_octets, part_folded, cut}
 use Rattle.dns_spec.specs.Data as Data
 use Rattle.dns_name.specs.WireForm.{labels_of, IsWireForm}
 use Rattle.dns_rdata.specs.declared.table.Piece.{Piece}
@@ -49,10 +48,10 @@ AreCut ps os = IsTrue (is_some (cut (pieces_in ps) os))
 abbrev pub PartList : Type 0
 PartList = List Data.Part
 
--- the octets of a part, those of a name in lower case
-abbrev pub part_lowered : Part → Octets
-part_lowered (Run o) = o.now
-part_lowered (Name o) = map to_ascii_lowercase o.now
+-- of octets that begin with a part, the part was lowered if it is a name, and n is how many octets it has
+abbrev pub LowersFront : Option (Data.Part × Octets) → Octets → ℕ → Type 0
+LowersFront None after n = ⊥
+LowersFront (Some x) after n = (after ≡ part_octets (part_folded x.0) ++ x.1) × (n ≡ length (part_octets x.0))
 
 -- a part that is a name is one of at most 255 octets
 abbrev pub HasName : Data.Part → Type 0

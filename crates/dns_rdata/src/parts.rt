@@ -90,7 +90,7 @@ pub(crate) fn are_cut(pieces: &[Piece], octets: &[u8]) -> bool
 }
 
 // The part of this piece that octets begin with, and the octets behind it.
-fn first_part(piece: Piece, octets: &[u8]) -> Option<(Part<'_>, &[u8])>
+pub(crate) fn first_part(piece: Piece, octets: &[u8]) -> Option<(Part<'_>, &[u8])>
     ensures { Cuts result (piece_front (piece_of piece) octets.now) }
 {
     match piece {

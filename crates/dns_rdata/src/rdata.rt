@@ -1,12 +1,14 @@
 //! Data of records (RFC 1035 3.2.1): octets without compression, names in lower case.
-ghost use Rattle.std.specs.Prelude.{◌≡◌, ◌≤◌, ◌++◌, All, length, IsTrue, IfOk, MatchResult, if◌then◌else◌};
-ghost use Rattle.dns_spec.specs.Data.{valid, Valid, parts, lower_case};
-ghost use Rattle.dns_rdata.specs.Parts.{HasName, part_lowered};
+ghost use Rattle.std.specs.Prelude.{◌≡◌, ◌≤◌, All, false, length, map, IsTrue, IfOk, MatchResult, if◌then◌else◌};
+ghost use Rattle.std.specs.Option.{is_some};
+ghost use Rattle.dns_spec.specs.Data.{valid, Valid, parts, lower_case, part_folded, joined, piece_front};
+ghost use Rattle.dns_rdata.specs.TypeRows.{piece_of};
+ghost use Rattle.dns_rdata.specs.Parts.{AreCut, HasName, LowersFront, parts_left};
 
 use crate::fault::RdataFault;
-use crate::parts::{Part, Parts, are_cut};
+use crate::parts::{Part, Parts, are_cut, first_part};
 use crate::rtype::RType;
-use crate::table::pieces_of_type;
+use crate::table::{Piece, pieces_of_type};
 use std::alloc::{AllocError, Global};
 use std::marker::Model;
 
@@ -46,9 +48,22 @@ impl Rdata {
         if !is_valid(rtype, octets) {
             return Err(RdataFault::NotOfType);
         }
-        match lowered(alloc, rtype, octets) {
-            Ok(octets) => Ok(Rdata { octets }),
+        match copied(alloc, octets) {
+            Ok(octets) => Ok(data_of(rtype, octets)),
             Err(_) => Err(RdataFault::NoMemory),
+        }
+    }
+
+    /// The data that octets are, in the memory that they have: `NotOfType` where `from_wire` tells it.
+    pub(crate) fn from_octets(rtype: RType, octets: Vec<u8>) -> Result<Rdata, RdataFault>
+        ensures valid { IfOk result (λ d. Valid rtype.0 d) }
+        ensures value { MatchResult result (λ d. Valid rtype.0 octets.items × (d ≡ lower_case rtype.0 octets.items))
+            (λ fault. (valid rtype.0 octets.items ≡ false) × (fault ≡ RdataFault.NotOfType)) }
+    {
+        if is_valid(rtype, octets.as_slice()) {
+            Ok(data_of(rtype, octets))
+        } else {
+            Err(RdataFault::NotOfType)
         }
     }
 
@@ -79,29 +94,58 @@ fn is_valid(rtype: RType, octets: &[u8]) -> bool
     octets.len() <= MAX_OCTETS && are_cut(pieces_of_type(rtype), octets)
 }
 
-// Valid data with its names in lower case. Room for it is asked for once.
-fn lowered(alloc: Global, rtype: RType, octets: &[u8]) -> Result<Vec<u8>, AllocError>
-    requires { Valid rtype.0 octets.now }
-    ensures { IfOk result (λ v. v.items ≡ lower_case rtype.0 octets.now) }
+// Room is asked for once.
+fn copied(alloc: Global, octets: &[u8]) -> Result<Vec<u8>, AllocError>
+    ensures { IfOk result (λ copy. copy.items ≡ octets.now) }
 {
-    let mut lowered = Vec::with_capacity(alloc, octets.len())?;
-    let mut parts = Rdata::parts(rtype, octets);
-    'parts: while let Some(part) = parts.next() {
-        push_lowered(&mut lowered, part)?;
-    }
-    Ok(lowered)
+    let mut copy = Vec::with_capacity(alloc, octets.len())?;
+    copy.extend_from_slice(octets)?;
+    Ok(copy)
 }
 
-fn push_lowered(lowered: &mut Vec<u8>, part: Part<'_>) -> Result<(), AllocError>
-    ensures { IfOk result (λ _. lowered.new.items ≡ lowered.old.items ++ part_lowered part.entry) }
+// Valid data with its names in lower case, in the memory that it has.
+fn data_of(rtype: RType, octets: Vec<u8>) -> Rdata
+    requires { Valid rtype.0 octets.items }
+    ensures value { result ≡ lower_case rtype.0 octets.items }
+    ensures valid { Valid rtype.0 result }
 {
-    match part {
-        Part::Octets(octets) => lowered.extend_from_slice(octets),
-        Part::Name(octets) => {
-            let start = lowered.len();
-            lowered.extend_from_slice(octets)?;
-            lowered[start..].make_ascii_lowercase();
-            Ok(())
+    Rdata {
+        octets: lowered(rtype, octets),
+    }
+}
+
+fn lowered(rtype: RType, octets: Vec<u8>) -> Vec<u8>
+    requires { Valid rtype.0 octets.items }
+    ensures { result.items ≡ lower_case rtype.0 octets.items }
+{
+    let mut octets = octets;
+    lower_names(pieces_of_type(rtype), octets.as_mut_slice());
+    octets
+}
+
+// Lowers the names of octets that are cut into these pieces.
+fn lower_names(pieces: &[Piece], octets: &mut [u8])
+    requires { AreCut pieces.now octets.old }
+    ensures { octets.new ≡ joined (map part_folded (parts_left pieces.now octets.old)) }
+{
+    let mut start = 0;
+    'pieces: for piece in pieces {
+        start += lower_first(*piece, &mut octets[start..]);
+    }
+}
+
+// Lowers the piece that octets begin with where it is a name, and answers how many octets it has.
+fn lower_first(piece: Piece, octets: &mut [u8]) -> usize
+    requires { IsTrue (is_some (piece_front (piece_of piece) octets.old)) }
+    ensures { LowersFront (piece_front (piece_of piece) octets.old) octets.new result }
+{
+    match first_part(piece, octets) {
+        Some((Part::Name(name), _)) => {
+            let end = name.len();
+            octets[..end].make_ascii_lowercase();
+            end
         }
+        Some((Part::Octets(run), _)) => run.len(),
+        None => unreachable!(),
     }
 }

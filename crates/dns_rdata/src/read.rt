@@ -36,7 +36,7 @@ impl Rdata {
         if octets.len() > MAX_OCTETS {
             return Err(RdataFault::BadString);
         }
-        Rdata::from_wire(alloc, rtype, octets.as_slice())
+        Rdata::from_octets(rtype, octets)
     }
 }
 

@@ -38,7 +38,7 @@ cut_whole (p ∷ ps) os xs h =
     ∙ ap (λ x. part_octets c.part ++ x) (cut_whole ps c.rest c.others c.more)
     ∙ sym (piece_whole p os c.part c.rest c.front)
 
-length-part_folded : (x : Part) → length (part_octets (part_folded x)) ≡ length (part_octets x)
+pub length-part_folded : (x : Part) → length (part_octets (part_folded x)) ≡ length (part_octets x)
 length-part_folded (octets o) = refl
 length-part_folded (name n) = length-wire-folded n
 
