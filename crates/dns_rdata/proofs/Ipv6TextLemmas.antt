@@ -1,39 +1,17 @@
 -- The text of an IPv6 address, group by group.
-use Rattle.std.proofs.Common.{◌≡◌, ◌≢◌, ℕ, zero, suc, ◌+◌, ◌-◌, ◌*◌, ◌/◌, ◌%◌, ◌<◌, ◌≤◌, max, inl, inr, ◌⊎◌, Bool, true, false, ◌==◌, List, [], ◌∷◌, ◌++◌, length, take, drop, get_or, fold, refl, sym, ◌∙◌, ap, subst, arith, length-append, length-drop, drop-cons}
+use Rattle.std.proofs.Common.{◌≡◌, ◌≢◌, ℕ, zero, suc, ◌+◌, ◌-◌, ◌*◌, ◌/◌, ◌%◌, ◌<◌, ◌≤◌, max, inl, inr, ◌⊎◌, true, false, ◌==◌, List, [], ◌∷◌, ◌++◌, length, take, drop, get_or, fold, refl, sym, ◌∙◌, ap, subst, arith, length-append, length-drop, drop-cons}
 use Rattle.std.specs.List.{prefix_len, position_or_len}
 use Rattle.std.specs.Char.{digit_char}
 use Rattle.std.specs.Fmt.{digits}
 use Rattle.std.proofs.lemmas.List.{append_assoc, take_more, take_all, drop_all}
-use Rattle.std.proofs.lemmas.Fmt.{hex_one_digit, hex_two_digits}
 use Rattle.std.proofs.lemmas.Bool.{ne_eqb, eq-eqb, cases_Bool, cases_lt}
 use Rattle.std.proofs.Math.Numerals.{suc-eq-add-one}
 use Rattle.dns_spec.specs.Names.{Octets}
 use Rattle.dns_spec.specs.AddressText.{groups_text, zero_runs, longest_run, longest_place}
+use Rattle.dns_spec.proofs.GroupDigits.{one_digit, two_digits, three_of, four_of}
+use Rattle.dns_spec.proofs.ZeroRuns.{is_zero, length-zero_runs, run_at}
 
--- the digits of an octet, and of two
-pub one_digit : (n : ℕ) → n < 16 → digits 16 false n ≡ digit_char n ∷ []
-one_digit n small = hex_one_digit false n small
-
-pub two_digits : (n : ℕ) → 16 ≤ n → n < 256 → digits 16 false n ≡ digit_char (n / 16) ∷ digit_char (n % 16) ∷ []
-two_digits n large small = hex_two_digits false n large small
-
-three_of : (n : ℕ) → 256 ≤ n → n < 4096 → digits 16 false n ≡ digit_char (n / 16 / 16 % 16) ∷ digit_char (n / 16 % 16) ∷ digit_char (n % 16) ∷ []
-unfolding digits
-three_of n large small =
-    let a : (n / 16 == 0) ≡ false = ne_eqb _ _ (λ e. omega (arith, e)) in
-    let b : (n / 16 / 16 == 0) ≡ false = ne_eqb _ _ (λ e. omega (arith, e)) in
-    let c : (n / 16 / 16 / 16 == 0) ≡ true = eq-eqb _ _ (omega arith) in
-    rw (a, b, c) refl
-
-four_of : (n : ℕ) → 4096 ≤ n → n < 65536 → digits 16 false n ≡ digit_char (n / 16 / 16 / 16 % 16) ∷ digit_char (n / 16 / 16 % 16) ∷ digit_char (n / 16 % 16) ∷ digit_char (n % 16) ∷ []
-unfolding digits
-four_of n large small =
-    let a : (n / 16 == 0) ≡ false = ne_eqb _ _ (λ e. omega (arith, e)) in
-    let b : (n / 16 / 16 == 0) ≡ false = ne_eqb _ _ (λ e. omega (arith, e)) in
-    let c : (n / 16 / 16 / 16 == 0) ≡ false = ne_eqb _ _ (λ e. omega (arith, e)) in
-    let d : (n / 16 / 16 / 16 / 16 == 0) ≡ true = eq-eqb _ _ (omega arith) in
-    rw (a, b, c, d) refl
-
+-- the digits of two octets are those of each
 pub split_digits : (n : ℕ) → 256 ≤ n → n < 65536 → digits 16 false n ≡ digits 16 false (n / 256) ++ digit_char (n % 256 / 16) ∷ digit_char (n % 256 % 16) ∷ []
 split_digits n large small = elim (cases_lt n 4096) [ inl below ↦ three below | inr above ↦ four above ]
   where
@@ -68,9 +46,6 @@ groups_text-push g x (h ∷ gs) =
     ap (λ t. digits 16 false g ++ (58 ∷ t)) (groups_text-push h x gs) ∙ sym (append_assoc (digits 16 false g) (58 ∷ groups_text (h ∷ gs)) (58 ∷ digits 16 false x))
 
 -- the zero groups from a place on
-abbrev is_zero : ℕ → Bool
-is_zero n = n == 0
-
 pub one_group_at : (gs : List ℕ) (i : ℕ) → i < length gs → drop i gs ≡ get_or gs i 0 ∷ drop (i + 1) gs
 one_group_at gs i inside =
     let P : ℕ → Type 0 = λ k. drop i gs ≡ get_or gs i 0 ∷ drop k gs in
@@ -157,15 +132,6 @@ first_place v (x ∷ xs) zero inside e others = rw (eq-eqb x v e) refl
 first_place v (x ∷ xs) (suc i) inside e others =
     let no : (x == v) ≡ false = ne_eqb x v (others 0 (omega arith)) in
     rw no (omega (arith, first_place v xs i (omega (arith, inside)) e (λ k below. others (suc k) (omega (arith, below)))))
-
-length-zero_runs : (gs : List ℕ) → length (zero_runs gs) ≡ length gs
-length-zero_runs [] = refl
-length-zero_runs (g ∷ gs) = omega (arith, length-zero_runs gs)
-
-run_at : (gs : List ℕ) (i : ℕ) → i < length gs → get_or (zero_runs gs) i 0 ≡ prefix_len is_zero (drop i gs)
-run_at [] i inside = absurd (omega (arith, inside))
-run_at (g ∷ gs) zero inside = refl
-run_at (g ∷ gs) (suc i) inside = run_at gs i (omega (arith, inside))
 
 -- the longest run among the first, and where it begins
 pub record LongestSoFar (gs : List ℕ) (i place longest : ℕ) : Type 0 where

@@ -24,7 +24,7 @@ byte_on (suc k) n =
     let some : 0 < unit = pow-le-pow_right {n = 256} (omega arith) {i = 0} {j = suc k} (omega arith) in
     rw (wider, mod-mul n {m = 256} {c = unit} (omega arith) some) refl
 
-number_of-bytes : (k n : ℕ) → number_of (bytes_high_first k n) ≡ n % 256 ^ k
+pub number_of-bytes : (k n : ℕ) → number_of (bytes_high_first k n) ≡ n % 256 ^ k
 number_of-bytes zero n = omega arith
 number_of-bytes (suc k) n =
     ap (λ x. byte_at k n * 256 ^ x + number_of (bytes_high_first k n)) (length-bytes_high_first k n)

@@ -43,7 +43,7 @@ not_special x y h g e = true≢false (sym g ∙ ap is_special (sym e) ∙ h)
 digit_below : (d : ℕ) → d < 10 → IsAsciiDigit (48 + d)
 digit_below d h = (omega arith, omega arith)
 
-digits_spell : (x : ℕ) → x < 256 → SpellsOctet (92 ∷ three_digits x) x
+pub digits_spell : (x : ℕ) → x < 256 → SpellsOctet (92 ∷ three_digits x) x
 digits_spell x h = (
   refl,
   digit_below (x / 100) (omega arith),
@@ -89,7 +89,7 @@ some_octet x = elim (cases_Bool (is_special x)) [
 ]
 
 -- the text of a label and its dot has two octets or more
-labels_text_long : (l : Octets) (n : DomainName) → 0 < length l → 2 ≤ length (labels_text (l ∷ n))
+pub labels_text_long : (l : Octets) (n : DomainName) → 0 < length l → 2 ≤ length (labels_text (l ∷ n))
 labels_text_long [] n h = absurd (omega arith)
 labels_text_long (x ∷ l) n h =
     omega (arith, some_octet x, length-append (octet_text x) (label_text l), length-append (label_text (x ∷ l)) (codes "."), length-append (label_text (x ∷ l) ++ codes ".") (labels_text n))

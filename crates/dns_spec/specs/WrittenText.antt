@@ -1,8 +1,8 @@
 -- What a reader learns here: how the data of a record is written, word by word.
-use Rattle.std.specs.Prelude.{ℕ, zero, suc, ◌+◌, ◌/◌, ◌%◌, ◌&&◌, ◌||◌, true, false, List, [], ◌∷◌, ◌++◌, map, length, take, drop, nat_le, ◌==◌, if◌then◌else◌, codes, decimal}
+use Rattle.std.specs.Prelude.{ℕ, zero, suc, ◌+◌, ◌/◌, ◌%◌, Bool, ◌&&◌, ◌||◌, not, true, false, List, [], ◌∷◌, ◌++◌, map, length, take, drop, nat_lt, nat_le, ◌==◌, if◌then◌else◌, codes, decimal}
 use Rattle.std.specs.Prelude.{Option, None, Some}
-use Rattle.std.specs.List.{flat_map, join_with_byte}
-use Rattle.std.specs.Char.{digit_char}
+use Rattle.std.specs.List.{flat_map, join_with_byte, list_any}
+use Rattle.std.specs.Char.{digit_char, is_ascii_graphic}
 use Rattle.dns_spec.specs.Names.{Octets, DomainName, name_of}
 use Rattle.dns_spec.specs.Data.{number_of}
 use Rattle.dns_spec.specs.NameText.{three_digits, name_text}
@@ -77,3 +77,24 @@ written_words t d = words_by (forms_of t (string_count 0 d)) d
 -- the text of data of a type: its words with one space between
 unfoldable pub data_text : ℕ → Octets → Octets
 data_text t d = join_with_byte 32 (map word_text (written_words t d))
+
+-- RFC 1035 5.1: each octet of a text is one that p takes, or a printable one with a backslash before it; the flag says
+-- whether one stands before the text
+abbrev pub is_unbroken : (ℕ → Bool) → Bool → Octets → Bool
+is_unbroken p escaped [] = not escaped
+is_unbroken p true (c ∷ text) = is_ascii_graphic c && is_unbroken p false text
+is_unbroken p false (c ∷ text) = (c == 92 || p c) && is_unbroken p (c == 92) text
+
+-- RFC 1035 5.1: octets that by themselves neither end a word out of quotation marks nor escape another
+abbrev pub is_bare : ℕ → Bool
+is_bare c = is_ascii_graphic c && not (list_any (λ s. c == s) (codes "\"();\\"))
+
+-- the same in quotation marks
+abbrev pub is_quotable : ℕ → Bool
+is_quotable c = nat_le 32 c && nat_le c 126 && not (list_any (λ s. c == s) (codes "\"\\"))
+
+-- the text of a word is one word, with nothing in it that ends it
+abbrev pub stands_alone : Word → Bool
+stands_alone w =
+    if w.is_quoted then is_unbroken is_quotable false w.raw
+    else nat_lt 0 (length w.raw) && is_unbroken is_bare false w.raw

@@ -1,10 +1,13 @@
 //! Laws of types and of their data: a type is read as it is written, the parts of data are the data, and data in lower
-//! case is data.
+//! case is data. What is written for data is read as that data again.
 
-ghost use Rattle.std.specs.Prelude.{◌≡◌, ℕ, ◌<◌};
-ghost use Rattle.dns_spec.specs.Names.{Octets};
+ghost use Rattle.std.specs.Prelude.{◌≡◌, ℕ, ◌<◌, All, IsTrue};
+ghost use Rattle.std.specs.List.{list_all};
+ghost use Rattle.dns_spec.specs.Names.{Octets, DomainName};
 ghost use Rattle.dns_spec.specs.Data.{Valid, parts, joined, lower_case};
 ghost use Rattle.dns_spec.specs.TypeText.{NamesType, type_text};
+ghost use Rattle.dns_spec.specs.DataText.{Says};
+ghost use Rattle.dns_spec.specs.WrittenText.{written_words, stands_alone};
 
 /// What is written for a type names it (RFC 3597 5).
 pub fn type_text_names_its_type()
@@ -29,4 +32,17 @@ pub fn lowered_data_is_valid()
 /// Lowering twice is lowering once.
 pub fn lowering_twice_is_lowering_once()
     ensures { (t : ℕ) (d : Octets) → Valid t d → lower_case t (lower_case t d) ≡ lower_case t d }
+{}
+
+/// The words that are written for valid data say that data again, with its names in lower case, whatever the origin
+/// (RFC 1035 5.1, RFC 3597 5).
+pub fn written_data_is_said_again()
+    ensures { (t : ℕ) (origin : DomainName) (d : Octets) → All (λ o. o < 256) d → Valid t d
+        → Says t (written_words t d) origin (lower_case t d) }
+{}
+
+/// Nothing in a word that is written for valid data ends the word (RFC 1035 5.1): its octets are printable, a word out of
+/// quotation marks has one octet or more, and each octet that would end the word has a backslash before it.
+pub fn written_words_stand_alone()
+    ensures { (t : ℕ) (d : Octets) → All (λ o. o < 256) d → Valid t d → IsTrue (list_all stands_alone (written_words t d)) }
 {}
