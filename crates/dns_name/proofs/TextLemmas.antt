@@ -10,7 +10,7 @@ use Rattle.std.specs.Char.{is_ascii_digit, IsAsciiDigit, IsNotAsciiDigit}
 use Rattle.std.specs.List.{list_all}
 use Rattle.dns_spec.proofs.NameLaws.{is_label-head, length-wire-append, IsName-is_name, IsLabel-is_label}
 use Rattle.dns_spec.specs.Names.{Octets, DomainName, wire, is_label, is_name}
-use Rattle.dns_spec.specs.NameText.{decimal, SpellsOctet, LabelThen, TextSpells, SpellsName}
+use Rattle.dns_spec.specs.NameText.{three_digits_value, SpellsOctet, LabelThen, TextSpells, SpellsName}
 use Rattle.dns_name.specs.TextForm.{digit_at, decimal_at, escaped_at, octet_at, is_label_end, ReadsLabel, PushesLabel, HasNoLabel, Appended, SpellsIff}
 
 -- a text is the spelling of an octet and others
@@ -35,10 +35,10 @@ no_digit_from a h = elim (and_cases (nat_le 48 a) _ h) [ inl low ↦ inl (leb-fa
 digit_here : (a : ℕ) (rest : Octets) → IsAsciiDigit a → digit_at (a ∷ rest) ≡ Some (a - 48, rest)
 digit_here a rest h = rw (is_digit a h) refl
 
-decimal_here : (a b c x : ℕ) (rest : Octets) → IsAsciiDigit a → IsAsciiDigit b → IsAsciiDigit c → decimal a b c ≡ x → x < 256 → decimal_at (a ∷ b ∷ c ∷ rest) ≡ Some (x, rest)
+decimal_here : (a b c x : ℕ) (rest : Octets) → IsAsciiDigit a → IsAsciiDigit b → IsAsciiDigit c → three_digits_value a b c ≡ x → x < 256 → decimal_at (a ∷ b ∷ c ∷ rest) ≡ Some (x, rest)
 unfolding decimal_at
 decimal_here a b c x rest p q r e h =
-    let small : nat_lt (decimal a b c) 256 ≡ true = lt-ltb _ _ (omega arith) in
+    let small : nat_lt (three_digits_value a b c) 256 ≡ true = lt-ltb _ _ (omega arith) in
     rw (is_digit a p, is_digit b q, is_digit c r, small) (ap (λ y. Some (y, rest)) e)
 
 -- a spelling is read, whatever stands behind it
@@ -89,7 +89,7 @@ decimal_read text x others e =
     let a = digit_read text one.0 one.1 in
     let b = digit_read one.0.1 two.0 two.1 in
     let c = digit_read two.0.1 three.0 three.1 in
-    let value : decimal a.0 b.0 c.0 ≡ x =
+    let value : three_digits_value a.0 b.0 c.0 ≡ x =
     ap (λ v. 100 * v + 10 * (b.0 - 48) + (c.0 - 48)) (sym a.3)
     ∙ ap (λ v. 100 * one.0.0 + 10 * v + (c.0 - 48)) (sym b.3)
     ∙ ap (λ v. 100 * one.0.0 + 10 * two.0.0 + v) (sym c.3)

@@ -5,8 +5,8 @@ use Rattle.std.specs.Char.{is_ascii_graphic, IsAsciiDigit, IsNotAsciiDigit}
 use Rattle.dns_spec.specs.Names.{Octets, DomainName, is_name}
 
 -- the number that three decimal digits spell
-abbrev pub decimal : ℕ → ℕ → ℕ → ℕ
-decimal a b c = 100 * (a - 48) + 10 * (b - 48) + (c - 48)
+abbrev pub three_digits_value : ℕ → ℕ → ℕ → ℕ
+three_digits_value a b c = 100 * (a - 48) + 10 * (b - 48) + (c - 48)
 
 -- RFC 1035 5.1: an octet is spelled as itself, if it is no dot and no backslash; as `\X`, where X is no digit (and,
 -- in this product, printable); or as `\DDD`, three decimal digits.
@@ -14,7 +14,7 @@ abbrev pub SpellsOctet : Octets → ℕ → Type 0
 SpellsOctet (a ∷ []) x = (a ≡ x) × (a ≢ 46) × (a ≢ 92)
 SpellsOctet (e ∷ a ∷ []) x = (e ≡ 92) × (a ≡ x) × (32 ≤ a) × (a ≤ 126) × IsNotAsciiDigit a
 SpellsOctet (e ∷ a ∷ b ∷ c ∷ []) x =
-    (e ≡ 92) × IsAsciiDigit a × IsAsciiDigit b × IsAsciiDigit c × (decimal a b c ≡ x) × (x < 256)
+    (e ≡ 92) × IsAsciiDigit a × IsAsciiDigit b × IsAsciiDigit c × (three_digits_value a b c ≡ x) × (x < 256)
 SpellsOctet _ x = ⊥
 
 -- the text spells the octets of a label, one after another, and then comes `rest`
