@@ -40,3 +40,4 @@ mod ReadingRows
 mod TextRows
 mod TypeRows
 mod DataRows
+mod WordRows
