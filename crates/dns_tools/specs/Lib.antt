@@ -1,5 +1,4 @@
 -- What the contracts of the programs' functions cite.
-pub mod Record
 pub mod ListZone
 pub mod Decided
 pub mod Body

@@ -8,9 +8,9 @@ ghost use Rattle.dns_spec.specs.Data.{target};
 ghost use Rattle.dns_spec.specs.Checks.{first_is_asterisk};
 ghost use Rattle.dns_tools.specs.ListZone.{is_listed, is_plain, is_refused, has_fault, lacks_or_repeats, lacks_server, server_lost};
 
-use crate::query::{TYPE_A, TYPE_NS, TYPE_SOA};
 use crate::record::Record;
 use dns_name::Name;
+use dns_rdata::RType;
 
 // The greatest RRset that is served.
 const MOST_RECORDS: usize = 64;
@@ -50,8 +50,8 @@ fn is_plain(origin: &Name, listed: &Record) -> bool
 fn is_listed(origin: &Name, listed: &Record) -> bool
     ensures { result ≡ is_listed origin.now listed.now }
 {
-    listed.rtype == TYPE_A
-        || ((listed.rtype == TYPE_NS || listed.rtype == TYPE_SOA) && listed.owner.same(origin))
+    listed.rtype == RType::A
+        || ((listed.rtype == RType::NS || listed.rtype == RType::SOA) && listed.owner.same(origin))
 }
 
 fn first_is_asterisk(name: &Name) -> bool
@@ -78,21 +78,21 @@ fn lacks_or_repeats(origin: &Name, records: &[Record], name: &Name) -> bool
     ensures { result ≡ lacks_or_repeats (record { origin = origin.now; records = records.now }) name.now }
 {
     name.same(origin)
-        && (!owns(records, name, TYPE_SOA)
-            || count(records, name, TYPE_SOA) > 1
-            || !owns(records, name, TYPE_NS))
+        && (!owns(records, name, RType::SOA)
+            || count(records, name, RType::SOA) > 1
+            || !owns(records, name, RType::NS))
 }
 
-fn owns(records: &[Record], name: &Name, rtype: u16) -> bool
-    ensures { result ≡ list_any (λ (r : ResourceRecord). same r.owner name.now && r.rtype == rtype) records.now }
+fn owns(records: &[Record], name: &Name, rtype: RType) -> bool
+    ensures { result ≡ list_any (λ (r : ResourceRecord). same r.owner name.now && r.rtype == rtype.0) records.now }
 {
     records
         .iter()
         .any(|listed| listed.owner.same(name) && listed.rtype == rtype)
 }
 
-fn count(records: &[Record], name: &Name, rtype: u16) -> usize
-    ensures { result ≡ length (filter (λ (r : ResourceRecord). r.rtype == rtype) (filter (λ (r : ResourceRecord). same r.owner name.now) records.now)) }
+fn count(records: &[Record], name: &Name, rtype: RType) -> usize
+    ensures { result ≡ length (filter (λ (r : ResourceRecord). r.rtype == rtype.0) (filter (λ (r : ResourceRecord). same r.owner name.now) records.now)) }
 {
     records
         .iter()
@@ -134,15 +134,15 @@ fn has_other_ttl(records: &[Record], name: &Name, one: &Record) -> bool
 fn server_lost(origin: &Name, records: &[Record], name: &Name) -> bool
     ensures { result ≡ server_lost (record { origin = origin.now; records = records.now }) name.now }
 {
-    records.iter().filter(|listed| listed.owner.same(name)).any(|listed| listed.rtype == TYPE_NS
+    records.iter().filter(|listed| listed.owner.same(name)).any(|listed| listed.rtype == RType::NS
         && lacks_server(origin, records, listed))
 }
 
 fn lacks_server(origin: &Name, records: &[Record], listed: &Record) -> bool
     ensures { result ≡ lacks_server (record { origin = origin.now; records = records.now }) listed.now }
 {
-    match &listed.target {
-        Some(target) => target.at_or_below(origin) && !owns(records, target, TYPE_A),
+    match listed.target() {
+        Some(target) => target.at_or_below(origin) && !owns(records, &target, RType::A),
         None => false,
     }
 }

@@ -200,7 +200,7 @@ pub(crate) fn put_set<'a>(
         records: 0,
     };
     'records: for listed in records {
-        if listed.rtype == wanted.rtype && listed.owner.same(wanted.owner) {
+        if listed.rtype.0 == wanted.rtype && listed.owner.same(wanted.owner) {
             put.end = put_record(out, put.end, asked, &show(wanted, listed))?;
             put.records += 1;
         }
@@ -213,7 +213,7 @@ fn show<'a>(wanted: &Wanted<'a>, listed: &'a Record) -> Shown<'a>
     requires { wanted.now.is_negative ≡ true → listed.now.rtype ≡ type_soa }
     ensures { result ≡ shown wanted.now listed.now }
 {
-    let rdata = listed.rdata.as_slice();
+    let rdata = listed.rdata.octets();
     let (owner, ttl) = if wanted.is_negative {
         (&listed.owner, listed.ttl.min(minimum(rdata)))
     } else {
@@ -222,7 +222,7 @@ fn show<'a>(wanted: &Wanted<'a>, listed: &'a Record) -> Shown<'a>
     Shown {
         owner,
         ttl,
-        rtype: listed.rtype,
+        rtype: listed.rtype.0,
         rdata,
     }
 }

@@ -105,7 +105,7 @@ fn is_among(records: &[Record], new: &Record) -> bool
     records.iter().any(|listed| {
         new.owner.same(&listed.owner)
             && new.rtype == listed.rtype
-            && new.rdata == listed.rdata
+            && new.rdata.octets() == listed.rdata.octets()
             && new.ttl == listed.ttl
     })
 }
@@ -138,5 +138,5 @@ fn place_of(records: &[Record], new: &Record) -> usize
 fn is_behind(one: &Record, other: &Record) -> bool
     ensures { result ≡ is_gt (data_order one.now other.now) }
 {
-    one.rdata.as_slice().cmp(other.rdata.as_slice()).is_gt()
+    one.rdata.octets().cmp(other.rdata.octets()).is_gt()
 }

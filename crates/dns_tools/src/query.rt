@@ -13,12 +13,6 @@ pub(crate) const HEADER_OCTETS: usize = 12;
 
 const CLASS_IN: u16 = 1;
 
-pub(crate) const TYPE_A: u16 = 1;
-
-pub(crate) const TYPE_NS: u16 = 2;
-
-pub(crate) const TYPE_SOA: u16 = 6;
-
 /// A question: the name as it was spelled, and the numbers of the type and the class asked for (RFC 1035 4.1.2).
 #[derive(Drop)]
 pub(crate) struct Question {

@@ -12,18 +12,17 @@ ghost use Rattle.dns_tools.specs.Decided.{code_of, limit_of};
 use crate::layout::{Head, Wanted, put_header, put_question, put_set};
 use crate::list::Zone;
 use crate::lookup::is_found;
-use crate::query::{
-    Decision, HEADER_OCTETS, Question, Rcode, TYPE_A, TYPE_NS, TYPE_SOA, decide, field,
-};
+use crate::query::{Decision, HEADER_OCTETS, Question, Rcode, decide, field};
 use crate::record::Record;
 use dns_name::Name;
+use dns_rdata::RType;
 use std::marker::Model;
 
 // A QTYPE that asks for all types (RFC 1035 3.2.3).
 const QTYPE_ANY: u16 = 255;
 
 // The types that records of a list zone have.
-const LISTED_TYPES: [u16; 3] = [TYPE_A, TYPE_NS, TYPE_SOA];
+const LISTED_TYPES: [u16; 3] = [RType::A.0, RType::NS.0, RType::SOA.0];
 
 /// How many octets a reply may have.
 #[derive(Clone, Copy, Debug, PartialEq, Eq)]
@@ -161,7 +160,7 @@ fn put_due(zone: &Zone, question: &Question, out: &mut [u8], end: usize) -> Kept
     }
     let soa = Wanted {
         owner: zone.origin(),
-        rtype: TYPE_SOA,
+        rtype: RType::SOA.0,
         is_negative: true,
     };
     match put_set(out, kept.end, asked, &soa, records) {

@@ -1,11 +1,12 @@
 //! One line of a zone file as a record.
-ghost use Rattle.std.specs.Prelude.{◌≡◌};
+ghost use Rattle.std.specs.Prelude.{◌≡◌, IfOk};
+ghost use Rattle.dns_spec.specs.Data.{Valid};
 
 use crate::record::Record;
 use arrayvec::ArrayVec;
-use byteorder::{BigEndian, ByteOrder};
 use dns_name::Name;
-use std::alloc::{AllocError, AllocFailed, Global};
+use dns_rdata::{Part, RType, Rdata, RdataFault, Word, read_number};
+use std::alloc::Global;
 
 // The greatest TTL (RFC 2181 8).
 const MOST_TTL: u32 = 2_147_483_647;
@@ -22,77 +23,30 @@ pub(super) enum LineFault {
     Unsupported,
 }
 
-impl From<AllocError> for LineFault {
-    ghost use Rattle.dns_tools.specs.declared.load.line.LineFault.{LineFault};
-
-    ghost from_gives = { λ _fault line. line ≡ LineFault.Memory };
-
-    fn from(_fault: AllocError) -> LineFault {
-        LineFault::Memory
-    }
-}
-
 /// The record of a line `owner TTL IN TYPE data` without its line end, in a zone of the origin.
 pub(super) fn read_line(alloc: Global, origin: &Name, line: &[u8]) -> Result<Record, LineFault> {
     let words = words_of(line).ok_or(LineFault::Unsupported)?;
     let [owner, ttl, class, rtype, words @ ..] = words.as_slice() else {
         return Err(LineFault::Unsupported);
     };
-    let owner = read_owner(owner).ok_or(LineFault::Unsupported)?;
-    let ttl = read_ttl(ttl).ok_or(LineFault::Unsupported)?;
-    if *class != b"IN".as_slice() {
+    let owner = read_owner(owner.raw).ok_or(LineFault::Unsupported)?;
+    let ttl = read_number(ttl.raw, MOST_TTL).ok_or(LineFault::Unsupported)?;
+    if class.raw != b"IN".as_slice() {
         return Err(LineFault::Unsupported);
     }
     let is_origin = owner.octets() == origin.octets();
-    match *rtype {
-        b"A" => read_a(alloc, owner, ttl, words),
-        b"NS" if is_origin => read_ns(alloc, owner, ttl, words),
-        b"SOA" if is_origin => read_soa(alloc, owner, ttl, words),
-        _ => Err(LineFault::Unsupported),
-    }
+    let rtype = read_type(rtype.raw, is_origin).ok_or(LineFault::Unsupported)?;
+    let rdata = read_data(alloc, rtype, words)?;
+    Ok(Record::new(owner, ttl, rtype, rdata))
 }
 
 // The words of a line, where they are no more than a record has.
-fn words_of(line: &[u8]) -> Option<ArrayVec<&[u8], MOST_WORDS>> {
+fn words_of(line: &[u8]) -> Option<ArrayVec<Word<'_>, MOST_WORDS>> {
     let mut words = ArrayVec::new();
-    for word in line.split(|octet| *octet == b' ') {
-        words.try_push(word).ok()?;
+    for raw in line.split(|octet| *octet == b' ') {
+        words.try_push(Word { raw, quoted: false }).ok()?;
     }
     Some(words)
-}
-
-// An address record (RFC 1035 3.4.1).
-fn read_a(alloc: Global, owner: Name, ttl: u32, words: &[&[u8]]) -> Result<Record, LineFault> {
-    let [address] = words else {
-        return Err(LineFault::Unsupported);
-    };
-    let address = read_address(address).ok_or(LineFault::Unsupported)?;
-    Ok(Record::address(alloc, owner, ttl, &address)?)
-}
-
-// A name server's record (RFC 1035 3.3.11).
-fn read_ns(alloc: Global, owner: Name, ttl: u32, words: &[&[u8]]) -> Result<Record, LineFault> {
-    let [server] = words else {
-        return Err(LineFault::Unsupported);
-    };
-    let server = read_name(server).ok_or(LineFault::Unsupported)?;
-    Ok(Record::name_server(alloc, owner, ttl, server)?)
-}
-
-// The record that begins a zone (RFC 1035 3.3.13).
-fn read_soa(alloc: Global, owner: Name, ttl: u32, words: &[&[u8]]) -> Result<Record, LineFault> {
-    let [mname, rname, serial, refresh, retry, expire, minimum] = words else {
-        return Err(LineFault::Unsupported);
-    };
-    let mname = read_name(mname).ok_or(LineFault::Unsupported)?;
-    let rname = read_name(rname).ok_or(LineFault::Unsupported)?;
-    let mut numbers = [0; 20];
-    let words = [serial, refresh, retry, expire, minimum];
-    for (octets, word) in numbers.chunks_exact_mut(4).zip(words) {
-        let number = read_number(word).ok_or(LineFault::Unsupported)?;
-        BigEndian::write_u32(octets, number);
-    }
-    Ok(Record::start_of_authority(alloc, owner, ttl, mname, &rname, &numbers)?)
 }
 
 // An owner: a name without escapes whose first label isn't `*`.
@@ -100,17 +54,66 @@ fn read_owner(word: &[u8]) -> Option<Name> {
     if word.contains(&b'\\') || word.starts_with(b"*.") {
         return None;
     }
-    read_name(word)
-}
-
-// An absolute name in lower case, spelled as it is printed.
-fn read_name(word: &[u8]) -> Option<Name> {
     let name = Name::read_text(word, &Name::root()).ok()?;
     if is_spelled(&name, word) {
         Some(name)
     } else {
         None
     }
+}
+
+// A type that is read, by its name in capitals. A name server and a start of authority stand at the origin alone.
+fn read_type(word: &[u8], is_origin: bool) -> Option<RType> {
+    match word {
+        b"A" => Some(RType::A),
+        b"NS" if is_origin => Some(RType::NS),
+        b"SOA" if is_origin => Some(RType::SOA),
+        _ => None,
+    }
+}
+
+// The data that words say in the form of its type, each as it is printed. Numbers and addresses have no other spelling.
+fn read_data(alloc: Global, rtype: RType, words: &[Word<'_>]) -> Result<Rdata, LineFault>
+    ensures { IfOk result (λ d. Valid rtype.0 d) }
+{
+    if is_unknown_form(words) {
+        return Err(LineFault::Unsupported);
+    }
+    let rdata = match Rdata::read_words(alloc, rtype, words, &Name::root()) {
+        Ok(rdata) => rdata,
+        Err(RdataFault::NoMemory) => return Err(LineFault::Memory),
+        Err(_) => return Err(LineFault::Unsupported),
+    };
+    if are_spelled(rtype, &rdata, words) {
+        Ok(rdata)
+    } else {
+        Err(LineFault::Unsupported)
+    }
+}
+
+// Whether words are the form for data of any type (RFC 3597 5).
+fn is_unknown_form(words: &[Word<'_>]) -> bool {
+    match words.first() {
+        Some(word) => word.raw == b"\\#".as_slice(),
+        None => false,
+    }
+}
+
+// Whether the names of the data are spelled by the words as they are printed. In data of the types that are read they
+// come first, a word each.
+fn are_spelled(rtype: RType, rdata: &Rdata, words: &[Word<'_>]) -> bool
+    requires { Valid rtype.0 rdata.now }
+{
+    let mut parts = Rdata::parts(rtype, rdata.octets());
+    let mut words = words.iter();
+    'parts: while let (Some(part), Some(word)) = (parts.next(), words.next()) {
+        if let Part::Name(octets) = part {
+            if !is_spelled(&Name::from_wire(octets), word.raw) {
+                return false;
+            }
+        }
+    }
+    true
 }
 
 // Whether the name is in lower case and the word is what is printed for it: the root as `.`, another name as its
@@ -145,41 +148,4 @@ fn behind_octet(text: &[u8], octet: u8) -> Option<&[u8]> {
             b'0' + octet % 10,
         ]),
     }
-}
-
-fn read_ttl(word: &[u8]) -> Option<u32> {
-    read_number(word).filter(|ttl| *ttl <= MOST_TTL)
-}
-
-// A number of 32 bits, in decimal digits without a zero in front.
-fn read_number(word: &[u8]) -> Option<u32> {
-    if word == b"0".as_slice() {
-        return Some(0);
-    }
-    if matches!(word, [] | [b'0', ..]) {
-        return None;
-    }
-    let mut number: u32 = 0;
-    for digit in word {
-        if !digit.is_ascii_digit() {
-            return None;
-        }
-        number = number
-            .checked_mul(10)?
-            .checked_add(u32::from(*digit - b'0'))?;
-    }
-    Some(number)
-}
-
-// Four numbers up to 255 with dots between them.
-fn read_address(word: &[u8]) -> Option<[u8; 4]> {
-    let mut parts = word.split(|octet| *octet == b'.');
-    let mut address = [0; 4];
-    for octet in &mut address {
-        *octet = u8::try_from(read_number(parts.next()?)?).ok()?;
-    }
-    if parts.next().is_some() {
-        return None;
-    }
-    Some(address)
 }

@@ -52,7 +52,7 @@ fn records_of_the_sample_file(rt: HostRuntime) -> Result<(), Fail> {
         let found = zone
             .records()
             .iter()
-            .any(|record| record.rdata.as_slice() == rdata);
+            .any(|record| record.rdata.octets() == rdata);
         assert!(rt; found, "of {name}");
     }
     assert_eq!(rt; zone.records().len(), 5);
@@ -112,6 +112,11 @@ fn lines_that_are_refused(rt: HostRuntime) -> Result<(), Fail> {
         "a.example. 60 IN A 192.0.2.256",
         "a.example. 60 IN A 192.0.2.01",
         "a.example. 60 IN A 192.0..1",
+        "a.example. 60 IN A",
+        "a.example. 60 IN A 192.0.2.1 192.0.2.1",
+        "a.example. 60 IN A \"192.0.2.1\"",
+        "a.example. 60 IN A \\# 4 c0000201",
+        "a.example. 60 IN A \\#",
         "a.example. 60 IN NS ns.example.",
         "a.example. 60 IN SOA a. b. 1 2 3 4 5",
         "example. 60 IN NS ns",
@@ -121,10 +126,16 @@ fn lines_that_are_refused(rt: HostRuntime) -> Result<(), Fail> {
         "example. 60 IN NS a\\046b.",
         "example. 60 IN NS \\256.",
         "example. 60 IN NS a. b.",
+        "example. 60 IN NS @",
+        "example. 60 IN NS \"a.\"",
+        "example. 60 IN NS \\# 3 016100",
         "example. 60 IN SOA a. b. 1 2 3 4",
         "example. 60 IN SOA a. b. 1 2 3 4 5 6",
         "example. 60 IN SOA a. b. 1 2 3 4 4294967296",
         "example. 60 IN SOA a. b. 1 2 3 04 5",
+        "example. 60 IN SOA a. B. 1 2 3 4 5",
+        "example. 60 IN SOA a. b 1 2 3 4 5",
+        "example. 60 IN SOA \\# 24 0000 0000000100000002000000030000000400000005",
     ];
     for line in lines {
         let text = format!(in rt.alloc(); "x.example. 2147483647 IN A 255.0.10.1\n{line}\n\n")?;

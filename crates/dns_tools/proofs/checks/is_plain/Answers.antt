@@ -13,5 +13,5 @@ returns-then-is_listed c =
     ap not (c.first_is_asterisk.ensures ∙ ap (λ (r : ResourceRecord). first_is_asterisk r.owner) here)
     ∙ sound_plain c.args.origin.now c.args.listed.now (sym c.is_listed.ensures ∙ c.if-is_listed.true)
     (ap (λ (r : ResourceRecord). is_name r.owner) (sym here) ∙ c.octets-owner.ensures.is_name)
-    (ap (λ (r : ResourceRecord). valid r.rtype r.rdata) (sym here) ∙ c.listed.invariant.is_valid)
+    (ap (λ (r : ResourceRecord). valid r.rtype r.rdata) (sym here) ∙ c.listed.invariant)
     (subst (λ (r : ResourceRecord). r.ttl < 2 ^ 32) here low)
