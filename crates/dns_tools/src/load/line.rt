@@ -5,8 +5,9 @@ ghost use Rattle.dns_spec.specs.Data.{Valid};
 use crate::record::Record;
 use arrayvec::ArrayVec;
 use dns_name::Name;
-use dns_rdata::{Part, RType, Rdata, RdataFault, Word, read_number};
+use dns_rdata::{Part, RType, Rdata, RdataFault, Word};
 use std::alloc::Global;
+use std::str;
 
 // The greatest TTL (RFC 2181 8).
 const MOST_TTL: u32 = 2_147_483_647;
@@ -30,7 +31,7 @@ pub(super) fn read_line(alloc: Global, origin: &Name, line: &[u8]) -> Result<Rec
         return Err(LineFault::Unsupported);
     };
     let owner = read_owner(owner.raw).ok_or(LineFault::Unsupported)?;
-    let ttl = read_number(ttl.raw, MOST_TTL).ok_or(LineFault::Unsupported)?;
+    let ttl = read_ttl(ttl.raw).ok_or(LineFault::Unsupported)?;
     if class.raw != b"IN".as_slice() {
         return Err(LineFault::Unsupported);
     }
@@ -60,6 +61,15 @@ fn read_owner(word: &[u8]) -> Option<Name> {
     } else {
         None
     }
+}
+
+// A TTL: a plain decimal, without a sign or a zero in front.
+fn read_ttl(word: &[u8]) -> Option<u32> {
+    if word.starts_with(b"+") || (word.len() > 1 && word.starts_with(b"0")) {
+        return None;
+    }
+    let ttl = str::from_utf8(word).ok()?.parse::<u32>().ok()?;
+    if ttl <= MOST_TTL { Some(ttl) } else { None }
 }
 
 // A type that is read, by its name in capitals. A name server and a start of authority stand at the origin alone.
