@@ -48,18 +48,6 @@ impl Name {
         Name { octets }
     }
 
-    /// The name whose wire form the octets are (RFC 1035 3.1): those of a part of data that is a name, as they are lent.
-    ///
-    /// Condition: they are the wire form of a name, without compression.
-    pub fn from_wire(octets: &[u8]) -> Name
-        requires { IsWireForm octets.now }
-        ensures { result ≡ labels_of octets.now }
-    {
-        let mut name = ArrayVec::new();
-        append_octets(&mut name, octets);
-        Name { octets: name }
-    }
-
     /// Adds a label next to the root: `www.example.` and `org` give `www.example.org.`
     ///
     /// False, with the name as it was, where the wire form would pass 255 octets (RFC 1035 2.3.4).

@@ -48,7 +48,7 @@ impl Record {
         let mut parts = Rdata::parts(self.rtype, self.rdata.octets());
         'parts: while let Some(part) = parts.next() {
             if let Part::Name(octets) = part {
-                return Some(Name::from_wire(octets));
+                return Some(Name::from_octets(octets));
             }
         }
         None

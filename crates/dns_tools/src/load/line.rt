@@ -118,7 +118,7 @@ fn are_spelled(rtype: RType, rdata: &Rdata, words: &[Word<'_>]) -> bool
     let mut words = words.iter();
     'parts: while let (Some(part), Some(word)) = (parts.next(), words.next()) {
         if let Part::Name(octets) = part {
-            if !is_spelled(&Name::from_wire(octets), word.raw) {
+            if !is_spelled(&Name::from_octets(octets), word.raw) {
                 return false;
             }
         }

@@ -4,8 +4,8 @@ use Rattle.dns_rdata.specs.Parts.{part_for, IsLent}
 use Rattle.dns_tools.proofs.PartsLoop.{walked}
 use Rattle.dns_tools.proofs.record.Record.target.Goals as goal
 
-pub from_wire-requires : goal.from_wire-requires
-from_wire-requires c =
+pub from_octets-requires : goal.from_octets-requires
+from_octets-requires c =
     let w = walked _ _ _ c.parts.invariant.names c.in-Some.ensures.steps in
     subst IsLent c.in-Name.is w.lent
 
