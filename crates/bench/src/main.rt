@@ -1,4 +1,4 @@
-//! How long it takes to read data from the words of a zone file, and to write names.
+//! How long it takes to read data from the words of a zone file, and to write it.
 //!
 //! `bench` prints a table of times. `bench count` does each work once and prints what came of it, with no times.
 //! `bench WORK ROUNDS` does one work so often, for a tool that counts instructions.

@@ -1,4 +1,6 @@
 //! What is measured: how often, and of which data.
+ghost use Rattle.std.specs.Prelude.{IfOk};
+ghost use Rattle.dns_spec.specs.Data.{Valid};
 
 use crate::fault::Fault;
 use crate::inputs::{IPV4, IPV6, repeated, words};
@@ -6,6 +8,9 @@ use dns_name::{Name, Tally};
 use dns_rdata::{RType, Rdata, RdataFault, Word};
 use std::alloc::Global;
 use std::io::{self, Write};
+
+// How many octets of a text are kept.
+const SCRATCH: usize = 2_048;
 
 /// A work that is measured.
 pub(crate) struct Work {
@@ -27,14 +32,16 @@ pub(crate) struct Done {
 enum Kind {
     // TXT data of full strings, as many as this, and one string of 254 octets, each octet spelled so.
     ReadText(usize, &'static [u8]),
+    WriteText(usize, &'static [u8]),
     // Addresses, a datum each.
     ReadAddresses(RType, &'static [&'static [u8]]),
+    WriteAddresses(RType, &'static [&'static [u8]]),
     // A name, as it stands in a zone file.
     WriteName(&'static [u8]),
 }
 
 /// The works, in the order of the table. Those over text of different lengths have the same octets in all.
-pub(crate) const WORKS: [Work; 11] = [
+pub(crate) const WORKS: [Work; 21] = [
     Work {
         name: "read-txt-8191",
         kind: Kind::ReadText(31, b"a"),
@@ -86,6 +93,56 @@ pub(crate) const WORKS: [Work; 11] = [
         rounds: 125_000,
     },
     Work {
+        name: "write-txt-8191",
+        kind: Kind::WriteText(31, b"a"),
+        rounds: 8_000,
+    },
+    Work {
+        name: "write-txt-16383",
+        kind: Kind::WriteText(63, b"a"),
+        rounds: 4_000,
+    },
+    Work {
+        name: "write-txt-32767",
+        kind: Kind::WriteText(127, b"a"),
+        rounds: 2_000,
+    },
+    Work {
+        name: "write-txt-65535",
+        kind: Kind::WriteText(255, b"a"),
+        rounds: 1_000,
+    },
+    Work {
+        name: "write-escaped-8191",
+        kind: Kind::WriteText(31, b"\\200"),
+        rounds: 8_000,
+    },
+    Work {
+        name: "write-escaped-16383",
+        kind: Kind::WriteText(63, b"\\200"),
+        rounds: 4_000,
+    },
+    Work {
+        name: "write-escaped-32767",
+        kind: Kind::WriteText(127, b"\\200"),
+        rounds: 2_000,
+    },
+    Work {
+        name: "write-escaped-65535",
+        kind: Kind::WriteText(255, b"\\200"),
+        rounds: 1_000,
+    },
+    Work {
+        name: "write-a",
+        kind: Kind::WriteAddresses(RType::A, &IPV4),
+        rounds: 125_000,
+    },
+    Work {
+        name: "write-aaaa",
+        kind: Kind::WriteAddresses(RType::AAAA, &IPV6),
+        rounds: 125_000,
+    },
+    Work {
         name: "write-name",
         kind: Kind::WriteName(b"a\\.b.ns1.example."),
         rounds: 1_000_000,
@@ -100,6 +157,10 @@ impl Work {
             Kind::ReadAddresses(rtype, addresses) => {
                 read_addresses(alloc, rtype, addresses, rounds)
             }
+            Kind::WriteText(strings, spelled) => write_text(alloc, strings, spelled, rounds),
+            Kind::WriteAddresses(rtype, addresses) => {
+                write_addresses(alloc, rtype, addresses, rounds)
+            }
             Kind::WriteName(spelled) => write_name(spelled, rounds),
         }
     }
@@ -113,6 +174,12 @@ impl Done {
         self.data = self.data.wrapping_add(1);
         self.octets = self.octets.wrapping_add(octets as u64);
     }
+
+    // Counts what else was done.
+    fn add(&mut self, other: Done) {
+        self.data = self.data.wrapping_add(other.data);
+        self.octets = self.octets.wrapping_add(other.octets);
+    }
 }
 
 fn read_text(alloc: Global, strings: usize, spelled: &[u8], rounds: u32) -> Result<Done, Fault> {
@@ -121,9 +188,16 @@ fn read_text(alloc: Global, strings: usize, spelled: &[u8], rounds: u32) -> Resu
     let words = words(alloc, strings, full.as_slice(), last.as_slice())?;
     let mut done = Done::NOTHING;
     for _ in 0..rounds {
-        done.count(read(alloc, RType::TXT, words.as_slice())?);
+        done.count(read(alloc, RType::TXT, words.as_slice())?.octets().len());
     }
     Ok(done)
+}
+
+fn write_text(alloc: Global, strings: usize, spelled: &[u8], rounds: u32) -> Result<Done, Fault> {
+    let full = repeated(alloc, spelled, 255)?;
+    let last = repeated(alloc, spelled, 254)?;
+    let words = words(alloc, strings, full.as_slice(), last.as_slice())?;
+    write_words(alloc, RType::TXT, words.as_slice(), rounds)
 }
 
 fn read_addresses(
@@ -136,46 +210,92 @@ fn read_addresses(
     for _ in 0..rounds {
         for raw in addresses {
             let word = Word { raw, quoted: false };
-            done.count(read(alloc, rtype, &[word])?);
+            done.count(read(alloc, rtype, &[word])?.octets().len());
         }
     }
     Ok(done)
 }
 
-// Reads a datum, and answers how many octets it has.
-fn read(alloc: Global, rtype: RType, words: &[Word<'_>]) -> Result<usize, Fault> {
-    let rdata = Rdata::read_words(alloc, rtype, words, &Name::root())?;
-    Ok(rdata.octets().len())
+fn write_addresses(
+    alloc: Global,
+    rtype: RType,
+    addresses: &[&[u8]],
+    rounds: u32,
+) -> Result<Done, Fault> {
+    let mut done = Done::NOTHING;
+    for raw in addresses {
+        let word = Word { raw, quoted: false };
+        done.add(write_words(alloc, rtype, &[word], rounds)?);
+    }
+    Ok(done)
+}
+
+fn read(alloc: Global, rtype: RType, words: &[Word<'_>]) -> Result<Rdata, Fault>
+    ensures { IfOk result (λ d. Valid rtype.0 d) }
+{
+    match Rdata::read_words(alloc, rtype, words, &Name::root()) {
+        Ok(rdata) => Ok(rdata),
+        Err(fault) => Err(Fault::Input(fault)),
+    }
+}
+
+// Writes what words say, so often.
+fn write_words(
+    alloc: Global,
+    rtype: RType,
+    words: &[Word<'_>],
+    rounds: u32,
+) -> Result<Done, Fault> {
+    let rdata = read(alloc, rtype, words)?;
+    let mut sink = Tally::new(Scratch::new());
+    let mut done = Done::NOTHING;
+    'rounds: for _ in 0..rounds {
+        Rdata::write_text(rtype, rdata.octets(), &mut sink)?;
+        done.count(rdata.octets().len());
+    }
+    looked_at(sink, done)
 }
 
 fn write_name(spelled: &[u8], rounds: u32) -> Result<Done, Fault> {
     let Ok(name) = Name::read_text(spelled, &Name::root()) else {
         return Err(Fault::Input(RdataFault::BadName));
     };
-    let mut sink = Tally::new(Counter { octets: 0 });
+    let mut sink = Tally::new(Scratch::new());
     let mut done = Done::NOTHING;
     'rounds: for _ in 0..rounds {
         name.write_text(&mut sink)?;
         done.count(name.octets().len());
     }
+    looked_at(sink, done)
+}
 
-    // The count is looked at, so that no write is left out as useless. No text is shorter than its name.
-    if sink.into_inner().octets < done.octets {
+// Looks at the octets that were written last, so that no write is left out as useless. No text has octets 0.
+fn looked_at(sink: Tally<Scratch>, done: Done) -> Result<Done, Fault> {
+    if sink.into_inner().octets.iter().all(|octet| *octet == 0) {
         return Err(Fault::Sink);
     }
     Ok(done)
 }
 
-// A writer that takes all and keeps nothing but the number of octets.
+// A writer that copies each text to the beginning of its octets.
 #[derive(Drop)]
-struct Counter {
-    octets: u64,
+struct Scratch {
+    octets: [u8; SCRATCH],
 }
 
-impl Write for Counter {
+impl Scratch {
+    fn new() -> Scratch {
+        Scratch {
+            octets: [0; SCRATCH],
+        }
+    }
+}
+
+impl Write for Scratch {
     fn write(&mut self, text: &[u8]) -> io::Result<usize> {
-        self.octets = self.octets.wrapping_add(text.len() as u64);
-        Ok(text.len())
+        let count = text.len().min(SCRATCH);
+        self.octets[..count].copy_from_slice(&text[..count]);
+        Ok(count)
     }
 
     fn flush(&mut self) -> io::Result<()> {
