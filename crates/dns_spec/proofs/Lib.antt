@@ -40,4 +40,5 @@ mod ReadingRows
 mod TextRows
 mod TypeRows
 mod DataRows
+pub mod TextPieces
 mod WordRows

@@ -6,7 +6,9 @@ pub mod TypeText
 pub mod AddressText
 pub mod DataText
 pub mod WrittenText
+pub mod ZoneText
 pub mod Records
+pub mod Meaning
 pub mod Sets
 pub mod Tree
 pub mod Checks

@@ -1,0 +1,81 @@
+-- Every text is made of pieces, up to a place where none begins.
+use Rattle.std.proofs.Common.{◌≡◌, ℕ, zero, suc, ◌-◌, ◌<◌, Bool, true, false, not, List, [], ◌∷◌, length, drop, take, refl, sym, subst, arith, Option, Some, None, ◌==◌}
+use Rattle.std.specs.Prelude.{⊤, if◌then◌else◌, MatchOption}
+use Rattle.std.proofs.lemmas.List.{length-drop}
+use Rattle.std.proofs.lemmas.Bool.{eqb-true, false_from_ne_true}
+use Rattle.std.specs.List.{prefix_len}
+use Rattle.dns_spec.specs.Names.{Octets}
+use Rattle.dns_spec.specs.ZoneText.{Piece, blank, comment, word, quoted, opening, closing, line_end, is_blank, string_length, word_length, closed, quoted_front, line_feed_front, piece_front, PiecesThen}
+
+-- what comes behind the piece is shorter than so many octets
+Shorter : ℕ → Option (Piece × Octets) → Type 0
+Shorter n front = MatchOption front ⊤ (λ r. length r.1 < n)
+
+either : (b : Bool) (n : ℕ) (x y : Option (Piece × Octets)) → Shorter n x → Shorter n y → Shorter n (if b then x else y)
+unfolding Shorter
+either true n x y hx hy = hx
+either false n x y hx hy = hy
+
+dropped : (k n : ℕ) (text : Octets) → length text < n → length (drop k text) < n
+dropped k n text h = let e : length (drop k text) ≡ length text - k = length-drop k text in omega (arith, e, h)
+
+closed-shorter : (n : ℕ) (raw text : Octets) → length text < n → Shorter n (closed raw text)
+unfolding Shorter
+closed-shorter n raw [] h = tt
+closed-shorter n raw (o ∷ text) h = either (o == 34) n (Some (quoted raw, text)) None (omega (arith, h)) tt
+
+line_feed-shorter : (n : ℕ) (text : Octets) → length text < n → Shorter n (line_feed_front text)
+unfolding Shorter
+line_feed-shorter n [] h = tt
+line_feed-shorter n (o ∷ text) h = either (o == 10) n (Some (line_end, text)) None (omega (arith, h)) tt
+
+not_zero : (k : ℕ) → (suc k == 0) ≡ false
+not_zero k = false_from_ne_true (suc k == 0) (λ h. absurd (omega (arith, eqb-true (suc k) 0 h)))
+
+word-shorter : (k : ℕ) (o : ℕ) (text : Octets)
+    → Shorter (length (o ∷ text)) (if k == 0 then None else Some (word (take k (o ∷ text)), drop k (o ∷ text)))
+unfolding Shorter
+word-shorter zero o text = tt
+word-shorter (suc k) o text = rw (not_zero k) (dropped k (length (o ∷ text)) text (omega arith))
+
+shorter : (text : Octets) → Shorter (length text) (piece_front text)
+unfolding Shorter
+shorter [] = tt
+shorter (o ∷ text) =
+    let n = length (o ∷ text) in
+    let less : length text < n = omega arith in
+    either (is_blank o) n (Some (blank, drop (prefix_len is_blank text) text)) _ (dropped (prefix_len is_blank text) n text less)
+    (either (o == 59) n (Some (comment, drop (prefix_len (λ x. not (x == 10)) text) text)) _ (dropped (prefix_len (λ x. not (x == 10)) text) n text less)
+    (either (o == 34) n (quoted_front text) _ (closed-shorter n (take (string_length text) text) (drop (string_length text) text) (dropped (string_length text) n text less))
+    (either (o == 40) n (Some (opening, text)) _ less
+    (either (o == 41) n (Some (closing, text)) _ less
+    (either (o == 10) n (Some (line_end, text)) _ less
+    (either (o == 13) n (line_feed_front text) _ (line_feed-shorter n text less)
+    (word-shorter (word_length (o ∷ text)) o text)))))))
+
+-- a piece has an octet or more
+pub front-shorter : (text : Octets) (p : Piece) (others : Octets) → piece_front text ≡ Some (p, others) → length others < length text
+unfolding Shorter
+front-shorter text p others e = subst (Shorter (length text)) e (shorter text)
+
+-- the pieces of a text
+pub record HasPieces (text : Octets) : Type 0 where
+  pub pieces : List Piece
+  pub rest : Octets
+  pub spelled : PiecesThen text pieces rest
+  pub at_end : piece_front rest ≡ None
+
+with_front : (text : Octets) (front : Option (Piece × Octets)) → front ≡ piece_front text
+    → ((others : Octets) → length others < length text → HasPieces others) → HasPieces text
+with_front text None e more = record { pieces = []; rest = text; spelled = refl; at_end = sym e }
+with_front text (Some r) e more =
+    let behind = more r.1 (front-shorter text r.0 r.1 (sym e)) in
+    record { pieces = r.0 ∷ behind.pieces; rest = behind.rest; spelled = (r.1, sym e, behind.spelled); at_end = behind.at_end }
+
+pieces-within : (n : ℕ) (text : Octets) → length text < n → HasPieces text
+pieces-within zero text h = absurd (omega (arith, h))
+pieces-within (suc n) text h =
+    with_front text (piece_front text) refl (λ others less. pieces-within n others (omega (arith, less, h)))
+
+pub has_pieces : (text : Octets) → HasPieces text
+has_pieces text = pieces-within (suc (length text)) text (omega arith)

@@ -1,0 +1,262 @@
+-- What a reader learns here: which records the text of a zone file means, or which fault it has, and on which line.
+--
+-- What an entry takes over from those before it is found by looking back: `earlier` are the entries before it, the nearest
+-- first.
+use Rattle.std.specs.Prelude.{◌≡◌, ℕ, ◌+◌, ◌≤◌, ◌⊎◌, Bool, true, false, ◌&&◌, ◌||◌, not, List, [], ◌∷◌, ◌++◌, length, take, drop, nat_le, ◌==◌, IsTrue, if◌then◌else◌, codes, decimal, MatchOption}
+use Rattle.std.specs.Prelude.{Option, None, Some}
+use Rattle.std.specs.Bool.{MatchBool}
+use Rattle.std.specs.Option.{option_or, is_none}
+use Rattle.std.specs.List.{list_any, flat_map, filter}
+use Rattle.std.specs.Char.{is_ascii_digit}
+use Rattle.dns_spec.specs.Names.{Octets, DomainName, folded, octets_equal}
+use Rattle.dns_spec.specs.NameText.{SpellsName}
+use Rattle.dns_spec.specs.TypeText.{text_in_lower_case, NamesType}
+use Rattle.dns_spec.specs.DataText.{Word, Says}
+use Rattle.dns_spec.specs.Records.{ResourceRecord}
+use Rattle.dns_spec.specs.ZoneText.{Entry, Entries, begins_with, is_line_end, begins_blank, entry_words, lexical_fault}
+
+-- RFC 2181 section 8: a TTL is at most 2^31 - 1 seconds
+abbrev pub most_ttl : ℕ
+most_ttl = 2147483647
+
+-- A text has at most so many records (in this product).
+abbrev pub most_records : ℕ
+most_records = 100000
+
+-- What an entry gives: a fault by its code, or records, one at most.
+pub data Answer : Type 0 where
+  faulty : ℕ → Answer
+  gives : List ResourceRecord → Answer
+
+-- where nothing is such
+abbrev pub Nothing : {A : Type 0} → (A → Type 0) → Type 0
+Nothing {A} P = (v : A) → P v → ⊥
+
+-- The code is told where its fault is there; else what comes behind decides. Faults in a row, by rising code, tell the lowest.
+abbrev pub Unless : ℕ → Type 0 → (Answer → Type 0) → Answer → Type 0
+Unless code Fault others answer = (Fault × (answer ≡ faulty code)) ⊎ ((Fault → ⊥) × others answer)
+
+-- RFC 1035 5.1: what an entry is. Words are compared in lower case.
+pub data Sort : Type 0 where
+  no_words : Sort
+  directive : Octets → List Word → Sort
+  owned : Word → List Word → Sort
+  unowned : List Word → Sort
+
+abbrev pub is_directive : Word → Bool
+is_directive w = not w.is_quoted && begins_with 36 w.raw
+
+abbrev pub sort_by_words : Bool → List Word → Sort
+sort_by_words blank [] = no_words
+sort_by_words blank (w ∷ ws) =
+    if blank then unowned (w ∷ ws)
+    else if is_directive w then directive (text_in_lower_case w.raw) ws
+    else owned w ws
+
+-- An entry without words is nothing. One that begins with a blank is a record without an owner of its own; else one whose
+-- first word begins with `$` is a directive; else the first word is the owner of a record.
+abbrev pub sort_of : Entry → Sort
+sort_of e = sort_by_words (begins_blank e.pieces) (entry_words e)
+
+-- RFC 1035 5.1: behind the owner come a TTL and a class, in either order, where they are stated; then the type and the data
+pub record Fields : Type 0 where
+  pub ttl : Option Word
+  pub class : Option Word
+  pub others : List Word
+
+-- an unquoted word that begins with a digit
+abbrev pub is_ttl_word : Word → Bool
+is_ttl_word w = not w.is_quoted && list_any is_ascii_digit (take 1 w.raw)
+
+abbrev pub is_word : Octets → Octets → Bool
+is_word text raw = octets_equal (text_in_lower_case raw) text
+
+-- RFC 1035 3.2.4, RFC 3597 section 5: an unquoted word that names a class, or begins as such
+abbrev pub is_class_word : Word → Bool
+is_class_word w =
+    not w.is_quoted
+        && (list_any (λ c. is_word c w.raw) (codes "in" ∷ codes "ch" ∷ codes "cs" ∷ codes "hs" ∷ [])
+            || is_word (codes "class") (take 5 w.raw))
+
+abbrev pub is_class_in : Word → Bool
+is_class_in w = is_word (codes "in") w.raw || is_word (codes "class1") w.raw
+
+abbrev pub class_behind : Word → List Word → Fields
+class_behind ttl [] = record { ttl = Some ttl; class = None; others = [] }
+class_behind ttl (w ∷ ws) =
+    if is_class_word w then record { ttl = Some ttl; class = Some w; others = ws }
+    else record { ttl = Some ttl; class = None; others = w ∷ ws }
+
+abbrev pub ttl_behind : Word → List Word → Fields
+ttl_behind class [] = record { ttl = None; class = Some class; others = [] }
+ttl_behind class (w ∷ ws) =
+    if is_ttl_word w then record { ttl = Some w; class = Some class; others = ws }
+    else record { ttl = None; class = Some class; others = w ∷ ws }
+
+abbrev pub fields : List Word → Fields
+fields [] = record { ttl = None; class = None; others = [] }
+fields (w ∷ ws) =
+    if is_ttl_word w then class_behind w ws
+    else if is_class_word w then ttl_behind w ws
+    else record { ttl = None; class = None; others = w ∷ ws }
+
+-- the word of a directive of this name, and the words behind the owner of a record
+abbrev pub directive_word : Octets → Sort → Option Word
+directive_word name no_words = None
+directive_word name (directive n []) = None
+directive_word name (directive n (w ∷ ws)) = if octets_equal n name then Some w else None
+directive_word name (owned w ws) = None
+directive_word name (unowned ws) = None
+
+abbrev pub owner_word : Sort → Option Word
+owner_word no_words = None
+owner_word (directive n ws) = None
+owner_word (owned w ws) = Some w
+owner_word (unowned ws) = None
+
+abbrev pub ttl_word : Sort → Option Word
+ttl_word no_words = None
+ttl_word (directive n ws) = None
+ttl_word (owned w ws) = (fields ws).ttl
+ttl_word (unowned ws) = (fields ws).ttl
+
+abbrev pub is_record : Entry → Bool
+is_record e = elim (sort_of e) [ no_words ↦ false | directive n ws ↦ false | owned w ws ↦ true | unowned ws ↦ true ]
+
+abbrev pub nearest : (Sort → Option Word) → List Entry → Option Word
+nearest word_of [] = None
+nearest word_of (e ∷ earlier) = option_or (word_of (sort_of e)) (nearest word_of earlier)
+
+-- RFC 1035 5.1: the origin is that of the last `$ORIGIN` before, which is relative to the origin before it; else that of
+-- the file
+abbrev pub OriginIs : DomainName → List Entry → DomainName → Type 0
+OriginIs o [] n = n ≡ o
+OriginIs o (e ∷ earlier) n =
+    MatchOption (directive_word (codes "$origin") (sort_of e)) (OriginIs o earlier n)
+        (λ w. (m : DomainName) × OriginIs o earlier m × SpellsName m w.raw n)
+
+-- an unquoted word spells a name, relative to the origin in force
+abbrev pub NameIs : DomainName → List Entry → Word → DomainName → Type 0
+NameIs o earlier w n = IsTrue (not w.is_quoted) × ((m : DomainName) × OriginIs o earlier m × SpellsName m w.raw n)
+
+-- RFC 1035 5.1: a record that doesn't state an owner has that of the nearest record before that states one
+abbrev pub OwnerBefore : DomainName → List Entry → DomainName → Type 0
+OwnerBefore o [] n = ⊥
+OwnerBefore o (e ∷ earlier) n = MatchOption (owner_word (sort_of e)) (OwnerBefore o earlier n) (λ w. NameIs o earlier w n)
+
+-- a TTL in decimal, without zeros in front (in this product)
+abbrev pub TtlSays : Word → ℕ → Type 0
+TtlSays w n = IsTrue (not w.is_quoted) × (w.raw ≡ decimal n) × (n ≤ most_ttl)
+
+-- RFC 2308 section 4: a record that doesn't state a TTL has that of the last `$TTL` before; without one, RFC 1035 5.1, the last
+-- that a record before states
+abbrev pub ttl_in_force : List Entry → Option Word → Option Word
+ttl_in_force earlier stated =
+    option_or stated (option_or (nearest (directive_word (codes "$ttl")) earlier) (nearest ttl_word earlier))
+
+abbrev pub TtlIs : List Entry → Option Word → ℕ → Type 0
+TtlIs earlier stated n = MatchOption (ttl_in_force earlier stated) ⊥ (λ w. TtlSays w n)
+
+-- Types that no zone has: 0, and those of questions and of what a message says of itself, RFC 6895 3.1; and, in this
+-- product, the types of DNSSEC and DNAME.
+abbrev pub is_zone_type : ℕ → Bool
+is_zone_type t = not (t == 0 || (nat_le 128 t && nat_le t 255) || list_any (λ u. t == u) (39 ∷ 41 ∷ 43 ∷ 46 ∷ 47 ∷ 48 ∷ 50 ∷ 51 ∷ []))
+
+-- the first of these words names the type
+abbrev pub TypeIs : List Word → ℕ → Type 0
+TypeIs [] t = ⊥
+TypeIs (w ∷ ws) t = IsTrue (not w.is_quoted) × NamesType w.raw t × IsTrue (is_zone_type t)
+
+-- the words behind the type say the data
+abbrev pub DataIs : DomainName → List Entry → List Word → Octets → Type 0
+DataIs o earlier ws d =
+    (t : ℕ) × TypeIs ws t × ((m : DomainName) × OriginIs o earlier m × Says t (drop 1 ws) m d)
+
+-- What a record is: its owner in lower case, its TTL, type and data.
+pub record IsRecord (o : DomainName) (earlier : List Entry) (Owner : DomainName → Type 0) (f : Fields) (r : ResourceRecord) : Type 0 where
+  pub owner : (n : DomainName) × Owner n × (r.owner ≡ folded n)
+  pub ttl : TtlIs earlier f.ttl r.ttl
+  pub rtype : TypeIs f.others r.rtype
+  pub rdata : DataIs o earlier f.others r.rdata
+
+-- a TTL is stated, and is none
+abbrev pub IsNoTtl : Option Word → Type 0
+IsNoTtl stated = MatchOption stated ⊥ (λ w. Nothing (TtlSays w))
+
+abbrev pub is_other_class : Option Word → Bool
+is_other_class None = false
+is_other_class (Some w) = not (is_class_in w)
+
+abbrev pub are_too_many : List Entry → Bool
+are_too_many earlier = nat_le most_records (length (filter is_record earlier))
+
+-- The faults of a record by rising code: `R07`, its owner is no name, or `R08`, no record before has one; `R09`, its TTL; `R10`,
+-- its class; `R11`, its type; `R12`, no TTL is known; `R13`, its data; `R14`, there are too many records. Else it is a record.
+abbrev pub RecordGives : DomainName → List Entry → ℕ → (DomainName → Type 0) → Fields → Answer → Type 0
+RecordGives o earlier owner_code Owner f =
+    Unless owner_code (Nothing Owner)
+        (Unless 9 (IsNoTtl f.ttl)
+        (Unless 10 (IsTrue (is_other_class f.class))
+        (Unless 11 (Nothing (TypeIs f.others))
+        (Unless 12 (IsTrue (is_none (ttl_in_force earlier f.ttl)))
+        (Unless 13 (Nothing (DataIs o earlier f.others))
+        (Unless 14 (IsTrue (are_too_many earlier))
+        (λ answer. (r : ResourceRecord) × IsRecord o earlier Owner f r × (answer ≡ gives (r ∷ [])))))))))
+
+-- a directive has one word
+abbrev pub OneWord : (Word → Type 0) → List Word → Type 0
+OneWord P [] = ⊥
+OneWord P (w ∷ []) = P w
+OneWord P (w ∷ v ∷ ws) = ⊥
+
+-- `R06`: the words of a directive are not its own
+abbrev pub OriginGives : DomainName → List Entry → List Word → Answer → Type 0
+OriginGives o earlier ws =
+    Unless 6 (Nothing (λ (n : DomainName). OneWord (λ w. NameIs o earlier w n) ws)) (λ answer. answer ≡ gives [])
+
+abbrev pub TtlGives : List Word → Answer → Type 0
+TtlGives ws = Unless 6 (Nothing (λ (n : ℕ). OneWord (λ w. TtlSays w n) ws)) (λ answer. answer ≡ gives [])
+
+-- RFC 1035 5.1, RFC 2308 section 4; `R05`: another directive
+abbrev pub DirectiveGives : DomainName → List Entry → Octets → List Word → Answer → Type 0
+DirectiveGives o earlier name ws answer =
+    MatchBool (octets_equal name (codes "$origin")) (OriginGives o earlier ws answer)
+        (MatchBool (octets_equal name (codes "$ttl")) (TtlGives ws answer) (answer ≡ faulty 5))
+
+abbrev pub SortGives : DomainName → List Entry → Sort → Answer → Type 0
+SortGives o earlier no_words answer = answer ≡ gives []
+SortGives o earlier (directive name ws) answer = DirectiveGives o earlier name ws answer
+SortGives o earlier (owned w ws) answer = RecordGives o earlier 7 (NameIs o earlier w) (fields ws) answer
+SortGives o earlier (unowned ws) answer = RecordGives o earlier 8 (OwnerBefore o earlier) (fields ws) answer
+
+-- what an entry gives: its fault by place, else what its words give
+abbrev pub EntryGives : DomainName → List Entry → Entry → Answer → Type 0
+EntryGives o earlier e answer =
+    MatchOption (lexical_fault e) (SortGives o earlier (sort_of e) answer) (λ code. answer ≡ faulty code)
+
+-- What a text means: its records in order, or a fault by its code and line.
+pub data Meaning : Type 0 where
+  records : List ResourceRecord → Meaning
+  fault_at : ℕ → ℕ → Meaning
+
+abbrev pub behind : List ResourceRecord → Meaning → Meaning
+behind rs (records more) = records (rs ++ more)
+behind rs (fault_at code line) = fault_at code line
+
+-- the line on which an entry begins, counted from 1
+abbrev pub line_behind : List Entry → ℕ
+line_behind earlier = 1 + length (filter is_line_end (flat_map (λ (e : Entry). e.pieces) earlier))
+
+-- the first faulty entry decides
+abbrev pub EntriesMean : DomainName → List Entry → List Entry → Meaning → Type 0
+EntriesMean o earlier [] m = m ≡ records []
+EntriesMean o earlier (e ∷ es) m =
+    (answer : Answer) × EntryGives o earlier e answer
+        × elim answer [
+            faulty code ↦ m ≡ fault_at code (line_behind earlier)
+          | gives rs ↦ (later : Meaning) × EntriesMean o (e ∷ earlier) es later × (m ≡ behind rs later)
+          ]
+
+-- What a text means as the file of a zone with this origin (RFC 1035 section 5).
+abbrev pub Means : DomainName → Octets → Meaning → Type 0
+Means o text m = (es : List Entry) × Entries text es × EntriesMean o [] es m

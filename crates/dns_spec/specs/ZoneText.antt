@@ -1,0 +1,251 @@
+-- What a reader learns here: of which pieces the text of a zone file is made, which entries it has, and where it is at
+-- fault before any word of it is read.
+use Rattle.std.specs.Prelude.{◌≡◌, ℕ, zero, suc, ◌+◌, Bool, true, false, ◌&&◌, ◌||◌, not, List, [], ◌∷◌, length, take, drop, nat_le, nat_lt, ◌==◌, if◌then◌else◌, codes, fold}
+use Rattle.std.specs.Prelude.{Option, None, Some}
+use Rattle.std.specs.Option.{unwrap_or}
+use Rattle.std.specs.Bool.{xor}
+use Rattle.std.specs.List.{list_any, prefix_len, filter_map}
+use Rattle.std.specs.Char.{is_ascii_graphic, is_ascii_digit}
+use Rattle.dns_spec.specs.Names.{Octets}
+use Rattle.dns_spec.specs.NameText.{three_digits_value}
+use Rattle.dns_spec.specs.DataText.{Word}
+
+-- A text has at most so many octets (in this product).
+abbrev pub most_octets : ℕ
+most_octets = 16777216
+
+-- RFC 1035 5.1: what a text is made of. A word and a quoted string keep their spelling, without the quotation marks.
+pub data Piece : Type 0 where
+  blank : Piece
+  comment : Piece
+  word : Octets → Piece
+  quoted : Octets → Piece
+  opening : Piece
+  closing : Piece
+  line_end : Piece
+
+abbrev pub is_printable : ℕ → Bool
+is_printable o = nat_le 32 o && nat_le o 126
+
+abbrev pub is_blank : ℕ → Bool
+is_blank o = o == 32 || o == 9
+
+-- what stands in a word by itself
+abbrev pub is_word_octet : ℕ → Bool
+is_word_octet o = is_ascii_graphic o && not (list_any (λ s. o == s) (codes "\"();\\"))
+
+-- what stands in a quoted string by itself
+abbrev pub is_string_octet : ℕ → Bool
+is_string_octet o = (is_printable o || o == 9) && not (list_any (λ s. o == s) (codes "\"\\"))
+
+-- RFC 1035 5.1: how many octets behind a backslash belong to its escape: one that is printable and no digit, or three
+-- decimal digits up to 255. 0 where it begins no escape.
+abbrev pub digits_behind : Octets → ℕ
+digits_behind [] = 0
+digits_behind (a ∷ []) = 0
+digits_behind (a ∷ b ∷ []) = 0
+digits_behind (a ∷ b ∷ c ∷ text) =
+    if is_ascii_digit a && is_ascii_digit b && is_ascii_digit c && nat_lt (three_digits_value a b c) 256 then 3 else 0
+
+abbrev pub escape_behind : Octets → ℕ
+escape_behind [] = 0
+escape_behind (a ∷ text) = if is_ascii_digit a then digits_behind (a ∷ text) else if is_printable a then 1 else 0
+
+-- Behind the backslash at hand: whether it begins an escape, and then how many octets of that are still to come.
+abbrev pub escape_left : Octets → Option ℕ
+escape_left text = if escape_behind text == 0 then None else Some (escape_behind text)
+
+-- How many octets of a word or a string, which has such octets and escapes, stand at the beginning of a text, where k
+-- octets of the escape at hand are still to come.
+abbrev pub unit_left : (ℕ → Bool) → ℕ → Octets → Option ℕ
+unit_left by_itself o text = if o == 92 then escape_left text else if by_itself o then Some 0 else None
+
+unfoldable pub run_length : (ℕ → Bool) → ℕ → Octets → ℕ
+run_length by_itself k [] = 0
+run_length by_itself (suc k) (o ∷ text) = 1 + run_length by_itself k text
+run_length by_itself zero (o ∷ text) =
+    elim (unit_left by_itself o text) [ None ↦ 0 | Some k ↦ 1 + run_length by_itself k text ]
+
+-- the longest run of octets of a word
+abbrev pub word_length : Octets → ℕ
+word_length text = run_length is_word_octet 0 text
+
+-- the octets of a string up to its end, or to where it can't go on
+abbrev pub string_length : Octets → ℕ
+string_length text = run_length is_string_octet 0 text
+
+-- behind a quotation mark: the string up to the next one, and the text behind that
+abbrev pub closed : Octets → Octets → Option (Piece × Octets)
+closed raw [] = None
+closed raw (o ∷ text) = if o == 34 then Some (quoted raw, text) else None
+
+abbrev pub quoted_front : Octets → Option (Piece × Octets)
+quoted_front text = closed (take (string_length text) text) (drop (string_length text) text)
+
+abbrev pub word_front : Octets → Option (Piece × Octets)
+word_front text =
+    if word_length text == 0 then None else Some (word (take (word_length text) text), drop (word_length text) text)
+
+-- behind CR
+abbrev pub line_feed_front : Octets → Option (Piece × Octets)
+line_feed_front [] = None
+line_feed_front (o ∷ text) = if o == 10 then Some (line_end, text) else None
+
+-- RFC 1035 5.1: the piece that a text begins with, by its first octet, and the text behind it. A blank is the longest run of
+-- spaces and tabs, a word the longest run of its octets; a comment goes on to the end of its line, whatever it holds.
+abbrev pub piece_front : Octets → Option (Piece × Octets)
+piece_front [] = None
+piece_front (o ∷ text) =
+    if is_blank o then Some (blank, drop (prefix_len is_blank text) text)
+    else if o == 59 then Some (comment, drop (prefix_len (λ x. not (x == 10)) text) text)
+    else if o == 34 then quoted_front text
+    else if o == 40 then Some (opening, text)
+    else if o == 41 then Some (closing, text)
+    else if o == 10 then Some (line_end, text)
+    else if o == 13 then line_feed_front text
+    else word_front (o ∷ text)
+
+-- The text begins with these pieces, one behind the other, and then comes `rest`.
+abbrev pub PiecesThen : Octets → List Piece → Octets → Type 0
+PiecesThen text [] rest = text ≡ rest
+PiecesThen text (p ∷ ps) rest = (others : Octets) × (piece_front text ≡ Some (p, others)) × PiecesThen others ps rest
+
+-- an open parenthesis, or a close one
+abbrev pub parenthesis : Piece → Option Bool
+parenthesis blank = None
+parenthesis comment = None
+parenthesis (word raw) = None
+parenthesis (quoted raw) = None
+parenthesis opening = Some true
+parenthesis closing = Some false
+parenthesis line_end = None
+
+abbrev pub is_line_end : Piece → Bool
+is_line_end blank = false
+is_line_end comment = false
+is_line_end (word raw) = false
+is_line_end (quoted raw) = false
+is_line_end opening = false
+is_line_end closing = false
+is_line_end line_end = true
+
+-- whether a parenthesis is open behind a piece, where one was or was not before it
+abbrev pub open_behind : Bool → Piece → Bool
+open_behind was_open p = unwrap_or (parenthesis p) was_open
+
+-- RFC 1035 5.1: parentheses group words over line ends, so an entry goes up to its first line end outside them. What is
+-- left behind the last such line end is the last of these lists.
+abbrev pub before_first : Piece → List (List Piece) → List (List Piece)
+before_first p [] = []
+before_first p (e ∷ es) = (p ∷ e) ∷ es
+
+abbrev pub cut_entries : Bool → List Piece → List (List Piece)
+cut_entries is_open [] = [] ∷ []
+cut_entries is_open (p ∷ ps) =
+    elim (is_line_end p && not is_open) [
+      true ↦ (p ∷ []) ∷ cut_entries false ps
+    | false ↦ before_first p (cut_entries (open_behind is_open p) ps)
+    ]
+
+-- parentheses do not nest (in this product), so that open ones and close ones take turns
+abbrev pub take_turns : Bool → List Bool → Bool
+take_turns is_open [] = true
+take_turns is_open (opens ∷ marks) = xor opens is_open && take_turns opens marks
+
+abbrev pub parentheses : List Piece → List Bool
+parentheses = filter_map parenthesis
+
+abbrev pub is_open_at_end : List Piece → Bool
+is_open_at_end ps = fold open_behind false ps
+
+abbrev pub begins_line_end : Octets → Bool
+begins_line_end [] = false
+begins_line_end (o ∷ []) = o == 10
+begins_line_end (o ∷ p ∷ text) = o == 10 || (o == 13 && p == 10)
+
+-- the beginning of an escape, or of CR LF, that more octets might end
+abbrev pub is_cut_short : Octets → Bool
+is_cut_short [] = true
+is_cut_short (o ∷ []) = o == 92 || o == 13
+is_cut_short (o ∷ a ∷ []) = o == 92 && is_ascii_digit a
+is_cut_short (o ∷ a ∷ b ∷ []) = o == 92 && is_ascii_digit a && is_ascii_digit b
+is_cut_short (o ∷ a ∷ b ∷ c ∷ text) = false
+
+abbrev pub begins_with : ℕ → Octets → Bool
+begins_with x [] = false
+begins_with x (o ∷ text) = o == x
+
+-- The code of where a string, or a text that begins with no piece, can't go on. The octets from there are all that is
+-- looked at; the text may go on behind them. `R15`: it goes on past its limit, and more than that would be needed. `R03`:
+-- a string isn't ended on its line. `R02`: a backslash begins no escape. `R01`: an octet isn't allowed.
+abbrev pub stuck_code : Bool → Bool → Octets → ℕ
+stuck_code goes_on in_string place =
+    if goes_on && is_cut_short place then 15
+    else if in_string && (length place == 0 || begins_line_end place) then 3
+    else if begins_with 92 place then 2
+    else 1
+
+-- where the text can't go on: in a string, or where no piece begins
+abbrev pub broken_code : Bool → Octets → ℕ
+broken_code goes_on [] = 0
+broken_code goes_on (o ∷ text) =
+    if o == 34 then stuck_code goes_on true (drop (string_length text) text) else stuck_code goes_on false (o ∷ text)
+
+-- What ends an entry that isn't ended by a line end, if that is a fault: `R15`, the text goes on past its limit; `R04`, it
+-- ends inside parentheses; or a piece that is wrong.
+abbrev pub end_code : Bool → Bool → Octets → Option ℕ
+end_code goes_on is_open [] = if goes_on then Some 15 else if is_open then Some 4 else None
+end_code goes_on is_open (o ∷ rest) = Some (broken_code goes_on (o ∷ rest))
+
+-- An entry: its pieces, and the code of what ends it, where that is a fault.
+pub record Entry : Type 0 where
+  pub pieces : List Piece
+  pub end_fault : Option ℕ
+
+abbrev pub ended : List Piece → Entry
+ended ps = record { pieces = ps; end_fault = None }
+
+abbrev pub with_end : Bool → Octets → List (List Piece) → List Entry
+with_end goes_on rest [] = []
+with_end goes_on rest (ps ∷ []) = record { pieces = ps; end_fault = end_code goes_on (is_open_at_end ps) rest } ∷ []
+with_end goes_on rest (ps ∷ qs ∷ es) = ended ps ∷ with_end goes_on rest (qs ∷ es)
+
+-- The entries of a text, of which no more than its limit is looked at: its pieces up to where none begins, cut into entries.
+pub record Entries (text : Octets) (es : List Entry) : Type 0 where
+  pub pieces : List Piece
+  pub rest : Octets
+  pub spelled : PiecesThen (take most_octets text) pieces rest
+  pub at_end : piece_front rest ≡ None
+  pub entries : es ≡ with_end (nat_lt most_octets (length text)) rest (cut_entries false pieces)
+
+-- The first fault of an entry by its place, before any word of it is read: `R04`, a parenthesis in a parenthesis or a close
+-- one without an open one; else what ends it.
+abbrev pub lexical_fault : Entry → Option ℕ
+lexical_fault e = if take_turns false (parentheses e.pieces) then e.end_fault else Some 4
+
+abbrev pub word_of : Piece → Option Word
+word_of blank = None
+word_of comment = None
+word_of (word raw) = Some (record { raw = raw; is_quoted = false })
+word_of (quoted raw) = Some (record { raw = raw; is_quoted = true })
+word_of opening = None
+word_of closing = None
+word_of line_end = None
+
+-- the words of an entry, in order
+abbrev pub entry_words : Entry → List Word
+entry_words e = filter_map word_of e.pieces
+
+abbrev pub is_blank_piece : Piece → Bool
+is_blank_piece blank = true
+is_blank_piece comment = false
+is_blank_piece (word raw) = false
+is_blank_piece (quoted raw) = false
+is_blank_piece opening = false
+is_blank_piece closing = false
+is_blank_piece line_end = false
+
+-- whether the entry begins with a space or a tab
+abbrev pub begins_blank : List Piece → Bool
+begins_blank [] = false
+begins_blank (p ∷ ps) = is_blank_piece p
