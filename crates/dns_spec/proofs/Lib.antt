@@ -18,6 +18,8 @@ pub mod StandingWords
 pub mod FormsAgain
 pub mod SaidAgain
 pub mod TypeWords
+pub mod OneName
+pub mod OneData
 pub mod PlainLayout
 pub mod LayoutSize
 pub mod LeastSize

@@ -1,12 +1,12 @@
 //! Laws of types and of their data: a type is read as it is written, the parts of data are the data, and data in lower
 //! case is data. What is written for data is read as that data again.
 
-ghost use Rattle.std.specs.Prelude.{◌≡◌, ℕ, ◌<◌, All, IsTrue};
+ghost use Rattle.std.specs.Prelude.{◌≡◌, ℕ, ◌<◌, List, All, IsTrue};
 ghost use Rattle.std.specs.List.{list_all};
 ghost use Rattle.dns_spec.specs.Names.{Octets, DomainName};
 ghost use Rattle.dns_spec.specs.Data.{Valid, parts, joined, lower_case};
 ghost use Rattle.dns_spec.specs.TypeText.{NamesType, type_text};
-ghost use Rattle.dns_spec.specs.DataText.{Says};
+ghost use Rattle.dns_spec.specs.DataText.{Word, Says};
 ghost use Rattle.dns_spec.specs.WrittenText.{written_words, stands_alone};
 
 /// What is written for a type names it (RFC 3597 5).
@@ -45,4 +45,9 @@ pub fn written_data_is_said_again()
 /// quotation marks has one octet or more, and each octet that would end the word has a backslash before it.
 pub fn written_words_stand_alone()
     ensures { (t : ℕ) (d : Octets) → All (λ o. o < 256) d → Valid t d → IsTrue (list_all stands_alone (written_words t d)) }
+{}
+
+/// Words say at most one piece of data of a type, relative to an origin.
+pub fn words_say_one_data()
+    ensures { (t : ℕ) (ws : List Word) (origin : DomainName) (d e : Octets) → Says t ws origin d → Says t ws origin e → d ≡ e }
 {}

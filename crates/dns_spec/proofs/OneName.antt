@@ -1,0 +1,156 @@
+-- A word spells at most one name, and a text at most one string.
+use Rattle.std.proofs.Common.{◌≡◌, ◌≢◌, ℕ, ◌⊎◌, inl, inr, Bool, true, false, ◌==◌, [], ◌∷◌, ◌++◌, length, get_or, Option, Some, None, refl, sym, ◌∙◌, ap, ap₂, subst, arith, codes}
+use Rattle.std.specs.Prelude.{if◌then◌else◌}
+use Rattle.std.specs.List.{list_all}
+use Rattle.std.specs.Char.{is_ascii_digit, IsAsciiDigit, IsNotAsciiDigit}
+use Rattle.std.proofs.lemmas.Bool.{true≢false, false≢true, and_parts, and_from, and_left, and_right, lt-leb, le-leb, eq-eqb, ne_eqb}
+use Rattle.std.proofs.lemmas.Option.{none-some, some_pair_parts}
+use Rattle.dns_spec.specs.Names.{Octets, DomainName, is_label}
+use Rattle.dns_spec.specs.NameText.{three_digits_value, SpellsOctet, LabelThen, TextSpells, SpellsName}
+use Rattle.dns_spec.specs.DataText.{SpellsStringOctet, SpellsString}
+
+-- the octet whose spelling a text begins with, where it begins with one, and the text behind it
+digits_front : Octets → Option (ℕ × Octets)
+digits_front [] = None
+digits_front (a ∷ []) = None
+digits_front (a ∷ b ∷ []) = None
+digits_front (a ∷ b ∷ c ∷ text) = Some (three_digits_value a b c, text)
+
+escaped_front : Octets → Option (ℕ × Octets)
+escaped_front [] = None
+escaped_front (a ∷ text) = if is_ascii_digit a then digits_front (a ∷ text) else Some (a, text)
+
+octet_front : Octets → Option (ℕ × Octets)
+octet_front [] = None
+octet_front (a ∷ text) = if a == 92 then escaped_front text else Some (a, text)
+
+digit : (a : ℕ) → IsAsciiDigit a → is_ascii_digit a ≡ true
+digit a h = and_from _ _ (le-leb _ _ h.0) (le-leb _ _ h.1)
+
+no_digit : (a : ℕ) → IsNotAsciiDigit a → is_ascii_digit a ≡ false
+no_digit a (inl h) = and_left _ _ (lt-leb _ _ h)
+no_digit a (inr h) = and_right _ _ (lt-leb _ _ h)
+
+octet_front-is : (first : Octets) (x : ℕ) (others : Octets) → SpellsOctet first x → octet_front (first ++ others) ≡ Some (x, others)
+unfolding octet_front escaped_front digits_front
+octet_front-is [] x others h = absurd h
+octet_front-is (a ∷ []) x others h = rw (ne_eqb a 92 h.2) (ap (λ y. Some (y, others)) h.0)
+octet_front-is (e ∷ a ∷ []) x others h = rw (eq-eqb e 92 h.0, no_digit a h.4) (ap (λ y. Some (y, others)) h.1)
+octet_front-is (e ∷ a ∷ b ∷ []) x others h = absurd h
+octet_front-is (e ∷ a ∷ b ∷ c ∷ []) x others h = rw (eq-eqb e 92 h.0, digit a h.1) (ap (λ y. Some (y, others)) h.4)
+octet_front-is (e ∷ a ∷ b ∷ c ∷ d ∷ more) x others h = absurd h
+
+string_front-is : (first : Octets) (x : ℕ) (others : Octets) → SpellsStringOctet first x → octet_front (first ++ others) ≡ Some (x, others)
+unfolding octet_front
+string_front-is first x others (inl h) = octet_front-is first x others h
+string_front-is first x others (inr (dot, is)) = ap (λ t. octet_front (t ++ others)) dot ∙ ap (λ y. Some (y, others)) (sym is)
+
+-- a text begins with the spelling of one octet
+octet_once : (text first first' others others' : Octets) (x y : ℕ) → text ≡ first ++ others → text ≡ first' ++ others' → SpellsStringOctet first x → SpellsStringOctet first' y
+    → (x ≡ y) × (others ≡ others')
+octet_once text first first' others others' x y e f h k =
+    some_pair_parts x y others others' (sym (string_front-is first x others h) ∙ ap octet_front (sym e ∙ f) ∙ string_front-is first' y others' k)
+
+no_front : (text first others : Octets) (x : ℕ) → text ≡ [] → text ≡ first ++ others → SpellsStringOctet first x → ⊥
+unfolding octet_front
+no_front text first others x e f h = none-some (x, others) (ap octet_front (sym e ∙ f) ∙ string_front-is first x others h)
+
+pub string_once : (text s t : Octets) → SpellsString text s → SpellsString text t → s ≡ t
+string_once text [] [] h k = refl
+string_once text [] (y ∷ t) h (first, others, e, said, k) = absurd (no_front text first others y h e said)
+string_once text (x ∷ s) [] (first, others, e, said, h) k = absurd (no_front text first others x k e said)
+string_once text (x ∷ s) (y ∷ t) (first, others, e, said, h) (first', others', e', said', k) =
+    let one = octet_once text first first' others others' x y e e' said said' in
+    ap₂ (λ z zs. z ∷ zs) one.0 (string_once others s t h (subst (λ r. SpellsString r t) (sym one.1) k))
+
+-- a label ends at a dot, and at the end of the text
+ends : Octets → Bool
+ends [] = true
+ends (o ∷ text) = o == 46
+
+goes_on : (first : Octets) (x : ℕ) (others : Octets) → SpellsOctet first x → ends (first ++ others) ≡ false
+unfolding ends
+goes_on [] x others h = absurd h
+goes_on (a ∷ []) x others h = ne_eqb a 46 h.1
+goes_on (e ∷ a ∷ []) x others h = ne_eqb e 46 (λ f. omega (arith, f, h.0))
+goes_on (e ∷ a ∷ b ∷ []) x others h = absurd h
+goes_on (e ∷ a ∷ b ∷ c ∷ []) x others h = ne_eqb e 46 (λ f. omega (arith, f, h.0))
+goes_on (e ∷ a ∷ b ∷ c ∷ d ∷ more) x others h = absurd h
+
+not_ended : (text rest first others : Octets) (x : ℕ) → text ≡ rest → ends rest ≡ true → text ≡ first ++ others → SpellsOctet first x → ⊥
+not_ended text rest first others x e end f h = true≢false (sym end ∙ ap ends (sym e ∙ f) ∙ goes_on first x others h)
+
+-- a text begins with one label
+label_once : (text l rest l' rest' : Octets) → LabelThen text l rest → LabelThen text l' rest' → ends rest ≡ true → ends rest' ≡ true
+    → (l ≡ l') × (rest ≡ rest')
+label_once text [] rest [] rest' h k end end' = (refl, sym h ∙ k)
+label_once text [] rest (y ∷ l') rest' h (first, others, e, said, k) end end' = absurd (not_ended text rest first others y h end e said)
+label_once text (x ∷ l) rest [] rest' (first, others, e, said, h) k end end' = absurd (not_ended text rest' first others x k end' e said)
+label_once text (x ∷ l) rest (y ∷ l') rest' (first, others, e, said, h) (first', others', e', said', k) end end' =
+    let one = octet_once text first first' others others' x y e e' (inl said) (inl said') in
+    let behind = label_once others l rest l' rest' h (subst (λ t. LabelThen t l' rest') (sym one.1) k) end end' in
+    (ap₂ (λ z zs. z ∷ zs) one.0 behind.0, behind.1)
+
+no_empty_label : (l : Octets) → [] ≡ l → is_label l ≡ true → ⊥
+no_empty_label l e h = false≢true (ap is_label e ∙ h)
+
+not_cons : (x : ℕ) (text : Octets) → [] ≡ x ∷ text → ⊥
+not_cons x text e = omega (arith, ap length e)
+
+-- where no label is to be had, a text spells no name of labels
+no_labels : (origin text rest : Octets) (above : DomainName) (l : Octets) (n : DomainName) → text ≡ rest → ends rest ≡ true → list_all is_label (l ∷ n) ≡ true
+    → TextSpells above text (l ∷ n) → ⊥
+unfolding ends
+no_labels origin text rest above l n e end all (inl (h, f)) =
+    no_empty_label l (label_once text [] rest l [] e h end refl).0 (and_parts (is_label l) _ all).0
+no_labels origin text rest above l n e end all (inr (others, h, f)) =
+    no_empty_label l (label_once text [] rest l (46 ∷ others) e h end refl).0 (and_parts (is_label l) _ all).0
+
+spelled_once : (origin : DomainName) (text : Octets) (n m : DomainName) → list_all is_label n ≡ true → list_all is_label m ≡ true
+    → TextSpells origin text n → TextSpells origin text m → n ≡ m
+unfolding ends
+spelled_once origin text [] [] all all' h k = refl
+spelled_once origin text [] (l ∷ m) all all' h k = absurd (no_labels [] text [] origin l m h refl all' k)
+spelled_once origin text (l ∷ n) [] all all' h k = absurd (no_labels [] text [] origin l n k refl all h)
+spelled_once origin text (l ∷ n) (l' ∷ m) all all' (inl (h, e)) (inl (k, f)) =
+    ap₂ (λ z zs. z ∷ zs) (label_once text l [] l' [] h k refl refl).0 (e ∙ sym f)
+spelled_once origin text (l ∷ n) (l' ∷ m) all all' (inl (h, e)) (inr (others, k, f)) =
+    absurd (not_cons 46 others (label_once text l [] l' (46 ∷ others) h k refl refl).1)
+spelled_once origin text (l ∷ n) (l' ∷ m) all all' (inr (others, h, e)) (inl (k, f)) =
+    absurd (not_cons 46 others (label_once text l' [] l (46 ∷ others) k h refl refl).1)
+spelled_once origin text (l ∷ n) (l' ∷ m) all all' (inr (others, h, e)) (inr (others', k, f)) =
+    let one = label_once text l (46 ∷ others) l' (46 ∷ others') h k refl refl in
+    let same : others ≡ others' = cc (one.1) in
+    let behind = spelled_once origin others n m (and_parts (is_label l) _ all).1 (and_parts (is_label l') _ all').1 e (subst (λ t. TextSpells origin t m) (sym same) f) in
+    ap₂ (λ z zs. z ∷ zs) one.0 behind
+
+at_is_no_dot : (word : Octets) → word ≡ codes "@" → word ≡ codes "." → ⊥
+at_is_no_dot word e f = omega (arith, ap (λ t. get_or t 0 0) (sym e ∙ f))
+
+-- `.` spells the root alone
+dot_alone : (origin : DomainName) (word : Octets) (m : DomainName) → word ≡ codes "." → list_all is_label m ≡ true → TextSpells origin word m → ⊥
+unfolding ends
+dot_alone origin word [] e all h = omega (arith, ap length (sym e ∙ h))
+dot_alone origin word (l ∷ m) e all h = no_labels [] word (codes ".") origin l m e refl all h
+
+pub name_once : (origin : DomainName) (word : Octets) (n m : DomainName) → SpellsName origin word n → SpellsName origin word m → n ≡ m
+name_once origin word n m h k = by_cases h.spelled k.spelled
+  where
+    all : list_all is_label n ≡ true
+    all = (and_parts (list_all is_label n) _ h.is_name).0
+
+    all' : list_all is_label m ≡ true
+    all' = (and_parts (list_all is_label m) _ k.is_name).0
+
+    by_cases : ((word ≡ codes "@") × (n ≡ origin)) ⊎ (((word ≡ codes ".") × (n ≡ [])) ⊎ ((word ≢ codes "@") × (word ≢ []) × TextSpells origin word n))
+        → ((word ≡ codes "@") × (m ≡ origin)) ⊎ (((word ≡ codes ".") × (m ≡ [])) ⊎ ((word ≢ codes "@") × (word ≢ []) × TextSpells origin word m))
+        → n ≡ m
+    by_cases (inl (at, e)) (inl (at', f)) = e ∙ sym f
+    by_cases (inl (at, e)) (inr (inl (dot, f))) = absurd (at_is_no_dot word at dot)
+    by_cases (inl (at, e)) (inr (inr (no_at, some, f))) = absurd (no_at at)
+    by_cases (inr (inl (dot, e))) (inl (at, f)) = absurd (at_is_no_dot word at dot)
+    by_cases (inr (inl (dot, e))) (inr (inl (dot', f))) = e ∙ sym f
+    by_cases (inr (inl (dot, e))) (inr (inr (no_at, some, f))) = absurd (dot_alone origin word m dot all' f)
+    by_cases (inr (inr (no_at, some, e))) (inl (at, f)) = absurd (no_at at)
+    by_cases (inr (inr (no_at, some, e))) (inr (inl (dot, f))) = absurd (dot_alone origin word n dot all e)
+    by_cases (inr (inr (no_at, some, e))) (inr (inr (no_at', some', f))) = spelled_once origin word n m all all' e f
