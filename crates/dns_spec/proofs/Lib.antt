@@ -20,6 +20,7 @@ pub mod SaidAgain
 pub mod TypeWords
 pub mod OneName
 pub mod OneData
+pub mod OneMeaning
 pub mod PlainLayout
 pub mod LayoutSize
 pub mod LeastSize

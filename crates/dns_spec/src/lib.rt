@@ -4,6 +4,7 @@
 pub mod checks;
 pub mod data;
 pub mod layout;
+pub mod meaning;
 pub mod reading;
 pub mod reply;
 pub mod text;

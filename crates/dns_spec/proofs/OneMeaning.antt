@@ -1,0 +1,179 @@
+-- A text means one thing.
+use Rattle.std.proofs.Common.{◌≡◌, ℕ, inl, inr, Bool, true, false, List, [], ◌∷◌, drop, length, take, Option, Some, None, refl, sym, ◌∙◌, ap, ap₂, subst, subst₂, arith, codes, IsTrue, nat_lt}
+use Rattle.std.specs.Prelude.{MatchOption}
+use Rattle.std.specs.Bool.{MatchBool}
+use Rattle.std.specs.Option.{is_none}
+use Rattle.std.proofs.lemmas.Option.{none-some, some_pair_parts}
+use Rattle.std.proofs.lemmas.Fmt.{decimal_injective}
+use Rattle.dns_spec.specs.Names.{Octets, DomainName, folded, octets_equal}
+use Rattle.dns_spec.specs.NameText.{SpellsName}
+use Rattle.dns_spec.specs.DataText.{Word, Says}
+use Rattle.dns_spec.specs.Records.{ResourceRecord}
+use Rattle.dns_spec.specs.ZoneText.{Piece, most_octets, piece_front, PiecesThen, cut_entries, with_end, Entry, Entries, lexical_fault}
+use Rattle.dns_spec.specs.Meaning.{Answer, faulty, gives, Nothing, Unless, Sort, no_words, directive, owned, unowned, sort_of, directive_word, owner_word, OriginIs, NameIs, OwnerBefore, TtlSays, ttl_in_force, TtlIs, TypeIs, DataIs, IsRecord, Fields, fields, IsNoTtl, is_other_class, are_too_many, RecordGives, OneWord, DirectiveGives, SortGives, EntryGives, Meaning, fault_at, behind, line_behind, EntriesMean, Means}
+use Rattle.dns_spec.proofs.OneName.{name_once}
+use Rattle.dns_spec.proofs.OneData.{data_once}
+use Rattle.dns_spec.proofs.TypeWords.{one_type}
+
+-- what is one by either case is one
+by_option : {X N : Type 0} {P Q : Type 0} {R S : X → Type 0} (o : Option X) (n m : N) → (P → Q → n ≡ m) → ((x : X) → R x → S x → n ≡ m)
+    → MatchOption o P R → MatchOption o Q S → n ≡ m
+by_option None n m none some h k = none h k
+by_option (Some x) n m none some h k = some x h k
+
+by_bool : {N : Type 0} {P Q R S : Type 0} (b : Bool) (n m : N) → (P → Q → n ≡ m) → (R → S → n ≡ m) → MatchBool b P R → MatchBool b Q S → n ≡ m
+by_bool true n m first second h k = first h k
+by_bool false n m first second h k = second h k
+
+-- an answer that holds is the only one
+abbrev Once : (Answer → Type 0) → Type 0
+Once P = (a b : Answer) → P a → P b → a ≡ b
+
+unless_once : (code : ℕ) (Fault : Type 0) (P : Answer → Type 0) → Once P → Once (Unless code Fault P)
+unless_once code Fault P once a b (inl (f, e)) (inl (g, e')) = e ∙ sym e'
+unless_once code Fault P once a b (inl (f, e)) (inr (none, h)) = absurd (none f)
+unless_once code Fault P once a b (inr (none, h)) (inl (g, e)) = absurd (none g)
+unless_once code Fault P once a b (inr (none, h)) (inr (none', k)) = once a b h k
+
+-- what an entry takes over
+origin_once : (o : DomainName) (earlier : List Entry) (n m : DomainName) → OriginIs o earlier n → OriginIs o earlier m → n ≡ m
+origin_once o [] n m h k = h ∙ sym k
+origin_once o (e ∷ earlier) n m h k =
+    by_option (directive_word (codes "$origin") (sort_of e)) n m (origin_once o earlier n m)
+    (λ w before before'.
+    (let same = origin_once o earlier before.0 before'.0 before.1 before'.1 in
+    name_once before'.0 w.raw n m (subst (λ x. SpellsName x w.raw n) same before.2) before'.2))
+    h k
+
+name_is_once : (o : DomainName) (earlier : List Entry) (w : Word) (n m : DomainName) → NameIs o earlier w n → NameIs o earlier w m → n ≡ m
+name_is_once o earlier w n m (unquoted, (x, h, spelled)) (unquoted', (y, k, spelled')) =
+    name_once y w.raw n m (subst (λ z. SpellsName z w.raw n) (origin_once o earlier x y h k) spelled) spelled'
+
+owner_once : (o : DomainName) (earlier : List Entry) (n m : DomainName) → OwnerBefore o earlier n → OwnerBefore o earlier m → n ≡ m
+owner_once o [] n m h k = absurd h
+owner_once o (e ∷ earlier) n m h k =
+    by_option (owner_word (sort_of e)) n m (owner_once o earlier n m) (λ w. name_is_once o earlier w n m) h k
+
+ttl_says_once : (w : Word) (n m : ℕ) → TtlSays w n → TtlSays w m → n ≡ m
+ttl_says_once w n m (unquoted, spelled, few) (unquoted', spelled', few') =
+    decimal_injective n m (omega (arith, few)) (omega (arith, few')) (sym spelled ∙ spelled')
+
+ttl_once : (earlier : List Entry) (stated : Option Word) (n m : ℕ) → TtlIs earlier stated n → TtlIs earlier stated m → n ≡ m
+ttl_once earlier stated n m h k =
+    by_option (ttl_in_force earlier stated) n m (λ none none'. absurd none) (λ w. ttl_says_once w n m) h k
+
+type_once : (ws : List Word) (t u : ℕ) → TypeIs ws t → TypeIs ws u → t ≡ u
+type_once [] t u h k = absurd h
+type_once (w ∷ ws) t u h k = one_type w.raw t u h.1 k.1
+
+data_is_once : (o : DomainName) (earlier : List Entry) (ws : List Word) (d e : Octets) → DataIs o earlier ws d → DataIs o earlier ws e → d ≡ e
+data_is_once o earlier ws d e (t, is_t, (n, h, said)) (u, is_u, (m, k, said')) =
+    data_once u (drop 1 ws) m d e
+    (subst₂ (λ x y. Says x (drop 1 ws) y d) (type_once ws t u is_t is_u) (origin_once o earlier n m h k) said) said'
+
+record_once : (o : DomainName) (earlier : List Entry) (Owner : DomainName → Type 0) (f : Fields) (r s : ResourceRecord)
+    → ((n m : DomainName) → Owner n → Owner m → n ≡ m) → IsRecord o earlier Owner f r → IsRecord o earlier Owner f s → r ≡ s
+record_once o earlier Owner f r s one_owner h k =
+    let owners = h.owner.2 ∙ ap folded (one_owner h.owner.0 k.owner.0 h.owner.1 k.owner.1) ∙ sym k.owner.2 in
+    let ttls = ttl_once earlier f.ttl r.ttl s.ttl h.ttl k.ttl in
+    let types = type_once f.others r.rtype s.rtype h.rtype k.rtype in
+    let rdata = data_is_once o earlier f.others r.rdata s.rdata h.rdata k.rdata in
+    λ i. record { owner = owners i; ttl = ttls i; rtype = types i; rdata = rdata i }
+
+-- what an entry gives
+record_gives_once : (o : DomainName) (earlier : List Entry) (code : ℕ) (Owner : DomainName → Type 0) (f : Fields)
+    → ((n m : DomainName) → Owner n → Owner m → n ≡ m) → Once (RecordGives o earlier code Owner f)
+record_gives_once o earlier code Owner f one_owner = unless_once code (Nothing Owner) From9 from9
+  where
+    From14 : Answer → Type 0
+    From14 answer = (r : ResourceRecord) × IsRecord o earlier Owner f r × (answer ≡ gives (r ∷ []))
+
+    from14 : Once From14
+    from14 a b h k = h.2 ∙ ap (λ r. gives (r ∷ [])) (record_once o earlier Owner f h.0 k.0 one_owner h.1 k.1) ∙ sym k.2
+
+    From13 : Answer → Type 0
+    From13 = Unless 14 (IsTrue (are_too_many earlier)) From14
+
+    From12 : Answer → Type 0
+    From12 = Unless 13 (Nothing (DataIs o earlier f.others)) From13
+
+    From11 : Answer → Type 0
+    From11 = Unless 12 (IsTrue (is_none (ttl_in_force earlier f.ttl))) From12
+
+    From10 : Answer → Type 0
+    From10 = Unless 11 (Nothing (TypeIs f.others)) From11
+
+    From9 : Answer → Type 0
+    From9 = Unless 9 (IsNoTtl f.ttl) (Unless 10 (IsTrue (is_other_class f.class)) From10)
+
+    from9 : Once From9
+    from9 =
+        unless_once 9 (IsNoTtl f.ttl) (Unless 10 (IsTrue (is_other_class f.class)) From10)
+        (unless_once 10 (IsTrue (is_other_class f.class)) From10
+        (unless_once 11 (Nothing (TypeIs f.others)) From11
+        (unless_once 12 (IsTrue (is_none (ttl_in_force earlier f.ttl))) From12
+        (unless_once 13 (Nothing (DataIs o earlier f.others)) From13
+        (unless_once 14 (IsTrue (are_too_many earlier)) From14 from14)))))
+
+given : (c : Answer) → Once (λ answer. answer ≡ c)
+given c a b h k = h ∙ sym k
+
+directive_gives_once : (o : DomainName) (earlier : List Entry) (name : Octets) (ws : List Word) → Once (DirectiveGives o earlier name ws)
+directive_gives_once o earlier name ws a b =
+    by_bool (octets_equal name (codes "$origin")) a b
+    (unless_once 6 (Nothing (λ (n : DomainName). OneWord (λ w. NameIs o earlier w n) ws)) (λ answer. answer ≡ gives []) (given (gives [])) a b)
+    (by_bool (octets_equal name (codes "$ttl")) a b
+    (unless_once 6 (Nothing (λ (n : ℕ). OneWord (λ w. TtlSays w n) ws)) (λ answer. answer ≡ gives []) (given (gives [])) a b)
+    (given (faulty 5) a b))
+
+sort_gives_once : (o : DomainName) (earlier : List Entry) (s : Sort) → Once (SortGives o earlier s)
+sort_gives_once o earlier no_words = given (gives [])
+sort_gives_once o earlier (directive name ws) = directive_gives_once o earlier name ws
+sort_gives_once o earlier (owned w ws) = record_gives_once o earlier 7 (NameIs o earlier w) (fields ws) (name_is_once o earlier w)
+sort_gives_once o earlier (unowned ws) = record_gives_once o earlier 8 (OwnerBefore o earlier) (fields ws) (owner_once o earlier)
+
+entry_gives_once : (o : DomainName) (earlier : List Entry) (e : Entry) → Once (EntryGives o earlier e)
+entry_gives_once o earlier e a b =
+    by_option (lexical_fault e) a b (sort_gives_once o earlier (sort_of e) a b) (λ code. given (faulty code) a b)
+
+-- what the entries mean from here, where this one gives that
+abbrev FromHere : DomainName → List Entry → Entry → List Entry → Meaning → Answer → Type 0
+FromHere o earlier e es m answer =
+    elim answer [
+      | faulty code ↦ m ≡ fault_at code (line_behind earlier)
+      | gives rs ↦ (later : Meaning) × EntriesMean o (e ∷ earlier) es later × (m ≡ behind rs later)
+    ]
+
+from_here_once : (o : DomainName) (earlier : List Entry) (e : Entry) (es : List Entry) (m n : Meaning) (answer : Answer)
+    → ((x y : Meaning) → EntriesMean o (e ∷ earlier) es x → EntriesMean o (e ∷ earlier) es y → x ≡ y)
+    → FromHere o earlier e es m answer → FromHere o earlier e es n answer → m ≡ n
+from_here_once o earlier e es m n (faulty code) later h k = h ∙ sym k
+from_here_once o earlier e es m n (gives rs) later (x, h, is) (y, k, is') = is ∙ ap (behind rs) (later x y h k) ∙ sym is'
+
+entries_once : (o : DomainName) (earlier es : List Entry) (m n : Meaning) → EntriesMean o earlier es m → EntriesMean o earlier es n → m ≡ n
+entries_once o earlier [] m n h k = h ∙ sym k
+entries_once o earlier (e ∷ es) m n (a, gives_a, h) (b, gives_b, k) =
+    from_here_once o earlier e es m n b (entries_once o (e ∷ earlier) es)
+    (subst (FromHere o earlier e es m) (entry_gives_once o earlier e a b gives_a gives_b) h) k
+
+-- a text has one run of pieces up to where none begins
+pieces_once : (text : Octets) (ps qs : List Piece) (rest others : Octets) → PiecesThen text ps rest → PiecesThen text qs others
+    → piece_front rest ≡ None → piece_front others ≡ None → (ps ≡ qs) × (rest ≡ others)
+pieces_once text [] [] rest others h k end end' = (refl, sym h ∙ k)
+pieces_once text [] (q ∷ qs) rest others h (behind, e, k) end end' =
+    absurd (none-some (q, behind) (sym end ∙ ap piece_front (sym h) ∙ e))
+pieces_once text (p ∷ ps) [] rest others (behind, e, h) k end end' =
+    absurd (none-some (p, behind) (sym end' ∙ ap piece_front (sym k) ∙ e))
+pieces_once text (p ∷ ps) (q ∷ qs) rest others (x, e, h) (y, f, k) end end' =
+    let one = some_pair_parts p q x y (sym e ∙ f) in
+    let more = pieces_once x ps qs rest others h (subst (λ t. PiecesThen t qs others) (sym one.1) k) end end' in
+    (ap₂ (λ z zs. z ∷ zs) one.0 more.0, more.1)
+
+one_cut : (text : Octets) (es fs : List Entry) → Entries text es → Entries text fs → es ≡ fs
+one_cut text es fs h k =
+    let same = pieces_once (take most_octets text) h.pieces k.pieces h.rest k.rest h.spelled k.spelled h.at_end k.at_end in
+    h.entries ∙ ap₂ (λ rest ps. with_end (nat_lt most_octets (length text)) rest (cut_entries false ps)) same.1 same.0 ∙ sym k.entries
+
+pub meaning_once : (o : DomainName) (text : Octets) (m n : Meaning) → Means o text m → Means o text n → m ≡ n
+meaning_once o text m n (es, h, is) (fs, k, is') =
+    entries_once o [] fs m n (subst (λ x. EntriesMean o [] x m) (one_cut text es fs h k) is) is'
