@@ -45,3 +45,4 @@ mod TypeRows
 mod DataRows
 pub mod TextPieces
 mod WordRows
+mod MeaningRows
