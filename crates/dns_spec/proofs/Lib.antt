@@ -45,4 +45,6 @@ mod TypeRows
 mod DataRows
 pub mod TextPieces
 mod WordRows
+pub mod ReadTexts
 mod MeaningRows
+mod FileRows

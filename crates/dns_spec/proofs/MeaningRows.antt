@@ -1,59 +1,20 @@
 -- What whole texts mean, in the worked cases.
-use Rattle.std.proofs.Common.{◌≡◌, ◌≢◌, ℕ, zero, suc, ◌≤◌, inl, inr, Bool, true, false, ◌&&◌, not, ◌==◌, List, [], ◌∷◌, ◌++◌, Option, Some, None, refl, sym, ◌∙◌, ap, subst, codes, length, nat_lt, take, get_or, arith, decimal, lit<, lit≤}
-use Rattle.std.specs.List.{list_all}
+use Rattle.std.proofs.Common.{◌≡◌, ℕ, zero, suc, ◌≤◌, inl, inr, false, [], ◌∷◌, ◌++◌, refl, ap, subst, codes, length, get_or, arith, decimal, lit<, lit≤}
 use mathlib.Core.Bool.{xor}
 use Rattle.std.specs.Fmt.{digits}
-use Rattle.std.proofs.lemmas.Bool.{and_parts, false≢true, eq-eqb}
+use Rattle.std.proofs.lemmas.Bool.{false≢true}
 use Rattle.std.proofs.lemmas.Option.{none-some}
 use Rattle.std.proofs.lemmas.Fmt.{first_decimal, decimal_injective}
-use Rattle.dns_spec.specs.Names.{Octets, DomainName, is_name}
-use Rattle.dns_spec.specs.NameText.{SpellsOctet, LabelThen, SpellsName}
+use Rattle.dns_spec.specs.Names.{Octets, DomainName}
 use Rattle.dns_spec.specs.TypeText.{NamesType}
 use Rattle.dns_spec.specs.AddressText.{SaysIpv4}
-use Rattle.dns_spec.specs.DataText.{SpellsString, Says}
-use Rattle.dns_spec.specs.ZoneText.{Piece, most_octets, piece_front, PiecesThen, run_length, Entry, cut_entries, with_end}
-use Rattle.dns_spec.specs.Meaning.{faulty, gives, NameIs, most_ttl, TtlSays, Meaning, records, fault_at, EntriesMean, Means}
+use Rattle.dns_spec.specs.DataText.{Says}
+use Rattle.dns_spec.specs.ZoneText.{run_length}
+use Rattle.dns_spec.specs.Meaning.{faulty, gives, NameIs, most_ttl, TtlSays, records, fault_at, Means}
 use Rattle.dns_spec.proofs.TypeWords.{one_type}
 use Rattle.dns_spec.proofs.OneData.{four_numbers, number_then_dot}
+use Rattle.dns_spec.proofs.ReadTexts.{pieces_in, means, is_plain, plain_name}
 use Rattle.dns_spec.proofs.Examples.{example, under}
-
--- at most n pieces of a text, and what is behind them
-abbrev before : Option (Piece × Octets) → (Octets → List Piece × Octets) → Octets → List Piece × Octets
-before None more text = ([], text)
-before (Some r) more text = (r.0 ∷ (more r.1).0, (more r.1).1)
-
-unfoldable pieces_in : ℕ → Octets → List Piece × Octets
-pieces_in zero text = ([], text)
-pieces_in (suc n) text = before (piece_front text) (pieces_in n) text
-
-pieces_spelled : (n : ℕ) (text : Octets) → PiecesThen text (pieces_in n text).0 (pieces_in n text).1
-unfolding pieces_in
-pieces_spelled zero text = refl
-pieces_spelled (suc n) text = by_front (piece_front text) refl (λ r. pieces_spelled n r.1)
-  where
-    by_front : (front : Option (Piece × Octets)) → piece_front text ≡ front
-        → ((r : Piece × Octets) → PiecesThen r.1 (pieces_in n r.1).0 (pieces_in n r.1).1)
-        → PiecesThen text (before front (pieces_in n) text).0 (before front (pieces_in n) text).1
-    by_front None e more = refl
-    by_front (Some r) e more = (r.1, e, more r)
-
--- A text within its limit that has at most 99 pieces means what its entries mean.
-abbrev entries_of : Octets → List Entry
-entries_of text = with_end false (pieces_in 99 text).1 (cut_entries false (pieces_in 99 text).0)
-
-means : (text : Octets) (m : Meaning) → take most_octets text ≡ text → nat_lt most_octets (length text) ≡ false → piece_front (pieces_in 99 text).1 ≡ None
-    → EntriesMean example [] (entries_of text) m → Means example text m
-means text m all within at_end h = (
-  entries_of text,
-  record {
-    pieces = (pieces_in 99 text).0;
-    rest = (pieces_in 99 text).1;
-    spelled = subst (λ t. PiecesThen t (pieces_in 99 text).0 (pieces_in 99 text).1) (sym all) (pieces_spelled 99 text);
-    at_end = at_end;
-    entries = ap (λ b. with_end b (pieces_in 99 text).1 (cut_entries false (pieces_in 99 text).0)) (sym within);
-  },
-  h,
-)
 
 -- no text
 empty_text : Means example [] (records [])
@@ -115,41 +76,6 @@ no_owner = means (codes " A 192.0.2.1") (fault_at 8 1) refl refl refl (faulty 8,
 quoted_owner : Means example (codes "\"www\" 60 A 192.0.2.1") (fault_at 7 1)
 unfolding pieces_in run_length
 quoted_owner = means (codes "\"www\" 60 A 192.0.2.1") (fault_at 7 1) refl refl refl (faulty 7, inl (λ n h. false≢true h.0, refl), refl)
-
--- names of one label more than the origin has
-is_plain : ℕ → Bool
-is_plain c = not (c == 46) && not (c == 92) && not (c == 64)
-
-plain_octet : (c : ℕ) → is_plain c ≡ true → SpellsOctet (c ∷ []) c
-unfolding is_plain
-plain_octet c h =
-    let parts = and_parts (not (c == 46) && not (c == 92)) _ h in
-    let both = and_parts (not (c == 46)) _ parts.0 in
-    (refl, other_than c 46 both.0, other_than c 92 both.1)
-  where
-    other_than : (c k : ℕ) → not (c == k) ≡ true → c ≢ k
-    other_than c k h e = false≢true (sym (ap not (eq-eqb c k e)) ∙ h)
-
-plain_label : (cs : Octets) → list_all is_plain cs ≡ true → LabelThen cs cs []
-plain_label [] h = refl
-plain_label (c ∷ cs) h =
-    let parts = and_parts (is_plain c) _ h in
-    (c ∷ [], cs, refl, plain_octet c parts.0, plain_label cs parts.1)
-
-plain_string : (cs : Octets) → list_all is_plain cs ≡ true → SpellsString cs cs
-plain_string [] h = refl
-plain_string (c ∷ cs) h =
-    let parts = and_parts (is_plain c) _ h in
-    (c ∷ [], cs, refl, inl (plain_octet c parts.0), plain_string cs parts.1)
-
-plain_name : (origin : DomainName) (cs : Octets) → list_all is_plain cs ≡ true → nat_lt 0 (length cs) ≡ true → is_name (cs ∷ origin) ≡ true
-    → SpellsName origin cs (cs ∷ origin)
-unfolding is_plain
-plain_name origin cs plain some short = record {
-  spelled =
-      inr (inr (λ e. false≢true (sym (ap (list_all is_plain) e) ∙ plain), λ e. false≢true (sym (ap (λ t. nat_lt 0 (length t)) e) ∙ some), inl (plain_label cs plain, refl)));
-  is_name = short;
-}
 
 www_owner : NameIs example [] (record { raw = codes "www"; is_quoted = false }) (under (codes "www"))
 unfolding is_plain

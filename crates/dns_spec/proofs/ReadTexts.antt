@@ -1,0 +1,119 @@
+-- Texts whose pieces are computed, words that spell themselves, and what makes a record of them.
+use Rattle.std.proofs.Common.{◌≡◌, ◌≢◌, ℕ, zero, suc, inl, inr, Bool, true, false, ◌&&◌, not, ◌==◌, List, [], ◌∷◌, Option, Some, None, refl, sym, ◌∙◌, ap, subst, length, nat_lt, take, IsTrue}
+use Rattle.std.specs.Prelude.{MatchOption}
+use Rattle.std.specs.List.{list_all}
+use Rattle.std.specs.Option.{is_none}
+use Rattle.std.proofs.lemmas.Bool.{and_parts, false≢true, eq-eqb}
+use Rattle.dns_spec.specs.Names.{Octets, DomainName, is_name}
+use Rattle.dns_spec.specs.NameText.{SpellsOctet, LabelThen, SpellsName}
+use Rattle.dns_spec.specs.DataText.{Word, SpellsString}
+use Rattle.dns_spec.specs.Records.{ResourceRecord}
+use Rattle.dns_spec.specs.ZoneText.{Piece, most_octets, piece_front, PiecesThen, Entry, cut_entries, with_end}
+use Rattle.dns_spec.specs.Meaning.{gives, IsRecord, Fields, TtlIs, TtlSays, IsNoTtl, is_other_class, are_too_many, RecordGives, Meaning, EntriesMean, Means}
+use Rattle.dns_spec.proofs.Examples.{example}
+
+-- at most n pieces of a text, and what is behind them
+abbrev pub before : Option (Piece × Octets) → (Octets → List Piece × Octets) → Octets → List Piece × Octets
+before None more text = ([], text)
+before (Some r) more text = (r.0 ∷ (more r.1).0, (more r.1).1)
+
+unfoldable pub pieces_in : ℕ → Octets → List Piece × Octets
+pieces_in zero text = ([], text)
+pieces_in (suc n) text = before (piece_front text) (pieces_in n) text
+
+pub pieces_spelled : (n : ℕ) (text : Octets) → PiecesThen text (pieces_in n text).0 (pieces_in n text).1
+unfolding pieces_in
+pieces_spelled zero text = refl
+pieces_spelled (suc n) text = by_front (piece_front text) refl (λ r. pieces_spelled n r.1)
+  where
+    by_front : (front : Option (Piece × Octets)) → piece_front text ≡ front
+        → ((r : Piece × Octets) → PiecesThen r.1 (pieces_in n r.1).0 (pieces_in n r.1).1)
+        → PiecesThen text (before front (pieces_in n) text).0 (before front (pieces_in n) text).1
+    by_front None e more = refl
+    by_front (Some r) e more = (r.1, e, more r)
+
+-- A text within its limit that has at most 99 pieces means what its entries mean.
+abbrev pub entries_of : Octets → List Entry
+entries_of text = with_end false (pieces_in 99 text).1 (cut_entries false (pieces_in 99 text).0)
+
+pub means : (text : Octets) (m : Meaning) → take most_octets text ≡ text → nat_lt most_octets (length text) ≡ false → piece_front (pieces_in 99 text).1 ≡ None
+    → EntriesMean example [] (entries_of text) m → Means example text m
+means text m all within at_end h = (
+  entries_of text,
+  record {
+    pieces = (pieces_in 99 text).0;
+    rest = (pieces_in 99 text).1;
+    spelled = subst (λ t. PiecesThen t (pieces_in 99 text).0 (pieces_in 99 text).1) (sym all) (pieces_spelled 99 text);
+    at_end = at_end;
+    entries = ap (λ b. with_end b (pieces_in 99 text).1 (cut_entries false (pieces_in 99 text).0)) (sym within);
+  },
+  h,
+)
+
+-- octets that spell themselves, in a name and in a string
+unfoldable pub is_plain : ℕ → Bool
+is_plain c = not (c == 46) && not (c == 92) && not (c == 64)
+
+pub plain_octet : (c : ℕ) → is_plain c ≡ true → SpellsOctet (c ∷ []) c
+unfolding is_plain
+plain_octet c h =
+    let parts = and_parts (not (c == 46) && not (c == 92)) _ h in
+    let both = and_parts (not (c == 46)) _ parts.0 in
+    (refl, other_than c 46 both.0, other_than c 92 both.1)
+  where
+    other_than : (c k : ℕ) → not (c == k) ≡ true → c ≢ k
+    other_than c k h e = false≢true (sym (ap not (eq-eqb c k e)) ∙ h)
+
+pub plain_label : (cs : Octets) → list_all is_plain cs ≡ true → LabelThen cs cs []
+plain_label [] h = refl
+plain_label (c ∷ cs) h =
+    let parts = and_parts (is_plain c) _ h in
+    (c ∷ [], cs, refl, plain_octet c parts.0, plain_label cs parts.1)
+
+pub plain_string : (cs : Octets) → list_all is_plain cs ≡ true → SpellsString cs cs
+plain_string [] h = refl
+plain_string (c ∷ cs) h =
+    let parts = and_parts (is_plain c) _ h in
+    (c ∷ [], cs, refl, inl (plain_octet c parts.0), plain_string cs parts.1)
+
+-- a word of such octets, relative to the origin
+pub plain_name : (origin : DomainName) (cs : Octets) → list_all is_plain cs ≡ true → nat_lt 0 (length cs) ≡ true → is_name (cs ∷ origin) ≡ true
+    → SpellsName origin cs (cs ∷ origin)
+unfolding is_plain
+plain_name origin cs plain some short = record {
+  spelled =
+      inr (inr (λ e. false≢true (sym (ap (list_all is_plain) e) ∙ plain), λ e. false≢true (sym (ap (λ t. nat_lt 0 (length t)) e) ∙ some), inl (plain_label cs plain, refl)));
+  is_name = short;
+}
+
+-- a record that is one is given, where no code of a fault stands before it
+ttl_stated : (earlier : List Entry) (stated : Option Word) (n : ℕ) → TtlIs earlier stated n → IsNoTtl stated → ⊥
+ttl_stated earlier None n h none = none
+ttl_stated earlier (Some w) n h none = none n h
+
+ttl_known : (o : Option Word) (n : ℕ) → MatchOption o ⊥ (λ w. TtlSays w n) → IsTrue (is_none o) → ⊥
+ttl_known None n h none = h
+ttl_known (Some w) n h none = false≢true none
+
+pub record_given : (o : DomainName) (earlier : List Entry) (code : ℕ) (Owner : DomainName → Type 0) (f : Fields) (r : ResourceRecord)
+    → IsRecord o earlier Owner f r → is_other_class f.class ≡ false → are_too_many earlier ≡ false → RecordGives o earlier code Owner f (gives (r ∷ []))
+record_given o earlier code Owner f r h class few =
+    inr (
+      λ none. none h.owner.0 h.owner.1,
+      inr (
+        ttl_stated earlier f.ttl r.ttl h.ttl,
+        inr (
+          λ e. false≢true (sym class ∙ e),
+          inr (
+            λ none. none r.rtype h.rtype,
+            inr (
+              ttl_known _ r.ttl h.ttl,
+              inr (
+                λ none. none r.rdata h.rdata,
+                inr (λ e. false≢true (sym few ∙ e), (r, h, refl)),
+              ),
+            ),
+          ),
+        ),
+      ),
+    )
