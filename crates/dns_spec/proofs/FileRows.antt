@@ -8,9 +8,9 @@ use Rattle.dns_spec.specs.DataText.{Word, Says, hex_octets}
 use Rattle.dns_spec.specs.AddressText.{ipv6_groups}
 use Rattle.dns_spec.specs.Records.{ResourceRecord}
 use Rattle.dns_spec.specs.ZoneText.{Entry, run_length, ended}
-use Rattle.dns_spec.specs.Meaning.{gives, records, Means, TtlSays, NameIs, OwnerBefore, EntryGives, fields}
+use Rattle.dns_spec.specs.Meaning.{gives, records, Means, TtlSays, NameIs, OwnerBefore, EntryGives, EntriesMean, fields}
 use Rattle.dns_spec.proofs.Examples.{hex, example, under, net_192, soa_of, strings_data}
-use Rattle.dns_spec.proofs.ReadTexts.{pieces_in, means, entries_of, is_plain, plain_octet, plain_label, plain_name, plain_string, record_given}
+use Rattle.dns_spec.proofs.ReadTexts.{pieces_in, means, entries_of, is_plain, plain_octet, plain_label, plain_name, plain_string, record_given, given_then}
 use mathlib.Core.Bool.{xor}
 
 abbrev small_file : Octets
@@ -286,71 +286,24 @@ origin_directive = inr (λ none. none deep (refl, (example, refl, spells_deep)),
 abbrev six_records : List ResourceRecord
 six_records = soa_record ∷ ns_record ∷ a_record ∷ aaaa_record ∷ txt_record ∷ unknown_record ∷ []
 
+-- the entries behind so many
+abbrev left : ℕ → List Entry
+left k = drop k (entries_of small_file)
+
+below_deep : EntriesMean example (earlier 5) (left 5) (records (drop 4 six_records))
+unfolding pieces_in run_length xor
+below_deep =
+    given_then example (earlier 5) (entry_at 5) (left 6) [] (records (drop 4 six_records)) origin_directive
+    (given_then example (earlier 6) (entry_at 6) (left 7) (txt_record ∷ []) (records (drop 5 six_records)) txt_given
+    (given_then example (earlier 7) (entry_at 7) (left 8) (unknown_record ∷ []) (records []) unknown_given
+    (given_then example (earlier 8) (entry_at 8) [] [] (records []) refl refl)))
+
 small_file_means : Means example small_file (records six_records)
 unfolding pieces_in run_length xor
 small_file_means =
-    means small_file (records six_records) refl refl refl (
-      gives [],
-      ttl_directive,
-      (
-        records six_records,
-        (
-          gives (soa_record ∷ []),
-          soa_given,
-          (
-            records (drop 1 six_records),
-            (
-              gives (ns_record ∷ []),
-              ns_given,
-              (
-                records (drop 2 six_records),
-                (
-                  gives (a_record ∷ []),
-                  a_given,
-                  (
-                    records (drop 3 six_records),
-                    (
-                      gives (aaaa_record ∷ []),
-                      aaaa_given,
-                      (
-                        records (drop 4 six_records),
-                        (
-                          gives [],
-                          origin_directive,
-                          (
-                            records (drop 4 six_records),
-                            (
-                              gives (txt_record ∷ []),
-                              txt_given,
-                              (
-                                records (drop 5 six_records),
-                                (
-                                  gives (unknown_record ∷ []),
-                                  unknown_given,
-                                  (
-                                    records [],
-                                    (gives [], refl, (records [], refl, refl)),
-                                    refl,
-                                  ),
-                                ),
-                                refl,
-                              ),
-                            ),
-                            refl,
-                          ),
-                        ),
-                        refl,
-                      ),
-                    ),
-                    refl,
-                  ),
-                ),
-                refl,
-              ),
-            ),
-            refl,
-          ),
-        ),
-        refl,
-      ),
-    )
+    means small_file (records six_records) refl refl refl
+    (given_then example (earlier 0) (entry_at 0) (left 1) [] (records six_records) ttl_directive
+    (given_then example (earlier 1) (entry_at 1) (left 2) (soa_record ∷ []) (records (drop 1 six_records)) soa_given
+    (given_then example (earlier 2) (entry_at 2) (left 3) (ns_record ∷ []) (records (drop 2 six_records)) ns_given
+    (given_then example (earlier 3) (entry_at 3) (left 4) (a_record ∷ []) (records (drop 3 six_records)) a_given
+    (given_then example (earlier 4) (entry_at 4) (left 5) (aaaa_record ∷ []) (records (drop 4 six_records)) aaaa_given below_deep)))))

@@ -9,7 +9,7 @@ use Rattle.dns_spec.specs.NameText.{SpellsOctet, LabelThen, SpellsName}
 use Rattle.dns_spec.specs.DataText.{Word, SpellsString}
 use Rattle.dns_spec.specs.Records.{ResourceRecord}
 use Rattle.dns_spec.specs.ZoneText.{Piece, most_octets, piece_front, PiecesThen, Entry, cut_entries, with_end}
-use Rattle.dns_spec.specs.Meaning.{gives, IsRecord, Fields, TtlIs, TtlSays, IsNoTtl, is_other_class, are_too_many, RecordGives, Meaning, EntriesMean, Means}
+use Rattle.dns_spec.specs.Meaning.{gives, IsRecord, Fields, TtlIs, TtlSays, IsNoTtl, is_other_class, are_too_many, RecordGives, EntryGives, Meaning, behind, EntriesMean, Means}
 use Rattle.dns_spec.proofs.Examples.{example}
 
 -- at most n pieces of a text, and what is behind them
@@ -117,3 +117,8 @@ record_given o earlier code Owner f r h class few =
         ),
       ),
     )
+
+-- an entry gives records, and those behind it mean what they mean
+pub given_then : (o : DomainName) (earlier : List Entry) (e : Entry) (es : List Entry) (rs : List ResourceRecord) (later : Meaning) → EntryGives o earlier e (gives rs)
+    → EntriesMean o (e ∷ earlier) es later → EntriesMean o earlier (e ∷ es) (behind rs later)
+given_then o earlier e es rs later given more = (gives rs, given, (later, more, refl))
