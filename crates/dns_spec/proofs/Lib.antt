@@ -48,3 +48,4 @@ mod WordRows
 pub mod ReadTexts
 mod MeaningRows
 mod FileRows
+mod LimitRows

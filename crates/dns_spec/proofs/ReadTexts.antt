@@ -9,7 +9,7 @@ use Rattle.dns_spec.specs.NameText.{SpellsOctet, LabelThen, SpellsName}
 use Rattle.dns_spec.specs.DataText.{Word, SpellsString}
 use Rattle.dns_spec.specs.Records.{ResourceRecord}
 use Rattle.dns_spec.specs.ZoneText.{Piece, most_octets, piece_front, PiecesThen, Entry, cut_entries, with_end}
-use Rattle.dns_spec.specs.Meaning.{gives, IsRecord, Fields, TtlIs, TtlSays, IsNoTtl, is_other_class, are_too_many, RecordGives, EntryGives, Meaning, behind, EntriesMean, Means}
+use Rattle.dns_spec.specs.Meaning.{Answer, gives, Unless, IsRecord, Fields, TtlIs, TtlSays, IsNoTtl, is_other_class, are_too_many, RecordGives, EntryGives, Meaning, behind, EntriesMean, Means}
 use Rattle.dns_spec.proofs.Examples.{example}
 
 -- at most n pieces of a text, and what is behind them
@@ -95,9 +95,12 @@ ttl_known : (o : Option Word) (n : ℕ) → MatchOption o ⊥ (λ w. TtlSays w n
 ttl_known None n h none = h
 ttl_known (Some w) n h none = false≢true none
 
-pub record_given : (o : DomainName) (earlier : List Entry) (code : ℕ) (Owner : DomainName → Type 0) (f : Fields) (r : ResourceRecord)
-    → IsRecord o earlier Owner f r → is_other_class f.class ≡ false → are_too_many earlier ≡ false → RecordGives o earlier code Owner f (gives (r ∷ []))
-record_given o earlier code Owner f r h class few =
+-- a record is one but for how many there are
+pub record_but_count : (o : DomainName) (earlier : List Entry) (code : ℕ) (Owner : DomainName → Type 0) (f : Fields) (r : ResourceRecord) (answer : Answer)
+    → IsRecord o earlier Owner f r → is_other_class f.class ≡ false
+    → Unless 14 (IsTrue (are_too_many earlier)) (λ a. (s : ResourceRecord) × IsRecord o earlier Owner f s × (a ≡ gives (s ∷ []))) answer
+    → RecordGives o earlier code Owner f answer
+record_but_count o earlier code Owner f r answer h class rest =
     inr (
       λ none. none h.owner.0 h.owner.1,
       inr (
@@ -108,15 +111,17 @@ record_given o earlier code Owner f r h class few =
             λ none. none r.rtype h.rtype,
             inr (
               ttl_known _ r.ttl h.ttl,
-              inr (
-                λ none. none r.rdata h.rdata,
-                inr (λ e. false≢true (sym few ∙ e), (r, h, refl)),
-              ),
+              inr (λ none. none r.rdata h.rdata, rest),
             ),
           ),
         ),
       ),
     )
+
+pub record_given : (o : DomainName) (earlier : List Entry) (code : ℕ) (Owner : DomainName → Type 0) (f : Fields) (r : ResourceRecord)
+    → IsRecord o earlier Owner f r → is_other_class f.class ≡ false → are_too_many earlier ≡ false → RecordGives o earlier code Owner f (gives (r ∷ []))
+record_given o earlier code Owner f r h class few =
+    record_but_count o earlier code Owner f r (gives (r ∷ [])) h class (inr (λ e. false≢true (sym few ∙ e), (r, h, refl)))
 
 -- an entry gives records, and those behind it mean what they mean
 pub given_then : (o : DomainName) (earlier : List Entry) (e : Entry) (es : List Entry) (rs : List ResourceRecord) (later : Meaning) → EntryGives o earlier e (gives rs)

@@ -1,0 +1,195 @@
+-- Texts past a limit: with an octet too many, and with a record too many.
+use Rattle.std.proofs.Common.{◌≡◌, ℕ, zero, suc, ◌+◌, ◌*◌, ◌<◌, ◌≤◌, inl, Bool, true, false, List, [], ◌∷◌, ◌++◌, Some, refl, sym, ◌∙◌, ap, subst, codes, length, nat_le, take, drop, arith, lit≤, length-append, le-ltb}
+use Rattle.std.specs.List.{list_all, prefix_len, filter}
+use Rattle.std.proofs.lemmas.Bool.{and_parts, and_from, lt-ltb, le-leb, lt-leb}
+use Rattle.std.proofs.lemmas.List.{take_all, length-take, drop_all}
+use Rattle.dns_spec.specs.Names.{Octets}
+use Rattle.dns_spec.specs.ZoneText.{Piece, blank, word, line_end, most_octets, is_blank, piece_front, PiecesThen, run_length, Entry, ended, cut_entries, with_end}
+use Rattle.dns_spec.specs.Meaning.{faulty, gives, fault_at, most_records, OriginIs, NameIs, IsRecord, is_record, line_behind, fields, EntryGives, EntriesMean, Means}
+use Rattle.dns_spec.specs.Data.{cut, type_txt}
+use Rattle.dns_spec.specs.DataText.{Word, Says}
+use Rattle.dns_spec.specs.Records.{ResourceRecord}
+use Rattle.std.specs.Fmt.{digits}
+use mathlib.Core.Bool.{xor}
+use Rattle.dns_spec.proofs.ReadTexts.{pieces_in, pieces_spelled, is_plain, plain_string, record_given, record_but_count, given_then}
+use Rattle.dns_spec.proofs.Examples.{example}
+
+-- blanks alone are one piece
+all_taken : (p : ℕ → Bool) (k : ℕ) (text : Octets) → list_all p text ≡ true → list_all p (take k text) ≡ true
+all_taken p zero text h = refl
+all_taken p (suc k) [] h = refl
+all_taken p (suc k) (o ∷ text) h = let parts = and_parts (p o) _ h in and_from _ _ parts.0 (all_taken p k text parts.1)
+
+all_before : (p : ℕ → Bool) (text : Octets) → list_all p text ≡ true → prefix_len p text ≡ length text
+all_before p [] h = refl
+all_before p (o ∷ text) h = let parts = and_parts (p o) _ h in rw parts.0 (omega (arith, all_before p text parts.1))
+
+blanks_front : (text : Octets) → 0 < length text → list_all is_blank text ≡ true → piece_front text ≡ Some (blank, [])
+blanks_front [] some h = absurd (omega (arith, some))
+blanks_front (o ∷ text) some h =
+    let parts = and_parts (is_blank o) _ h in
+    rw parts.0 (ap (λ k. Some (blank, drop k text)) (all_before is_blank text parts.1) ∙ ap (λ rest. Some (blank, rest)) (drop_all (length text) text (omega arith)))
+
+-- octet 16,777,217, where nothing else is at fault
+past_limit : (text : Octets) → most_octets < length text → list_all is_blank text ≡ true → Means example text (fault_at 15 1)
+past_limit text long blanks = (
+  with_end true [] (cut_entries false (blank ∷ [])),
+  record {
+    pieces = blank ∷ [];
+    rest = [];
+    spelled = ([], blanks_front (take most_octets text) some (all_taken is_blank most_octets text blanks), refl);
+    at_end = refl;
+    entries = ap (λ b. with_end b [] (cut_entries false (blank ∷ []))) (sym (lt-ltb most_octets (length text) long));
+  },
+  (faulty 15, refl, refl),
+)
+  where
+    some : 0 < length (take most_octets text)
+    some = omega (arith, length-take most_octets text, long)
+
+-- Copies of one line, which states a record, up to one too many. The number of lines is a variable, so that nothing
+-- computes them all.
+abbrev line : Octets
+line = codes "@ 7 TXT a\n"
+
+abbrev line_pieces : List Piece
+line_pieces = word (codes "@") ∷ blank ∷ word (codes "7") ∷ blank ∷ word (codes "TXT") ∷ blank ∷ word (codes "a") ∷ line_end ∷ []
+
+abbrev line_entry : Entry
+line_entry = ended line_pieces
+
+-- so many lines, their pieces, what their pieces are cut into, their entries, and these as they come before another
+lines : ℕ → Octets
+lines zero = []
+lines (suc n) = line ++ lines n
+
+pieces_of_lines : ℕ → List Piece
+pieces_of_lines zero = []
+pieces_of_lines (suc n) = line_pieces ++ pieces_of_lines n
+
+cut_lines : ℕ → List (List Piece)
+cut_lines zero = [] ∷ []
+cut_lines (suc n) = line_pieces ∷ cut_lines n
+
+entries_of_lines : ℕ → List Entry
+entries_of_lines zero = ended [] ∷ []
+entries_of_lines (suc n) = line_entry ∷ entries_of_lines n
+
+earlier : ℕ → List Entry
+earlier zero = []
+earlier (suc k) = line_entry ∷ earlier k
+
+length-lines : (n : ℕ) → length (lines n) ≡ 10 * n
+unfolding lines
+length-lines zero = refl
+length-lines (suc n) = omega (arith, length-append line (lines n), length-lines n)
+
+joined : (text middle rest : Octets) (ps qs : List Piece) → PiecesThen text ps middle → PiecesThen middle qs rest → PiecesThen text (ps ++ qs) rest
+joined text middle rest [] qs h k = subst (λ t. PiecesThen t qs rest) (sym h) k
+joined text middle rest (p ∷ ps) qs (others, e, h) k = (others, e, joined others middle rest ps qs h k)
+
+line_spelled : (text : Octets) → PiecesThen (line ++ text) line_pieces text
+unfolding pieces_in run_length
+line_spelled text = pieces_spelled 8 (line ++ text)
+
+lines_spelled : (n : ℕ) → PiecesThen (lines n) (pieces_of_lines n) []
+unfolding lines pieces_of_lines
+lines_spelled zero = refl
+lines_spelled (suc n) = joined (line ++ lines n) (lines n) [] line_pieces (pieces_of_lines n) (line_spelled (lines n)) (lines_spelled n)
+
+lines_cut : (n : ℕ) → cut_entries false (pieces_of_lines n) ≡ cut_lines n
+unfolding pieces_of_lines cut_lines
+lines_cut zero = refl
+lines_cut (suc n) = ap (λ es. line_pieces ∷ es) (lines_cut n)
+
+lines_ended : (n : ℕ) → with_end false [] (cut_lines n) ≡ entries_of_lines n
+unfolding cut_lines entries_of_lines
+lines_ended zero = refl
+lines_ended (suc zero) = refl
+lines_ended (suc (suc n)) = ap (λ es. line_entry ∷ es) (lines_ended (suc n))
+
+-- what stands before a line
+origin_kept : (k : ℕ) → OriginIs example (earlier k) example
+unfolding earlier
+origin_kept zero = refl
+origin_kept (suc k) = origin_kept k
+
+records_counted : (k : ℕ) → length (filter is_record (earlier k)) ≡ k
+unfolding earlier
+records_counted zero = refl
+records_counted (suc k) = ap suc (records_counted k)
+
+lines_counted : (k : ℕ) → line_behind (earlier k) ≡ suc k
+unfolding earlier
+lines_counted zero = refl
+lines_counted (suc k) = omega (arith, lines_counted k)
+
+abbrev bare : Octets → Word
+bare cs = record { raw = cs; is_quoted = false }
+
+abbrev line_record : ResourceRecord
+line_record = record { owner = example; ttl = 7; rtype = type_txt; rdata = 1 ∷ codes "a" }
+
+line_said : Says type_txt (bare (codes "a") ∷ []) example line_record.rdata
+unfolding cut is_plain
+line_said = record {
+  as_spelled = line_record.rdata;
+  said = (line_record.rdata, [], refl, record { quotes = refl; said = (codes "a", lit≤ tt, plain_string (codes "a") refl, refl) }, refl);
+  is_valid = refl;
+  lower = refl;
+}
+
+is_line_record : (k : ℕ) → IsRecord example (earlier k) (NameIs example (earlier k) (bare (codes "@"))) (fields (bare (codes "7") ∷ bare (codes "TXT") ∷ bare (codes "a") ∷ [])) line_record
+unfolding digits
+is_line_record k = record {
+  owner = (example, (refl, (example, origin_kept k, record { spelled = inl (refl, refl); is_name = refl })), refl);
+  ttl = (refl, refl, lit≤ tt);
+  rtype = (refl, inl refl, refl);
+  rdata = (type_txt, (refl, inl refl, refl), (example, origin_kept k, line_said));
+}
+
+line_given : (k : ℕ) → k < most_records → EntryGives example (earlier k) line_entry (gives (line_record ∷ []))
+unfolding xor
+line_given k few =
+    record_given example (earlier k) 7 (NameIs example (earlier k) (bare (codes "@"))) (fields (bare (codes "7") ∷ bare (codes "TXT") ∷ bare (codes "a") ∷ [])) line_record
+    (is_line_record k) refl (ap (nat_le most_records) (records_counted k) ∙ lt-leb most_records k few)
+
+line_refused : (k : ℕ) → k ≡ most_records → EntryGives example (earlier k) line_entry (faulty 14)
+unfolding xor
+line_refused k all =
+    record_but_count example (earlier k) 7 (NameIs example (earlier k) (bare (codes "@"))) (fields (bare (codes "7") ∷ bare (codes "TXT") ∷ bare (codes "a") ∷ [])) line_record
+    (faulty 14) (is_line_record k) refl
+    (inl (ap (nat_le most_records) (records_counted k) ∙ le-leb most_records k (omega (arith, all)), refl))
+
+lines_mean : (n k : ℕ) → k + n ≡ most_records → EntriesMean example (earlier k) (entries_of_lines (suc n)) (fault_at 14 (suc most_records))
+unfolding entries_of_lines earlier
+lines_mean zero k e =
+    let all : k ≡ most_records = omega (arith, e) in
+    (faulty 14, line_refused k all, ap (λ l. fault_at 14 l) (sym (lines_counted k ∙ ap suc all)))
+lines_mean (suc n) k e =
+    given_then example (earlier k) line_entry (entries_of_lines (suc n)) (line_record ∷ []) (fault_at 14 (suc most_records)) (line_given k (omega (arith, e)))
+    (lines_mean n (suc k) (omega (arith, e)))
+
+-- so many lines of records, and one more
+many_lines : (n : ℕ) → n ≡ most_records → Means example (lines (suc n)) (fault_at 14 (suc most_records))
+unfolding earlier
+many_lines n all = (
+  entries_of_lines (suc n),
+  record {
+    pieces = pieces_of_lines (suc n);
+    rest = [];
+    spelled = subst (λ t. PiecesThen t (pieces_of_lines (suc n)) []) (sym (take_all most_octets (lines (suc n)) within)) (lines_spelled (suc n));
+    at_end = refl;
+    entries =
+        sym (lines_ended (suc n)) ∙ ap (with_end false []) (sym (lines_cut (suc n)))
+        ∙ ap (λ b. with_end b [] (cut_entries false (pieces_of_lines (suc n)))) (sym (le-ltb most_octets (length (lines (suc n))) within));
+  },
+  lines_mean n 0 (omega (arith, all)),
+)
+  where
+    within : length (lines (suc n)) ≤ most_octets
+    within = omega (arith, length-lines (suc n), all)
+
+-- record 100,001
+one_record_too_many : Means example (lines 100001) (fault_at 14 100001)
+one_record_too_many = many_lines 100000 refl
