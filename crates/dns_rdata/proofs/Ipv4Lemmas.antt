@@ -200,14 +200,3 @@ all_four text a b c e r s t h k l m =
         let last = decimal_injective e p.fourth (omega (arith, m.1)) (omega (arith, p.reads_fourth.1)) (sym m.0 ∙ same.3) in
         let parts = p.is in
         cc
-
--- a text says at most one address
-pub ipv4_once : (text d e : Octets) → SaysIpv4 text d → SaysIpv4 text e → d ≡ e
-ipv4_once text d e h k =
-    let p = ipv4_parts text d h in
-    let q = ipv4_parts text e k in
-    let same = fourth_of text e p.first p.second p.third p.behind_first p.behind_second p.behind_third p.reads_first p.reads_second p.reads_third q in
-    let last = decimal_injective p.fourth q.fourth (omega (arith, p.reads_fourth.1)) (omega (arith, q.reads_fourth.1)) (sym p.reads_fourth.0 ∙ same.3) in
-    let left = p.is in
-    let right = q.is in
-    cc

@@ -6,7 +6,6 @@ pub mod StringLemmas
 pub mod HexLemmas
 pub mod Ipv6Lemmas
 pub mod Ipv6TextLemmas
-pub mod OneReading
 pub mod UnknownLemmas
 pub mod FormWords
 pub mod WordsLoop
