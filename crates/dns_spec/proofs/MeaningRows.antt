@@ -164,3 +164,69 @@ bad_address =
       ),
       refl,
     )
+
+-- an entry in parentheses doesn't begin with a blank
+directive_inside : Means example (codes "($TTL 60)") (records [])
+unfolding pieces_in run_length xor
+directive_inside = means (codes "($TTL 60)") (records []) refl refl refl (gives [], inr (λ none. none 60 sixty, refl), (records [], refl, refl))
+
+-- behind a blank it is the type of a record
+blank_before_directive : Means example (codes " $TTL 60") (fault_at 8 1)
+unfolding pieces_in run_length
+blank_before_directive = means (codes " $TTL 60") (fault_at 8 1) refl refl refl (faulty 8, inl (λ n h. h, refl), refl)
+
+-- words that begin as the name of a class
+class_with_zero : Means example (codes "www 60 CLASS01 A 192.0.2.1") (fault_at 10 1)
+unfolding pieces_in run_length
+class_with_zero =
+    means (codes "www 60 CLASS01 A 192.0.2.1") (fault_at 10 1) refl refl refl
+    (faulty 10, inr (λ none. none (under (codes "www")) www_owner, inr (λ none. none 60 sixty, inl (refl, refl))), refl)
+
+class_and_letters : Means example (codes "www 60 classy A 192.0.2.1") (fault_at 10 1)
+unfolding pieces_in run_length
+class_and_letters =
+    means (codes "www 60 classy A 192.0.2.1") (fault_at 10 1) refl refl refl
+    (faulty 10, inr (λ none. none (under (codes "www")) www_owner, inr (λ none. none 60 sixty, inl (refl, refl))), refl)
+
+-- a quoted class is a type in quotation marks
+quoted_class : Means example (codes "www 60 \"IN\" A 192.0.2.1") (fault_at 11 1)
+unfolding pieces_in run_length
+quoted_class =
+    means (codes "www 60 \"IN\" A 192.0.2.1") (fault_at 11 1) refl refl refl (
+      faulty 11,
+      inr (λ none. none (under (codes "www")) www_owner, inr (λ none. none 60 sixty, inr (false≢true, inl (λ t h. false≢true h.0, refl)))),
+      refl,
+    )
+
+-- CR, without LF behind it, in a string too, and with it
+lone_cr : Means example (codes "www 60 A 192.0.2.1\r") (fault_at 1 1)
+unfolding pieces_in run_length
+lone_cr = means (codes "www 60 A 192.0.2.1\r") (fault_at 1 1) refl refl refl (faulty 1, refl, refl)
+
+cr_in_string : Means example (codes "www 60 TXT \"a\rb\"") (fault_at 1 1)
+unfolding pieces_in run_length
+cr_in_string = means (codes "www 60 TXT \"a\rb\"") (fault_at 1 1) refl refl refl (faulty 1, refl, refl)
+
+cr_lf_in_string : Means example (codes "www 60 TXT \"a\r\n") (fault_at 3 1)
+unfolding pieces_in run_length
+cr_lf_in_string = means (codes "www 60 TXT \"a\r\n") (fault_at 3 1) refl refl refl (faulty 3, refl, refl)
+
+behind_cr_lf : Means example (codes "$TTL 60\r\n)") (fault_at 4 2)
+unfolding pieces_in run_length xor
+behind_cr_lf =
+    means (codes "$TTL 60\r\n)") (fault_at 4 2) refl refl refl
+    (gives [], inr (λ none. none 60 sixty, refl), (fault_at 4 2, (faulty 4, refl, refl), refl))
+
+-- the first of faults by their place
+string_in_parenthesis : Means example (codes "( \"a") (fault_at 3 1)
+unfolding pieces_in run_length xor
+string_in_parenthesis = means (codes "( \"a") (fault_at 3 1) refl refl refl (faulty 3, refl, refl)
+
+parenthesis_before_octet : Means example (codes ") " ++ 0 ∷ []) (fault_at 4 1)
+unfolding pieces_in run_length xor
+parenthesis_before_octet = means (codes ") " ++ 0 ∷ []) (fault_at 4 1) refl refl refl (faulty 4, refl, refl)
+
+-- three digits past 255
+digits_past_255 : Means example (codes "www 60 TXT \"a\\256\"") (fault_at 2 1)
+unfolding pieces_in run_length
+digits_past_255 = means (codes "www 60 TXT \"a\\256\"") (fault_at 2 1) refl refl refl (faulty 2, refl, refl)
