@@ -1,5 +1,5 @@
 -- A small file and its records.
-use Rattle.std.proofs.Common.{ℕ, inl, inr, true, false, ap, length, arith, List, [], ◌∷◌, ◌++◌, refl, codes, lit<, lit≤, get_or, take, drop, reverse}
+use Rattle.std.proofs.Common.{ℕ, inl, inr, true, false, ap, length, arith, List, [], ◌∷◌, ◌++◌, refl, codes, lit<, lit≤, drop}
 use Rattle.std.specs.Fmt.{digits}
 use Rattle.dns_spec.specs.Names.{Octets, DomainName, wire, labels_from}
 use Rattle.dns_spec.specs.NameText.{SpellsName, LabelThen}
@@ -7,10 +7,10 @@ use Rattle.dns_spec.specs.Data.{cut, type_a, type_ns, type_soa, type_txt, type_a
 use Rattle.dns_spec.specs.DataText.{Word, Says, hex_octets}
 use Rattle.dns_spec.specs.AddressText.{ipv6_groups}
 use Rattle.dns_spec.specs.Records.{ResourceRecord}
-use Rattle.dns_spec.specs.ZoneText.{Entry, run_length, ended}
+use Rattle.dns_spec.specs.ZoneText.{Entry, run_length}
 use Rattle.dns_spec.specs.Meaning.{gives, records, Means, TtlSays, NameIs, OwnerBefore, EntryGives, EntriesMean, fields}
 use Rattle.dns_spec.proofs.Examples.{hex, example, under, net_192, soa_of, strings_data}
-use Rattle.dns_spec.proofs.ReadTexts.{pieces_in, means, entries_of, is_plain, plain_octet, plain_label, plain_name, plain_string, record_given, given_then}
+use Rattle.dns_spec.proofs.ReadTexts.{pieces_in, means, entry_in, earlier_in, left_in, is_plain, plain_octet, plain_label, plain_name, plain_string, record_given, given_then}
 use mathlib.Core.Bool.{xor}
 
 abbrev small_file : Octets
@@ -180,10 +180,10 @@ spells_dotted = record {
 
 -- the entry behind so many, and those before it, the nearest first
 abbrev entry_at : ℕ → Entry
-entry_at k = get_or (entries_of small_file) k (ended [])
+entry_at = entry_in small_file
 
 abbrev earlier : ℕ → List Entry
-earlier k = reverse (take k (entries_of small_file))
+earlier = earlier_in small_file
 
 sixty : TtlSays (bare (codes "60")) 60
 unfolding digits
@@ -288,7 +288,7 @@ six_records = soa_record ∷ ns_record ∷ a_record ∷ aaaa_record ∷ txt_reco
 
 -- the entries behind so many
 abbrev left : ℕ → List Entry
-left k = drop k (entries_of small_file)
+left = left_in small_file
 
 below_deep : EntriesMean example (earlier 5) (left 5) (records (drop 4 six_records))
 unfolding pieces_in run_length xor

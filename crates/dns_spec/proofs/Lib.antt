@@ -49,3 +49,4 @@ pub mod ReadTexts
 mod MeaningRows
 mod FileRows
 mod LimitRows
+mod TakenOverRows

@@ -1,5 +1,5 @@
 -- Texts whose pieces are computed, words that spell themselves, and what makes a record of them.
-use Rattle.std.proofs.Common.{◌≡◌, ◌≢◌, ℕ, zero, suc, inl, inr, Bool, true, false, ◌&&◌, not, ◌==◌, List, [], ◌∷◌, Option, Some, None, refl, sym, ◌∙◌, ap, subst, length, nat_lt, take, IsTrue}
+use Rattle.std.proofs.Common.{◌≡◌, ◌≢◌, ℕ, zero, suc, inl, inr, Bool, true, false, ◌&&◌, not, ◌==◌, List, [], ◌∷◌, Option, Some, None, refl, sym, ◌∙◌, ap, subst, length, nat_lt, take, drop, reverse, get_or, IsTrue}
 use Rattle.std.specs.Prelude.{MatchOption}
 use Rattle.std.specs.List.{list_all}
 use Rattle.std.specs.Option.{is_none}
@@ -8,7 +8,7 @@ use Rattle.dns_spec.specs.Names.{Octets, DomainName, is_name}
 use Rattle.dns_spec.specs.NameText.{SpellsOctet, LabelThen, SpellsName}
 use Rattle.dns_spec.specs.DataText.{Word, SpellsString}
 use Rattle.dns_spec.specs.Records.{ResourceRecord}
-use Rattle.dns_spec.specs.ZoneText.{Piece, most_octets, piece_front, PiecesThen, Entry, cut_entries, with_end}
+use Rattle.dns_spec.specs.ZoneText.{Piece, most_octets, piece_front, PiecesThen, Entry, ended, cut_entries, with_end}
 use Rattle.dns_spec.specs.Meaning.{Answer, gives, Unless, IsRecord, Fields, TtlIs, TtlSays, IsNoTtl, is_other_class, are_too_many, RecordGives, EntryGives, Meaning, behind, EntriesMean, Means}
 use Rattle.dns_spec.proofs.Examples.{example}
 
@@ -35,6 +35,16 @@ pieces_spelled (suc n) text = by_front (piece_front text) refl (λ r. pieces_spe
 -- A text within its limit that has at most 99 pieces means what its entries mean.
 abbrev pub entries_of : Octets → List Entry
 entries_of text = with_end false (pieces_in 99 text).1 (cut_entries false (pieces_in 99 text).0)
+
+-- the entry of a text behind so many, those before it, the nearest first, and those from it on
+abbrev pub entry_in : Octets → ℕ → Entry
+entry_in text k = get_or (entries_of text) k (ended [])
+
+abbrev pub earlier_in : Octets → ℕ → List Entry
+earlier_in text k = reverse (take k (entries_of text))
+
+abbrev pub left_in : Octets → ℕ → List Entry
+left_in text k = drop k (entries_of text)
 
 pub means : (text : Octets) (m : Meaning) → take most_octets text ≡ text → nat_lt most_octets (length text) ≡ false → piece_front (pieces_in 99 text).1 ≡ None
     → EntriesMean example [] (entries_of text) m → Means example text m
