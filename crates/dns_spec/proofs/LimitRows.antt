@@ -1,11 +1,13 @@
 -- Texts past a limit: with an octet too many, and with a record too many.
-use Rattle.std.proofs.Common.{◌≡◌, ℕ, zero, suc, ◌+◌, ◌*◌, ◌<◌, ◌≤◌, inl, Bool, true, false, List, [], ◌∷◌, ◌++◌, Some, refl, sym, ◌∙◌, ap, subst, codes, length, nat_le, take, drop, arith, lit≤, length-append, le-ltb}
+use Rattle.std.proofs.Common.{◌≡◌, ℕ, zero, suc, ◌+◌, ◌*◌, ◌<◌, ◌≤◌, inl, Bool, true, false, List, [], ◌∷◌, ◌++◌, Option, None, Some, refl, sym, ◌∙◌, ap, subst, codes, length, nat_le, take, drop, arith, lit≤, length-append, le-ltb}
+use Rattle.std.specs.Prelude.{MatchOption}
+use Rattle.std.proofs.Math.Seq.{take-append_seam, drop-append_seam}
 use Rattle.std.specs.List.{list_all, prefix_len, filter}
 use Rattle.std.proofs.lemmas.Bool.{and_parts, and_from, lt-ltb, le-leb, lt-leb}
-use Rattle.std.proofs.lemmas.List.{take_all, length-take, drop_all}
+use Rattle.std.proofs.lemmas.List.{append_assoc, take_all, length-take, drop_all}
 use Rattle.dns_spec.specs.Names.{Octets}
-use Rattle.dns_spec.specs.ZoneText.{Piece, blank, word, line_end, most_octets, is_blank, piece_front, PiecesThen, run_length, Entry, ended, cut_entries, with_end}
-use Rattle.dns_spec.specs.Meaning.{faulty, gives, fault_at, most_records, OriginIs, NameIs, IsRecord, is_record, line_behind, fields, EntryGives, EntriesMean, Means}
+use Rattle.dns_spec.specs.ZoneText.{Piece, blank, word, line_end, most_octets, is_blank, piece_front, PiecesThen, run_length, Entry, ended, end_code, cut_entries, with_end}
+use Rattle.dns_spec.specs.Meaning.{no_words, SortGives, faulty, gives, fault_at, most_records, OriginIs, NameIs, IsRecord, is_record, line_behind, fields, EntryGives, EntriesMean, Means}
 use Rattle.dns_spec.specs.Data.{cut, type_txt}
 use Rattle.dns_spec.specs.DataText.{Word, Says}
 use Rattle.dns_spec.specs.Records.{ResourceRecord}
@@ -193,3 +195,66 @@ many_lines n all = (
 -- record 100,001
 one_record_too_many : Means example (lines 100001) (fault_at 14 100001)
 one_record_too_many = many_lines 100000 refl
+
+-- blanks, and then a text that begins with none
+blanks_then : (text rest : Octets) → 0 < length text → list_all is_blank text ≡ true → prefix_len is_blank rest ≡ 0 → piece_front (text ++ rest) ≡ Some (blank, rest)
+blanks_then [] rest some h none = absurd (omega (arith, some))
+blanks_then (o ∷ text) rest some h none =
+    let parts = and_parts (is_blank o) _ h in
+    rw parts.0 (ap (λ k. Some (blank, drop k (text ++ rest))) (before_rest text parts.1) ∙ ap (λ r. Some (blank, r)) (drop-append_seam text rest))
+  where
+    before_rest : (xs : Octets) → list_all is_blank xs ≡ true → prefix_len is_blank (xs ++ rest) ≡ length xs
+    before_rest [] h = none
+    before_rest (x ∷ xs) h = let parts = and_parts (is_blank x) _ h in rw parts.0 (omega (arith, before_rest xs parts.1))
+
+-- The octets at the limit stand behind blanks. Where no piece begins with them, they tell the fault.
+cut_at_limit : (text ends more : Octets) (code : ℕ) → length text + length ends ≡ most_octets → 0 < length text → 0 < length more → list_all is_blank text ≡ true
+    → prefix_len is_blank ends ≡ 0 → piece_front ends ≡ None → end_code true false ends ≡ Some code → Means example (text ++ (ends ++ more)) (fault_at code 1)
+cut_at_limit text ends more code full some goes_on blanks none at_end tells = (
+  with_end true ends (cut_entries false (blank ∷ [])),
+  record {
+    pieces = blank ∷ [];
+    rest = ends;
+    spelled = subst (λ t. PiecesThen t (blank ∷ []) ends) (sym taken) (ends, blanks_then text ends some blanks none, refl);
+    at_end = at_end;
+    entries = ap (λ b. with_end b ends (cut_entries false (blank ∷ []))) (sym (lt-ltb most_octets _ long));
+  },
+  (faulty code, told (end_code true false ends) tells, refl),
+)
+  where
+    whole : text ++ (ends ++ more) ≡ (text ++ ends) ++ more
+    whole = sym (append_assoc text ends more)
+
+    taken : take most_octets (text ++ (ends ++ more)) ≡ text ++ ends
+    taken =
+        ap (take most_octets) whole ∙ ap (λ k. take k ((text ++ ends) ++ more)) (sym full ∙ sym (length-append text ends))
+        ∙ take-append_seam (text ++ ends) more
+
+    long : most_octets < length (text ++ (ends ++ more))
+    long = omega (arith, ap length whole, length-append (text ++ ends) more, length-append text ends, full, goes_on)
+
+    told : (o : Option ℕ) → o ≡ Some code → MatchOption o (SortGives example [] no_words (faulty code)) (λ c. faulty code ≡ faulty c)
+    told None e = cc
+    told (Some c) e = cc
+
+-- an escape that the next octets might end, and one that they can't
+digit_at_limit : (text more : Octets) → length text + 2 ≡ most_octets → 0 < length more → list_all is_blank text ≡ true → Means example (text ++ 92 ∷ 51 ∷ more) (fault_at 15 1)
+unfolding run_length
+digit_at_limit text more full goes_on blanks = cut_at_limit text (92 ∷ 51 ∷ []) more 15 full (omega (arith, full)) goes_on blanks refl refl refl
+
+digit_and_letter : (text more : Octets) → length text + 3 ≡ most_octets → 0 < length more → list_all is_blank text ≡ true → Means example (text ++ 92 ∷ 49 ∷ 120 ∷ more) (fault_at 2 1)
+unfolding run_length
+digit_and_letter text more full goes_on blanks = cut_at_limit text (92 ∷ 49 ∷ 120 ∷ []) more 2 full (omega (arith, full)) goes_on blanks refl refl refl
+
+cr_at_limit : (text more : Octets) → length text + 1 ≡ most_octets → 0 < length more → list_all is_blank text ≡ true → Means example (text ++ 13 ∷ more) (fault_at 15 1)
+cr_at_limit text more full goes_on blanks = cut_at_limit text (13 ∷ []) more 15 full (omega (arith, full)) goes_on blanks refl refl refl
+
+-- an octet that isn't allowed, before the limit
+octet_at_limit : (text more : Octets) → length text + 1 ≡ most_octets → 0 < length more → list_all is_blank text ≡ true → Means example (text ++ 0 ∷ more) (fault_at 1 1)
+unfolding run_length
+octet_at_limit text more full goes_on blanks = cut_at_limit text (0 ∷ []) more 1 full (omega (arith, full)) goes_on blanks refl refl refl
+
+-- a string that isn't ended at the limit
+string_at_limit : (text more : Octets) → length text + 2 ≡ most_octets → 0 < length more → list_all is_blank text ≡ true → Means example (text ++ 34 ∷ 97 ∷ more) (fault_at 15 1)
+unfolding run_length
+string_at_limit text more full goes_on blanks = cut_at_limit text (34 ∷ 97 ∷ []) more 15 full (omega (arith, full)) goes_on blanks refl refl refl
