@@ -50,3 +50,5 @@ mod MeaningRows
 mod FileRows
 mod LimitRows
 mod TakenOverRows
+mod ParenthesisRows
+mod ZoneRows

@@ -116,22 +116,22 @@ record Formed (t : ℕ) (origin : DomainName) (d : Octets) : Type 0 where
   words : WordsSaid forms origin d
 
 abbrev forms_by : ℕ → TypeRow → List WordForm
-forms_by k row = flat_map (forms_in k) row.pieces
+forms_by k made = flat_map (forms_in k) made.pieces
 
 -- forms of a type in the table
-forms_are : (t k : ℕ) (row : TypeRow) → row_of t ≡ Some row → forms_of t k ≡ Some (forms_by k row)
-forms_are t k row e = ap (option_map (forms_by k)) e
+forms_are : (t k : ℕ) (made : TypeRow) → row_of t ≡ Some made → forms_of t k ≡ Some (forms_by k made)
+forms_are t k made e = ap (option_map (forms_by k)) e
 
-counted_formed : (t : ℕ) (origin : DomainName) (d : Octets) (row : TypeRow) (xs : List Part) → row_of t ≡ Some row → list_all is_counted row.pieces ≡ true
-    → cut row.pieces d ≡ Some xs → Small d → Formed t origin d
-counted_formed t origin d row xs e counted h small =
+counted_formed : (t : ℕ) (origin : DomainName) (d : Octets) (made : TypeRow) (xs : List Part) → row_of t ≡ Some made → list_all is_counted made.pieces ≡ true
+    → cut made.pieces d ≡ Some xs → Small d → Formed t origin d
+counted_formed t origin d made xs e counted h small =
     let k = string_count 0 d in
-    let fs = forms_by k row in
+    let fs = forms_by k made in
     record {
       forms = fs;
-      of_data = forms_are t k row e;
-      of_words = forms_are t (length fs) row e ∙ ap (λ x. Some x) (same_forms (length fs) k row.pieces counted);
-      words = pieces_said k origin row.pieces d xs counted h small;
+      of_data = forms_are t k made e;
+      of_words = forms_are t (length fs) made e ∙ ap (λ x. Some x) (same_forms (length fs) k made.pieces counted);
+      words = pieces_said k origin made.pieces d xs counted h small;
     }
 
 some_string : (d : Octets) → 0 < length d → 0 < string_count 0 d
@@ -142,20 +142,20 @@ length-replicate_strings : (n : ℕ) → length (replicate n string_word) ≡ n
 length-replicate_strings zero = refl
 length-replicate_strings (suc n) = ap suc (length-replicate_strings n)
 
-strings_formed : (t : ℕ) (origin : DomainName) (d : Octets) (row : TypeRow) (xs : List Part) → row_of t ≡ Some row → row.pieces ≡ strings ∷ []
+strings_formed : (t : ℕ) (origin : DomainName) (d : Octets) (made : TypeRow) (xs : List Part) → row_of t ≡ Some made → made.pieces ≡ strings ∷ []
     → cut (strings ∷ []) d ≡ Some xs → Small d → Formed t origin d
-strings_formed t origin d row xs e alone h small =
+strings_formed t origin d made xs e alone h small =
     let c = cut_into strings [] d xs h in
     let all = all_strings d c.rest c.part c.front in
     let k = string_count 0 d in
     let fs = replicate k string_word in
     let count : max 1 k ≡ k = omega (arith, some_string d all.0) in
-    let forms : forms_by k row ≡ fs = ap (flat_map (forms_in k)) alone ∙ append-nil (replicate (max 1 k) string_word) ∙ ap (λ j. replicate j string_word) count in
+    let forms : forms_by k made ≡ fs = ap (flat_map (forms_in k)) alone ∙ append-nil (replicate (max 1 k) string_word) ∙ ap (λ j. replicate j string_word) count in
     let long : length fs ≡ k = length-replicate_strings k in
     record {
       forms = fs;
-      of_data = forms_are t k row e ∙ ap (λ x. Some x) forms;
-      of_words = ap (forms_of t) long ∙ forms_are t k row e ∙ ap (λ x. Some x) forms;
+      of_data = forms_are t k made e ∙ ap (λ x. Some x) forms;
+      of_words = ap (forms_of t) long ∙ forms_are t k made e ∙ ap (λ x. Some x) forms;
       words = strings_said k origin d refl all.1 small;
     }
 
@@ -172,25 +172,25 @@ entry_passes p q (y ∷ xs) x e all = by_cases (cases_Bool (p y)) (λ f. entry_p
     by_cases (inr other) behind = let f : find p xs ≡ Some x = rw other at e in behind f
 
 abbrev has_forms : TypeRow → Bool
-has_forms row = list_all is_counted row.pieces || are_strings_alone row.pieces
+has_forms made = list_all is_counted made.pieces || are_strings_alone made.pieces
 
-row_has_forms : (t : ℕ) (row : TypeRow) → row_of t ≡ Some row → has_forms row ≡ true
-row_has_forms t row e = entry_passes (λ (r : TypeRow). r.number == t) has_forms type_table row e refl
+row_has_forms : (t : ℕ) (made : TypeRow) → row_of t ≡ Some made → has_forms made ≡ true
+row_has_forms t made e = entry_passes (λ (r : TypeRow). r.number == t) has_forms type_table made e refl
 
-formed : (t : ℕ) (origin : DomainName) (d : Octets) (row : TypeRow) → row_of t ≡ Some row → valid t d ≡ true → Small d → Formed t origin d
-formed t origin d row e ok small = by_cases (or_cases (list_all is_counted row.pieces) (are_strings_alone row.pieces) (row_has_forms t row e))
+formed : (t : ℕ) (origin : DomainName) (d : Octets) (made : TypeRow) → row_of t ≡ Some made → valid t d ≡ true → Small d → Formed t origin d
+formed t origin d made e ok small = by_cases (or_cases (list_all is_counted made.pieces) (are_strings_alone made.pieces) (row_has_forms t made e))
   where
-    pieces : pieces_of t ≡ row.pieces
+    pieces : pieces_of t ≡ made.pieces
     pieces = ap (λ r. (unwrap_or r other_type).pieces) e
 
-    by_cases : (list_all is_counted row.pieces ≡ true) ⊎ (are_strings_alone row.pieces ≡ true) → Formed t origin d
+    by_cases : (list_all is_counted made.pieces ≡ true) ⊎ (are_strings_alone made.pieces ≡ true) → Formed t origin d
     by_cases (inl counted) =
         let c = cut_data t d ok in
-        counted_formed t origin d row c.cut_parts e counted (ap (λ ps. cut ps d) (sym pieces) ∙ c.is_cut) small
+        counted_formed t origin d made c.cut_parts e counted (ap (λ ps. cut ps d) (sym pieces) ∙ c.is_cut) small
     by_cases (inr alone) =
         let c = cut_data t d ok in
-        let is = only_strings row.pieces alone in
-        strings_formed t origin d row c.cut_parts e is (ap (λ ps. cut ps d) (sym (pieces ∙ is)) ∙ c.is_cut) small
+        let is = only_strings made.pieces alone in
+        strings_formed t origin d made c.cut_parts e is (ap (λ ps. cut ps d) (sym (pieces ∙ is)) ∙ c.is_cut) small
 
 -- the words of a type are read by its forms unless the first is the mark
 as_typed : (t : ℕ) (origin : DomainName) (ws : List Word) (d : Octets) → is_unmarked ws ≡ true → SaysTyped t origin ws d → SaysAsSpelled t origin ws d
@@ -214,7 +214,7 @@ said_again t origin d small ok = go (row_of t) refl
   where
     go : (r : Option TypeRow) → row_of t ≡ r → SaysAsSpelled t origin (written_words t d) d
     go None e = subst (λ ws. SaysAsSpelled t origin ws d) (sym (unnamed_words t d e)) (unknown_said d small)
-    go (Some row) e = typed_said t origin d (formed t origin d row e ok small)
+    go (Some made) e = typed_said t origin d (formed t origin d made e ok small)
 
 pub data_said : (t : ℕ) (origin : DomainName) (d : Octets) → Small d → valid t d ≡ true → Says t (written_words t d) origin (lower_case t d)
 data_said t origin d small ok = record { as_spelled = d; said = said_again t origin d small ok; is_valid = ok; lower = refl }
@@ -231,6 +231,6 @@ words_alone t d small ok = go (row_of t) refl
   where
     go : (r : Option TypeRow) → row_of t ≡ r → list_all stands_alone (written_words t d) ≡ true
     go None e = ap (list_all stands_alone) (unnamed_words t d e) ∙ unknown_alone d (cut_data t d ok).short small
-    go (Some row) e =
-        let f = formed t [] d row e ok small in
+    go (Some made) e =
+        let f = formed t [] d made e ok small in
         ap (λ o. list_all stands_alone (words_by o d)) f.of_data ∙ f.words.alone

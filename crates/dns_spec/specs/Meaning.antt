@@ -75,8 +75,8 @@ is_word text raw = octets_equal (text_in_lower_case raw) text
 abbrev pub is_class_word : Word → Bool
 is_class_word w =
     not w.is_quoted
-        && (list_any (λ c. is_word c w.raw) (codes "in" ∷ codes "ch" ∷ codes "cs" ∷ codes "hs" ∷ [])
-            || is_word (codes "class") (take 5 w.raw))
+    && (list_any (λ c. is_word c w.raw) (codes "in" ∷ codes "ch" ∷ codes "cs" ∷ codes "hs" ∷ [])
+    || is_word (codes "class") (take 5 w.raw))
 
 abbrev pub is_class_in : Word → Bool
 is_class_in w = is_word (codes "in") w.raw || is_word (codes "class1") w.raw
@@ -100,7 +100,7 @@ fields (w ∷ ws) =
     else if is_class_word w then ttl_behind w ws
     else record { ttl = None; class = None; others = w ∷ ws }
 
--- the word of a directive of this name, and the words behind the owner of a record
+-- the first word of a directive of this name; below it, the word that states an owner, and the one that states a TTL
 abbrev pub directive_word : Octets → Sort → Option Word
 directive_word name no_words = None
 directive_word name (directive n []) = None
@@ -133,7 +133,7 @@ abbrev pub OriginIs : DomainName → List Entry → DomainName → Type 0
 OriginIs o [] n = n ≡ o
 OriginIs o (e ∷ earlier) n =
     MatchOption (directive_word (codes "$origin") (sort_of e)) (OriginIs o earlier n)
-        (λ w. (m : DomainName) × OriginIs o earlier m × SpellsName m w.raw n)
+    (λ w. (m : DomainName) × OriginIs o earlier m × SpellsName m w.raw n)
 
 -- an unquoted word spells a name, relative to the origin in force
 abbrev pub NameIs : DomainName → List Entry → Word → DomainName → Type 0
@@ -195,13 +195,13 @@ are_too_many earlier = nat_le most_records (length (filter is_record earlier))
 abbrev pub RecordGives : DomainName → List Entry → ℕ → (DomainName → Type 0) → Fields → Answer → Type 0
 RecordGives o earlier owner_code Owner f =
     Unless owner_code (Nothing Owner)
-        (Unless 9 (IsNoTtl f.ttl)
-        (Unless 10 (IsTrue (is_other_class f.class))
-        (Unless 11 (Nothing (TypeIs f.others))
-        (Unless 12 (IsTrue (is_none (ttl_in_force earlier f.ttl)))
-        (Unless 13 (Nothing (DataIs o earlier f.others))
-        (Unless 14 (IsTrue (are_too_many earlier))
-        (λ answer. (r : ResourceRecord) × IsRecord o earlier Owner f r × (answer ≡ gives (r ∷ [])))))))))
+    (Unless 9 (IsNoTtl f.ttl)
+    (Unless 10 (IsTrue (is_other_class f.class))
+    (Unless 11 (Nothing (TypeIs f.others))
+    (Unless 12 (IsTrue (is_none (ttl_in_force earlier f.ttl)))
+    (Unless 13 (Nothing (DataIs o earlier f.others))
+    (Unless 14 (IsTrue (are_too_many earlier))
+    (λ answer. (r : ResourceRecord) × IsRecord o earlier Owner f r × (answer ≡ gives (r ∷ [])))))))))
 
 -- a directive has one word
 abbrev pub OneWord : (Word → Type 0) → List Word → Type 0
@@ -221,7 +221,7 @@ TtlGives ws = Unless 6 (Nothing (λ (n : ℕ). OneWord (λ w. TtlSays w n) ws)) 
 abbrev pub DirectiveGives : DomainName → List Entry → Octets → List Word → Answer → Type 0
 DirectiveGives o earlier name ws answer =
     MatchBool (octets_equal name (codes "$origin")) (OriginGives o earlier ws answer)
-        (MatchBool (octets_equal name (codes "$ttl")) (TtlGives ws answer) (answer ≡ faulty 5))
+    (MatchBool (octets_equal name (codes "$ttl")) (TtlGives ws answer) (answer ≡ faulty 5))
 
 abbrev pub SortGives : DomainName → List Entry → Sort → Answer → Type 0
 SortGives o earlier no_words answer = answer ≡ gives []
@@ -252,10 +252,10 @@ abbrev pub EntriesMean : DomainName → List Entry → List Entry → Meaning �
 EntriesMean o earlier [] m = m ≡ records []
 EntriesMean o earlier (e ∷ es) m =
     (answer : Answer) × EntryGives o earlier e answer
-        × elim answer [
-            faulty code ↦ m ≡ fault_at code (line_behind earlier)
-          | gives rs ↦ (later : Meaning) × EntriesMean o (e ∷ earlier) es later × (m ≡ behind rs later)
-          ]
+    × elim answer [
+      | faulty code ↦ m ≡ fault_at code (line_behind earlier)
+      | gives rs ↦ (later : Meaning) × EntriesMean o (e ∷ earlier) es later × (m ≡ behind rs later)
+    ]
 
 -- What a text means as the file of a zone with this origin (RFC 1035 section 5).
 abbrev pub Means : DomainName → Octets → Meaning → Type 0

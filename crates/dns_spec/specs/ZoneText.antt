@@ -55,11 +55,13 @@ escape_behind (a ∷ text) = if is_ascii_digit a then digits_behind (a ∷ text)
 abbrev pub escape_left : Octets → Option ℕ
 escape_left text = if escape_behind text == 0 then None else Some (escape_behind text)
 
--- How many octets of a word or a string, which has such octets and escapes, stand at the beginning of a text, where k
--- octets of the escape at hand are still to come.
+-- Whether an octet goes on with a word or a string, which has such octets and escapes, and then how many octets of its escape
+-- are still to come.
 abbrev pub unit_left : (ℕ → Bool) → ℕ → Octets → Option ℕ
 unit_left by_itself o text = if o == 92 then escape_left text else if by_itself o then Some 0 else None
 
+-- how many octets of a word or a string stand at the beginning of a text, where k octets of the escape at hand are still to
+-- come
 unfoldable pub run_length : (ℕ → Bool) → ℕ → Octets → ℕ
 run_length by_itself k [] = 0
 run_length by_itself (suc k) (o ∷ text) = 1 + run_length by_itself k text
@@ -133,18 +135,18 @@ is_line_end line_end = true
 abbrev pub open_behind : Bool → Piece → Bool
 open_behind was_open p = unwrap_or (parenthesis p) was_open
 
--- RFC 1035 5.1: parentheses group words over line ends, so an entry goes up to its first line end outside them. What is
--- left behind the last such line end is the last of these lists.
 abbrev pub before_first : Piece → List (List Piece) → List (List Piece)
 before_first p [] = []
 before_first p (e ∷ es) = (p ∷ e) ∷ es
 
+-- RFC 1035 5.1: parentheses group words over line ends, so an entry goes up to its first line end outside them. What is
+-- left behind the last such line end is the last of these lists.
 abbrev pub cut_entries : Bool → List Piece → List (List Piece)
 cut_entries is_open [] = [] ∷ []
 cut_entries is_open (p ∷ ps) =
     elim (is_line_end p && not is_open) [
-      true ↦ (p ∷ []) ∷ cut_entries false ps
-    | false ↦ before_first p (cut_entries (open_behind is_open p) ps)
+      | true ↦ (p ∷ []) ∷ cut_entries false ps
+      | false ↦ before_first p (cut_entries (open_behind is_open p) ps)
     ]
 
 -- parentheses do not nest (in this product), so that open ones and close ones take turns
@@ -163,7 +165,7 @@ begins_line_end [] = false
 begins_line_end (o ∷ []) = o == 10
 begins_line_end (o ∷ p ∷ text) = o == 10 || (o == 13 && p == 10)
 
--- the beginning of an escape, or of CR LF, that more octets might end
+-- the beginning of an escape, whatever its digits so far, or of CR LF, that more octets might end
 abbrev pub is_cut_short : Octets → Bool
 is_cut_short [] = true
 is_cut_short (o ∷ []) = o == 92 || o == 13
