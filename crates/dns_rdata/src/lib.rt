@@ -20,6 +20,7 @@ mod word;
 mod write;
 
 pub use fault::RdataFault;
+pub use number::read_number;
 pub use parts::{Part, Parts};
 pub use rdata::Rdata;
 pub use rtype::RType;

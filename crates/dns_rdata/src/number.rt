@@ -10,7 +10,7 @@ pub(crate) const MOST_NUMBER_OCTETS: usize = 10;
 /// The number, of at most `most`, that a word says in decimal: `0`, or digits that begin with 1 to 9.
 ///
 /// `None` where the word is anything else, as `010`, or says a greater number.
-pub(crate) fn read_number(word: &[u8], most: u32) -> Option<u32>
+pub fn read_number(word: &[u8], most: u32) -> Option<u32>
     ensures { (n : ℕ) → (result ≡ Some n) ↔ ((word.now ≡ decimal n) × (n ≤ most)) }
 {
     let first = *word.first()?;
