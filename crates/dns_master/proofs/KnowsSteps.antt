@@ -1,0 +1,198 @@
+-- What an entry changes of what is known of the entries so far.
+use Rattle.std.proofs.Common.{◌≡◌, ℕ, ◌+◌, ◌≤◌, Bool, true, false, cond, List, [], ◌∷◌, ◌++◌, length, length-append, append-nil, refl, sym, ap, ◌∙◌, subst, arith, inl, inr, ◌⊎◌, codes, Option, Some, None}
+use Rattle.std.specs.Prelude.{MatchOption}
+use Rattle.std.specs.Option.{option_or}
+use Rattle.std.specs.List.{filter}
+use Rattle.dns_spec.specs.Names.{DomainName, folded}
+use Rattle.dns_spec.specs.NameText.{SpellsName}
+use Rattle.dns_spec.specs.DataText.{Word}
+use Rattle.dns_spec.specs.Records.{ResourceRecord}
+use Rattle.dns_spec.specs.ZoneText.{Entry}
+use Rattle.dns_spec.specs.Meaning.{Nothing, Sort, no_words, directive, owned, unowned, sort_of, sort_by_words, is_directive, Fields, fields, Answer, faulty, gives, OriginIs, NameIs, OneWord, OwnerBefore, TtlSays, nearest, directive_word, owner_word, ttl_word, is_record, IsRecord, RecordGives, SortGives}
+use Rattle.dns_master.specs.RecordForm.{TtlOf, Inherited, SpelledName}
+use Rattle.dns_master.specs.ReaderForm.{Knows, RecordTaken, EntryTaken}
+use Rattle.dns_master.specs.declared.state.Reader.{Reader}
+
+otherwise : {F N X Y : Type 0} → (X → Y) → F ⊎ (N × X) → F ⊎ (N × Y)
+otherwise f (inl h) = inl h
+otherwise f (inr h) = inr (h.0, f h.1)
+
+module _ (o : DomainName) (earlier : List Entry) (Owner : DomainName → Type 0) (f : Fields) (n owner : DomainName) (is : Owner n) (low : owner ≡ folded n)
+    (twice : folded owner ≡ owner) where
+  owned_record : (answer : Answer) → (r : ResourceRecord) × IsRecord o earlier (λ m. m ≡ owner) f r × (answer ≡ gives (r ∷ []))
+      → (r : ResourceRecord) × IsRecord o earlier Owner f r × (answer ≡ gives (r ∷ []))
+  owned_record answer (r, h, e) =
+      (r, record { owner = (n, is, h.owner.2 ∙ ap folded h.owner.1 ∙ twice ∙ low); ttl = h.ttl; rtype = h.rtype; rdata = h.rdata }, e)
+
+  -- what is given for the owner in lower case is given for the owner
+  pub given-owner : (code : ℕ) (answer : Answer) → RecordGives o earlier 8 (λ m. m ≡ owner) f answer → RecordGives o earlier code Owner f answer
+  given-owner code answer (inl h) = absurd (h.0 owner refl)
+  given-owner code answer (inr h) =
+      inr ((λ none. none n is), otherwise (otherwise (otherwise (otherwise (otherwise (otherwise (owned_record answer)))))) h.1)
+
+-- a TTL that is said is within its limit
+pub one-short : (ws : List Word) (n : ℕ) → OneWord (λ w. TtlSays w n) ws → n ≤ 2147483647
+one-short [] n h = absurd h
+one-short (w ∷ []) n h = h.2
+one-short (w ∷ v ∷ ws) n h = absurd h
+
+-- whether an entry of this sort is a record
+abbrev counts_as_record : Sort → Bool
+counts_as_record s = elim s [ no_words ↦ false | directive n ws ↦ false | owned w ws ↦ true | unowned ws ↦ true ]
+
+abbrev counted : Bool → ℕ → ℕ
+counted b n = cond b (n + 1) n
+
+length-counted : (b : Bool) (e : Entry) (es : List Entry) → length (cond b (e ∷ es) es) ≡ counted b (length es)
+length-counted true e es = omega arith
+length-counted false e es = refl
+
+module _ (o : DomainName) (earlier : List Entry) where
+  abbrev OriginAt : Sort → DomainName → Type 0
+  OriginAt s n = MatchOption (directive_word (codes "$origin") s) (OriginIs o earlier n) (λ w. (m : DomainName) × OriginIs o earlier m × SpellsName m w.raw n)
+
+  abbrev OwnerAt : Sort → DomainName → Type 0
+  OwnerAt s n = MatchOption (owner_word s) (OwnerBefore o earlier n) (λ w. NameIs o earlier w n)
+
+  -- what is known behind an entry of this sort
+  record Behind (s : Sort) (origin : DomainName) (owner : Option DomainName) (default_ttl stated_ttl : Option ℕ) (count : ℕ) : Type 0 where
+    origin_is : OriginAt s origin
+    no_other : (n : DomainName) → OriginAt s n → n ≡ origin
+    owner_is : MatchOption owner (Nothing (OwnerAt s)) (λ f. (n : DomainName) × OwnerAt s n × (f ≡ folded n))
+    default_is : TtlOf (option_or (directive_word (codes "$ttl") s) (nearest (directive_word (codes "$ttl")) earlier)) default_ttl
+    stated_is : TtlOf (option_or (ttl_word s) (nearest ttl_word earlier)) stated_ttl
+    count_is : count ≡ counted (counts_as_record s) (length (filter is_record earlier))
+
+  known-behind : (e : Entry) (origin : DomainName) (owner : Option DomainName) (default_ttl stated_ttl : Option ℕ) (count : ℕ)
+      → Behind (sort_of e) origin owner default_ttl stated_ttl count → Inherited o (e ∷ earlier) origin owner default_ttl stated_ttl count
+  known-behind e origin owner default_ttl stated_ttl count h =
+      record {
+        origin_is = h.origin_is;
+        no_other = h.no_other;
+        owner_is = h.owner_is;
+        default_is = h.default_is;
+        stated_is = h.stated_is;
+        count_is = h.count_is ∙ sym (length-counted (is_record e) e (filter is_record earlier));
+      }
+
+  known-of_sort : (e : Entry) (s : Sort) (origin : DomainName) (owner : Option DomainName) (default_ttl stated_ttl : Option ℕ) (count : ℕ) → sort_of e ≡ s
+      → Behind s origin owner default_ttl stated_ttl count → Inherited o (e ∷ earlier) origin owner default_ttl stated_ttl count
+  known-of_sort e s origin owner default_ttl stated_ttl count is h =
+      known-behind e origin owner default_ttl stated_ttl count (subst (λ s. Behind s origin owner default_ttl stated_ttl count) (sym is) h)
+
+  module _ (e : Entry) (old new : Reader) (known : Knows o earlier old) where
+    -- an entry without words
+    pub nothing-taken : sort_of e ≡ no_words → EntryTaken o earlier e old old
+    nothing-taken is =
+        record {
+          taken = [];
+          given = subst (λ s. SortGives o earlier s (gives [])) (sym is) refl;
+          known = known-of_sort e no_words _ _ _ _ _ is
+              (record { origin_is = known.origin_is; no_other = known.no_other; owner_is = known.owner_is; default_is = known.default_is; stated_is = known.stated_is; count_is = known.count_is });
+          records = sym (append-nil old.records.items);
+        }
+
+    -- what behind a record is known, where its owner is the one of its sort
+    record_behind : (s : Sort) (owner : DomainName) (f : Fields) → directive_word (codes "$origin") s ≡ None → directive_word (codes "$ttl") s ≡ None → ttl_word s ≡ f.ttl
+        → counts_as_record s ≡ true → (n : DomainName) → OwnerAt s n → owner ≡ folded n → (t : RecordTaken o earlier owner f old new)
+        → Behind s new.origin new.owner new.default_ttl new.stated_ttl (length new.records.items)
+    record_behind s owner f no_origin no_ttl ttl counts n is low t =
+        record {
+          origin_is = rw no_origin (rw t.origin_is known.origin_is);
+          no_other = rw no_origin (λ m h. known.no_other m h ∙ sym t.origin_is);
+          owner_is = rw t.owner_is (n, is, low);
+          default_is = rw no_ttl (rw t.default_is known.default_is);
+          stated_is = rw ttl (t.stated_is _ known.stated_is);
+          count_is = rw counts (ap length t.records ∙ length-append old.records.items (t.taken ∷ []) ∙ ap (λ k. k + 1) known.count_is);
+        }
+
+    pub owned-taken : (w : Word) (ws : List Word) (n owner : DomainName) → sort_of e ≡ owned w ws → NameIs o earlier w n → owner ≡ folded n → folded owner ≡ owner
+        → RecordTaken o earlier owner (fields ws) old new → EntryTaken o earlier e old new
+    owned-taken w ws n owner is named low twice t =
+        record {
+          taken = t.taken ∷ [];
+          given = subst (λ s. SortGives o earlier s (gives (t.taken ∷ []))) (sym is)
+              (given-owner o earlier (NameIs o earlier w) (fields ws) n owner named low twice 7 (gives (t.taken ∷ [])) t.given);
+          known = known-of_sort e (owned w ws) _ _ _ _ _ is (record_behind (owned w ws) owner (fields ws) refl refl refl refl n named low t);
+          records = t.records;
+        }
+
+    pub unowned-taken : (ws : List Word) (n owner : DomainName) → sort_of e ≡ unowned ws → OwnerBefore o earlier n → owner ≡ folded n → folded owner ≡ owner
+        → RecordTaken o earlier owner (fields ws) old new → EntryTaken o earlier e old new
+    unowned-taken ws n owner is named low twice t =
+        record {
+          taken = t.taken ∷ [];
+          given = subst (λ s. SortGives o earlier s (gives (t.taken ∷ []))) (sym is)
+              (given-owner o earlier (OwnerBefore o earlier) (fields ws) n owner named low twice 8 (gives (t.taken ∷ [])) t.given);
+          known = known-of_sort e (unowned ws) _ _ _ _ _ is (record_behind (unowned ws) owner (fields ws) refl refl refl refl n named low t);
+          records = t.records;
+        }
+
+  -- `$ORIGIN`
+  module _ (e : Entry) (old new : Reader) (known : Knows o earlier old) (owner_kept : new.owner ≡ old.owner) (stated_kept : new.stated_ttl ≡ old.stated_ttl)
+      (records_kept : new.records.items ≡ old.records.items) where
+    nothing_new : new.records.items ≡ old.records.items ++ []
+    nothing_new = records_kept ∙ sym (append-nil old.records.items)
+
+    pub origin-taken : (ws : List Word) → sort_of e ≡ directive (codes "$origin") ws → OneWord (λ w. SpelledName old.origin w new.origin) ws
+        → ((n : DomainName) → OneWord (λ w. SpelledName old.origin w n) ws → n ≡ new.origin) → new.default_ttl ≡ old.default_ttl → EntryTaken o earlier e old new
+    origin-taken [] is one only default_kept = absurd one
+    origin-taken (w ∷ v ∷ ws) is one only default_kept = absurd one
+    origin-taken (w ∷ []) is one only default_kept =
+        record {
+          taken = [];
+          given = subst (λ s. SortGives o earlier s (gives [])) (sym is)
+              (inr ((λ none. none new.origin (one.0, (old.origin, known.origin_is, one.1))), refl));
+          known = known-of_sort e (directive (codes "$origin") (w ∷ [])) _ _ _ _ _ is
+              (record {
+                origin_is = (old.origin, known.origin_is, one.1);
+                no_other = λ n h. only n (one.0, subst (λ m. SpellsName m w.raw n) (known.no_other h.0 h.1) h.2);
+                owner_is = rw owner_kept known.owner_is;
+                default_is = rw default_kept known.default_is;
+                stated_is = rw stated_kept known.stated_is;
+                count_is = ap length records_kept ∙ known.count_is;
+              });
+          records = nothing_new;
+        }
+
+    -- `$TTL`
+    pub default-taken : (ws : List Word) (n : ℕ) → sort_of e ≡ directive (codes "$ttl") ws → OneWord (λ w. TtlSays w n) ws → new.default_ttl ≡ Some n
+        → new.origin ≡ old.origin → EntryTaken o earlier e old new
+    default-taken [] n is one default_is origin_kept = absurd one
+    default-taken (w ∷ v ∷ ws) n is one default_is origin_kept = absurd one
+    default-taken (w ∷ []) n is one default_is origin_kept =
+        record {
+          taken = [];
+          given = subst (λ s. SortGives o earlier s (gives [])) (sym is) (inr ((λ none. none n one), refl));
+          known = known-of_sort e (directive (codes "$ttl") (w ∷ [])) _ _ _ _ _ is
+              (record {
+                origin_is = rw origin_kept known.origin_is;
+                no_other = λ m h. known.no_other m h ∙ sym origin_kept;
+                owner_is = rw owner_kept known.owner_is;
+                default_is = (n, default_is, one);
+                stated_is = rw stated_kept known.stated_is;
+                count_is = ap length records_kept ∙ known.count_is;
+              });
+          records = nothing_new;
+        }
+
+  -- the words of `$ORIGIN` are none
+  pub origin-fault : (old : Reader) → Knows o earlier old → (ws : List Word) → ((n : DomainName) → OneWord (λ w. SpelledName old.origin w n) ws → ⊥)
+      → SortGives o earlier (directive (codes "$origin") ws) (faulty 6)
+  origin-fault old known ws none = inl (no_origin ws none, refl)
+    where
+      no_origin : (ws : List Word) → ((n : DomainName) → OneWord (λ w. SpelledName old.origin w n) ws → ⊥) → Nothing (λ (n : DomainName). OneWord (λ w. NameIs o earlier w n) ws)
+      no_origin [] none n h = h
+      no_origin (w ∷ v ∷ ws) none n h = h
+      no_origin (w ∷ []) none n h = none n (h.0, subst (λ m. SpellsName m w.raw n) (known.no_other h.1.0 h.1.1) h.1.2)
+
+  pub default-fault : (ws : List Word) → ((n : ℕ) → OneWord (λ w. TtlSays w n) ws → ⊥) → SortGives o earlier (directive (codes "$ttl") ws) (faulty 6)
+  default-fault ws none = inl (none, refl)
+
+-- the sort of an entry by its first octet and its words
+pub sort-unowned : (blank : Bool) (ws : List Word) (w : Word) (others : List Word) → blank ≡ true → ws ≡ w ∷ others → sort_by_words blank ws ≡ unowned ws
+sort-unowned blank ws w others b e = rw e (rw b refl)
+
+pub sort-owned : (blank : Bool) (ws : List Word) (w : Word) (others : List Word) → blank ≡ false → is_directive w ≡ false → ws ≡ w ∷ others
+    → sort_by_words blank ws ≡ owned w others
+sort-owned blank ws w others b d e = rw e (rw b (rw d refl))

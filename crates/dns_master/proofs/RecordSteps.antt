@@ -1,0 +1,148 @@
+-- The parts of a record one after another: the first that is wrong is the fault that is told.
+use Rattle.std.proofs.Common.{◌≡◌, ℕ, true, false, List, [], ◌∷◌, drop, refl, sym, ap, ◌∙◌, subst, inl, inr, Option, Some, None}
+use Rattle.std.proofs.lemmas.Bool.{false≢true}
+use Rattle.std.proofs.lemmas.Option.{none-some, same_Some}
+use Rattle.std.specs.Prelude.{MatchOption, IfSome, if◌then◌else◌}
+use Rattle.std.specs.Option.{option_or, option_copied, is_none, is_some}
+use Rattle.std.specs.Borrow.{Bor}
+use Rattle.dns_spec.specs.Names.{Octets, DomainName, folded}
+use Rattle.dns_spec.specs.DataText.{Word, Says}
+use Rattle.dns_spec.specs.ZoneText.{Entry}
+use Rattle.dns_spec.specs.Meaning.{Nothing, Fields, Answer, faulty, gives, OriginIs, TtlSays, ttl_in_force, TypeIs, DataIs, IsNoTtl, is_other_class, are_too_many, RecordGives}
+use Rattle.dns_spec.proofs.TypeWords.{one_type}
+use Rattle.dns_master.specs.RecordForm.{TtlOf}
+
+pub type-one : (ws : List Word) (t u : ℕ) → TypeIs ws t → TypeIs ws u → t ≡ u
+type-one [] t u h k = absurd h
+type-one (w ∷ ws) t u h k = one_type w.raw t u h.1 k.1
+
+pub ttl-or : (v w : Option Word) (m n : Option ℕ) → TtlOf v m → TtlOf w n → TtlOf (option_or v w) (option_or m n)
+ttl-or None w m n h k = rw h k
+ttl-or (Some v) w m n h k = (h.0, ap (λ x. option_or x n) h.1, h.2)
+
+pub ttl-stated : (w : Option Word) (m : Option ℕ) → TtlOf w m → IsNoTtl w → ⊥
+ttl-stated None m h none = none
+ttl-stated (Some w) m h none = none h.0 h.2
+
+pub last-stated : (v w : Option Word) (ttl : ℕ) (old : Option ℕ) → IfSome v (λ x. TtlSays x ttl) → TtlOf w old
+    → TtlOf (option_or v w) (if is_some v then Some ttl else old)
+last-stated None w ttl old h k = k
+last-stated (Some v) w ttl old h k = (ttl, refl, h)
+
+pub copied-some : {T : Type 0} (x : Option (Bor T)) → is_some (option_copied x) ≡ is_some x
+copied-some None = refl
+copied-some (Some x) = refl
+
+no_ttl : (w : Option Word) (m : Option ℕ) → TtlOf w m → m ≡ None → is_none w ≡ true
+no_ttl None m h e = refl
+no_ttl (Some w) m h e = absurd (none-some h.0 (sym e ∙ h.1))
+
+known_ttl : (w : Option Word) (m : Option ℕ) (n : ℕ) → TtlOf w m → m ≡ Some n → MatchOption w ⊥ (λ w. TtlSays w n)
+known_ttl None m n h e = none-some n (sym h ∙ e)
+known_ttl (Some w) m n h e = subst (TtlSays w) (same_Some h.0 n (sym h.1 ∙ e)) h.2
+
+some_ttl : (w : Option Word) (m : Option ℕ) (n : ℕ) → TtlOf w m → m ≡ Some n → is_none w ≡ true → ⊥
+some_ttl None m n h e k = none-some n (sym h ∙ e)
+some_ttl (Some w) m n h e k = false≢true k
+
+module _ (o : DomainName) (earlier : List Entry) (owner : DomainName) (f : Fields) where
+  Gives : Answer → Type 0
+  Gives = RecordGives o earlier 8 (λ n. n ≡ owner) f
+
+  named : Nothing (λ (n : DomainName). n ≡ owner) → ⊥
+  named none = none owner refl
+
+  pub ttl-fault : IsNoTtl f.ttl → RecordGives o earlier 8 (λ n. n ≡ owner) f (faulty 9)
+  ttl-fault h = inr (named, inl (h, refl))
+
+  pub class-fault : (stated : Option ℕ) → TtlOf f.ttl stated → is_other_class f.class ≡ true → RecordGives o earlier 8 (λ n. n ≡ owner) f (faulty 10)
+  class-fault stated a h = inr (named, inr (ttl-stated f.ttl stated a, inl (h, refl)))
+
+  is_in : is_other_class f.class ≡ false → is_other_class f.class ≡ true → ⊥
+  is_in e h = false≢true (sym e ∙ h)
+
+  pub type-fault : (stated : Option ℕ) → TtlOf f.ttl stated → is_other_class f.class ≡ false → Nothing (TypeIs f.others)
+      → RecordGives o earlier 8 (λ n. n ≡ owner) f (faulty 11)
+  type-fault stated a b h = inr (named, inr (ttl-stated f.ttl stated a, inr (is_in b, inl (h, refl))))
+
+  module _ (stated known : Option ℕ) (t : ℕ) (a : TtlOf f.ttl stated) (b : is_other_class f.class ≡ false) (c : TypeIs f.others t)
+      (k : TtlOf (ttl_in_force earlier f.ttl) known) where
+    typed : Nothing (TypeIs f.others) → ⊥
+    typed none = none t c
+
+    pub no_ttl-fault : known ≡ None → RecordGives o earlier 8 (λ n. n ≡ owner) f (faulty 12)
+    no_ttl-fault e =
+        inr (named, inr (ttl-stated f.ttl stated a, inr (is_in b, inr (typed, inl (no_ttl (ttl_in_force earlier f.ttl) known k e, refl)))))
+
+    module _ (ttl : ℕ) (e : known ≡ Some ttl) (origin : DomainName) (is : OriginIs o earlier origin) (only : (n : DomainName) → OriginIs o earlier n → n ≡ origin) where
+      pub data-fault : Nothing (Says t (drop 1 f.others) origin) → RecordGives o earlier 8 (λ n. n ≡ owner) f (faulty 13)
+      data-fault none =
+          inr (
+            named,
+            inr (
+              ttl-stated f.ttl stated a,
+              inr (
+                is_in b,
+                inr (
+                  typed,
+                  inr (
+                    some_ttl (ttl_in_force earlier f.ttl) known ttl k e,
+                    inl ((λ d h. none d (subst (λ u. Says u (drop 1 f.others) origin d) (type-one f.others h.0 t h.1 c) (subst (λ m. Says h.0 (drop 1 f.others) m d) (only h.2.0 h.2.1) h.2.2))), refl),
+                  ),
+                ),
+              ),
+            ),
+          )
+
+      module _ (d : Octets) (said : Says t (drop 1 f.others) origin d) where
+        told : Nothing (DataIs o earlier f.others) → ⊥
+        told none = none d (t, c, (origin, is, said))
+
+        pub count-fault : are_too_many earlier ≡ true → RecordGives o earlier 8 (λ n. n ≡ owner) f (faulty 14)
+        count-fault h =
+            inr (
+              named,
+              inr (
+                ttl-stated f.ttl stated a,
+                inr (
+                  is_in b,
+                  inr (
+                    typed,
+                    inr (
+                      some_ttl (ttl_in_force earlier f.ttl) known ttl k e,
+                      inr (told, inl (h, refl)),
+                    ),
+                  ),
+                ),
+              ),
+            )
+
+        pub record-given : folded owner ≡ owner → are_too_many earlier ≡ false
+            → RecordGives o earlier 8 (λ n. n ≡ owner) f (gives (record { owner = owner; ttl = ttl; rtype = t; rdata = d } ∷ []))
+        record-given low h =
+            inr (
+              named,
+              inr (
+                ttl-stated f.ttl stated a,
+                inr (
+                  is_in b,
+                  inr (
+                    typed,
+                    inr (
+                      some_ttl (ttl_in_force earlier f.ttl) known ttl k e,
+                      inr (
+                        told,
+                        inr (
+                          (λ x. false≢true (sym h ∙ x)),
+                          (
+                            record { owner = owner; ttl = ttl; rtype = t; rdata = d },
+                            record { owner = (owner, refl, sym low); ttl = known_ttl (ttl_in_force earlier f.ttl) known ttl k e; rtype = c; rdata = (t, c, (origin, is, said)) },
+                            refl,
+                          ),
+                        ),
+                      ),
+                    ),
+                  ),
+                ),
+              ),
+            )

@@ -1,0 +1,46 @@
+-- How far a run goes, octet by octet and escape by escape.
+use Rattle.std.proofs.Common.{◌≡◌, ℕ, zero, suc, ◌+◌, ◌≤◌, Bool, true, false, [], ◌∷◌, length, drop, refl, ap, arith, Option, None, Some, ◌==◌}
+use Rattle.dns_spec.specs.Names.{Octets}
+use Rattle.dns_spec.specs.ZoneText.{escape_behind, unit_left, run_length}
+
+module _ (by : ℕ → Bool) where
+  -- the octets of an escape
+  skipped : (k : ℕ) (text : Octets) → k ≤ length text → run_length by k text ≡ k + run_length by 0 (drop k text)
+  unfolding run_length
+  skipped zero text h = omega (arith)
+  skipped (suc k) [] h = absurd (omega (arith, h))
+  skipped (suc k) (o ∷ text) h =
+      let others : run_length by k text ≡ k + run_length by 0 (drop k text) = skipped k text (omega (arith, h)) in
+      omega (arith, others)
+
+  by_unit : (o : ℕ) (text : Octets) (u : Option ℕ) → unit_left by o text ≡ u
+      → run_length by 0 (o ∷ text) ≡ elim u [ None ↦ 0 | Some k ↦ 1 + run_length by k text ]
+  unfolding run_length
+  by_unit o text u e = ap (λ (u : Option ℕ). elim u [ None ↦ 0 | Some k ↦ 1 + run_length by k text ]) e
+
+  -- an octet that stands in the run by itself
+  pub run-itself : (o : ℕ) (text : Octets) → (o == 92) ≡ false → by o ≡ true → run_length by 0 (o ∷ text) ≡ 1 + run_length by 0 text
+  run-itself o text e h = by_unit o text (Some 0) (rw e (rw h refl))
+
+  -- an octet that does not
+  pub run-end : (o : ℕ) (text : Octets) → (o == 92) ≡ false → by o ≡ false → run_length by 0 (o ∷ text) ≡ 0
+  run-end o text e h = by_unit o text None (rw e (rw h refl))
+
+  -- an escape
+  pub run-escape : (o : ℕ) (text : Octets) → (o == 92) ≡ true → (escape_behind text == 0) ≡ false → escape_behind text ≤ length text
+      → run_length by 0 (o ∷ text) ≡ 1 + escape_behind text + run_length by 0 (drop (escape_behind text) text)
+  run-escape o text e h fits =
+      let others : run_length by (escape_behind text) text ≡ escape_behind text + run_length by 0 (drop (escape_behind text) text) =
+      skipped (escape_behind text) text fits in
+      let all : run_length by 0 (o ∷ text) ≡ 1 + run_length by (escape_behind text) text =
+      by_unit o text (Some (escape_behind text)) (rw e (rw h refl)) in
+      omega (arith, others, all)
+
+  -- a backslash that begins no escape
+  pub run-no_escape : (o : ℕ) (text : Octets) → (o == 92) ≡ true → (escape_behind text == 0) ≡ true → run_length by 0 (o ∷ text) ≡ 0
+  run-no_escape o text e h = by_unit o text None (rw e (rw h refl))
+
+  pub run-none : (text : Octets) → length text ≡ 0 → run_length by 0 text ≡ 0
+  unfolding run_length
+  run-none [] e = refl
+  run-none (o ∷ text) e = absurd (omega (arith, e))

@@ -1,0 +1,20 @@
+use Rattle.std.proofs.Common.{rules, ◌≡◌, false, ap, sym, ◌∙◌, subst}
+use Rattle.std.proofs.lemmas.Bool.{false≢true}
+use Rattle.dns_spec.specs.Names.{Octets}
+use Rattle.dns_spec.specs.DataText.{Word}
+use Rattle.dns_spec.specs.TypeText.{NamesType}
+use Rattle.dns_spec.specs.Meaning.{is_zone_type}
+use Rattle.dns_spec.proofs.TypeWords.{one_type}
+use Rattle.dns_master.proofs.fields.read_type.Goals as goal
+
+pub returns-in_default : goal.returns-in_default
+returns-in_default c = λ t h.
+    let none = c.in_default.ensures in
+    none t (subst (λ (raw : Octets). NamesType raw t) (ap (λ (w : Word). w.raw) (sym c.word.view_is)) h.1)
+
+pub returns-else-is_zone_type : goal.returns-else-is_zone_type
+returns-else-is_zone_type c = λ t h.
+    let same = ap (λ (w : Word). w.raw) (sym c.word.view_is) in
+    let here : t ≡ c.in-Some.rtype.0 = one_type _ t c.in-Some.rtype.0 (subst (λ (raw : Octets). NamesType raw t) same h.1) c.in-Some.ensures in
+    let other : is_zone_type c.in-Some.rtype.0 ≡ false = search rules in
+    false≢true (sym other ∙ ap is_zone_type (sym here) ∙ h.2)

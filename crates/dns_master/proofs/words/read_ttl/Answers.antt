@@ -1,0 +1,8 @@
+use Rattle.std.proofs.Common.{rules, ap, sym, ◌∙◌}
+use Rattle.dns_spec.specs.DataText.{Word}
+use Rattle.dns_master.proofs.words.read_ttl.Goals as goal
+
+pub returns : goal.returns
+returns c = λ n.
+    let same = ap (λ (w : Word). w.raw) (sym c.word.view_is) in
+    (λ e. let said = (c.read_number.ensures n).0 e in (search rules, same ∙ said.0, said.1), λ h. (c.read_number.ensures n).1 (sym same ∙ h.1, h.2))

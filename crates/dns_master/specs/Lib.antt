@@ -1,0 +1,7 @@
+pub mod Codes
+pub mod PieceForm
+pub mod EntryForm
+pub mod Steps
+pub mod RecordForm
+pub mod ReaderForm
+pub mod SourceForm

@@ -1,0 +1,40 @@
+-- What a reader learns here: what the reader of a zone file knows of the entries so far, and what an entry changes of that.
+use Rattle.std.specs.Prelude.{◌≡◌, Bool, List, [], ◌∷◌, ◌++◌, length, Option, Some}
+use Rattle.std.specs.Option.{option_or}
+use Rattle.dns_spec.specs.Names.{Octets, DomainName}
+use Rattle.dns_spec.specs.DataText.{Word}
+use Rattle.dns_spec.specs.Records.{ResourceRecord}
+use Rattle.dns_spec.specs.ZoneText.{Entry}
+use Rattle.dns_spec.specs.Meaning.{Fields, gives, RecordGives, SortGives, sort_of, Meaning, behind, line_behind}
+use Rattle.dns_master.specs.EntryForm.{TextMeans}
+use Rattle.dns_master.specs.RecordForm.{Inherited, TtlOf}
+use Rattle.dns_master.specs.declared.state.Reader.{Reader}
+
+abbrev pub Knows : DomainName → List Entry → Reader → Type 0
+Knows o earlier r = Inherited o earlier r.origin r.owner r.default_ttl r.stated_ttl (length r.records.items)
+
+-- a record was taken, whose owner in lower case is this
+pub record RecordTaken (o : DomainName) (earlier : List Entry) (owner : DomainName) (f : Fields) (old new : Reader) : Type 0 where
+  pub taken : ResourceRecord
+  pub given : RecordGives o earlier 8 (λ n. n ≡ owner) f (gives (taken ∷ []))
+  pub owner_is : new.owner ≡ Some owner
+  pub origin_is : new.origin ≡ old.origin
+  pub default_is : new.default_ttl ≡ old.default_ttl
+  pub stated_is : (w : Option Word) → TtlOf w old.stated_ttl → TtlOf (option_or f.ttl w) new.stated_ttl
+  pub records : new.records.items ≡ old.records.items ++ taken ∷ []
+
+-- an entry was taken
+pub record EntryTaken (o : DomainName) (earlier : List Entry) (e : Entry) (old new : Reader) : Type 0 where
+  pub taken : List ResourceRecord
+  pub given : SortGives o earlier (sort_of e) (gives taken)
+  pub known : Knows o (e ∷ earlier) new
+  pub records : new.records.items ≡ old.records.items ++ taken
+
+-- an entry was taken, and a text is left: what that means behind the entry, the whole means with what the entry gives before it
+pub record EntryDone (o : DomainName) (earlier : List Entry) (goes_on : Bool) (text rest : Octets) (old new : Reader) : Type 0 where
+  pub entry : Entry
+  pub taken : List ResourceRecord
+  pub known : Knows o (entry ∷ earlier) new
+  pub line_is : new.line ≡ line_behind (entry ∷ earlier)
+  pub records : new.records.items ≡ old.records.items ++ taken
+  pub means : (later : Meaning) → TextMeans o (entry ∷ earlier) goes_on rest later → TextMeans o earlier goes_on text (behind taken later)

@@ -1,0 +1,44 @@
+//! Directives: `$ORIGIN` (RFC 1035 5.1) and `$TTL` (RFC 2308 4).
+ghost use Rattle.std.specs.Prelude.{◌≡◌, ◌↔◌, ℕ, Some};
+ghost use Rattle.dns_spec.specs.Names.{DomainName};
+ghost use Rattle.dns_spec.specs.Meaning.{OneWord, TtlSays, is_directive};
+ghost use Rattle.dns_master.specs.RecordForm.{OneWordIs, SpelledName};
+
+use crate::words::{read_name, read_ttl};
+use dns_name::Name;
+use dns_rdata::Word;
+
+/// Whether an entry that begins with this word, and no blank, is a directive.
+pub(crate) fn is_directive(word: &Word<'_>) -> bool
+    ensures { result ≡ is_directive word.now }
+{
+    !word.quoted && word.raw.first() == Some(&b'$')
+}
+
+/// The origin that the words of `$ORIGIN` say, which is relative to the one before.
+pub(crate) fn read_origin(words: &[Word<'_>], origin: &Name) -> Option<Name>
+    ensures { (n : DomainName) → (result ≡ Some n) ↔ OneWord (λ w. SpelledName origin.now w n) words.now }
+{
+    match only_word(words) {
+        Some(word) => read_name(word, origin),
+        None => None,
+    }
+}
+
+/// The TTL that the words of `$TTL` say.
+pub(crate) fn read_default_ttl(words: &[Word<'_>]) -> Option<u32>
+    ensures { (n : ℕ) → (result ≡ Some n) ↔ OneWord (λ w. TtlSays w n) words.now }
+{
+    match only_word(words) {
+        Some(word) => read_ttl(word),
+        None => None,
+    }
+}
+
+// The word of a list of one.
+fn only_word<'a, 'w>(words: &'a [Word<'w>]) -> Option<&'a Word<'w>>
+    ensures { OneWordIs result words.now }
+{
+    let (first, others) = words.split_first()?;
+    if others.is_empty() { Some(first) } else { None }
+}

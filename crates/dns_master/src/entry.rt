@@ -1,0 +1,192 @@
+//! The entries of a text: from the beginning of a line to the first line end outside parentheses (RFC 1035 5.1).
+ghost use Rattle.std.specs.Prelude.{◌≡◌, ◌≢◌, ◌+◌, ◌≤◌, ◌++◌, [], ◌∷◌, ◌⊎◌, true, false, Some, None, length, take, IfOk, IfErr, IfSome, OnOk};
+ghost use Rattle.std.specs.List.{list_any};
+ghost use Rattle.std.specs.Option.{option_map};
+ghost use Rattle.dns_spec.specs.ZoneText.{is_blank, begins_line_end, is_cut_short, stuck_code, end_code};
+ghost use Rattle.dns_master.specs.PieceForm.{shown_piece};
+ghost use Rattle.dns_master.specs.EntryForm.{EntryRead, IsWrong, outcome_of, step, piece_words, line_ends};
+ghost use Rattle.dns_master.specs.Steps.{shown_step};
+ghost use Rattle.dns_master.specs.Codes.{code_number};
+
+use crate::fault::ReadCode;
+use crate::piece::{Piece, first_piece};
+use crate::run::{Run, is_blank};
+use dns_rdata::Word;
+
+/// Where the entry ends that a text begins with.
+#[derive(Debug, Drop)]
+pub(crate) struct EntryEnd<'a> {
+    /// How many line ends it has.
+    pub(crate) lines: u32,
+    /// Whether a line end ends it.
+    pub(crate) is_ended: bool,
+    /// Whether a parenthesis is open at its end.
+    pub(crate) is_open: bool,
+    /// The text behind it, or from where no piece begins.
+    pub(crate) rest: &'a [u8],
+}
+
+/// Reads the words of the entry that a text begins with, up to its end or to where no piece begins.
+///
+/// `Parenthesis` where one is misplaced, `NoMemory` where no memory was found.
+pub(crate) fn read_entry<'a>(
+    text: &'a [u8],
+    words: &mut Vec<Word<'a>>,
+) -> Result<EntryEnd<'a>, ReadCode>
+    requires { length text.now ≤ 16777217 }
+    ensures ok { IfOk result (λ end. EntryRead text.now words.old.items words.new.items end.lines (outcome_of end.is_ended end.is_open end.rest.now)) }
+    ensures bound { IfOk result (λ end. end.lines + length end.rest.now ≤ length text.now) }
+    ensures err { IfErr result (λ code. code ≢ ReadCode.NoMemory → (code ≡ ReadCode.Parenthesis) × IsWrong text.now) }
+    ensures source { IfErr result (λ code. code ≢ ReadCode.SourceFailed) }
+{
+    let mut lines = 0;
+    let mut is_open = false;
+    let mut rest = text;
+    'pieces: while let Some((piece, others)) = first_piece(rest) {
+        push_word(words, piece)?;
+        lines += line_ends(piece);
+        rest = others;
+        match step_behind(piece, is_open) {
+            Step::Misplaced => return Err(ReadCode::Parenthesis),
+            Step::Over => return Ok(EntryEnd {
+                lines,
+                is_ended: true,
+                is_open,
+                rest,
+            }),
+            Step::Onward(now_open) => is_open = now_open,
+        }
+    }
+    Ok(EntryEnd {
+        lines,
+        is_ended: false,
+        is_open,
+        rest,
+    })
+}
+
+// How reading an entry goes on behind a piece: not at all, since a parenthesis is misplaced, or since the entry has ended;
+// or inside parentheses or outside them.
+#[derive(Clone, Copy, Debug, PartialEq, Eq)]
+enum Step {
+    Misplaced,
+    Over,
+    Onward(bool),
+}
+
+fn step_behind(piece: Piece<'_>, is_open: bool) -> Step
+    ensures { shown_step result ≡ step is_open (shown_piece piece.entry) }
+{
+    match piece {
+        Piece::Opening if is_open => Step::Misplaced,
+        Piece::Opening => Step::Onward(true),
+        Piece::Closing if is_open => Step::Onward(false),
+        Piece::Closing => Step::Misplaced,
+        Piece::LineEnd if !is_open => Step::Over,
+        _ => Step::Onward(is_open),
+    }
+}
+
+// Pushes the word that a piece is.
+fn push_word<'a>(words: &mut Vec<Word<'a>>, piece: Piece<'a>) -> Result<(), ReadCode>
+    ensures ok { OnOk result (words.new.items ≡ words.old.items ++ piece_words (shown_piece piece.entry ∷ [])) }
+    ensures err { IfErr result (λ code. code ≡ ReadCode.NoMemory) }
+{
+    let word = match piece {
+        Piece::Word(raw) => Word { raw, quoted: false },
+        Piece::Quoted(raw) => Word { raw, quoted: true },
+        _ => return Ok(()),
+    };
+    words.push(word).map_err(|_| ReadCode::NoMemory)
+}
+
+fn line_ends(piece: Piece<'_>) -> u32
+    ensures { result ≡ line_ends (shown_piece piece.entry ∷ []) }
+{
+    match piece {
+        Piece::LineEnd => 1,
+        _ => 0,
+    }
+}
+
+/// Whether a text begins with a space or a tab.
+pub(crate) fn begins_blank(text: &[u8]) -> bool
+    ensures { result ≡ list_any is_blank (take 1 text.now) }
+{
+    text.first().is_some_and(|first| is_blank(*first))
+}
+
+/// Whether an entry may end as it does: it is ended by its line end, or by the end of a text that does not go on.
+pub(crate) fn check_end(end: &EntryEnd<'_>, goes_on: bool) -> Result<(), ReadCode>
+    ensures ok { OnOk result ((end.now.is_ended ≡ true) ⊎ (end_code goes_on end.now.is_open end.now.rest.now ≡ None)) }
+    ensures err { IfErr result (λ code. (end.now.is_ended ≡ false) × (end_code goes_on end.now.is_open end.now.rest.now ≡ Some (code_number code))) }
+    ensures source { IfErr result (λ code. code ≢ ReadCode.SourceFailed) }
+{
+    if end.is_ended {
+        return Ok(());
+    }
+    match end_fault(end, goes_on) {
+        Some(code) => Err(code),
+        None => Ok(()),
+    }
+}
+
+// The fault of an entry that no line end ends: `goes_on` is whether the text goes on past its limit.
+fn end_fault(end: &EntryEnd<'_>, goes_on: bool) -> Option<ReadCode>
+    ensures value { option_map code_number result ≡ end_code goes_on end.now.is_open end.now.rest.now }
+    ensures source { IfSome result (λ code. code ≢ ReadCode.SourceFailed) }
+{
+    let Some((first, others)) = end.rest.split_first() else {
+        if goes_on {
+            return Some(ReadCode::TooLong);
+        }
+        return if end.is_open {
+            Some(ReadCode::Parenthesis)
+        } else {
+            None
+        };
+    };
+    if *first == b'"' {
+        let (_, place) = others.split_at(Run::String.length(others));
+        return Some(stuck_fault(goes_on, true, place));
+    }
+    Some(stuck_fault(goes_on, false, end.rest))
+}
+
+// The fault of a text that can't go on, in a string or where no piece begins.
+fn stuck_fault(goes_on: bool, in_string: bool, place: &[u8]) -> ReadCode
+    ensures value { code_number result ≡ stuck_code goes_on in_string place.now }
+    ensures source { result ≢ ReadCode.SourceFailed }
+{
+    if goes_on && is_cut_short(place) {
+        return ReadCode::TooLong;
+    }
+    if in_string && (place.is_empty() || begins_line_end(place)) {
+        return ReadCode::UnendedString;
+    }
+    if place.first() == Some(&b'\\') {
+        return ReadCode::BadEscape;
+    }
+    ReadCode::BadOctet
+}
+
+// Whether more octets might end what the text is: an escape or CR LF.
+fn is_cut_short(text: &[u8]) -> bool
+    ensures { result ≡ is_cut_short text.now }
+{
+    match text {
+        [] | [b'\\'] | [b'\r'] => true,
+        [b'\\', a] => a.is_ascii_digit(),
+        [b'\\', a, b] => a.is_ascii_digit() && b.is_ascii_digit(),
+        _ => false,
+    }
+}
+
+fn begins_line_end(text: &[u8]) -> bool
+    ensures { result ≡ begins_line_end text.now }
+{
+    match text {
+        [b'\n', ..] | [b'\r', b'\n', ..] => true,
+        _ => false,
+    }
+}

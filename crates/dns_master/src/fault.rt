@@ -1,0 +1,60 @@
+//! Why a zone file gives no records.
+ghost use Rattle.std.specs.Prelude.{◌≡◌};
+ghost use Rattle.dns_master.specs.Codes.{code_number};
+
+/// Why a zone file gives no records, by its code.
+#[derive(Clone, Copy, Debug, PartialEq, Eq)]
+pub enum ReadCode {
+    /// An octet is not allowed.
+    BadOctet = 1,
+    /// A backslash begins no escape.
+    BadEscape = 2,
+    /// A quoted string is not ended on its line.
+    UnendedString = 3,
+    /// A parenthesis in a parenthesis, a close one without an open one, or the end of the text inside.
+    Parenthesis = 4,
+    /// A directive other than `$ORIGIN` and `$TTL`.
+    UnknownDirective = 5,
+    /// The words of a directive.
+    DirectiveWords = 6,
+    /// The owner is no name.
+    BadOwner = 7,
+    /// No owner is stated, and no record before has one.
+    NoOwner = 8,
+    /// The TTL is no number up to 2147483647 (RFC 2181 8).
+    BadTtl = 9,
+    /// A class other than IN.
+    OtherClass = 10,
+    /// No type, or a type that no zone has.
+    BadType = 11,
+    /// No TTL is stated, and none was before.
+    NoTtl = 12,
+    /// The data.
+    BadData = 13,
+    /// There are more than 100,000 records.
+    TooManyRecords = 14,
+    /// The text has more than 16,777,216 octets.
+    TooLong = 15,
+    /// The source failed.
+    SourceFailed = 16,
+    /// No memory was found.
+    NoMemory = 17,
+}
+
+impl ReadCode {
+    /// The number of the code: 7 of `R07`.
+    pub fn number(self) -> u8
+        ensures { result ≡ code_number self }
+    {
+        self as u8
+    }
+}
+
+/// The fault of a zone file.
+#[derive(Clone, Copy, Debug, PartialEq, Eq)]
+pub struct ReadFault {
+    /// What it is.
+    pub code: ReadCode,
+    /// The line on which the faulty entry begins, counted from 1; 0 where the source failed or no memory was found.
+    pub line: u32,
+}

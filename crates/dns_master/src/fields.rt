@@ -1,0 +1,184 @@
+//! What stands between the owner and the data of a record (RFC 1035 5.1).
+ghost use Rattle.std.specs.Prelude.{◌≡◌, [], ◌∷◌, take, drop, codes, MatchOption, MatchResult};
+ghost use Rattle.std.specs.List.{list_any};
+ghost use Rattle.std.specs.Option.{option_copied};
+ghost use Rattle.dns_spec.specs.Meaning.{Nothing, TypeIs, fields, class_behind, ttl_behind, is_ttl_word, is_class_word, is_word, is_other_class, is_zone_type, IsNoTtl};
+ghost use Rattle.dns_master.specs.RecordForm.{TtlOf, NamedType};
+
+use crate::fault::ReadCode;
+use crate::words::{is_word, read_ttl};
+use dns_rdata::{RType, Word};
+use std::marker::Model;
+
+/// The words of the TTL and the class, in either order and where they are stated, and the words behind them: the type and
+/// the data.
+#[derive(Debug, Drop)]
+pub(crate) struct Fields<'a, 'w> {
+    pub(crate) ttl: Option<&'a Word<'w>>,
+    pub(crate) class: Option<&'a Word<'w>>,
+    pub(crate) others: &'a [Word<'w>],
+}
+
+impl<'a, 'w> Model for Fields<'a, 'w> {
+    ghost use Rattle.std.specs.Option.{option_copied};
+    ghost use Rattle.dns_spec.specs.Meaning as meaning;
+
+    ghost Value = { meaning.Fields };
+
+    ghost view = { λ f. record { ttl = option_copied f.ttl; class = option_copied f.class; others = f.others.now } };
+}
+
+impl<'a, 'w> Fields<'a, 'w> {
+    /// The fields of the words behind the owner.
+    pub(crate) fn of(words: &'a [Word<'w>]) -> Fields<'a, 'w>
+        ensures { result ≡ fields words.now }
+    {
+        let Some((first, others)) = words.split_first() else {
+            return Fields {
+                ttl: None,
+                class: None,
+                others: words,
+            };
+        };
+        if is_ttl_word(first) {
+            return Fields::behind_ttl(first, others);
+        }
+        if is_class_word(first) {
+            return Fields::behind_class(first, others);
+        }
+        Fields {
+            ttl: None,
+            class: None,
+            others: words,
+        }
+    }
+
+    fn behind_ttl(ttl: &'a Word<'w>, words: &'a [Word<'w>]) -> Fields<'a, 'w>
+        ensures { result ≡ class_behind ttl.now words.now }
+    {
+        let ttl = Some(ttl);
+        let Some((first, others)) = words.split_first() else {
+            return Fields {
+                ttl,
+                class: None,
+                others: words,
+            };
+        };
+        if is_class_word(first) {
+            return Fields {
+                ttl,
+                class: Some(first),
+                others,
+            };
+        }
+        Fields {
+            ttl,
+            class: None,
+            others: words,
+        }
+    }
+
+    fn behind_class(class: &'a Word<'w>, words: &'a [Word<'w>]) -> Fields<'a, 'w>
+        ensures { result ≡ ttl_behind class.now words.now }
+    {
+        let class = Some(class);
+        let Some((first, others)) = words.split_first() else {
+            return Fields {
+                ttl: None,
+                class,
+                others: words,
+            };
+        };
+        if is_ttl_word(first) {
+            return Fields {
+                ttl: Some(first),
+                class,
+                others,
+            };
+        }
+        Fields {
+            ttl: None,
+            class,
+            others: words,
+        }
+    }
+}
+
+// An unquoted word that begins with a digit.
+fn is_ttl_word(word: &Word<'_>) -> bool
+    ensures { result ≡ is_ttl_word word.now }
+{
+    !word.quoted && word.raw.first().is_some_and(|first| first.is_ascii_digit())
+}
+
+// An unquoted word that names a class, or begins as `CLASS1` does (RFC 1035 3.2.4, RFC 3597 5).
+fn is_class_word(word: &Word<'_>) -> bool
+    ensures { result ≡ is_class_word word.now }
+{
+    !word.quoted && (is_class_name(word.raw) || begins_class(word.raw))
+}
+
+fn is_class_name(raw: &[u8]) -> bool
+    ensures { result ≡ list_any (λ c. is_word c raw.now) (codes "in" ∷ codes "ch" ∷ codes "cs" ∷ codes "hs" ∷ []) }
+{
+    is_word(b"in", raw) || is_word(b"ch", raw) || is_word(b"cs", raw) || is_word(b"hs", raw)
+}
+
+fn begins_class(raw: &[u8]) -> bool
+    ensures { result ≡ is_word (codes "class") (take 5 raw.now) }
+{
+    raw.split_at_checked(5)
+        .is_some_and(|(prefix, _)| is_word(b"class", prefix))
+}
+
+/// The TTL that is stated, if one is: `Ttl` where it is none.
+pub(crate) fn stated_ttl(stated: Option<&Word<'_>>) -> Result<Option<u32>, ReadCode>
+    ensures { MatchResult result (λ ttl. TtlOf (option_copied stated.entry) ttl) (λ code. (code ≡ ReadCode.BadTtl) × IsNoTtl (option_copied stated.entry)) }
+{
+    let Some(word) = stated else {
+        return Ok(None);
+    };
+    match read_ttl(word) {
+        Some(ttl) => Ok(Some(ttl)),
+        None => Err(ReadCode::BadTtl),
+    }
+}
+
+/// Whether a class is stated that is not IN.
+pub(crate) fn is_other_class(stated: Option<&Word<'_>>) -> bool
+    ensures { result ≡ is_other_class (option_copied stated.entry) }
+{
+    stated.is_some_and(|word| !(is_word(b"in", word.raw) || is_word(b"class1", word.raw)))
+}
+
+/// The type that the first word names, and the words of the data behind it.
+pub(crate) fn type_and_words<'a, 'w>(words: &'a [Word<'w>]) -> Option<(RType, &'a [Word<'w>])>
+    ensures { MatchOption result (Nothing (TypeIs words.now)) (λ x. TypeIs words.now x.0.0 × (x.1.now ≡ drop 1 words.now)) }
+{
+    let (first, others) = words.split_first()?;
+    Some((read_type(first)?, others))
+}
+
+// The type that a word names, where zones have it.
+fn read_type(word: &Word<'_>) -> Option<RType>
+    ensures { MatchOption result (Nothing (NamedType word.now)) (λ r. NamedType word.now r.0) }
+{
+    if word.quoted {
+        return None;
+    }
+    let Some(rtype) = RType::read_text(word.raw) else {
+        return None;
+    };
+    if is_zone_type(rtype.0) {
+        Some(rtype)
+    } else {
+        None
+    }
+}
+
+// Whether zones have the type: not 0, none of questions and messages (RFC 6895 3.1), none of DNSSEC and not DNAME.
+fn is_zone_type(rtype: u16) -> bool
+    ensures { result ≡ is_zone_type rtype }
+{
+    !matches!(rtype, 0 | 128..=255 | 39 | 41 | 43 | 46 | 47 | 48 | 50 | 51)
+}

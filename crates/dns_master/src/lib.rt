@@ -1,0 +1,21 @@
+//! Zone files (RFC 1035 section 5): from their text to records.
+#![tactic(auto)]
+
+mod directive;
+mod entry;
+mod fault;
+mod fields;
+mod piece;
+mod reader;
+mod record;
+mod run;
+mod source;
+mod state;
+mod words;
+
+pub use fault::{ReadCode, ReadFault};
+pub use reader::read_zone;
+pub use record::Record;
+
+#[cfg(test)]
+mod tests;

@@ -1,0 +1,337 @@
+//! The reader of zone files (RFC 1035 section 5).
+ghost use Rattle.std.specs.Prelude.{◌≡◌, ◌≢◌, ◌+◌, ◌-◌, ◌^◌, ◌≤◌, ◌<◌, ◌⊎◌, length, List, [], ◌∷◌, ◌++◌, IfOk, IfErr, OnOk, IfSome, Some, codes, if◌then◌else◌};
+ghost use Rattle.std.specs.Option.{option_or};
+ghost use Rattle.dns_spec.specs.Names.{DomainName, folded};
+ghost use Rattle.dns_spec.specs.Data.{Valid};
+ghost use Rattle.dns_spec.specs.DataText.{Says};
+ghost use Rattle.dns_spec.specs.TypeText.{text_in_lower_case};
+ghost use Rattle.dns_spec.specs.ZoneText.{Entry};
+ghost use Rattle.dns_spec.specs.Meaning.{Nothing, TtlSays, gives, faulty, directive, owned, unowned, sort_of, sort_by_words, fields, RecordGives, SortGives, records, fault_at, line_behind};
+ghost use Rattle.dns_master.specs.Codes.{code_number, failures_after_read};
+ghost use Rattle.dns_master.specs.EntryForm.{TextMeans};
+ghost use Rattle.dns_master.specs.SourceForm.{GivesMeaning};
+ghost use Rattle.dns_master.specs.ReaderForm.{Knows, RecordTaken, EntryTaken, EntryDone};
+
+use crate::directive::{is_directive, read_default_ttl, read_origin};
+use crate::entry::{begins_blank, check_end, read_entry};
+use crate::fault::{ReadCode, ReadFault};
+use crate::fields::{Fields, is_other_class, stated_ttl, type_and_words};
+use crate::record::Record;
+use crate::source::{MOST_OCTETS, read_text};
+use crate::state::Reader;
+use crate::words::{is_word, read_name};
+use dns_name::{Name, Tally};
+use dns_rdata::{RType, Rdata, RdataFault, Word};
+use std::alloc::Global;
+use std::io::Read;
+
+// How many records are read.
+const MOST_RECORDS: usize = 100_000;
+
+/// Reads the zone file of a source, relative to the origin of the zone (RFC 1035 section 5).
+///
+/// The records come in the order of the file, owners and names in data in lower case. At most 100,000 records and
+/// 16,777,216 octets are read, and never more than one octet past them is asked for.
+///
+/// A faulty file gives no records: the first faulty entry is told by its line and code. In it the first of `R01` to `R04`
+/// and `R15` by place goes first, else the lowest code from `R05`. `R16` is told where the source failed, and `R17` only
+/// where no memory was found.
+pub fn read_zone<R: Read>(
+    alloc: Global,
+    origin: &Name,
+    source: &mut Tally<R>,
+) -> Result<Vec<Record>, ReadFault>
+    requires { source.old.failures < 2 ^ 64 - 1 }
+    ensures ok { IfOk result (λ found. GivesMeaning (R.remaining source.old.device) origin.now (records found.items)) }
+    ensures fault { IfErr result (λ f. f.code ≢ ReadCode.SourceFailed → f.code ≢ ReadCode.NoMemory
+        → GivesMeaning (R.remaining source.old.device) origin.now (fault_at (code_number f.code) f.line)) }
+    ensures line { IfErr result (λ f. (f.code ≡ ReadCode.SourceFailed) ⊎ (f.code ≡ ReadCode.NoMemory) → f.line ≡ 0) }
+    ensures counted { source.new.failures ≡ failures_after_read source.old.failures result }
+{
+    let text = match read_text(alloc, source) {
+        Ok(text) => text,
+        Err(code) => return Err(ReadFault { code, line: 0 }),
+    };
+    let goes_on = text.len() > MOST_OCTETS;
+    let (text, _) = text.as_slice().split_at(MOST_OCTETS.min(text.len()));
+    read_entries(alloc, origin, text, goes_on)
+}
+
+// The records of a text, which goes on past its limit or not.
+fn read_entries(
+    alloc: Global,
+    origin: &Name,
+    text: &[u8],
+    goes_on: bool,
+) -> Result<Vec<Record>, ReadFault>
+    requires { length text.now ≤ 16777216 }
+    ensures ok { IfOk result (λ found. TextMeans origin.now [] goes_on text.now (records found.items)) }
+    ensures err { IfErr result (λ f. f.code ≢ ReadCode.NoMemory → TextMeans origin.now [] goes_on text.now (fault_at (code_number f.code) f.line)) }
+    ensures source { IfErr result (λ f. f.code ≢ ReadCode.SourceFailed) }
+    ensures memory { IfErr result (λ f. f.code ≡ ReadCode.NoMemory → f.line ≡ 0) }
+{
+    let mut reader = Reader::new(alloc, origin);
+    let mut words = Vec::new(alloc);
+    let mut rest = text;
+    'entries: while !rest.is_empty() {
+        let line = reader.line;
+        match reader.take_entry(rest, goes_on, &mut words) {
+            Ok(others) => rest = others,
+            Err(code) => return Err(entry_fault(code, line)),
+        }
+    }
+    if goes_on {
+        return Err(entry_fault(ReadCode::TooLong, reader.line));
+    }
+    Ok(reader.records)
+}
+
+// The fault of an entry that begins on this line.
+fn entry_fault(code: ReadCode, line: u32) -> ReadFault
+    ensures code { result.code ≡ code }
+    ensures line { code ≢ ReadCode.NoMemory → result.line ≡ line }
+    ensures memory { code ≡ ReadCode.NoMemory → result.line ≡ 0 }
+{
+    match code {
+        ReadCode::NoMemory => ReadFault { code, line: 0 },
+        _ => ReadFault { code, line },
+    }
+}
+
+impl Reader {
+    fn new(alloc: Global, origin: &Name) -> Reader
+        ensures known { Knows origin.now [] result }
+        ensures line { result.line ≡ 1 }
+        ensures records { result.records.items ≡ [] }
+    {
+        Reader {
+            alloc,
+            origin: origin.copied(),
+            owner: None,
+            default_ttl: None,
+            stated_ttl: None,
+            line: 1,
+            records: Vec::new(alloc),
+        }
+    }
+
+    // Takes the entry that a text begins with, and gives the text behind it.
+    fn take_entry<'a>(
+        &mut self,
+        text: &'a [u8],
+        goes_on: bool,
+        words: &mut Vec<Word<'a>>,
+    ) -> Result<&'a [u8], ReadCode>
+        requires some { text.now ≢ [] }
+        requires fits { self.old.line + length text.now ≤ 16777217 }
+        ensures ok { IfOk result (λ rest. (o : DomainName) (earlier : List Entry) → Knows o earlier self.old → self.old.line ≡ line_behind earlier
+            → EntryDone o earlier goes_on text.now rest.now self.old self.new) }
+        ensures shorter { IfOk result (λ rest. length rest.now < length text.now) }
+        ensures lines { IfOk result (λ rest. self.new.line + length rest.now ≤ self.old.line + length text.now) }
+        ensures err { IfErr result (λ code. code ≢ ReadCode.NoMemory → (o : DomainName) (earlier : List Entry) → Knows o earlier self.old
+            → TextMeans o earlier goes_on text.now (fault_at (code_number code) (line_behind earlier))) }
+        ensures source { IfErr result (λ code. code ≢ ReadCode.SourceFailed) }
+    {
+        words.clear();
+        let end = read_entry(text, words)?;
+        check_end(&end, goes_on)?;
+        self.take_words(begins_blank(text), words.as_slice())?;
+        self.line += end.lines;
+        Ok(end.rest)
+    }
+
+    // Takes what the words of an entry say.
+    fn take_words(&mut self, is_blank_led: bool, words: &[Word<'_>]) -> Result<(), ReadCode>
+        ensures ok { OnOk result ((o : DomainName) (earlier : List Entry) (e : Entry) → Knows o earlier self.old → sort_of e ≡ sort_by_words is_blank_led words.now
+            → EntryTaken o earlier e self.old self.new) }
+        ensures line { OnOk result (self.new.line ≡ self.old.line) }
+        ensures err { IfErr result (λ code. code ≢ ReadCode.NoMemory → (o : DomainName) (earlier : List Entry) → Knows o earlier self.old
+            → SortGives o earlier (sort_by_words is_blank_led words.now) (faulty (code_number code))) }
+        ensures source { IfErr result (λ code. code ≢ ReadCode.SourceFailed) }
+    {
+        let Some((first, others)) = words.split_first() else {
+            return Ok(());
+        };
+        if is_blank_led {
+            return self.take_unowned(words);
+        }
+        if is_directive(first) {
+            return self.take_directive(first.raw, others);
+        }
+        self.take_owned(first, others)
+    }
+
+    // Takes a directive: its name, and the words behind it.
+    fn take_directive(&mut self, name: &[u8], words: &[Word<'_>]) -> Result<(), ReadCode>
+        ensures ok { OnOk result ((o : DomainName) (earlier : List Entry) (e : Entry) → Knows o earlier self.old → sort_of e ≡ directive (text_in_lower_case name.now) words.now
+            → EntryTaken o earlier e self.old self.new) }
+        ensures line { OnOk result (self.new.line ≡ self.old.line) }
+        ensures err { IfErr result (λ code. code ≢ ReadCode.NoMemory → (o : DomainName) (earlier : List Entry) → Knows o earlier self.old
+            → SortGives o earlier (directive (text_in_lower_case name.now) words.now) (faulty (code_number code))) }
+        ensures source { IfErr result (λ code. code ≢ ReadCode.SourceFailed) }
+    {
+        if is_word(b"$origin", name) {
+            return self.take_origin(words);
+        }
+        if is_word(b"$ttl", name) {
+            return self.take_default_ttl(words);
+        }
+        Err(ReadCode::UnknownDirective)
+    }
+
+    // Takes the words of `$ORIGIN`.
+    fn take_origin(&mut self, words: &[Word<'_>]) -> Result<(), ReadCode>
+        ensures ok { OnOk result ((o : DomainName) (earlier : List Entry) (e : Entry) → Knows o earlier self.old → sort_of e ≡ directive (codes "$origin") words.now
+            → EntryTaken o earlier e self.old self.new) }
+        ensures line { OnOk result (self.new.line ≡ self.old.line) }
+        ensures err { IfErr result (λ code. (o : DomainName) (earlier : List Entry) → Knows o earlier self.old
+            → SortGives o earlier (directive (codes "$origin") words.now) (faulty (code_number code))) }
+        ensures source { IfErr result (λ code. code ≢ ReadCode.SourceFailed) }
+    {
+        let Some(origin) = read_origin(words, &self.origin) else {
+            return Err(ReadCode::DirectiveWords);
+        };
+        self.origin = origin;
+        Ok(())
+    }
+
+    // Takes the words of `$TTL`.
+    fn take_default_ttl(&mut self, words: &[Word<'_>]) -> Result<(), ReadCode>
+        ensures ok { OnOk result ((o : DomainName) (earlier : List Entry) (e : Entry) → Knows o earlier self.old → sort_of e ≡ directive (codes "$ttl") words.now
+            → EntryTaken o earlier e self.old self.new) }
+        ensures line { OnOk result (self.new.line ≡ self.old.line) }
+        ensures err { IfErr result (λ code. (o : DomainName) (earlier : List Entry) → Knows o earlier self.old
+            → SortGives o earlier (directive (codes "$ttl") words.now) (faulty (code_number code))) }
+        ensures source { IfErr result (λ code. code ≢ ReadCode.SourceFailed) }
+    {
+        let Some(ttl) = read_default_ttl(words) else {
+            return Err(ReadCode::DirectiveWords);
+        };
+        self.default_ttl = Some(ttl);
+        Ok(())
+    }
+
+    // Takes a record that states its owner: that word, and the words behind it.
+    fn take_owned(&mut self, owner: &Word<'_>, words: &[Word<'_>]) -> Result<(), ReadCode>
+        ensures ok { OnOk result ((o : DomainName) (earlier : List Entry) (e : Entry) → Knows o earlier self.old → sort_of e ≡ owned owner.now words.now
+            → EntryTaken o earlier e self.old self.new) }
+        ensures line { OnOk result (self.new.line ≡ self.old.line) }
+        ensures err { IfErr result (λ code. code ≢ ReadCode.NoMemory → (o : DomainName) (earlier : List Entry) → Knows o earlier self.old
+            → SortGives o earlier (owned owner.now words.now) (faulty (code_number code))) }
+        ensures source { IfErr result (λ code. code ≢ ReadCode.SourceFailed) }
+    {
+        let Some(owner) = read_name(owner, &self.origin) else {
+            return Err(ReadCode::BadOwner);
+        };
+        self.take_record(owner.fold(), words)
+    }
+
+    // Takes a record whose owner is that of the record before.
+    fn take_unowned(&mut self, words: &[Word<'_>]) -> Result<(), ReadCode>
+        ensures ok { OnOk result ((o : DomainName) (earlier : List Entry) (e : Entry) → Knows o earlier self.old → sort_of e ≡ unowned words.now
+            → EntryTaken o earlier e self.old self.new) }
+        ensures line { OnOk result (self.new.line ≡ self.old.line) }
+        ensures err { IfErr result (λ code. code ≢ ReadCode.NoMemory → (o : DomainName) (earlier : List Entry) → Knows o earlier self.old
+            → SortGives o earlier (unowned words.now) (faulty (code_number code))) }
+        ensures source { IfErr result (λ code. code ≢ ReadCode.SourceFailed) }
+    {
+        let Some(owner) = &self.owner else {
+            return Err(ReadCode::NoOwner);
+        };
+        let owner = owner.fold();
+        self.take_record(owner, words)
+    }
+
+    // Takes the record of an owner and of the words behind it.
+    fn take_record(&mut self, owner: Name, words: &[Word<'_>]) -> Result<(), ReadCode>
+        requires { folded owner ≡ owner }
+        ensures ok { OnOk result ((o : DomainName) (earlier : List Entry) → Knows o earlier self.old → RecordTaken o earlier owner (fields words.now) self.old self.new) }
+        ensures line { OnOk result (self.new.line ≡ self.old.line) }
+        ensures err { IfErr result (λ code. code ≢ ReadCode.NoMemory → (o : DomainName) (earlier : List Entry) → Knows o earlier self.old
+            → RecordGives o earlier 8 (λ n. n ≡ owner) (fields words.now) (faulty (code_number code))) }
+        ensures source { IfErr result (λ code. code ≢ ReadCode.SourceFailed) }
+    {
+        let fields = Fields::of(words);
+        let record = self.read_record(owner, &fields)?;
+        self.owner = Some(record.owner.copied());
+        self.stated_ttl = last_stated(fields.ttl.is_some(), record.ttl, self.stated_ttl);
+        push_record(&mut self.records, record)
+    }
+
+    // The record of an owner and of the fields behind it.
+    fn read_record(&self, owner: Name, fields: &Fields<'_, '_>) -> Result<Record, ReadCode>
+        requires { folded owner ≡ owner }
+        ensures ok { IfOk result (λ r. (o : DomainName) (earlier : List Entry) → Knows o earlier self.now → RecordGives o earlier 8 (λ n. n ≡ owner) fields.now (gives (r ∷ []))) }
+        ensures owner { IfOk result (λ r. r.owner ≡ owner) }
+        ensures ttl { IfOk result (λ r. IfSome fields.now.ttl (λ w. TtlSays w r.ttl)) }
+        ensures err { IfErr result (λ code. code ≢ ReadCode.NoMemory → (o : DomainName) (earlier : List Entry) → Knows o earlier self.now
+            → RecordGives o earlier 8 (λ n. n ≡ owner) fields.now (faulty (code_number code))) }
+        ensures source { IfErr result (λ code. code ≢ ReadCode.SourceFailed) }
+    {
+        let Ok(stated) = stated_ttl(fields.ttl) else {
+            return Err(ReadCode::BadTtl);
+        };
+        if is_other_class(fields.class) {
+            return Err(ReadCode::OtherClass);
+        }
+        let Some((rtype, words)) = type_and_words(fields.others) else {
+            return Err(ReadCode::BadType);
+        };
+        let Some(ttl) = self.ttl_in_force(stated) else {
+            return Err(ReadCode::NoTtl);
+        };
+        let rdata = self.read_data(rtype, words)?;
+        if self.records.len() >= MOST_RECORDS {
+            return Err(ReadCode::TooManyRecords);
+        }
+        Ok(Record {
+            owner,
+            ttl,
+            rtype,
+            rdata,
+        })
+    }
+
+    // The TTL of a record: the stated one, else that of `$TTL`, else the last that was stated.
+    fn ttl_in_force(&self, stated: Option<u32>) -> Option<u32>
+        ensures { result ≡ option_or stated (option_or self.now.default_ttl self.now.stated_ttl) }
+    {
+        stated.or(self.default_ttl.or(self.stated_ttl))
+    }
+
+    fn read_data(&self, rtype: RType, words: &[Word<'_>]) -> Result<Rdata, ReadCode>
+        ensures valid { IfOk result (λ d. Valid rtype.0 d) }
+        ensures ok { IfOk result (λ d. Says rtype.0 words.now self.now.origin d) }
+        ensures err { IfErr result (λ code. code ≢ ReadCode.NoMemory → (code ≡ ReadCode.BadData) × Nothing (Says rtype.0 words.now self.now.origin)) }
+        ensures source { IfErr result (λ code. code ≢ ReadCode.SourceFailed) }
+    {
+        match Rdata::read_words(self.alloc, rtype, words, &self.origin) {
+            Ok(rdata) => Ok(rdata),
+            Err(fault) => Err(code_of_data(fault)),
+        }
+    }
+}
+
+fn push_record(records: &mut Vec<Record>, last: Record) -> Result<(), ReadCode>
+    ensures ok { OnOk result (records.new.items ≡ records.old.items ++ last ∷ []) }
+    ensures err { IfErr result (λ code. code ≡ ReadCode.NoMemory) }
+{
+    records.push(last).map_err(|_| ReadCode::NoMemory)
+}
+
+// The TTL that was stated last, behind a record that states one or not.
+fn last_stated(is_stated: bool, ttl: u32, before: Option<u32>) -> Option<u32>
+    ensures { result ≡ (if is_stated then Some ttl else before) }
+{
+    if is_stated { Some(ttl) } else { before }
+}
+
+// The code of data that is none.
+fn code_of_data(fault: RdataFault) -> ReadCode
+    ensures { ((fault ≡ RdataFault.NoMemory) × (result ≡ ReadCode.NoMemory)) ⊎ ((fault ≢ RdataFault.NoMemory) × (result ≡ ReadCode.BadData)) }
+{
+    match fault {
+        RdataFault::NoMemory => ReadCode::NoMemory,
+        _ => ReadCode::BadData,
+    }
+}

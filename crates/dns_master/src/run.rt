@@ -1,0 +1,133 @@
+//! Runs of octets: how far a word, a string, a blank or a comment goes (RFC 1035 5.1).
+ghost use Rattle.std.specs.Prelude.{◌≡◌, ◌==◌, ◌≤◌, not, length, drop};
+ghost use Rattle.std.specs.List.{prefix_len};
+ghost use Rattle.dns_spec.specs.ZoneText.{is_blank, is_word_octet, is_string_octet, digits_behind, escape_behind, run_length};
+ghost use Rattle.dns_master.specs.PieceForm.{by_itself};
+
+/// What a run is made of, beside escapes.
+#[derive(Clone, Copy, Debug, PartialEq, Eq)]
+pub(crate) enum Run {
+    /// The printable octets of a word, without `"`, `(`, `)`, `;` and `\`.
+    Word,
+    /// The printable octets, spaces and tabs of a quoted string, without `"` and `\`.
+    String,
+}
+
+impl Run {
+    // Whether the octet stands in such a run by itself.
+    fn has(self, octet: u8) -> bool
+        ensures { result ≡ by_itself self octet }
+    {
+        match self {
+            Run::Word => is_word_octet(octet),
+            Run::String => is_string_octet(octet),
+        }
+    }
+
+    /// How many octets the run has that a text begins with, escapes counted with all of their octets.
+    pub(crate) fn length(self, text: &[u8]) -> usize
+        ensures value { result ≡ run_length (by_itself self) 0 text.now }
+        ensures bound { result ≤ length text.now }
+    {
+        let mut length = 0;
+        let mut rest = text;
+        'run: while let Some((first, others)) = rest.split_first() {
+            if *first == b'\\' {
+                let behind = escape_behind(others);
+                if behind == 0 {
+                    break;
+                }
+                length += 1 + behind;
+                rest = others.split_at(behind).1;
+            } else {
+                if !self.has(*first) {
+                    break;
+                }
+                length += 1;
+                rest = others;
+            }
+        }
+        length
+    }
+}
+
+fn is_word_octet(octet: u8) -> bool
+    ensures { result ≡ is_word_octet octet }
+{
+    octet.is_ascii_graphic() && !matches!(octet, b'"' | b'(' | b')' | b';' | b'\\')
+}
+
+fn is_string_octet(octet: u8) -> bool
+    ensures { result ≡ is_string_octet octet }
+{
+    (octet == b'\t' || octet >= b' ' && octet <= b'~') && octet != b'"' && octet != b'\\'
+}
+
+// How many octets behind a backslash belong to its escape: one that is printable and no digit, or three digits up to 255.
+// 0 where it begins no escape.
+fn escape_behind(text: &[u8]) -> usize
+    ensures value { result ≡ escape_behind text.now }
+    ensures bound { result ≤ length text.now }
+{
+    let Some(first) = text.first() else {
+        return 0;
+    };
+    if first.is_ascii_digit() {
+        return digits_behind(text);
+    }
+    if *first >= b' ' && *first <= b'~' {
+        1
+    } else {
+        0
+    }
+}
+
+fn digits_behind(text: &[u8]) -> usize
+    ensures value { result ≡ digits_behind text.now }
+    ensures bound { result ≤ length text.now }
+{
+    let Some(digits) = text.first_chunk::<3>() else {
+        return 0;
+    };
+    let [a, b, c] = *digits;
+    if !(a.is_ascii_digit() && b.is_ascii_digit() && c.is_ascii_digit()) {
+        return 0;
+    }
+    let value = 100 * u16::from(a - b'0') + 10 * u16::from(b - b'0') + u16::from(c - b'0');
+    if value < 256 { 3 } else { 0 }
+}
+
+/// The text behind its spaces and tabs.
+pub(crate) fn behind_blank(text: &[u8]) -> &[u8]
+    ensures { result.now ≡ drop (prefix_len is_blank text.now) text.now }
+{
+    let mut rest = text;
+    'blanks: while let Some((first, others)) = rest.split_first() {
+        if !is_blank(*first) {
+            break;
+        }
+        rest = others;
+    }
+    rest
+}
+
+/// A space or a tab.
+pub(crate) fn is_blank(octet: u8) -> bool
+    ensures { result ≡ is_blank octet }
+{
+    octet == b' ' || octet == b'\t'
+}
+
+/// The text from its first LF on.
+pub(crate) fn behind_comment(text: &[u8]) -> &[u8]
+    ensures { result.now ≡ drop (prefix_len (λ x. not (x == 10)) text.now) text.now }
+{
+    let mut rest = text;
+    'octets: while let Some((first, others)) = rest.split_first() {
+        if *first == b'\n' {
+            break;
+        }
+        rest = others;
+    }
+    rest
+}

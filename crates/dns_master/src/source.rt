@@ -1,0 +1,70 @@
+//! The text of a source.
+ghost use Rattle.std.specs.Prelude.{◌≡◌, ◌-◌, ◌^◌, ◌<◌, ◌≤◌, ◌⊎◌, length, IfOk, IfErr};
+ghost use Rattle.dns_master.specs.SourceForm.{AppendsPiece, TextOf};
+ghost use Rattle.dns_master.specs.Codes.{failures_after_code};
+ghost use Rattle.dns_master.specs.declared.source.TheConstants.{PIECE};
+
+use crate::fault::ReadCode;
+use dns_name::Tally;
+use std::alloc::Global;
+use std::io::Read;
+
+/// A text has at most so many octets.
+pub(crate) const MOST_OCTETS: usize = 16_777_216;
+
+// How many octets are asked for at once.
+const PIECE: usize = 65_536;
+
+/// The octets of a source to its end, or the first 16,777,217 of them: no more are asked for.
+///
+/// `SourceFailed` where a call failed, `NoMemory` where no memory was found.
+pub(crate) fn read_text<R: Read>(alloc: Global, source: &mut Tally<R>) -> Result<Vec<u8>, ReadCode>
+    requires { source.old.failures < 2 ^ 64 - 1 }
+    ensures ok { IfOk result (λ text. TextOf (R.remaining source.old.device) text.items) }
+    ensures err { IfErr result (λ code. (code ≡ ReadCode.SourceFailed) ⊎ (code ≡ ReadCode.NoMemory)) }
+    ensures counted { source.new.failures ≡ failures_after_code source.old.failures result }
+{
+    let mut piece = new_piece(alloc)?;
+    let mut text = Vec::new(alloc);
+    'pieces: while text.len() <= MOST_OCTETS {
+        let asked = PIECE.min(MOST_OCTETS + 1 - text.len());
+        if !append_piece(source, asked, piece.as_mut_slice(), &mut text)? {
+            return Ok(text);
+        }
+    }
+    Ok(text)
+}
+
+// Room for a piece.
+fn new_piece(alloc: Global) -> Result<Vec<u8>, ReadCode>
+    ensures ok { IfOk result (λ piece. length piece.items ≡ PIECE) }
+    ensures err { IfErr result (λ code. code ≡ ReadCode.NoMemory) }
+{
+    vec![in alloc; 0; PIECE].map_err(|_| ReadCode::NoMemory)
+}
+
+// Reads so many octets at most, once, and appends what came: false at the end of the source.
+fn append_piece<R: Read>(
+    source: &mut Tally<R>,
+    asked: usize,
+    piece: &mut [u8],
+    text: &mut Vec<u8>,
+) -> Result<bool, ReadCode>
+    requires count { source.old.failures < 2 ^ 64 - 1 }
+    requires some { 0 < asked }
+    requires room { asked ≤ length piece.old }
+    ensures ok { IfOk result (λ more. AppendsPiece (R.remaining source.old.device) (R.remaining source.new.device) asked text.old.items text.new.items more) }
+    ensures same { length piece.new ≡ length piece.old }
+    ensures err { IfErr result (λ code. (code ≡ ReadCode.SourceFailed) ⊎ (code ≡ ReadCode.NoMemory)) }
+    ensures counted { source.new.failures ≡ failures_after_code source.old.failures result }
+{
+    let (front, _) = piece.split_at_mut(asked);
+    let Ok(count) = source.read(front) else {
+        return Err(ReadCode::SourceFailed);
+    };
+    let (came, _) = front.split_at(count);
+    match text.extend_from_slice(came) {
+        Ok(()) => Ok(count > 0),
+        Err(_) => Err(ReadCode::NoMemory),
+    }
+}

@@ -1,0 +1,27 @@
+//! What the reader of zone files keeps from entry to entry.
+ghost use Rattle.std.specs.Prelude.{◌≤◌};
+ghost use Rattle.std.specs.Option.{ForSome};
+
+use crate::record::Record;
+use dns_name::Name;
+use std::alloc::Global;
+
+/// What the entries so far give to those behind them, and their records.
+#[derive(Drop)]
+pub(crate) struct Reader {
+    pub(crate) alloc: Global,
+    /// The origin in force.
+    pub(crate) origin: Name,
+    /// The owner of the last record, in lower case.
+    pub(crate) owner: Option<Name>,
+    /// The TTL of the last `$TTL`.
+    pub(crate) default_ttl: Option<u32>,
+    /// The TTL that a record stated last.
+    pub(crate) stated_ttl: Option<u32>,
+    /// The line on which the next entry begins, counted from 1.
+    pub(crate) line: u32,
+    /// The records so far.
+    pub(crate) records: Vec<Record>,
+    ghost default_short: { ForSome default_ttl (λ n. n ≤ 2147483647) },
+    ghost stated_short: { ForSome stated_ttl (λ n. n ≤ 2147483647) },
+}
