@@ -1,0 +1,10 @@
+mod devices;
+mod faults;
+mod hostile;
+mod limits;
+mod pieces;
+mod plain;
+mod reading;
+mod records;
+mod rows;
+mod zone;

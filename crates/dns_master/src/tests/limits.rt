@@ -1,0 +1,114 @@
+//! Faults of long files: `R14` and `R15`, and what is told before them.
+
+use super::reading::{Row, fault, repeated};
+use std::alloc::{AllocError, Global};
+use std::test::Fail;
+
+const MOST_OCTETS: usize = 16_777_216;
+
+const RECORD: &[u8] = b"a A 192.0.2.1\n";
+
+// The last octets up to the limit, on the second line; then those behind it, and the fault.
+type Limit<'a> = (&'a [u8], &'a [u8], (u8, u32));
+
+const LIMITS: [Limit<'static>; 33] = [
+    (b"", b"", (0, 0)),
+    (b"", b"x", (15, 2)),
+    (b"\n", b"x", (15, 3)),
+    (b"a", b" ", (15, 2)),
+    (b";", b"x", (15, 2)),
+    (b" ", b"\n", (15, 2)),
+    (b"\\", b"", (2, 2)),
+    (b"\\", b"x", (15, 2)),
+    (b"\\3", b"", (2, 2)),
+    (b"\\3", b"00", (15, 2)),
+    (b"\\26", b"0", (15, 2)),
+    (b"\\99", b"9", (15, 2)),
+    (b"\\1x", b"0", (2, 2)),
+    (b"\\256", b"0", (2, 2)),
+    (b"\r", b"", (1, 2)),
+    (b"\r", b"\n", (15, 2)),
+    (b"\r", b"x", (15, 2)),
+    (b"\rx", b"x", (1, 2)),
+    (b"\x00", b"x", (1, 2)),
+    (b"\"a", b"", (3, 2)),
+    (b"\"a", b"\"", (15, 2)),
+    (b"\"a\\", b"\"", (15, 2)),
+    (b"\"a\r", b"\n", (15, 2)),
+    (b"\"a\n", b"\"", (3, 2)),
+    (b"\"a\r\n", b"\"", (3, 2)),
+    (b"(", b"", (4, 2)),
+    (b"(", b")", (15, 2)),
+    (b"((", b")", (4, 2)),
+    (b")", b"x", (4, 2)),
+    (b"$X", b"\n", (15, 2)),
+    (b"$X\n", b"\n", (5, 2)),
+    (b"a 1 A 192.0.2.1", b"", (0, 0)),
+    (b"a 1 A 192.0.2.1", b"0", (15, 2)),
+];
+
+// A text whose first line is a comment, and that has just as many octets as are allowed up to the end of `within`.
+fn fill(text: &mut Vec<u8>, within: &[u8], beyond: &[u8]) -> Result<(), AllocError> {
+    text.truncate(MOST_OCTETS - 100);
+    text.resize((MOST_OCTETS - 1).saturating_sub(within.len()), b';')?;
+    text.push(b'\n')?;
+    text.extend_from_slice(within)?;
+    text.extend_from_slice(beyond)
+}
+
+#[test]
+fn what_stands_at_the_limit(rt: HostRuntime) -> Result<(), Fail> {
+    let mut text = Vec::new(rt.alloc());
+    for (within, beyond, wanted) in LIMITS {
+        fill(&mut text, within, beyond)?;
+        assert_eq!(rt; text.len(), MOST_OCTETS.saturating_add(beyond.len()));
+        let told = fault(rt.alloc(), text.as_slice())?;
+        assert_eq!(rt; told, wanted, "at {within:?} and {beyond:?}");
+    }
+    Ok(())
+}
+
+#[test]
+fn a_comment_as_long_as_a_file(rt: HostRuntime) -> Result<(), Fail> {
+    let mut text = Vec::new(rt.alloc());
+    text.push(b';')?;
+    text.resize(MOST_OCTETS, b'x')?;
+    assert_eq!(rt; fault(rt.alloc(), text.as_slice())?, (0, 0));
+    text.push(b'x')?;
+    assert_eq!(rt; fault(rt.alloc(), text.as_slice())?, (15, 1));
+    text.truncate(0);
+    text.resize(MOST_OCTETS, b'\n')?;
+    assert_eq!(rt; fault(rt.alloc(), text.as_slice())?, (0, 0));
+    text.push(b'\n')?;
+    assert_eq!(rt; fault(rt.alloc(), text.as_slice())?, (15, 16_777_217));
+    Ok(())
+}
+
+// `$TTL` and 100,000 records, and a last line.
+fn records_and(alloc: Global, last: &[u8]) -> Result<(u8, u32), Fail> {
+    let mut text = repeated(alloc, b"$TTL 60\n", 1)?;
+    text.extend_from_slice(repeated(alloc, RECORD, 100_000)?.as_slice())?;
+    text.extend_from_slice(last)?;
+    fault(alloc, text.as_slice())
+}
+
+#[test]
+fn what_stands_behind_100000_records(rt: HostRuntime) -> Result<(), Fail> {
+    let rows: [Row<'_>; 11] = [
+        (b"", (0, 0)),
+        (b"\n; a A 192.0.2.1\n$TTL 1\n$ORIGIN .\n", (0, 0)),
+        (RECORD, (14, 100_002)),
+        (b"\n A 192.0.2.1\n", (14, 100_003)),
+        (b"a 1 TYPE1 \\# 4 C0000201", (14, 100_002)),
+        (b"a A 192.0.2.256", (13, 100_002)),
+        (b"a 1 X", (11, 100_002)),
+        (b"a 1 CH A 192.0.2.1", (10, 100_002)),
+        (b"a..b 1 A 192.0.2.1", (7, 100_002)),
+        (b"a A 192.0.2.1 (", (4, 100_002)),
+        (b"$X", (5, 100_002)),
+    ];
+    for (last, wanted) in rows {
+        assert_eq!(rt; records_and(rt.alloc(), last)?, wanted, "at {last:?}");
+    }
+    Ok(())
+}

@@ -1,0 +1,231 @@
+//! Records that files mean.
+
+use super::reading::records;
+use std::process::Abort;
+use std::test::Fail;
+
+// A record: owner, TTL, type and data.
+type Meant<'a> = (&'a [u8], u32, u16, &'a [u8]);
+
+// A file, and its records.
+type Case<'a> = (&'a [u8], &'a [Meant<'a>]);
+
+const MIXED: &[u8] = b"$TTL 60
+@ SOA ns h ( 1 2
+ 3 4 ; c
+ 5 )
+ NS ns
+ns A 192.0.2.1
+ AAAA 2001:DB8:0:0:1::1
+$ORIGIN deep
+a\\.b 7 IN TXT hi \"x;y\"
+ CLASS1 9 TYPE65280 \\# 3 AB cdef
+";
+
+const MIXED_MEANS: [Meant<'static>; 6] = [
+    (
+        b"\x07example\x00",
+        60,
+        6,
+        b"\x02ns\x07example\x00\x01h\x07example\x00\x00\x00\x00\x01\x00\x00\x00\x02\x00\x00\x00\x03\x00\x00\x00\x04\x00\x00\x00\x05",
+    ),
+    (b"\x07example\x00", 60, 2, b"\x02ns\x07example\x00"),
+    (b"\x02ns\x07example\x00", 60, 1, b"\xc0\x00\x02\x01"),
+    (
+        b"\x02ns\x07example\x00",
+        60,
+        28,
+        b"\x20\x01\x0d\xb8\x00\x00\x00\x00\x00\x01\x00\x00\x00\x00\x00\x01",
+    ),
+    (b"\x03a.b\x04deep\x07example\x00", 7, 16, b"\x02hi\x03x;y"),
+    (b"\x03a.b\x04deep\x07example\x00", 9, 65280, b"\xab\xcd\xef"),
+];
+
+const OWNERS: [Case<'static>; 7] = [
+    (b"", &[]),
+    (b"\n ; c\r\n\t\n( )\n(\n)", &[]),
+    (
+        b"A.B 1 A 192.0.2.1\n A 192.0.2.2\n\n$ORIGIN x.\n\tA 192.0.2.3\ny A 192.0.2.4\n A 192.0.2.5",
+        &[
+            (b"\x01a\x01b\x07example\x00", 1, 1, b"\xc0\x00\x02\x01"),
+            (b"\x01a\x01b\x07example\x00", 1, 1, b"\xc0\x00\x02\x02"),
+            (b"\x01a\x01b\x07example\x00", 1, 1, b"\xc0\x00\x02\x03"),
+            (b"\x01y\x01x\x00", 1, 1, b"\xc0\x00\x02\x04"),
+            (b"\x01y\x01x\x00", 1, 1, b"\xc0\x00\x02\x05"),
+        ],
+    ),
+    (
+        b"$ORIGIN B\n$ORIGIN a\n@ 1 NS @\n$ORIGIN @\nc NS d\n$ORIGIN .\n@ NS e\n. NS .",
+        &[
+            (
+                b"\x01a\x01b\x07example\x00",
+                1,
+                2,
+                b"\x01a\x01b\x07example\x00",
+            ),
+            (
+                b"\x01c\x01a\x01b\x07example\x00",
+                1,
+                2,
+                b"\x01d\x01a\x01b\x07example\x00",
+            ),
+            (b"\x00", 1, 2, b"\x01e\x00"),
+            (b"\x00", 1, 2, b"\x00"),
+        ],
+    ),
+    (
+        b"(a\n1) A 192.0.2.1;x\n(\n b) 2 A(192.0.2.2)",
+        &[
+            (b"\x01a\x07example\x00", 1, 1, b"\xc0\x00\x02\x01"),
+            (b"\x01b\x07example\x00", 2, 1, b"\xc0\x00\x02\x02"),
+        ],
+    ),
+    (
+        b"\\@\\\"\\000.\\$ 1 A 192.0.2.1\n\\IN 1 A 192.0.2.2\r\n*.W 1 A 192.0.2.3",
+        &[
+            (
+                b"\x03@\"\x00\x01$\x07example\x00",
+                1,
+                1,
+                b"\xc0\x00\x02\x01",
+            ),
+            (b"\x02in\x07example\x00", 1, 1, b"\xc0\x00\x02\x02"),
+            (b"\x01*\x01w\x07example\x00", 1, 1, b"\xc0\x00\x02\x03"),
+        ],
+    ),
+    (
+        b"IN IN 1 A 192.0.2.1\n1 2 A 192.0.2.1\nA CLASS1 A 192.0.2.1",
+        &[
+            (b"\x02in\x07example\x00", 1, 1, b"\xc0\x00\x02\x01"),
+            (b"\x011\x07example\x00", 2, 1, b"\xc0\x00\x02\x01"),
+            (b"\x01a\x07example\x00", 2, 1, b"\xc0\x00\x02\x01"),
+        ],
+    ),
+];
+
+const TTLS: [Case<'static>; 4] = [
+    (
+        b"a 5 A 192.0.2.1\nb A 192.0.2.1\nc 6 IN A 192.0.2.1\nd IN A 192.0.2.1\ne IN 7 A 192.0.2.1\n A 192.0.2.1",
+        &[
+            (b"\x01a\x07example\x00", 5, 1, b"\xc0\x00\x02\x01"),
+            (b"\x01b\x07example\x00", 5, 1, b"\xc0\x00\x02\x01"),
+            (b"\x01c\x07example\x00", 6, 1, b"\xc0\x00\x02\x01"),
+            (b"\x01d\x07example\x00", 6, 1, b"\xc0\x00\x02\x01"),
+            (b"\x01e\x07example\x00", 7, 1, b"\xc0\x00\x02\x01"),
+            (b"\x01e\x07example\x00", 7, 1, b"\xc0\x00\x02\x01"),
+        ],
+    ),
+    (
+        b"$TTL 3\na A 192.0.2.1\na 5 A 192.0.2.1\na A 192.0.2.1\n$TTL 4\na A 192.0.2.1\na 6 A 192.0.2.1\n A 192.0.2.1",
+        &[
+            (b"\x01a\x07example\x00", 3, 1, b"\xc0\x00\x02\x01"),
+            (b"\x01a\x07example\x00", 5, 1, b"\xc0\x00\x02\x01"),
+            (b"\x01a\x07example\x00", 3, 1, b"\xc0\x00\x02\x01"),
+            (b"\x01a\x07example\x00", 4, 1, b"\xc0\x00\x02\x01"),
+            (b"\x01a\x07example\x00", 6, 1, b"\xc0\x00\x02\x01"),
+            (b"\x01a\x07example\x00", 4, 1, b"\xc0\x00\x02\x01"),
+        ],
+    ),
+    (
+        b"a 5 A 192.0.2.1\n$TTL 0\na A 192.0.2.1",
+        &[
+            (b"\x01a\x07example\x00", 5, 1, b"\xc0\x00\x02\x01"),
+            (b"\x01a\x07example\x00", 0, 1, b"\xc0\x00\x02\x01"),
+        ],
+    ),
+    (
+        b"a 2147483647 A 192.0.2.1",
+        &[(
+            b"\x01a\x07example\x00",
+            2_147_483_647,
+            1,
+            b"\xc0\x00\x02\x01",
+        )],
+    ),
+];
+
+const WORDS: [Case<'static>; 5] = [
+    (
+        b"v 60 TXT ( \"a)\" ; )\n\"b\" )\n",
+        &[(b"\x01v\x07example\x00", 60, 16, b"\x02a)\x01b")],
+    ),
+    (
+        b"v 60 TXT (a) b",
+        &[(b"\x01v\x07example\x00", 60, 16, b"\x01a\x01b")],
+    ),
+    (
+        b"v 60 TXT \"a\"\"b\"c\"\"\"\\\"\\032 \"\"\t;\"\\\"",
+        &[(
+            b"\x01v\x07example\x00",
+            60,
+            16,
+            b"\x01a\x01b\x01c\x00\x03\"  \x02\t;\x01\"",
+        )],
+    ),
+    (
+        b"v 60 Cname NS.Example.\nv 60 type5 \\# 3 014100\nv 60 TYPE15 10 MAIL",
+        &[
+            (b"\x01v\x07example\x00", 60, 5, b"\x02ns\x07example\x00"),
+            (b"\x01v\x07example\x00", 60, 5, b"\x01a\x00"),
+            (
+                b"\x01v\x07example\x00",
+                60,
+                15,
+                b"\x00\x0a\x04mail\x07example\x00",
+            ),
+        ],
+    ),
+    (
+        b"_s._tcp 60 SRV 1 2 3 .\nv 60 HINFO A \"b c\"",
+        &[
+            (
+                b"\x02_s\x04_tcp\x07example\x00",
+                60,
+                33,
+                b"\x00\x01\x00\x02\x00\x03\x00",
+            ),
+            (b"\x01v\x07example\x00", 60, 13, b"\x01A\x03b c"),
+        ],
+    ),
+];
+
+fn compare<R: Abort + AllocGlobal>(rt: &R, text: &[u8], meant: &[Meant<'_>]) -> Result<(), Fail> {
+    let records = records(rt.alloc(), text)?;
+    assert_eq!(rt; records.len(), meant.len(), "of {text:?}");
+    for (record, (owner, ttl, rtype, octets)) in records.iter().zip(meant) {
+        assert_eq!(rt; record.owner.octets(), *owner, "of {text:?}");
+        assert_eq!(rt; record.ttl, *ttl, "of {text:?}");
+        assert_eq!(rt; record.rtype.0, *rtype, "of {text:?}");
+        assert_eq!(rt; record.rdata.octets(), *octets, "of {text:?}");
+    }
+    Ok(())
+}
+
+#[test]
+fn a_file_of_many_forms(rt: HostRuntime) -> Result<(), Fail> {
+    compare(&rt, MIXED, &MIXED_MEANS)
+}
+
+#[test]
+fn owners_and_origins(rt: HostRuntime) -> Result<(), Fail> {
+    for (text, meant) in OWNERS {
+        compare(&rt, text, meant)?;
+    }
+    Ok(())
+}
+
+#[test]
+fn ttls_that_are_taken_over(rt: HostRuntime) -> Result<(), Fail> {
+    for (text, meant) in TTLS {
+        compare(&rt, text, meant)?;
+    }
+    Ok(())
+}
+
+#[test]
+fn words_of_data(rt: HostRuntime) -> Result<(), Fail> {
+    for (text, meant) in WORDS {
+        compare(&rt, text, meant)?;
+    }
+    Ok(())
+}
