@@ -3,7 +3,7 @@ use Rattle.std.specs.Prelude.{ℕ, Bool, true, false, Result, Ok, Err}
 use Rattle.dns_tools.specs.declared.fault.Stop.{Stop}
 use Rattle.dns_tools.specs.declared.fault.Stop.TheVariants.{Memory, Source, Sink}
 use Rattle.dns_tools.specs.declared.fault.FaultWord.{FaultWord}
-use Rattle.dns_tools.specs.declared.fault.FaultWord.TheVariants.{Usage, BadOrigin, NoMemory, SourceFailed, SinkFailed, ZoneRefused, Unsupported}
+use Rattle.dns_tools.specs.declared.fault.FaultWord.TheVariants.{Usage, BadOrigin, NoMemory, SourceFailed, SinkFailed, ZoneRefused, FaultyEntry}
 
 -- 0 where all was as it should be, 1 where the input was at fault, 2 where the program could not finish
 abbrev pub status_of : {E : Type 0} → Result Bool E → ℕ
@@ -25,4 +25,4 @@ fault_status NoMemory = 2
 fault_status SourceFailed = 2
 fault_status SinkFailed = 2
 fault_status ZoneRefused = 1
-fault_status (Unsupported line) = 1
+fault_status (FaultyEntry line code) = 1

@@ -1,7 +1,7 @@
 -- What a reader learns here: which words of a command line are never taken as values.
 use Rattle.std.specs.Prelude.{ℕ, Bool, true, false, ◌==◌, List, [], ◌∷◌}
 use Rattle.dns_tools.specs.declared.fault.FaultWord.{FaultWord}
-use Rattle.dns_tools.specs.declared.fault.FaultWord.TheVariants.{Usage, BadOrigin, NoMemory, SourceFailed, SinkFailed, ZoneRefused, Unsupported}
+use Rattle.dns_tools.specs.declared.fault.FaultWord.TheVariants.{Usage, BadOrigin, NoMemory, SourceFailed, SinkFailed, ZoneRefused, FaultyEntry}
 
 -- the word begins with `-`
 abbrev pub is_dashed : List ℕ → Bool
@@ -16,4 +16,4 @@ is_word_fault NoMemory = true
 is_word_fault SourceFailed = false
 is_word_fault SinkFailed = false
 is_word_fault ZoneRefused = false
-is_word_fault (Unsupported line) = false
+is_word_fault (FaultyEntry line code) = false

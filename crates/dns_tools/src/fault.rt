@@ -47,9 +47,9 @@ pub enum FaultWord {
     /// The records of the file are no zone that is served.
     #[error("zone refused")]
     ZoneRefused,
-    /// The first line of the file, counted from 1, that is no record in the one spelling that is read.
-    #[error("line {0}: unsupported")]
-    Unsupported(u32),
+    /// The line on which the first faulty entry of the file begins, counted from 1, and the number of its fault.
+    #[error("line {line}: R{code:02}")]
+    FaultyEntry { line: u32, code: u8 },
 }
 
 impl FaultWord {
@@ -58,7 +58,7 @@ impl FaultWord {
         ensures { result ≡ fault_status self.now }
     {
         match self {
-            FaultWord::ZoneRefused | FaultWord::Unsupported(_) => 1,
+            FaultWord::ZoneRefused | FaultWord::FaultyEntry { .. } => 1,
             _ => 2,
         }
     }

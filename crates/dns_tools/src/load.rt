@@ -1,59 +1,84 @@
-//! A zone from its file: one record a line, each in the one spelling that a printed zone has.
-ghost use Rattle.std.specs.Prelude.{◌≡◌, ◌≢◌, ◌+◌, ◌-◌, ◌^◌, ◌<◌, ◌≤◌, vec_len, vec_capacity, IfErr};
-ghost use Rattle.dns_tools.specs.Load.{failures_after_load, TellsLineUpTo, word_of_load};
-ghost use Rattle.dns_tools.specs.declared.load.TheConstants.{MOST_LINES, MOST_LINE};
-
-mod line;
+//! A zone from its file.
+ghost use Rattle.std.specs.Prelude.{◌≡◌, ◌-◌, ◌^◌, ◌<◌, true, false, Err, IfOk};
+ghost use Rattle.dns_tools.specs.ListZone.{listed_zone};
+ghost use Rattle.dns_tools.specs.Load.{LoadedAs, failures_after_load, is_unserved, word_of_load, word_of_read};
 
 use crate::fault::FaultWord;
 use crate::list::{BuildFault, Zone};
 use crate::record::Record;
+use dns_master::{ReadCode, ReadFault, read_zone};
 use dns_name::{Name, Tally};
-use line::{LineFault, read_line};
 use std::alloc::{AllocError, Global};
 use std::io::Read;
 
-// How many lines are read.
-const MOST_LINES: u32 = 1_000;
-
-// More octets than a record's line has: an owner of 254, four words before the data, and at most two names of 1,010
-// and five numbers in it.
-const MOST_LINE: usize = 4_096;
-
-// How many octets are read at once.
-const PIECE: usize = 65_536;
+// How many records are served.
+const MOST_RECORDS: usize = 1_000;
 
 /// Why no zone was loaded.
 #[derive(Clone, Copy, Debug, PartialEq, Eq)]
 pub enum LoadFault {
-    /// No memory was found.
-    Memory,
-    /// Reading failed.
-    Source,
-    /// The first line, counted from 1, that is no record in the one spelling that is read, or is not ended; 1,001
-    /// where there are more than 1,000 lines.
-    Unsupported(u32),
+    /// The file gives no records.
+    Read(ReadFault),
     /// The records are no zone that is served.
     Refused,
+    /// No memory was found for the zone.
+    NoMemory,
 }
 
-/// Loads the zone of the origin from a source of lines `owner TTL IN TYPE data`, each ended by LF, at most 1,000.
+/// Loads the zone of the origin from the source of its file (RFC 1035 section 5).
 ///
-/// One space stands between words, and each word has its canonical spelling. The types are SOA and NS, at the origin
-/// alone, and A. Names are absolute and in lower case, owners without escapes and not below a first label `*`; numbers
-/// are plain decimals, a TTL at most 2147483647 (RFC 2181 8). The first line that isn't such decides, before what any
-/// later line would give. Nothing is read again after a failure.
+/// The file is read relative to the origin in lower case. Its first faulty entry decides; else the records are refused
+/// where they are more than 1,000, doubles counted, or are no zone that is served. Nothing is read again after a failure.
 pub fn load<R: Read>(alloc: Global, origin: &Name, source: &mut Tally<R>) -> Result<Zone, LoadFault>
     requires { source.old.failures < 2 ^ 64 - 1 }
     ensures counted { source.new.failures ≡ failures_after_load source.old.failures result }
-    ensures line { IfErr result (TellsLineUpTo MOST_LINES) }
+    ensures meaning { LoadedAs (R.remaining source.old.device) origin.now result }
 {
-    let records = read_records(alloc, origin, source)?;
-    match Zone::build(alloc, origin, records) {
+    let records = match read_zone(alloc, &origin.fold(), source) {
+        Ok(records) => records,
+        Err(fault) => return Err(LoadFault::Read(fault)),
+    };
+    match zone_of(alloc, origin, records) {
         Ok(zone) => Ok(zone),
         Err(BuildFault::Refused) => Err(LoadFault::Refused),
-        Err(BuildFault::NoMemory) => Err(LoadFault::Memory),
+        Err(BuildFault::NoMemory) => Err(LoadFault::NoMemory),
     }
+}
+
+// The zone of the records of a file.
+fn zone_of(
+    alloc: Global,
+    origin: &Name,
+    records: Vec<dns_master::Record>,
+) -> Result<Zone, BuildFault>
+    ensures ok { IfOk result (λ zone. zone ≡ listed_zone origin.now records.items) }
+    ensures served { IfOk result (λ zone. is_unserved origin.now records.items ≡ false) }
+    ensures refused { result ≡ Err BuildFault.Refused → is_unserved origin.now records.items ≡ true }
+{
+    if records.len() > MOST_RECORDS {
+        return Err(BuildFault::Refused);
+    }
+    let Ok(records) = listed(alloc, records) else {
+        return Err(BuildFault::NoMemory);
+    };
+    Zone::build(alloc, origin, records)
+}
+
+// The records as those of a list.
+fn listed(alloc: Global, records: Vec<dns_master::Record>) -> Result<Vec<Record>, AllocError>
+    ensures { IfOk result (λ all. all.items ≡ records.items) }
+{
+    let mut all = Vec::with_capacity(alloc, records.len())?;
+    'records: for read in records {
+        let dns_master::Record {
+            owner,
+            ttl,
+            rtype,
+            rdata,
+        } = read;
+        all.push(Record::new(owner, ttl, rtype, rdata))?;
+    }
+    Ok(all)
 }
 
 impl From<LoadFault> for FaultWord {
@@ -61,115 +86,23 @@ impl From<LoadFault> for FaultWord {
 
     fn from(fault: LoadFault) -> FaultWord {
         match fault {
-            LoadFault::Memory => FaultWord::NoMemory,
-            LoadFault::Source => FaultWord::SourceFailed,
-            LoadFault::Unsupported(line) => FaultWord::Unsupported(line),
+            LoadFault::Read(fault) => word_of_read(fault),
             LoadFault::Refused => FaultWord::ZoneRefused,
+            LoadFault::NoMemory => FaultWord::NoMemory,
         }
     }
 }
 
-fn read_records<R: Read>(
-    alloc: Global,
-    origin: &Name,
-    source: &mut Tally<R>,
-) -> Result<Vec<Record>, LoadFault>
-    requires { source.old.failures < 2 ^ 64 - 1 }
-    ensures counted { source.new.failures ≡ failures_after_load source.old.failures result }
-    ensures line { IfErr result (TellsLineUpTo MOST_LINES) }
+// What is said of a file that gives no records.
+fn word_of_read(fault: ReadFault) -> FaultWord
+    ensures { result ≡ word_of_read fault }
 {
-    let mut piece = vec![in alloc; 0; PIECE].map_err(|_| LoadFault::Memory)?;
-    let mut lines = Lines::new(alloc, origin.fold()).map_err(|_| LoadFault::Memory)?;
-    'pieces: for _ in 0..u64::MAX {
-        let count = source
-            .read(piece.as_mut_slice())
-            .map_err(|_| LoadFault::Source)?;
-        if count == 0 {
-            break;
-        }
-        lines.take(&piece.as_slice()[..count])?;
-    }
-    lines.finish()
-}
-
-// The records of the lines so far, and what has come of the next line.
-#[derive(Drop)]
-struct Lines {
-    alloc: Global,
-    origin: Name,
-    records: Vec<Record>,
-    line: Vec<u8>,
-    number: u32,
-    ghost line_room: { MOST_LINE ≤ vec_capacity line },
-    ghost line_fits: { vec_len line ≤ MOST_LINE },
-    ghost counted: { 0 < number },
-    ghost few: { number ≤ MOST_LINES + 1 },
-}
-
-impl Lines {
-    fn new(alloc: Global, origin: Name) -> Result<Lines, AllocError> {
-        Ok(Lines {
-            alloc,
-            origin,
-            records: Vec::new(alloc),
-            line: Vec::with_capacity(alloc, MOST_LINE)?,
-            number: 1,
-        })
-    }
-
-    // Takes the next octets of the source, up to the first fault.
-    fn take(&mut self, octets: &[u8]) -> Result<(), LoadFault>
-        ensures source { IfErr result (λ fault. fault ≢ LoadFault.Source) }
-        ensures line { IfErr result (TellsLineUpTo MOST_LINES) }
-    {
-        for octet in octets {
-            if self.number > MOST_LINES {
-                return Err(self.unsupported());
-            }
-            if *octet == b'\n' {
-                self.end_line()?;
-            } else if self.line.len() < MOST_LINE {
-                self.line.push_reserved(*octet);
-            } else {
-                return Err(self.unsupported());
-            }
-        }
-        Ok(())
-    }
-
-    // Takes the record of the line that has ended.
-    fn end_line(&mut self) -> Result<(), LoadFault>
-        requires { self.old.number ≤ MOST_LINES }
-        ensures source { IfErr result (λ fault. fault ≢ LoadFault.Source) }
-        ensures line { IfErr result (TellsLineUpTo MOST_LINES) }
-    {
-        let record = match read_line(self.alloc, &self.origin, self.line.as_slice()) {
-            Ok(record) => record,
-            Err(LineFault::Memory) => return Err(LoadFault::Memory),
-            Err(LineFault::Unsupported) => return Err(self.unsupported()),
-        };
-        self.records.push(record).map_err(|_| LoadFault::Memory)?;
-        self.line.clear();
-        self.number += 1;
-        Ok(())
-    }
-
-    // The records, where the last line is ended.
-    fn finish(self) -> Result<Vec<Record>, LoadFault>
-        ensures source { IfErr result (λ fault. fault ≢ LoadFault.Source) }
-        ensures line { IfErr result (TellsLineUpTo MOST_LINES) }
-    {
-        if self.line.is_empty() {
-            Ok(self.records)
-        } else {
-            Err(self.unsupported())
-        }
-    }
-
-    // The next line is no record.
-    fn unsupported(&self) -> LoadFault
-        ensures { result ≡ LoadFault.Unsupported self.now.number }
-    {
-        LoadFault::Unsupported(self.number)
+    match fault.code {
+        ReadCode::SourceFailed => FaultWord::SourceFailed,
+        ReadCode::NoMemory => FaultWord::NoMemory,
+        code => FaultWord::FaultyEntry {
+            line: fault.line,
+            code: code.number(),
+        },
     }
 }

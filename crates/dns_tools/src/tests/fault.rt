@@ -19,7 +19,16 @@ fn texts_and_statuses_of_the_fault_words(rt: HostRuntime) -> Result<(), Fail> {
         (FaultWord::SourceFailed, "R16", 2),
         (FaultWord::SinkFailed, "P1", 2),
         (FaultWord::ZoneRefused, "zone refused", 1),
-        (FaultWord::Unsupported(1001), "line 1001: unsupported", 1),
+        (
+            FaultWord::FaultyEntry { line: 7, code: 11 },
+            "line 7: R11",
+            1,
+        ),
+        (
+            FaultWord::FaultyEntry { line: 10, code: 1 },
+            "line 10: R01",
+            1,
+        ),
     ];
     for (word, text, status) in rows {
         let shown = word.to_string(rt.alloc())?;

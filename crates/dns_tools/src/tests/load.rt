@@ -1,5 +1,7 @@
 use super::devices::Pieces;
+use crate::FaultWord;
 use crate::load::{LoadFault, load};
+use dns_master::{ReadCode, ReadFault};
 use dns_name::{Name, Tally};
 use std::alloc::Global;
 use std::test::Fail;
@@ -60,129 +62,139 @@ fn records_of_the_sample_file(rt: HostRuntime) -> Result<(), Fail> {
 }
 
 #[test]
-fn names_in_data_may_have_escapes_in_their_one_spelling(rt: HostRuntime) -> Result<(), Fail> {
-    for target in [
-        ".",
-        "a\\.b.x.",
-        "\\000\\127\\255\\032.",
-        "\\\"\\$\\(\\)\\;\\@\\\\.",
-        "*.x.",
-        "!#-z~.",
-    ] {
-        let line = format!(in rt.alloc(); "example. 0 IN NS {target}\nx\n")?;
-        let found = fault(rt.alloc(), line.as_bytes(), 1000, 1000)?;
-        assert_eq!(rt; found, Some(LoadFault::Unsupported(2)), "at {target}");
+fn a_file_as_people_write_it(rt: HostRuntime) -> Result<(), Fail> {
+    let alloc = rt.alloc();
+    let text = "; the sample zone\r
+$TTL 3600
+@\tSOA\tNS hostmaster (
+\t\t1 7200 ; serial, refresh
+\t\t900 1209600 300 )
+\tIN NS ns
+
+NS 3600 IN A 192.0.2.1 ; the server
+$ORIGIN b.ent
+a TYPE1 192.0.2.11
+$ORIGIN example.
+\\119ww.EXAMPLE. in 3600 a \\# 4 c0 00020A
+www A 192.0.2.10";
+    let zone = load(alloc, &example()?, &mut Tally::new(text.as_bytes()))?;
+    let sample = load(alloc, &example()?, &mut Tally::new(F1.as_bytes()))?;
+    assert_eq!(rt; zone.records().len(), sample.records().len());
+    for (record, wanted) in zone.records().iter().zip(sample.records()) {
+        assert!(rt; record.owner == wanted.owner);
+        assert_eq!(rt; record.ttl, wanted.ttl);
+        assert_eq!(rt; record.rtype, wanted.rtype);
+        assert_eq!(rt; record.rdata.octets(), wanted.rdata.octets());
     }
     Ok(())
 }
 
 #[test]
-fn lines_that_are_refused(rt: HostRuntime) -> Result<(), Fail> {
+fn what_is_said_of_faulty_files(rt: HostRuntime) -> Result<(), Fail> {
+    let rows = [
+        ("", "zone refused"),
+        (" A 192.0.2.1", "line 1: R08"),
+        ("$INCLUDE x", "line 1: R05"),
+        ("$TTL", "line 1: R06"),
+        ("$TTL 010", "line 1: R06"),
+        ("\"www\" 60 A 192.0.2.1", "line 1: R07"),
+        ("www 2147483648 A 192.0.2.1", "line 1: R09"),
+        ("www 60 CH A 192.0.2.1", "line 1: R10"),
+        ("www 60 60 A 192.0.2.1", "line 1: R11"),
+        ("www 60 A 192.0.2.256", "line 1: R13"),
+        ("www 60 TXT \"a\n", "line 1: R03"),
+        ("www 60 TXT a\\\n", "line 1: R02"),
+        ("www 60 A \u{0}", "line 1: R01"),
+        ("www A 192.0.2.1", "line 1: R12"),
+        ("www 60 A ( 192.0.2.1\n", "line 1: R04"),
+        ("\n; none\n\nwww 60 (\nA ;\n)\nx 60 OPT\n", "line 4: R13"),
+        ("\n\nwww 60 A (\n192.0.2.1 )\n\n\nx 60 ANY\n", "line 7: R11"),
+    ];
+    for (text, wanted) in rows {
+        let Some(found) = fault(rt.alloc(), text.as_bytes(), 7, 1000)? else {
+            return Err(Fail::new("no fault"));
+        };
+        let said = FaultWord::from(found).to_string(rt.alloc())?;
+        assert_eq!(rt; said.as_str(), wanted, "of {text:?}");
+    }
+    Ok(())
+}
+
+#[test]
+fn records_that_are_not_served(rt: HostRuntime) -> Result<(), Fail> {
     let lines = [
-        "",
-        " ",
-        "example.",
-        "example. 60 IN NS",
-        "example 60 IN A 192.0.2.1",
-        "@ 60 IN A 192.0.2.1",
-        "Example. 60 IN A 192.0.2.1",
-        "a\\.b.example. 60 IN A 192.0.2.1",
-        "*.example. 60 IN A 192.0.2.1",
-        "a..example. 60 IN A 192.0.2.1",
-        "a$.example. 60 IN A 192.0.2.1",
-        "a\u{e9}.example. 60 IN A 192.0.2.1",
-        "a  60 IN A 192.0.2.1",
-        "a.example. 60  IN A 192.0.2.1",
-        "a.example. 60 IN A 192.0.2.1 ",
-        " a.example. 60 IN A 192.0.2.1",
-        "a.example.\t60 IN A 192.0.2.1",
-        "a.example. 60 IN A 192.0.2.1\r",
-        "a.example. IN 60 A 192.0.2.1",
-        "a.example. 060 IN A 192.0.2.1",
-        "a.example. +60 IN A 192.0.2.1",
-        "a.example. -0 IN A 192.0.2.1",
-        "a.example. 4294967296 IN A 192.0.2.1",
-        "a.example. 2147483648 IN A 192.0.2.1",
-        "a.example. 1h IN A 192.0.2.1",
-        "a.example.  IN A 192.0.2.1",
-        "a.example. 60 in A 192.0.2.1",
-        "a.example. 60 CH A 192.0.2.1",
-        "a.example. 60 IN a 192.0.2.1",
-        "a.example. 60 IN TYPE1 192.0.2.1",
-        "a.example. 60 IN TXT \"a\"",
-        "a.example. 60 IN A 192.0.2",
-        "a.example. 60 IN A 192.0.2.1.",
-        "a.example. 60 IN A 192.0.2.256",
-        "a.example. 60 IN A 192.0.2.01",
-        "a.example. 60 IN A 192.0..1",
-        "a.example. 60 IN A",
-        "a.example. 60 IN A 192.0.2.1 192.0.2.1",
-        "a.example. 60 IN A \"192.0.2.1\"",
-        "a.example. 60 IN A \\# 4 c0000201",
-        "a.example. 60 IN A \\#",
-        "a.example. 60 IN NS ns.example.",
-        "a.example. 60 IN SOA a. b. 1 2 3 4 5",
-        "example. 60 IN NS ns",
-        "example. 60 IN NS NS.example.",
-        "example. 60 IN NS \\065.",
-        "example. 60 IN NS \\a.",
-        "example. 60 IN NS a\\046b.",
-        "example. 60 IN NS \\256.",
-        "example. 60 IN NS a. b.",
-        "example. 60 IN NS @",
-        "example. 60 IN NS \"a.\"",
-        "example. 60 IN NS \\# 3 016100",
-        "example. 60 IN SOA a. b. 1 2 3 4",
-        "example. 60 IN SOA a. b. 1 2 3 4 5 6",
-        "example. 60 IN SOA a. b. 1 2 3 4 4294967296",
-        "example. 60 IN SOA a. b. 1 2 3 04 5",
-        "example. 60 IN SOA a. B. 1 2 3 4 5",
-        "example. 60 IN SOA a. b 1 2 3 4 5",
-        "example. 60 IN SOA \\# 24 0000 0000000100000002000000030000000400000005",
+        "www 60 TXT a",
+        "v6 60 AAAA ::1",
+        "alias 60 CNAME www",
+        "x 60 TYPE65280 \\# 0",
+        "*.w 60 A 192.0.2.1",
+        "\\042.w 60 A 192.0.2.1",
+        "sub 3600 NS ns",
+        "sub 60 SOA ns hostmaster 1 2 3 4 5",
+        "www 60 A 192.0.2.10",
+        "www.other. 60 A 192.0.2.1",
+        "@ 3600 NS lost",
+        "@ 3600 SOA ns hostmaster 2 7200 900 1209600 300",
     ];
     for line in lines {
-        let text = format!(in rt.alloc(); "x.example. 2147483647 IN A 255.0.10.1\n{line}\n\n")?;
+        let text = format!(in rt.alloc(); "{F1}{line}\n")?;
         let found = fault(rt.alloc(), text.as_bytes(), 1000, 1000)?;
-        assert_eq!(rt; found, Some(LoadFault::Unsupported(2)), "at {line:?}");
+        assert_eq!(rt; found, Some(LoadFault::Refused), "at {line}");
+    }
+    for line in [
+        "a.*.w 60 A 192.0.2.1",
+        "\\.\\000 60 A 192.0.2.1",
+        "www 3600 A 192.0.2.10",
+    ] {
+        let text = format!(in rt.alloc(); "{F1}{line}\n")?;
+        let found = fault(rt.alloc(), text.as_bytes(), 1000, 1000)?;
+        assert_eq!(rt; found, None, "at {line}");
     }
     Ok(())
 }
 
 #[test]
-fn ends_of_the_file(rt: HostRuntime) -> Result<(), Fail> {
-    let alloc = rt.alloc();
-    assert_eq!(rt; fault(alloc, b"", 10, 10)?, Some(LoadFault::Refused));
-    let unended = b"x. 60 IN A 192.0.2.1";
-    assert_eq!(rt;
-        fault(alloc, unended, 10, 10)?,
-        Some(LoadFault::Unsupported(1))
-    );
-
-    let mut text = Vec::new(alloc);
-    for _ in 0..1000 {
-        text.extend_from_slice(b"outside. 60 IN A 192.0.2.1\n")?;
+fn records_are_counted_before_doubles_are_taken_out(rt: HostRuntime) -> Result<(), Fail> {
+    let mut text = Vec::new(rt.alloc());
+    text.extend_from_slice(F1.as_bytes())?;
+    for _ in 0..995 {
+        text.extend_from_slice(b"www 3600 A 192.0.2.10\n")?;
     }
-    let full = fault(alloc, text.as_slice(), 4096, 1000)?;
-    assert_eq!(rt; full, Some(LoadFault::Refused));
-    text.push(b'\n')?;
-    let past = fault(alloc, text.as_slice(), 4096, 1000)?;
-    assert_eq!(rt; past, Some(LoadFault::Unsupported(1001)));
-
-    let long = vec![in alloc; b'x'; 100_000]?;
-    assert_eq!(rt;
-        fault(alloc, long.as_slice(), 4096, 1000)?,
-        Some(LoadFault::Unsupported(1))
-    );
+    assert_eq!(rt; fault(rt.alloc(), text.as_slice(), 4096, 1000)?, None);
+    text.extend_from_slice(b"www 3600 A 192.0.2.10\n")?;
+    let past = fault(rt.alloc(), text.as_slice(), 4096, 1000)?;
+    assert_eq!(rt; past, Some(LoadFault::Refused));
+    text.extend_from_slice(b"www 3600 A")?;
+    let faulty = fault(rt.alloc(), text.as_slice(), 4096, 1000)?;
+    let read = ReadFault {
+        code: ReadCode::BadData,
+        line: 1002,
+    };
+    assert_eq!(rt; faulty, Some(LoadFault::Read(read)));
     Ok(())
 }
 
 #[test]
-fn a_failing_source_is_told_unless_a_line_decided(rt: HostRuntime) -> Result<(), Fail> {
+fn a_failing_source_is_told(rt: HostRuntime) -> Result<(), Fail> {
+    let failed = ReadFault {
+        code: ReadCode::SourceFailed,
+        line: 0,
+    };
     for calls in 0..10 {
         let found = fault(rt.alloc(), F1.as_bytes(), 20, calls)?;
-        assert_eq!(rt; found, Some(LoadFault::Source), "after {calls} reads");
+        assert_eq!(rt; found, Some(LoadFault::Read(failed)), "after {calls} reads");
     }
-    let found = fault(rt.alloc(), b"x\ny", 1, 2)?;
-    assert_eq!(rt; found, Some(LoadFault::Unsupported(1)));
+    assert_eq!(rt;
+        FaultWord::from(LoadFault::Read(failed)),
+        FaultWord::SourceFailed
+    );
+    let no_memory = ReadFault {
+        code: ReadCode::NoMemory,
+        line: 0,
+    };
+    assert_eq!(rt;
+        FaultWord::from(LoadFault::Read(no_memory)),
+        FaultWord::NoMemory
+    );
     Ok(())
 }
