@@ -1,5 +1,6 @@
 //! Why a benchmark ends before its end.
 
+use dns_master::ReadFault;
 use dns_name::SinkFailed;
 use dns_rdata::RdataFault;
 use std::alloc::{AllocError, AllocFailed};
@@ -14,6 +15,8 @@ pub(crate) enum Fault {
     Memory,
     /// The words of an input are no data.
     Input(RdataFault),
+    /// A zone file is at fault.
+    Zone(ReadFault),
     /// A text was not written.
     Sink,
     /// A clock or standard output failed.

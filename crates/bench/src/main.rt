@@ -7,6 +7,7 @@
 mod fault;
 mod inputs;
 mod work;
+mod zone;
 
 use fault::Fault;
 use std::alloc::{AllocError, Global};

@@ -4,6 +4,8 @@ ghost use Rattle.dns_spec.specs.Data.{Valid};
 
 use crate::fault::Fault;
 use crate::inputs::{IPV4, IPV6, repeated, words};
+use crate::zone::zone_text;
+use dns_master::read_zone;
 use dns_name::{Name, Tally};
 use dns_rdata::{RType, Rdata, RdataFault, Word};
 use std::alloc::Global;
@@ -38,10 +40,12 @@ enum Kind {
     WriteAddresses(RType, &'static [&'static [u8]]),
     // A name, as it stands in a zone file.
     WriteName(&'static [u8]),
+    // A zone file with so many records.
+    ReadZone(u32),
 }
 
 /// The works, in the order of the table. Those over text of different lengths have the same octets in all.
-pub(crate) const WORKS: [Work; 21] = [
+pub(crate) const WORKS: [Work; 22] = [
     Work {
         name: "read-txt-8191",
         kind: Kind::ReadText(31, b"a"),
@@ -147,6 +151,11 @@ pub(crate) const WORKS: [Work; 21] = [
         kind: Kind::WriteName(b"a\\.b.ns1.example."),
         rounds: 1_000_000,
     },
+    Work {
+        name: "read-zone",
+        kind: Kind::ReadZone(100_000),
+        rounds: 1,
+    },
 ];
 
 impl Work {
@@ -162,6 +171,7 @@ impl Work {
                 write_addresses(alloc, rtype, addresses, rounds)
             }
             Kind::WriteName(spelled) => write_name(spelled, rounds),
+            Kind::ReadZone(records) => read_file(alloc, records, rounds),
         }
     }
 }
@@ -171,8 +181,10 @@ impl Done {
 
     // Counts a datum.
     fn count(&mut self, octets: usize) {
-        self.data = self.data.wrapping_add(1);
-        self.octets = self.octets.wrapping_add(octets as u64);
+        self.add(Done {
+            data: 1,
+            octets: octets as u64,
+        });
     }
 
     // Counts what else was done.
@@ -267,6 +279,27 @@ fn write_name(spelled: &[u8], rounds: u32) -> Result<Done, Fault> {
         done.count(name.octets().len());
     }
     looked_at(sink, done)
+}
+
+// Reads a zone file, so often: a datum is a record, and an octet is one of the text.
+fn read_file(alloc: Global, records: u32, rounds: u32) -> Result<Done, Fault> {
+    let Ok(origin) = Name::read_text(b"example.", &Name::root()) else {
+        return Err(Fault::Input(RdataFault::BadName));
+    };
+    let text = zone_text(alloc, records)?;
+    let mut done = Done::NOTHING;
+    for _ in 0..rounds {
+        let mut source = Tally::new(text.as_slice());
+        let records = match read_zone(alloc, &origin, &mut source) {
+            Ok(records) => records,
+            Err(fault) => return Err(Fault::Zone(fault)),
+        };
+        done.add(Done {
+            data: records.len() as u64,
+            octets: text.len() as u64,
+        });
+    }
+    Ok(done)
 }
 
 // Looks at the octets that were written last, so that no write is left out as useless. No text has octets 0.
