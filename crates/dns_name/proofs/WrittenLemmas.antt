@@ -1,11 +1,13 @@
 -- What is written for an octet, a label and a name, as it is put together, and how long it can get.
-use Rattle.std.proofs.Common.{◌≡◌, ℕ, suc, ◌+◌, ◌-◌, ◌*◌, ◌<◌, ◌≤◌, inl, inr, true, false, [], ◌∷◌, ◌++◌, length, drop, slice_index_or, refl, sym, ◌∙◌, ap, arith, length-append}
-use Rattle.std.proofs.lemmas.List.{append_assoc, append-nil}
+use Rattle.std.proofs.Common.{◌≡◌, ℕ, suc, ◌+◌, ◌-◌, ◌*◌, ◌<◌, ◌≤◌, inl, inr, true, false, [], ◌∷◌, ◌++◌, length, map, take, drop, slice_index_or, refl, sym, ◌∙◌, ap, ap₂, arith, length-append}
+use Rattle.std.proofs.lemmas.List.{append_assoc, append-nil, take_at}
 use Rattle.std.proofs.lemmas.Bool.{cases_Bool}
 use Rattle.std.proofs.Math.Seq.{drop-cons}
 use Rattle.std.specs.Char.{is_ascii_graphic}
+use Rattle.std.specs.List.{join_with_byte}
 use Rattle.dns_spec.specs.Names.{Octets, DomainName, wire}
 use Rattle.dns_spec.specs.NameText.{is_special, three_digits, octet_text, label_text, labels_text, name_text}
+use Rattle.dns_spec.specs.Report.{bare_name_text}
 
 pub special_text : (x : ℕ) → is_special x ≡ true → octet_text x ≡ 92 ∷ x ∷ []
 unfolding octet_text
@@ -82,3 +84,19 @@ root_text n (x ∷ text) so_far e = absurd (omega arith)
 pub other_name_text : (n : DomainName) (text : Octets) → NameSoFar n text [] → 0 < length text → text ≡ name_text n
 other_name_text [] text so_far h = absurd (omega (arith, ap length so_far.whole, length-append text []))
 other_name_text (l ∷ n) text so_far h = sym (append-nil text) ∙ so_far.whole
+
+-- the dot after the last label, left off
+last_dot : (l : Octets) (n : DomainName) → labels_text (l ∷ n) ≡ join_with_byte 46 (map label_text (l ∷ n)) ++ 46 ∷ []
+last_dot l [] = append-nil (label_text l ++ 46 ∷ [])
+last_dot l (k ∷ n) =
+    append_assoc (label_text l) (46 ∷ []) (labels_text (k ∷ n))
+    ∙ ap (λ t. label_text l ++ 46 ∷ t) (last_dot k n)
+    ∙ sym (append_assoc (label_text l) (46 ∷ join_with_byte 46 (map label_text (k ∷ n))) (46 ∷ []))
+
+pub bare_name : (n : DomainName) (text new : Octets) → 0 < length n → text ≡ name_text n → new ≡ take (length text - 1) text → new ≡ bare_name_text n
+bare_name [] text new h e f = absurd (omega arith)
+bare_name (l ∷ n) text new h e f =
+    let bare = bare_name_text (l ∷ n) in
+    let whole : text ≡ bare ++ 46 ∷ [] = e ∙ last_dot l n in
+    let all_but_one : length text - 1 ≡ length bare = omega (arith, ap length whole, length-append bare (46 ∷ [])) in
+    f ∙ ap₂ take all_but_one whole ∙ take_at bare (46 ∷ []) (length bare) refl

@@ -154,11 +154,26 @@ impl Name {
     pub fn order(&self, other: &Name) -> Ordering
         ensures { result ≡ name_order self.now other.now }
     {
-        let (left, right) = (self.fold(), other.fold());
-        let (left_count, right_count) = (left.label_count(), right.label_count());
-        let shared = left_count.min(right_count);
-        let longer = left_count.cmp(&right_count);
-        order_of_labels(left.last_labels(shared), right.last_labels(shared), longer)
+        self.fold().order_as_spelled(&other.fold())
+    }
+
+    /// The same of two names in lower case, of which no copy is made: what many names are sorted by.
+    pub fn order_in_lower_case(&self, other: &Name) -> Ordering
+        requires this { folded self.now ≡ self.now }
+        requires other { folded other.now ≡ other.now }
+        ensures { result ≡ name_order self.now other.now }
+    {
+        self.order_as_spelled(other)
+    }
+
+    // Labels are compared from the right, with regard to case.
+    fn order_as_spelled(&self, other: &Name) -> Ordering
+        ensures { result ≡ slice_cmp label_order (reverse self.now) (reverse other.now) }
+    {
+        let (own_count, other_count) = (self.label_count(), other.label_count());
+        let shared = own_count.min(other_count);
+        let longer = own_count.cmp(&other_count);
+        order_of_labels(self.last_labels(shared), other.last_labels(shared), longer)
     }
 
     // The last `count` labels.

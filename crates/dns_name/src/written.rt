@@ -3,6 +3,7 @@ ghost use Rattle.std.specs.Prelude.{◌≡◌, ◌+◌, ◌-◌, ◌*◌, ◌^�
 ghost use Rattle.std.specs.Io.KnownBytes.{Appends};
 ghost use Rattle.arrayvec.specs.ArrayVec.{array_vec_len};
 ghost use Rattle.dns_spec.specs.NameText.{is_special, octet_text, label_text, name_text};
+ghost use Rattle.dns_spec.specs.Report.{bare_name_text};
 ghost use Rattle.dns_name.specs.Counted.{failures_after, AppendsBeginning};
 
 use crate::name::Name;
@@ -28,6 +29,30 @@ impl Name {
         ensures counted { sink.new.failures ≡ failures_after sink.old.failures result }
     {
         sink.write_all(self.text().as_slice())
+    }
+
+    /// Writes the name as most programs print it: its labels with a dot between them, and the root as `.`
+    ///
+    /// Octets are written as `write_text` writes them. No memory is taken. Where the writer fails, a beginning of the
+    /// text was written, and the failure is counted.
+    pub fn write_bare_text<W: Write>(&self, sink: &mut Tally<W>) -> Result<(), SinkFailed>
+        requires { sink.old.failures < 2 ^ 64 - 1 }
+        ensures ok { OnOk result (Appends (W.contents sink.old.device) (W.contents sink.new.device) (bare_name_text self.now)) }
+        ensures err { OnErr result (AppendsBeginning (W.contents sink.old.device) (W.contents sink.new.device) (bare_name_text self.now)) }
+        ensures counted { sink.new.failures ≡ failures_after sink.old.failures result }
+    {
+        sink.write_all(self.bare_text().as_slice())
+    }
+
+    // The name as it is written, but for the dot after its last label.
+    fn bare_text(&self) -> ArrayVec<u8, MAX_TEXT>
+        ensures { result.items ≡ bare_name_text self.now }
+    {
+        let mut text = self.text();
+        if self.label_count() > 0 {
+            text.pop();
+        }
+        text
     }
 
     // The name as it is written.

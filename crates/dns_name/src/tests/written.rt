@@ -60,6 +60,22 @@ fn canonical_order(rt: HostRuntime) -> Result<(), Fail> {
 }
 
 #[test]
+fn names_written_without_their_last_dot(rt: HostRuntime) -> Result<(), Fail> {
+    let rows: [(&[u8], &[u8]); 4] = [
+        (b".", b"."),
+        (b"org.", b"org"),
+        (b"WwW.Example.", b"WwW.Example"),
+        (b"a.b\\..", b"a.b\\."),
+    ];
+    for (word, text) in rows {
+        let mut sink = Tally::new(Vec::new(rt.alloc()));
+        assert_eq!(rt; read(word)?.write_bare_text(&mut sink), Ok(()));
+        assert_eq!(rt; sink.into_inner().as_slice(), text);
+    }
+    Ok(())
+}
+
+#[test]
 fn names_written(rt: HostRuntime) -> Result<(), Fail> {
     let rows: [(&[u8], &[u8]); 6] = [
         (b".", b"."),
