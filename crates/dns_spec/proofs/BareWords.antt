@@ -89,11 +89,11 @@ quotable_below_10 : (e : ℕ) → e < 10 → is_quotable (48 + e) ≡ true
 quotable_below_10 e small = agree_below_at (λ d. is_quotable (48 + d)) (λ d. true) 10 e refl small
 
 -- a test that follows from another
-follows : (a b : Bool) → (not a || b) ≡ true → a ≡ true → b ≡ true
+pub follows : (a b : Bool) → (not a || b) ≡ true → a ≡ true → b ≡ true
 follows true b h e = h
 follows false b h e = absurd (false≢true e)
 
-graphic_bare : (x : ℕ) → x < 256 → is_special x ≡ false → is_ascii_graphic x ≡ true → is_bare x ≡ true
+pub graphic_bare : (x : ℕ) → x < 256 → is_special x ≡ false → is_ascii_graphic x ≡ true → is_bare x ≡ true
 graphic_bare x small other graphic =
     follows (not (is_special x) && is_ascii_graphic x) (is_bare x)
     (agree_below_at (λ o. not (not (is_special o) && is_ascii_graphic o) || is_bare o) (λ o. true) 256 x refl small)

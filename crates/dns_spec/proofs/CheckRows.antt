@@ -1,4 +1,4 @@
--- The faults of zones, each check once, computed from the definitions.
+-- The faults of zones, computed from the definitions: most checks once, with what they spare.
 use Rattle.std.specs.Prelude.{◌≡◌, ℕ, zero, suc, ◌+◌, List, [], ◌∷◌, ◌++◌, codes}
 use Rattle.std.specs.Int.{bytes_high_first}
 use mathlib.Core.Path.{refl}

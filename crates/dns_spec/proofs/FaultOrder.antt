@@ -79,7 +79,7 @@ each_any (x ∷ xs) = (tt, each_any xs)
 eqb_decides : (a b : ℕ) → (eqb a b ≡ true → a ≡ b) × (a ≡ b → eqb a b ≡ true)
 eqb_decides a b = (eqb-true a b, eq-eqb a b)
 
-nat_ties : (x y : ℕ) → eqb x y ≡ is_eq (nat_cmp x y)
+pub nat_ties : (x y : ℕ) → eqb x y ≡ is_eq (nat_cmp x y)
 nat_ties x y = go (nat_lt x y) refl
   where
     level : (s : Bool) → s ≡ is_eq (cond s Equal Greater)
@@ -113,24 +113,24 @@ lower_twice : (os : Octets) → map to_ascii_lowercase (map to_ascii_lowercase o
 lower_twice [] = refl
 lower_twice (o ∷ os) = ap₂ (λ x xs. x ∷ xs) (lowercase-lowercase o) (lower_twice os)
 
-folded_folded : (n : DomainName) → folded (folded n) ≡ folded n
+pub folded_folded : (n : DomainName) → folded (folded n) ≡ folded n
 folded_folded [] = refl
 folded_folded (l ∷ n) = ap₂ (λ x xs. x ∷ xs) (lower_twice l) (folded_folded n)
 
-abbrev Lower : DomainName → Type 0
+abbrev pub Lower : DomainName → Type 0
 Lower n = folded n ≡ n
 
 each_lower : (xs : List ResourceRecord) → Each Lower (map (λ (r : ResourceRecord). folded r.owner) xs)
 each_lower [] = tt
 each_lower (r ∷ xs) = (folded_folded r.owner, each_lower xs)
 
-one_lower : (n m : DomainName) → Lower n → Lower m → same n m ≡ true → n ≡ m
+pub one_lower : (n m : DomainName) → Lower n → Lower m → same n m ≡ true → n ≡ m
 one_lower n m d e t = sym d ∙ (names_equal-decides (folded n) (folded m)).0 t ∙ e
 
-name_order_total : IsTotalOrder name_order
+pub name_order_total : IsTotalOrder name_order
 name_order_total = on_total (λ n. reverse (folded n)) (lists_total nat_list_cmp_total)
 
-name_tie : (n m : DomainName) → name_order n m ≡ Equal → same n m ≡ true
+pub name_tie : (n m : DomainName) → name_order n m ≡ Equal → same n m ≡ true
 name_tie n m e =
     let a = reverse (folded n) in
     let b = reverse (folded m) in

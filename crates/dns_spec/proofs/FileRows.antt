@@ -13,7 +13,7 @@ use Rattle.dns_spec.proofs.Examples.{hex, example, under, net_192, soa_of, strin
 use Rattle.dns_spec.proofs.ReadTexts.{pieces_in, means, entry_in, earlier_in, left_in, is_plain, plain_octet, plain_label, plain_name, plain_string, record_given, given_then}
 use mathlib.Core.Bool.{xor}
 
-abbrev small_file : Octets
+abbrev pub small_file : Octets
 small_file =
     codes "$TTL 60\n"
     ++ codes "@ SOA ns h ( 1 2\n"
@@ -283,7 +283,7 @@ origin_directive : EntryGives example (earlier 5) (entry_at 5) (gives [])
 unfolding pieces_in run_length xor
 origin_directive = inr (λ none. none deep (refl, (example, refl, spells_deep)), refl)
 
-abbrev six_records : List ResourceRecord
+abbrev pub six_records : List ResourceRecord
 six_records = soa_record ∷ ns_record ∷ a_record ∷ aaaa_record ∷ txt_record ∷ unknown_record ∷ []
 
 -- the entries behind so many
@@ -298,7 +298,7 @@ below_deep =
     (given_then example (earlier 7) (entry_at 7) (left 8) (unknown_record ∷ []) (records []) unknown_given
     (given_then example (earlier 8) (entry_at 8) [] [] (records []) refl refl)))
 
-small_file_means : Means example small_file (records six_records)
+pub small_file_means : Means example small_file (records six_records)
 unfolding pieces_in run_length xor
 small_file_means =
     means small_file (records six_records) refl refl refl

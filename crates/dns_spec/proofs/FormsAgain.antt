@@ -16,7 +16,7 @@ use Rattle.dns_spec.proofs.WrittenNames.{name_spelled}
 use Rattle.dns_spec.proofs.NumberAgain.{number_of-below, number_said}
 use Rattle.dns_spec.proofs.Ipv6Again.{ipv6_said}
 use Rattle.dns_spec.proofs.StringAgain.{string_said}
-use Rattle.dns_spec.proofs.StandingWords.{Standing, decimal_standing, ipv4_standing, ipv6_standing, name_standing, string_standing}
+use Rattle.dns_spec.proofs.StandingWords.{TakenWhole, Standing, decimal_standing, ipv4_standing, ipv6_standing, name_standing, string_standing}
 
 abbrev pub is_unmarked : List Word → Bool
 is_unmarked [] = true
@@ -30,19 +30,21 @@ pub record FormSaid (f : WordForm) (origin : DomainName) (d back : Octets) : Typ
   pub behind : (word_front f d).1 ≡ back
   pub standing : Standing (word_front f d).0
 
--- the words of forms say all data, they stand alone, and the first is not the mark of the form for any data
+-- the words of forms say all data, they stand alone and are taken in whole, and the first is not the mark of the form for any data
 pub record WordsSaid (fs : List WordForm) (origin : DomainName) (d : Octets) : Type 0 where
   pub said : SaysForms fs origin (form_words fs d) d
   pub alone : list_all stands_alone (form_words fs d) ≡ true
+  pub whole : Each TakenWhole (form_words fs d)
   pub unmarked : is_unmarked (form_words fs d) ≡ true
 
 pub none_said : (origin : DomainName) → WordsSaid [] origin []
-none_said origin = record { said = refl; alone = refl; unmarked = refl }
+none_said origin = record { said = refl; alone = refl; whole = tt; unmarked = refl }
 
 pub said_step : (f : WordForm) (fs : List WordForm) (origin : DomainName) (d back : Octets) → FormSaid f origin d back → WordsSaid fs origin back → WordsSaid (f ∷ fs) origin d
 said_step f fs origin d back s others = record {
   said = (s.front, back, s.whole, s.word, subst (λ b. SaysForms fs origin (form_words fs b) back) (sym s.behind) others.said);
   alone = and_from _ _ s.standing.alone (ap (λ b. list_all stands_alone (form_words fs b)) s.behind ∙ others.alone);
+  whole = (s.standing.whole, subst (λ b. Each TakenWhole (form_words fs b)) (sym s.behind) others.whole);
   unmarked = ap not s.standing.unmarked;
 }
 
@@ -88,11 +90,11 @@ labels_small (l ∷ n) small zero e inside = small_front l (wire n) (small_tail 
 labels_small (l ∷ n) small (suc k) e inside =
     labels_small n (small_back l (wire n) (small_tail (length l) (l ++ wire n) small)) k e (omega (arith, inside))
 
-small_labels : (n : DomainName) → All (All (λ o. o < 256)) n → Each Small n
+pub small_labels : (n : DomainName) → All (All (λ o. o < 256)) n → Each Small n
 small_labels [] small = tt
 small_labels (l ∷ n) small = (small 0 [] (omega arith), small_labels n (λ k e inside. small (suc k) e (omega arith)))
 
-some_labels : (n : DomainName) → is_name n ≡ true → Each (λ l. 0 < length l) n
+pub some_labels : (n : DomainName) → is_name n ≡ true → Each (λ l. 0 < length l) n
 some_labels n ok = each n (IsName-is_name n ok).labels
   where
     each : (n : DomainName) → list_all is_label n ≡ true → Each (λ l. 0 < length l) n

@@ -14,6 +14,7 @@ pub mod GroupsAgain
 pub mod ZeroRuns
 pub mod Ipv6Again
 pub mod BareWords
+pub mod WordRuns
 pub mod StandingWords
 pub mod FormsAgain
 pub mod SaidAgain
@@ -38,6 +39,7 @@ pub mod Examples
 mod Rows
 mod PlainRows
 mod CheckRows
+mod ReportRows
 mod AnswerRows
 mod ReadingRows
 mod TextRows
@@ -45,10 +47,18 @@ mod TypeRows
 mod DataRows
 pub mod TextPieces
 mod WordRows
+pub mod ReadWords
+pub mod PrintedLines
 pub mod ReadTexts
+pub mod PrintedMeaning
+pub mod PrintedZone
 mod MeaningRows
 mod FileRows
 mod LimitRows
 mod TakenOverRows
 mod ParenthesisRows
 mod ZoneRows
+mod PrintedRows
+pub mod RecordOrder
+pub mod PassedChecks
+pub mod OrderedReport

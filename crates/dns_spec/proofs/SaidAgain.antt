@@ -1,4 +1,4 @@
--- The words that are written for valid data say that data again, and each of them stands alone.
+-- The words that are written for valid data say that data again, each of them stands alone, and a reader takes them in whole.
 use Rattle.std.proofs.Common.{◌≡◌, ℕ, zero, suc, ◌*◌, ◌<◌, ◌≤◌, ◌⊎◌, inl, inr, true, false, Bool, ◌||◌, ◌==◌, max, Option, None, Some, List, [], ◌∷◌, ◌++◌, length, take, drop, replicate, nat_le, refl, sym, ◌∙◌, ap, subst, arith, append-nil}
 use Rattle.std.proofs.lemmas.Bool.{false≢true, not-true, and_parts, and_from, leb-true, cases_Bool, or_cases}
 use Rattle.std.proofs.lemmas.Option.{none-some, same_Some, cond_some, some_pair_parts}
@@ -9,11 +9,14 @@ use Rattle.dns_spec.specs.Names.{Octets, DomainName, name_of}
 use Rattle.dns_spec.specs.Data.{numbers, ipv4, ipv6, Piece, fixed, domain, string, strings, anything, TypeRow, type_table, row_of, other_type, pieces_of, Part, octets, name, part_octets, octets_front, piece_front, cut, valid, lower_case}
 use Rattle.dns_spec.specs.DataText.{Word, WordForm, name_word, string_word, SaysForms, forms_in, forms_of, SaysTyped, is_unknown_mark, SaysAsSpelled, Says}
 use Rattle.dns_spec.specs.WrittenText.{word_front, form_words, string_count, words_by, written_words, unknown_words, hex_words, stands_alone}
+use Rattle.dns_spec.specs.ZoneText.{is_word_octet}
+use Rattle.dns_spec.proofs.SortedOnce.{Each}
 use Rattle.dns_spec.proofs.SmallOctets.{Small, small_back}
 use Rattle.dns_spec.proofs.WrittenData.{cut_into, name_read, all_strings}
 use Rattle.dns_spec.proofs.LoweredData.{piece_whole, cut_data}
 use Rattle.dns_spec.proofs.HexAgain.{unknown_said}
-use Rattle.dns_spec.proofs.StandingWords.{decimal_standing, hex_alone}
+use Rattle.dns_spec.proofs.WordRuns.{runs_escaped}
+use Rattle.dns_spec.proofs.StandingWords.{TakenWhole, decimal_standing, hex_alone, hex_runs}
 use Rattle.dns_spec.proofs.FormsAgain.{WordsSaid, is_unmarked, none_said, said_step, ipv4_front_said, ipv6_front_said, name_front_said, string_front_said, numbers_said, strings_said}
 
 -- a piece whose words are as many whatever the record has, with numbers of at most 64 bits
@@ -160,7 +163,7 @@ strings_formed t origin d made xs e alone h small =
     }
 
 -- an entry of a table passes what all entries pass
-entry_passes : {X : Type 0} (p q : X → Bool) (xs : List X) (x : X) → find p xs ≡ Some x → list_all q xs ≡ true → q x ≡ true
+pub entry_passes : {X : Type 0} (p q : X → Bool) (xs : List X) (x : X) → find p xs ≡ Some x → list_all q xs ≡ true → q x ≡ true
 entry_passes p q [] x e all = absurd (none-some x e)
 entry_passes p q (y ∷ xs) x e all = by_cases (cases_Bool (p y)) (λ f. entry_passes p q xs x f parts.1)
   where
@@ -234,3 +237,19 @@ words_alone t d small ok = go (row_of t) refl
     go (Some made) e =
         let f = formed t [] d made e ok small in
         ap (λ o. list_all stands_alone (words_by o d)) f.of_data ∙ f.words.alone
+
+unknown_whole : (d : Octets) → length d ≤ 65535 → Small d → Each TakenWhole (unknown_words d)
+unknown_whole d short small = (runs_escaped is_word_octet 35 refl refl, ((decimal_standing (length d) (omega (arith, short))).whole, hex d small))
+  where
+    hex : (d : Octets) → Small d → Each TakenWhole (hex_words d)
+    hex [] small = tt
+    hex (o ∷ d) small = (hex_runs (o ∷ d) small, tt)
+
+pub words_whole : (t : ℕ) (d : Octets) → Small d → valid t d ≡ true → Each TakenWhole (written_words t d)
+words_whole t d small ok = go (row_of t) refl
+  where
+    go : (r : Option TypeRow) → row_of t ≡ r → Each TakenWhole (written_words t d)
+    go None e = subst (Each TakenWhole) (sym (unnamed_words t d e)) (unknown_whole d (cut_data t d ok).short small)
+    go (Some made) e =
+        let f = formed t [] d made e ok small in
+        subst (λ o. Each TakenWhole (words_by o d)) (sym f.of_data) f.words.whole

@@ -64,7 +64,7 @@ filter_among p a (x ∷ xs) e m = go (p x) refl m (filter_among p a xs e)
     go false q (inr n) f = f n
 
 -- each element once
-abbrev Apart : {X : Type 0} → (X → X → Bool) → List X → Type 0
+abbrev pub Apart : {X : Type 0} → (X → X → Bool) → List X → Type 0
 Apart eq [] = Unit {0}
 Apart eq (x ∷ xs) = Each (λ y. eq x y ≡ false) xs × Apart eq xs
 
@@ -76,7 +76,7 @@ apart_filter eq p (x ∷ xs) a = go (p x) (apart_filter eq p xs a.1)
     go true f = (each_filter (λ y. eq x y ≡ false) p xs a.0, f)
     go false f = f
 
-apart_distinct : {X : Type 0} (eq : X → X → Bool) (xs : List X) → Apart eq (distinct eq xs)
+pub apart_distinct : {X : Type 0} (eq : X → X → Bool) (xs : List X) → Apart eq (distinct eq xs)
 apart_distinct eq [] = tt
 apart_distinct {X} eq (x ∷ xs) =
     let p : X → Bool = λ y. not (eq x y) in (
@@ -84,12 +84,12 @@ apart_distinct {X} eq (x ∷ xs) =
       apart_filter eq p (distinct eq xs) (apart_distinct eq xs),
     )
 
-distinct_among : {X : Type 0} (eq : X → X → Bool) (a : X) (xs : List X) → Among a (distinct eq xs) → Among a xs
+pub distinct_among : {X : Type 0} (eq : X → X → Bool) (a : X) (xs : List X) → Among a (distinct eq xs) → Among a xs
 distinct_among eq a [] m = m
 distinct_among eq a (x ∷ xs) (inl e) = inl e
 distinct_among eq a (x ∷ xs) (inr m) = inr (distinct_among eq a xs (among_filter (λ y. not (eq x y)) a (distinct eq xs) m))
 
-each_distinct : {X : Type 0} (P : X → Type 0) (eq : X → X → Bool) (xs : List X) → Each P xs → Each P (distinct eq xs)
+pub each_distinct : {X : Type 0} (P : X → Type 0) (eq : X → X → Bool) (xs : List X) → Each P xs → Each P (distinct eq xs)
 each_distinct P eq [] e = tt
 each_distinct P eq (x ∷ xs) e = (e.0, each_filter P (λ y. not (eq x y)) (distinct eq xs) (each_distinct P eq xs e.1))
 
@@ -126,12 +126,12 @@ module _ {X : Type 0} (cmp : X → X → Ordering) where
       go true (inr n) f = elim (f n) [ inl e ↦ inl e | inr k ↦ inr (inr k) ]
       go false n f = n
 
-  among_sort : (a : X) (xs : List X) → Among a xs → Among a (sort_by cmp xs)
+  pub among_sort : (a : X) (xs : List X) → Among a xs → Among a (sort_by cmp xs)
   among_sort a [] m = m
   among_sort a (x ∷ xs) (inl e) = among_insert a x (sort_by cmp xs) (inl e)
   among_sort a (x ∷ xs) (inr m) = among_insert a x (sort_by cmp xs) (inr (among_sort a xs m))
 
-  sort_among : (a : X) (xs : List X) → Among a (sort_by cmp xs) → Among a xs
+  pub sort_among : (a : X) (xs : List X) → Among a (sort_by cmp xs) → Among a xs
   sort_among a [] m = m
   sort_among a (x ∷ xs) m = elim (insert_among a x (sort_by cmp xs) m) [ inl e ↦ inl e | inr k ↦ inr (sort_among a xs k) ]
 
@@ -148,7 +148,7 @@ module _ {X : Type 0} (cmp : X → X → Ordering) where
   length-sort_by (x ∷ xs) = length-insert x (sort_by cmp xs) ∙ ap suc (length-sort_by xs)
 
   -- each element is before those behind it
-  abbrev Rises : List X → Type 0
+  abbrev pub Rises : List X → Type 0
   Rises [] = Unit {0}
   Rises (x ∷ xs) = Each (λ y. cmp x y ≡ Less) xs × Rises xs
 
@@ -173,11 +173,11 @@ module _ {X : Type 0} (cmp : X → X → Ordering) (order : IsTotalOrder cmp) (e
       go Equal p f = absurd (false≢true (sym e.0 ∙ tie x y p))
       go Greater p f = (each_insert cmp (λ z. cmp y z ≡ Less) x ys (turned (cmp y x) (sym (order.antisymm x y) ∙ p)) r.0, f)
 
-  sort_rises : (xs : List X) → Apart eq xs → Rises cmp (sort_by cmp xs)
+  pub sort_rises : (xs : List X) → Apart eq xs → Rises cmp (sort_by cmp xs)
   sort_rises [] a = tt
   sort_rises (x ∷ xs) a = insert_rises x (sort_by cmp xs) (sort_rises xs a.1) (each_sort cmp (λ y. eq x y ≡ false) xs a.0)
 
-  among_distinct : (a : X) (xs : List X) → Each D xs → Among a xs → Among a (distinct eq xs)
+  pub among_distinct : (a : X) (xs : List X) → Each D xs → Among a xs → Among a (distinct eq xs)
   among_distinct a [] d m = m
   among_distinct a (x ∷ xs) d (inl e) = inl e
   among_distinct a (x ∷ xs) d (inr m) = go (eq x a) refl (among_distinct a xs d.1 m)
@@ -193,7 +193,7 @@ module _ {X : Type 0} (cmp : X → X → Ordering) (order : IsTotalOrder cmp) (e
   neither x y p q = apart x (order.trans x y x p q)
 
   -- two lists that rise and have the same elements are one
-  same_risen : (xs ys : List X) → Rises cmp xs → Rises cmp ys → ((a : X) → Among a xs → Among a ys) → ((a : X) → Among a ys → Among a xs) → xs ≡ ys
+  pub same_risen : (xs ys : List X) → Rises cmp xs → Rises cmp ys → ((a : X) → Among a xs → Among a ys) → ((a : X) → Among a ys → Among a xs) → xs ≡ ys
   same_risen [] [] r s f g = refl
   same_risen [] (y ∷ ys) r s f g = absurd (g y (inl refl))
   same_risen (x ∷ xs) [] r s f g = absurd (f x (inl refl))

@@ -1,8 +1,9 @@
--- The words that are written stand alone, and none of them is the mark of the form for data of any type.
-use Rattle.std.proofs.Common.{◌≡◌, ℕ, ◌+◌, ◌/◌, ◌%◌, ◌<◌, ◌^◌, ◌⊎◌, inl, inr, true, false, ◌==◌, List, [], ◌∷◌, ◌++◌, length, take, drop, nat_lt, refl, sym, ◌∙◌, ap, subst, arith, append_assoc, append-nil, length-append, decimal}
+-- The words that are written stand alone, a reader takes them in whole, and none of them is the mark of the form for data of
+-- any type.
+use Rattle.std.proofs.Common.{◌≡◌, ℕ, ◌+◌, ◌/◌, ◌%◌, ◌<◌, ◌^◌, ◌⊎◌, inl, inr, Bool, true, false, ◌==◌, List, [], ◌∷◌, ◌++◌, length, take, drop, nat_lt, refl, sym, ◌∙◌, ap, subst, arith, append_assoc, append-nil, length-append, decimal}
 use Rattle.std.proofs.lemmas.Bool.{and_from, and_right, lt-ltb, cases_Bool}
 use Rattle.std.proofs.lemmas.Fmt.{decimal_nonempty}
-use Rattle.std.specs.Prelude.{Some, None}
+use Rattle.std.specs.Prelude.{if◌then◌else◌, Some, None}
 use Rattle.std.specs.Char.{digit_char}
 use Rattle.std.specs.Fmt.{digits}
 use Rattle.dns_spec.specs.Names.{Octets, DomainName, octets_equal}
@@ -10,16 +11,26 @@ use Rattle.dns_spec.specs.NameText.{label_text, labels_text, name_text}
 use Rattle.dns_spec.specs.AddressText.{SaysIpv6, ipv6_groups, ipv4_text, groups_text, longest_run, longest_place, groups_of, ipv6_text}
 use Rattle.dns_spec.specs.DataText.{Word, is_unknown_mark}
 use Rattle.dns_spec.specs.WrittenText.{plain, quoted, hex_text, is_unbroken, is_bare, stands_alone}
+use Rattle.dns_spec.specs.ZoneText.{is_word_octet, is_string_octet}
 use Rattle.dns_spec.proofs.SortedOnce.{Each}
 use Rattle.dns_spec.proofs.SmallOctets.{Small, small_head, small_tail}
 use Rattle.dns_spec.proofs.WrittenNames.{labels_text_long}
+use Rattle.dns_spec.proofs.WordRuns.{Runs, runs_bare, name_runs, string_runs}
 use Rattle.dns_spec.proofs.GroupsAgain.{Groups, group_digits}
 use Rattle.dns_spec.proofs.Ipv6Again.{groups_of-small, groups_taken, groups_dropped, ipv6_said}
 use Rattle.dns_spec.proofs.BareWords.{Bare, bare_append, bare_joined, bare_decimal, bare_ipv4, bare_hex, bare_text, no_backslash, labels_unbroken, string_unbroken}
 
--- a word that stands alone, and is not the mark
+-- what a reader goes on over in a word
+abbrev pub by_itself : Word → ℕ → Bool
+by_itself w = if w.is_quoted then is_string_octet else is_word_octet
+
+abbrev pub TakenWhole : Word → Type 0
+TakenWhole w = Runs (by_itself w) w.raw
+
+-- a word that stands alone, is taken in whole, and is not the mark
 pub record Standing (w : Word) : Type 0 where
   pub alone : stands_alone w ≡ true
+  pub whole : TakenWhole w
   pub unmarked : is_unknown_mark w ≡ false
 
 bare_alone : (x : Octets) → 0 < length x → Bare x → stands_alone (plain x) ≡ true
@@ -29,8 +40,8 @@ bare_unmarked : (x : Octets) → Bare x → is_unknown_mark (plain x) ≡ false
 bare_unmarked [] bare = refl
 bare_unmarked (o ∷ x) bare = rw (no_backslash is_bare o refl bare.0) refl
 
-bare_standing : (x : Octets) → 0 < length x → Bare x → Standing (plain x)
-bare_standing x some bare = record { alone = bare_alone x some bare; unmarked = bare_unmarked x bare }
+pub bare_standing : (x : Octets) → 0 < length x → Bare x → Standing (plain x)
+bare_standing x some bare = record { alone = bare_alone x some bare; whole = runs_bare x bare; unmarked = bare_unmarked x bare }
 
 pub decimal_standing : (n : ℕ) → n < 2 ^ 64 → Standing (plain (decimal n))
 decimal_standing n small = bare_standing (decimal n) (decimal_nonempty n small) (bare_decimal n small)
@@ -107,14 +118,15 @@ dotted_unmarked x front e = ap (λ y. is_unknown_mark (plain y)) e ∙ by_cases 
     by_cases (a ∷ b ∷ front) = and_right (a == 92) _ (and_right (b == 35) _ (longer front))
 
 pub name_standing : (n : DomainName) → Each Small n → Each (λ l. 0 < length l) n → Standing (plain (name_text n))
-name_standing [] small some = record { alone = refl; unmarked = refl }
+name_standing [] small some = record { alone = refl; whole = name_runs [] small; unmarked = refl }
 name_standing (l ∷ n) small some = record {
   alone = and_from _ _ (lt-ltb 0 _ (omega (arith, labels_text_long l n some.0))) (labels_unbroken (l ∷ n) small);
+  whole = name_runs (l ∷ n) small;
   unmarked = (let d = dot_last l n in dotted_unmarked (labels_text (l ∷ n)) d.front d.whole);
 }
 
 pub string_standing : (s : Octets) → Small s → Standing (quoted s)
-string_standing s small = record { alone = string_unbroken s small; unmarked = refl }
+string_standing s small = record { alone = string_unbroken s small; whole = string_runs s small; unmarked = refl }
 
 bare_hex_text : (d : Octets) → Small d → Bare (hex_text d)
 bare_hex_text [] small = tt
@@ -124,3 +136,6 @@ bare_hex_text (o ∷ d) small =
 
 pub hex_alone : (o : ℕ) (d : Octets) → Small (o ∷ d) → stands_alone (plain (hex_text (o ∷ d))) ≡ true
 hex_alone o d small = bare_alone (hex_text (o ∷ d)) (omega arith) (bare_hex_text (o ∷ d) small)
+
+pub hex_runs : (d : Octets) → Small d → Runs is_word_octet (hex_text d)
+hex_runs d small = runs_bare (hex_text d) (bare_hex_text d small)

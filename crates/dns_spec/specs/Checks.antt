@@ -116,7 +116,7 @@ checks =
     ∷ (6, cname_and_other) ∷ (7, many_cname) ∷ (8, ttls_differ) ∷ (9, ns_target_alias) ∷ (10, ns_target_lost)
     ∷ (11, mx_target_alias) ∷ (12, data_at_cut) ∷ (13, wildcard_ns) ∷ (14, large_set) ∷ (15, many_sets) ∷ []
 
--- a name of the zone, in lower case, and the code of a check
+-- a name that a fault is told of, in lower case, and the code of a check
 pub record Fault : Type 0 where
   pub owner : DomainName
   pub code : ℕ

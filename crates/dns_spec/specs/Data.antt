@@ -186,6 +186,10 @@ abbrev pub number_of : Octets → ℕ
 number_of [] = 0
 number_of (o ∷ os) = o * 256 ^ length os + number_of os
 
+-- RFC 1035 3.3.13: SERIAL, the first of the five numbers that end an SOA
+abbrev pub soa_serial : Octets → ℕ
+soa_serial d = number_of (take 4 (drop (length d - 20) d))
+
 -- RFC 1035 3.3.13: MINIMUM, the last 32 bits of an SOA
 abbrev pub soa_minimum : Octets → ℕ
 soa_minimum d = number_of (drop (length d - 4) d)

@@ -12,6 +12,8 @@ pub mod Meaning
 pub mod Sets
 pub mod Tree
 pub mod Checks
+pub mod ZonePrinted
+pub mod Report
 pub mod Reading
 pub mod Layout
 pub mod Sharing

@@ -157,8 +157,8 @@ ttl_in_force earlier stated =
 abbrev pub TtlIs : List Entry → Option Word → ℕ → Type 0
 TtlIs earlier stated n = MatchOption (ttl_in_force earlier stated) ⊥ (λ w. TtlSays w n)
 
--- Types that no zone has: 0, and those of questions and of what a message says of itself, RFC 6895 3.1; and, in this
--- product, the types of DNSSEC and DNAME.
+-- All types but those that no zone has: 0, and those of questions and of what a message says of itself, RFC 6895 3.1; and,
+-- in this product, the types of DNSSEC and DNAME.
 abbrev pub is_zone_type : ℕ → Bool
 is_zone_type t = not (t == 0 || (nat_le 128 t && nat_le t 255) || list_any (λ u. t == u) (39 ∷ 41 ∷ 43 ∷ 46 ∷ 47 ∷ 48 ∷ 50 ∷ 51 ∷ []))
 

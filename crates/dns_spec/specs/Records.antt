@@ -1,10 +1,11 @@
 -- What a reader learns here: what a zone is, which records are at a name, and which of them make an RRset.
 use Rattle.std.specs.Prelude.{ℕ, Bool, ◌&&◌, not, List, [], ◌∷◌, map, ◌==◌, if◌then◌else◌}
 use Rattle.std.specs.List.{list_any, filter}
-use Rattle.std.specs.Ordering.{nat_cmp, is_gt}
+use Rattle.std.specs.Ordering.{nat_cmp, is_gt, ordering_then}
 use Rattle.std.specs.Cmp.Lexicographic.{slice_cmp}
 use Rattle.std.specs.declared.cmp.Ordering.{Ordering}
-use Rattle.dns_spec.specs.Names.{Octets, DomainName, folded, octets_equal, same}
+use Rattle.dns_spec.specs.Names.{Octets, DomainName, folded, octets_equal, same, name_order}
+use Rattle.dns_spec.specs.Data.{type_soa, soa_serial}
 
 -- RFC 1035 3.2.1: a record of class IN. The TTL is in seconds; the data is uncompressed.
 pub record ResourceRecord : Type 0 where
@@ -22,7 +23,7 @@ pub record ZoneContents : Type 0 where
   pub origin : DomainName
   pub records : List ResourceRecord
 
--- each record once: the first of its equals
+-- each element once: the first of its equals
 abbrev pub distinct : {X : Type 0} → (X → X → Bool) → List X → List X
 distinct eq [] = []
 distinct eq (x ∷ xs) = x ∷ filter (λ y. not (eq x y)) (distinct eq xs)
@@ -31,7 +32,7 @@ distinct eq (x ∷ xs) = x ∷ filter (λ y. not (eq x y)) (distinct eq xs)
 abbrev pub zone_of : DomainName → List ResourceRecord → ZoneContents
 zone_of o rs = record { origin = folded o; records = distinct records_equal rs }
 
--- a sort: each element goes before the first that is not before it
+-- a sort by insertion: an element goes before the first that is not before it, so that equal ones keep their order
 abbrev pub insert_by : {X : Type 0} → (X → X → Ordering) → X → List X → List X
 insert_by cmp x [] = x ∷ []
 insert_by cmp x (y ∷ ys) = if is_gt (cmp x y) then y ∷ insert_by cmp x ys else x ∷ y ∷ ys
@@ -43,6 +44,16 @@ sort_by cmp (x ∷ xs) = insert_by cmp x (sort_by cmp xs)
 -- RFC 4034 6.3: data as unsigned octets, a beginning first
 abbrev pub data_order : ResourceRecord → ResourceRecord → Ordering
 data_order r s = slice_cmp nat_cmp r.rdata s.rdata
+
+-- By owner, RFC 4034 6.1; then, in this product, by type; then by data, RFC 4034 6.3; and records that agree in all these by TTL.
+abbrev pub record_order : ResourceRecord → ResourceRecord → Ordering
+record_order r s =
+    ordering_then (name_order r.owner s.owner)
+    (ordering_then (nat_cmp r.rtype s.rtype) (ordering_then (data_order r s) (nat_cmp r.ttl s.ttl)))
+
+-- the zone of an origin and of records as they were read, these in canonical order
+abbrev pub ordered_zone : DomainName → List ResourceRecord → ZoneContents
+ordered_zone o rs = record { origin = folded o; records = sort_by record_order (distinct records_equal rs) }
 
 -- the records at a name
 abbrev pub at : ZoneContents → DomainName → List ResourceRecord
@@ -61,3 +72,11 @@ owns z n t = list_any (λ (r : ResourceRecord). same r.owner n && r.rtype == t) 
 
 abbrev pub with_owner : DomainName → List ResourceRecord → List ResourceRecord
 with_owner n = map (λ (r : ResourceRecord). record r { owner = n })
+
+abbrev pub first_serial : List ResourceRecord → ℕ
+first_serial [] = 0
+first_serial (r ∷ rs) = soa_serial r.rdata
+
+-- RFC 1035 3.3.13: the serial of a zone is that of the SOA at its origin; 0 without one
+abbrev pub zone_serial : ZoneContents → ℕ
+zone_serial z = first_serial (rrset z z.origin type_soa)

@@ -1,0 +1,67 @@
+-- What a reader learns here: what the checker of zone files reports of a file, and whether its zone passes.
+use Rattle.std.specs.Prelude.{◌≡◌, ℕ, ◌+◌, ◌/◌, ◌%◌, Bool, true, false, ◌&&◌, not, List, [], ◌∷◌, ◌++◌, map, if◌then◌else◌, codes, decimal}
+use Rattle.std.specs.List.{flat_map, join_with_byte}
+use Rattle.dns_spec.specs.Names.{Octets, DomainName, folded}
+use Rattle.dns_spec.specs.NameText.{label_text, name_text}
+use Rattle.dns_spec.specs.Records.{ZoneContents, zone_of, zone_serial}
+use Rattle.dns_spec.specs.Checks.{Fault, faults}
+use Rattle.dns_spec.specs.Meaning.{Meaning, records, fault_at, Means}
+use Rattle.dns_spec.specs.ZonePrinted.{zone_text}
+
+-- what the checker is asked for
+pub record Options : Type 0 where
+  -- to write nothing but the zone
+  pub is_quiet : Bool
+  -- to write the zone itself, where it passes
+  pub is_printing : Bool
+
+-- what is written, and whether the zone passes
+pub record Report : Type 0 where
+  pub output : Octets
+  pub passes : Bool
+
+-- the number of a code has two digits
+abbrev pub two_digits : ℕ → Octets
+two_digits n = (48 + n / 10) ∷ (48 + n % 10) ∷ []
+
+-- a fault of the file, on the line where its entry begins
+abbrev pub line_report : ℕ → ℕ → Octets
+line_report code line = codes "line " ++ decimal line ++ codes ": R" ++ two_digits code ++ codes "\n"
+
+-- a fault of the zone
+abbrev pub fault_report : Fault → Octets
+fault_report f = name_text f.owner ++ codes " Z" ++ two_digits f.code ++ codes "\n"
+
+-- the zone's name as named-checkzone prints it: without the final dot, and the root as `.`
+abbrev pub bare_name_text : DomainName → Octets
+bare_name_text [] = codes "."
+bare_name_text (l ∷ n) = join_with_byte 46 (map label_text (l ∷ n))
+
+-- what named-checkzone says of a zone that it loaded
+abbrev pub loaded_report : ZoneContents → Octets
+loaded_report z = codes "zone " ++ bare_name_text z.origin ++ codes "/IN: loaded serial " ++ decimal (zone_serial z) ++ codes "\nOK\n"
+
+-- with `is_quiet` and without `is_printing` no fault is told
+abbrev pub failing : Options → Octets → Report
+failing options told = record { output = if options.is_quiet && not options.is_printing then [] else told; passes = false }
+
+-- a zone that passes is printed where that is asked for; else it is told that it was loaded, or with `is_quiet` nothing
+abbrev pub passing : Options → ZoneContents → Report
+passing options z =
+    record { output = if options.is_printing then zone_text z else if options.is_quiet then [] else loaded_report z; passes = true }
+
+abbrev pub report_of_faults : Options → ZoneContents → List Fault → Report
+report_of_faults options z [] = passing options z
+report_of_faults options z (f ∷ fs) = failing options (flat_map fault_report (f ∷ fs))
+
+-- all faults of the zone, one on a line; where it has none, what is told of a zone that passes
+abbrev pub zone_report : Options → ZoneContents → Report
+zone_report options z = report_of_faults options z (faults z)
+
+abbrev pub report_of_meaning : Options → DomainName → Meaning → Report
+report_of_meaning options o (records rs) = zone_report options (zone_of o rs)
+report_of_meaning options o (fault_at code line) = failing options (line_report code line)
+
+-- What is reported of a text as the file of a zone with this origin.
+abbrev pub Reports : DomainName → Octets → Options → Report → Type 0
+Reports o text options report = (m : Meaning) × Means (folded o) text m × (report ≡ report_of_meaning options o m)

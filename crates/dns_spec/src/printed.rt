@@ -1,0 +1,30 @@
+//! Laws of the text in which records and zones are printed.
+
+ghost use Rattle.std.specs.Prelude.{◌≡◌, ◌≤◌, List, All, length};
+ghost use Rattle.std.specs.List.{flat_map};
+ghost use Rattle.std.specs.List.Sorted.{IsPermutation};
+ghost use Rattle.dns_spec.specs.Names.{DomainName};
+ghost use Rattle.dns_spec.specs.Records.{ResourceRecord, ZoneContents, zone_of, ordered_zone};
+ghost use Rattle.dns_spec.specs.ZoneText.{most_octets};
+ghost use Rattle.dns_spec.specs.Meaning.{records, Means, most_records};
+ghost use Rattle.dns_spec.specs.Report.{Options, zone_report};
+ghost use Rattle.dns_spec.specs.ZonePrinted.{IsReadRecord, HasZoneType, record_line, printed_records, zone_text};
+
+/// The text that is printed for records means these records, in the order in which they stand, whatever the origin
+/// (RFC 1035 section 5).
+pub fn printed_records_are_read_back()
+    ensures { (o : DomainName) (rs : List ResourceRecord) → All IsReadRecord rs → All HasZoneType rs → length rs ≤ most_records
+        → length (flat_map record_line rs) ≤ most_octets → Means o (flat_map record_line rs) (records rs) }
+{}
+
+/// The canonical text of a zone means the zone's records, up to their order.
+pub fn zone_text_means_the_zone()
+    ensures { (z : ZoneContents) (o : DomainName) → All IsReadRecord z.records → All HasZoneType z.records → length z.records ≤ most_records
+        → length (zone_text z) ≤ most_octets
+        → Means o (zone_text z) (records (printed_records z)) × IsPermutation z.records (printed_records z) }
+{}
+
+/// What is reported of a zone is the same for its records in canonical order.
+pub fn order_of_records_changes_no_report()
+    ensures { (options : Options) (o : DomainName) (rs : List ResourceRecord) → zone_report options (ordered_zone o rs) ≡ zone_report options (zone_of o rs) }
+{}
