@@ -6,9 +6,11 @@ use Rattle.std.specs.Prelude.{MatchOption, IfSome, if◌then◌else◌}
 use Rattle.std.specs.Option.{option_or, option_copied, is_none, is_some}
 use Rattle.std.specs.Borrow.{Bor}
 use Rattle.dns_spec.specs.Names.{Octets, DomainName, folded}
+use Rattle.dns_spec.specs.Data.{lower_case}
 use Rattle.dns_spec.specs.DataText.{Word, Says}
 use Rattle.dns_spec.specs.ZoneText.{Entry}
 use Rattle.dns_spec.specs.Meaning.{Nothing, Fields, Answer, faulty, gives, OriginIs, TtlSays, ttl_in_force, TypeIs, DataIs, IsNoTtl, is_other_class, are_too_many, RecordGives}
+use Rattle.dns_spec.proofs.LoweredData.{lowered-twice}
 use Rattle.dns_spec.proofs.TypeWords.{one_type}
 use Rattle.dns_master.specs.RecordForm.{TtlOf}
 
@@ -146,3 +148,7 @@ module _ (o : DomainName) (earlier : List Entry) (owner : DomainName) (f : Field
                 ),
               ),
             )
+
+-- data that words say has its names in lower case
+pub said-lowered : (t : ℕ) (ws : List Word) (o : DomainName) (d : Octets) → Says t ws o d → lower_case t d ≡ d
+said-lowered t ws o d e = ap (lower_case t) (sym e.lower) ∙ lowered-twice t e.as_spelled e.is_valid ∙ e.lower

@@ -3,7 +3,7 @@ use Rattle.std.specs.Prelude.{⊤, ◌≡◌, ℕ, ◌≤◌, not, List, [], ◌
 use Rattle.std.specs.Borrow.{Bor}
 use Rattle.std.specs.List.{filter}
 use Rattle.dns_spec.specs.Names.{Octets, DomainName, folded}
-use Rattle.dns_spec.specs.Data.{Valid}
+use Rattle.dns_spec.specs.Data.{Valid, lower_case}
 use Rattle.dns_spec.specs.NameText.{SpellsName}
 use Rattle.dns_spec.specs.TypeText.{NamesType}
 use Rattle.dns_spec.specs.DataText.{Word}
@@ -44,8 +44,10 @@ pub record Inherited (o : DomainName) (earlier : List Entry) (origin : DomainNam
   pub stated_is : TtlOf (nearest ttl_word earlier) stated_ttl
   pub count_is : count ≡ length (filter is_record earlier)
 
--- what every record keeps: its owner is in lower case, its TTL within the limit, and its data valid for its type
+-- what every record keeps: its owner is in lower case, its TTL within the limit, and its data valid for its type, with its
+-- names in lower case
 pub record IsKept (owner : DomainName) (ttl t : ℕ) (d : Octets) : Type 0 where
   pub low : folded owner ≡ owner
   pub short : ttl ≤ most_ttl
   pub is_valid : Valid t d
+  pub lowered : lower_case t d ≡ d

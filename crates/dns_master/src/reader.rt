@@ -2,11 +2,11 @@
 ghost use Rattle.std.specs.Prelude.{◌≡◌, ◌≢◌, ◌+◌, ◌-◌, ◌^◌, ◌≤◌, ◌<◌, ◌⊎◌, length, List, [], ◌∷◌, ◌++◌, IfOk, IfErr, OnOk, IfSome, Some, codes, if◌then◌else◌};
 ghost use Rattle.std.specs.Option.{option_or};
 ghost use Rattle.dns_spec.specs.Names.{DomainName, folded};
-ghost use Rattle.dns_spec.specs.Data.{Valid};
+ghost use Rattle.dns_spec.specs.Data.{Valid, lower_case};
 ghost use Rattle.dns_spec.specs.DataText.{Says};
 ghost use Rattle.dns_spec.specs.TypeText.{text_in_lower_case};
 ghost use Rattle.dns_spec.specs.ZoneText.{Entry};
-ghost use Rattle.dns_spec.specs.Meaning.{Nothing, TtlSays, gives, faulty, directive, owned, unowned, sort_of, sort_by_words, fields, RecordGives, SortGives, records, fault_at, line_behind};
+ghost use Rattle.dns_spec.specs.Meaning.{Nothing, TtlSays, gives, faulty, directive, owned, unowned, sort_of, sort_by_words, fields, RecordGives, SortGives, records, fault_at, line_behind, most_records};
 ghost use Rattle.dns_master.specs.Codes.{code_number, failures_after_read};
 ghost use Rattle.dns_master.specs.EntryForm.{TextMeans};
 ghost use Rattle.dns_master.specs.SourceForm.{GivesMeaning};
@@ -45,6 +45,7 @@ pub fn read_zone<R: Read>(
     ensures ok { IfOk result (λ found. GivesMeaning (R.remaining source.old.device) origin.now (records found.items)) }
     ensures fault { IfErr result (λ f. f.code ≢ ReadCode.SourceFailed → f.code ≢ ReadCode.NoMemory
         → GivesMeaning (R.remaining source.old.device) origin.now (fault_at (code_number f.code) f.line)) }
+    ensures few { IfOk result (λ found. length found.items ≤ most_records) }
     ensures line { IfErr result (λ f. (f.code ≡ ReadCode.SourceFailed) ⊎ (f.code ≡ ReadCode.NoMemory) → f.line ≡ 0) }
     ensures counted { source.new.failures ≡ failures_after_read source.old.failures result }
 {
@@ -66,6 +67,7 @@ fn read_entries(
 ) -> Result<Vec<Record>, ReadFault>
     requires { length text.now ≤ 16777216 }
     ensures ok { IfOk result (λ found. TextMeans origin.now [] goes_on text.now (records found.items)) }
+    ensures few { IfOk result (λ found. length found.items ≤ most_records) }
     ensures err { IfErr result (λ f. f.code ≢ ReadCode.NoMemory → TextMeans origin.now [] goes_on text.now (fault_at (code_number f.code) f.line)) }
     ensures source { IfErr result (λ f. f.code ≢ ReadCode.SourceFailed) }
     ensures memory { IfErr result (λ f. f.code ≡ ReadCode.NoMemory → f.line ≡ 0) }
@@ -262,6 +264,7 @@ impl Reader {
     fn read_record(&self, owner: Name, fields: &Fields<'_, '_>) -> Result<Record, ReadCode>
         requires { folded owner ≡ owner }
         ensures ok { IfOk result (λ r. (o : DomainName) (earlier : List Entry) → Knows o earlier self.now → RecordGives o earlier 8 (λ n. n ≡ owner) fields.now (gives (r ∷ []))) }
+        ensures few { IfOk result (λ r. length self.now.records.items < most_records) }
         ensures owner { IfOk result (λ r. r.owner ≡ owner) }
         ensures ttl { IfOk result (λ r. IfSome fields.now.ttl (λ w. TtlSays w r.ttl)) }
         ensures err { IfErr result (λ code. code ≢ ReadCode.NoMemory → (o : DomainName) (earlier : List Entry) → Knows o earlier self.now
@@ -301,6 +304,7 @@ impl Reader {
 
     fn read_data(&self, rtype: RType, words: &[Word<'_>]) -> Result<Rdata, ReadCode>
         ensures valid { IfOk result (λ d. Valid rtype.0 d) }
+        ensures lowered { IfOk result (λ d. lower_case rtype.0 d ≡ d) }
         ensures ok { IfOk result (λ d. Says rtype.0 words.now self.now.origin d) }
         ensures err { IfErr result (λ code. code ≢ ReadCode.NoMemory → (code ≡ ReadCode.BadData) × Nothing (Says rtype.0 words.now self.now.origin)) }
         ensures source { IfErr result (λ code. code ≢ ReadCode.SourceFailed) }
@@ -314,6 +318,7 @@ impl Reader {
 
 fn push_record(records: &mut Vec<Record>, last: Record) -> Result<(), ReadCode>
     ensures ok { OnOk result (records.new.items ≡ records.old.items ++ last ∷ []) }
+    ensures bound { length records.new.items ≤ length records.old.items + 1 }
     ensures err { IfErr result (λ code. code ≡ ReadCode.NoMemory) }
 {
     records.push(last).map_err(|_| ReadCode::NoMemory)

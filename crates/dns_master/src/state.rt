@@ -1,6 +1,7 @@
 //! What the reader of zone files keeps from entry to entry.
-ghost use Rattle.std.specs.Prelude.{◌≤◌};
+ghost use Rattle.std.specs.Prelude.{◌≤◌, length};
 ghost use Rattle.std.specs.Option.{ForSome};
+ghost use Rattle.dns_spec.specs.Meaning.{most_records};
 
 use crate::record::Record;
 use dns_name::Name;
@@ -24,4 +25,5 @@ pub(crate) struct Reader {
     pub(crate) records: Vec<Record>,
     ghost default_short: { ForSome default_ttl (λ n. n ≤ 2147483647) },
     ghost stated_short: { ForSome stated_ttl (λ n. n ≤ 2147483647) },
+    ghost few: { length records.items ≤ most_records },
 }

@@ -17,4 +17,5 @@ invariant_of-self c = record {
       let told = (c.read_default_ttl.ensures c.in-Some.ttl).0 c.in-Some.is in
       subst (λ m. m ≤ 2147483647) (same_Some c.in-Some.ttl n e) (one-short c.args.words.now c.in-Some.ttl told);
   stated_short = c.args.self.now.stated_short;
+  few = c.args.self.now.few;
 }

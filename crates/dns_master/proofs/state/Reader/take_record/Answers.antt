@@ -1,4 +1,4 @@
-use Rattle.std.proofs.Common.{rules, List, ◌≡◌, [], ◌∷◌, ◌++◌, subst, sym, ap, ◌∙◌, refl, Some, if◌then◌else◌, IfSome}
+use Rattle.std.proofs.Common.{rules, arith, List, ◌≡◌, [], ◌∷◌, ◌++◌, subst, sym, ap, ◌∙◌, refl, Some, if◌then◌else◌, IfSome}
 use Rattle.std.specs.Option.{is_some}
 use Rattle.dns_spec.specs.Names.{DomainName}
 use Rattle.dns_spec.specs.ZoneText.{Entry}
@@ -37,6 +37,7 @@ returns-clause-ok c =
       records = c.push_record.new.records;
       default_short = _;
       stated_short = _;
+      few = _;
     }) =
     λ grown o earlier known. record {
       taken = c.in_ok-record.record;
@@ -52,3 +53,8 @@ returns-clause-ok c =
       records = grown;
     } in
     OnOk-map _ all c.push_record.ensures.ok
+
+pub invariant_of-self-clause-few : goal.invariant_of-self-clause-few
+invariant_of-self-clause-few c =
+    let room = c.in_ok-record.ensures.few in
+    omega (arith, c.push_record.ensures.bound, room)
