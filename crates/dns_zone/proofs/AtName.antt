@@ -1,0 +1,117 @@
+-- The records of a name among records in canonical order.
+use Rattle.std.proofs.Common.{◌≡◌, Bool, true, false, not, cond, List, [], ◌∷◌, refl, ap, ◌∙◌, subst, filter, is_gt, is_lt, Ordering, Less, Equal, Greater}
+use Rattle.std.proofs.lemmas.Bool.{false≢true, true≢false, not-true}
+use Rattle.std.proofs.lemmas.Cmp.{nat_cmp_total, nat_list_cmp_total, on_total, then_total, upto}
+use Rattle.std.specs.Cmp.{IsTotalOrder}
+use Rattle.std.specs.Ordering.{ordering_reverse, ordering_then}
+use Rattle.std.specs.List.Sorted.{IsPartitionedBy}
+use Rattle.dns_spec.specs.Names.{DomainName, same, name_order}
+use Rattle.dns_spec.specs.Records.{ResourceRecord, insert_by, sort_by, data_order, record_order}
+use Rattle.dns_spec.proofs.SortedOnce.{Each, each_weaker, filter_each}
+use Rattle.dns_zone.specs.ZoneForm.{AreOrdered}
+use Rattle.dns_zone.proofs.Pairs.{Pairs, pairs_weaker, pairs_of, pairs_filter, parted, filter_within}
+use Rattle.dns_zone.proofs.NameOrder.{name_order_total, same-tied, tied-same, not_greater}
+
+-- a sorted list is in order, each element with each behind it
+module _ {X : Type 0} (cmp : X → X → Ordering) (total : IsTotalOrder cmp) where
+  abbrev pub NotAfter : X → X → Type 0
+  NotAfter x y = is_gt (cmp x y) ≡ false
+
+  not_before : (x y : X) → is_gt (cmp x y) ≡ true → NotAfter y x
+  not_before x y h = turned (cmp x y) refl h
+    where
+      turned : (c : Ordering) → cmp x y ≡ c → is_gt c ≡ true → NotAfter y x
+      turned Less e p = absurd (false≢true p)
+      turned Equal e p = absurd (false≢true p)
+      turned Greater e p = ap is_gt (total.antisymm y x ∙ ap ordering_reverse e)
+
+  each_insert : (P : X → Type 0) (x : X) (ys : List X) → P x → Each P ys → Each P (insert_by cmp x ys)
+  each_insert P x [] p e = (p, tt)
+  each_insert P x (y ∷ ys) p e = go (is_gt (cmp x y)) (each_insert P x ys p e.1)
+    where
+      go : (t : Bool) → Each P (insert_by cmp x ys) → Each P (cond t (y ∷ insert_by cmp x ys) (x ∷ y ∷ ys))
+      go true f = (e.0, f)
+      go false f = (p, (e.0, e.1))
+
+  insert_pairs : (x : X) (ys : List X) → Pairs NotAfter ys → Pairs NotAfter (insert_by cmp x ys)
+  insert_pairs x [] h = (tt, tt)
+  insert_pairs x (y ∷ ys) h = go (is_gt (cmp x y)) refl (insert_pairs x ys h.1)
+    where
+      go : (t : Bool) → is_gt (cmp x y) ≡ t → Pairs NotAfter (insert_by cmp x ys) → Pairs NotAfter (cond t (y ∷ insert_by cmp x ys) (x ∷ y ∷ ys))
+      go true e r = (each_insert (NotAfter y) x ys (not_before x y e) h.0, r)
+      go false e r = ((e, each_weaker (NotAfter y) (NotAfter x) ys (λ z f. upto total x y z e f) h.0), h)
+
+  sort_pairs : (xs : List X) → Pairs NotAfter (sort_by cmp xs)
+  sort_pairs [] = tt
+  sort_pairs (x ∷ xs) = insert_pairs x (sort_by cmp xs) (sort_pairs xs)
+
+  pub sorted_pairs : (xs : List X) → sort_by cmp xs ≡ xs → Pairs NotAfter xs
+  sorted_pairs xs e = subst (Pairs NotAfter) e (sort_pairs xs)
+
+data_order_total : IsTotalOrder data_order
+data_order_total = on_total (λ (r : ResourceRecord). r.rdata) nat_list_cmp_total
+
+record_order_total : IsTotalOrder record_order
+record_order_total =
+    then_total (on_total (λ (r : ResourceRecord). r.owner) name_order_total)
+    (then_total (on_total (λ (r : ResourceRecord). r.rtype) nat_cmp_total)
+    (then_total data_order_total (on_total (λ (r : ResourceRecord). r.ttl) nat_cmp_total)))
+
+-- owners in order, and types in order where the owner is one
+abbrev pub OwnerNotAfter : ResourceRecord → ResourceRecord → Type 0
+OwnerNotAfter r s = is_gt (name_order r.owner s.owner) ≡ false
+
+first_part : (c d : Ordering) → is_gt (ordering_then c d) ≡ false → is_gt c ≡ false
+first_part Less d h = refl
+first_part Equal d h = refl
+first_part Greater d h = h
+
+pub ordered_records : (rs : List ResourceRecord) → AreOrdered rs → Pairs (λ r s. is_gt (record_order r s) ≡ false) rs
+ordered_records rs h = sorted_pairs record_order record_order_total rs h
+
+pub owners_in_order : (rs : List ResourceRecord) → AreOrdered rs → Pairs OwnerNotAfter rs
+owners_in_order rs h =
+    pairs_weaker (λ r s. is_gt (record_order r s) ≡ false) OwnerNotAfter rs
+    (λ r s e. first_part (name_order r.owner s.owner) _ e) (ordered_records rs h)
+
+module _ (n : DomainName) where
+  abbrev pub is_before : ResourceRecord → Bool
+  is_before r = is_lt (name_order r.owner n)
+
+  abbrev pub is_at : ResourceRecord → Bool
+  is_at r = same r.owner n
+
+  before_more : (r s : ResourceRecord) → OwnerNotAfter r s → is_before s ≡ true → is_before r ≡ true
+  before_more r s e f = go (name_order r.owner s.owner) refl e (less (name_order s.owner n) refl f)
+    where
+      less : (c : Ordering) → name_order s.owner n ≡ c → is_lt c ≡ true → name_order s.owner n ≡ Less
+      less Less e f = e
+      less Equal e f = absurd (false≢true f)
+      less Greater e f = absurd (false≢true f)
+
+      go : (c : Ordering) → name_order r.owner s.owner ≡ c → is_gt c ≡ false → name_order s.owner n ≡ Less → is_before r ≡ true
+      go Less a b k = ap is_lt (name_order_total.trans r.owner s.owner n a k)
+      go Equal a b k = ap is_lt (name_order_total.congr r.owner s.owner n a ∙ k)
+      go Greater a b k = absurd (true≢false b)
+
+  pub before_parted : (rs : List ResourceRecord) → AreOrdered rs → IsPartitionedBy is_before rs
+  before_parted rs h =
+      parted is_before rs (pairs_weaker OwnerNotAfter (λ r s. is_before s ≡ true → is_before r ≡ true) rs before_more (owners_in_order rs h))
+
+  at_more : (r s : ResourceRecord) → not (is_before r) ≡ true → not (is_before s) ≡ true → OwnerNotAfter r s → is_at s ≡ true → is_at r ≡ true
+  at_more r s p q e f =
+      let tied = same-tied s.owner n f in
+      let upper : is_gt (name_order r.owner n) ≡ false = upto name_order_total r.owner s.owner n e (ap is_gt tied) in
+      tied-same r.owner n (not_greater (name_order r.owner n) upper (not-true _ p))
+
+  -- what stands at the name or behind it
+  pub at_parted : (rs : List ResourceRecord) → AreOrdered rs → IsPartitionedBy is_at (filter (λ r. not (is_before r)) rs)
+  at_parted rs h =
+      let others = filter (λ r. not (is_before r)) rs in
+      parted is_at others
+      (pairs_of (λ r. not (is_before r) ≡ true) OwnerNotAfter (λ r s. is_at s ≡ true → is_at r ≡ true) others at_more
+      (filter_each (λ r. not (is_before r)) rs)
+      (pairs_filter OwnerNotAfter (λ r. not (is_before r)) rs (owners_in_order rs h)))
+
+  pub at_others : (rs : List ResourceRecord) → filter is_at (filter (λ r. not (is_before r)) rs) ≡ filter is_at rs
+  at_others rs = filter_within (λ r. not (is_before r)) is_at rs (λ r e. ap (λ c. not (is_lt c)) (same-tied r.owner n e))

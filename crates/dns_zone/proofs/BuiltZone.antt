@@ -1,0 +1,38 @@
+-- What a zone that is built keeps, and the serial number of its SOA.
+use Rattle.std.proofs.Common.{◌≡◌, ℕ, ◌≤◌, List, length, sym, ap, ap₂, ◌∙◌, All, filter, arith}
+use Rattle.std.proofs.lemmas.List.{nil_from_length}
+use Rattle.dns_spec.specs.Names.{DomainName, folded, same}
+use Rattle.dns_spec.specs.Records.{ResourceRecord, ZoneContents, zone_of, records_equal, distinct, sort_by, record_order, first_serial, zone_serial}
+use Rattle.dns_spec.specs.Checks.{Fault, faults}
+use Rattle.dns_spec.specs.Meaning.{most_records}
+use Rattle.dns_spec.specs.ZonePrinted.{IsReadRecord, is_soa}
+use Rattle.dns_spec.proofs.FaultOrder.{folded_folded}
+use Rattle.dns_spec.proofs.PassedChecks.{one_soa}
+use Rattle.dns_spec.proofs.RecordOrder.{ordered_faults}
+use Rattle.dns_zone.specs.ZoneForm.{AreOrdered, IsBuilt}
+
+below : (a b c : ℕ) → a ≤ b → b ≤ c → a ≤ c
+below a b c h k = omega arith
+
+-- the folded origin and the canonical records of those that were read, and the faults found in them
+module _ (o n : DomainName) (rs xs : List ResourceRecord) (fs : List Fault) (low : n ≡ folded o) (canonical : xs ≡ sort_by record_order (distinct records_equal rs))
+    (found : fs ≡ faults (record { origin = n; records = xs })) where
+  pub found_of_read : fs ≡ faults (zone_of o rs)
+  found_of_read = found ∙ ap₂ (λ (m : DomainName) ys. faults (record { origin = m; records = ys })) low canonical ∙ ordered_faults o rs
+
+  pub built : length fs ≡ 0 → length rs ≤ most_records → length xs ≤ length rs → AreOrdered xs → All IsReadRecord xs → IsBuilt (record { origin = n; records = xs })
+  built none few fewer ordered each = record {
+    low = ap folded low ∙ folded_folded o ∙ sym low;
+    each = each;
+    ordered = ordered;
+    few = below (length xs) (length rs) most_records fewer few;
+    passes = sym found ∙ nil_from_length fs none;
+  }
+
+-- the SOAs at a name
+abbrev pub soas_at : DomainName → List ResourceRecord → List ResourceRecord
+soas_at o rs = filter is_soa (filter (λ (r : ResourceRecord). same r.owner o) rs)
+
+-- a built zone has one SOA at its origin
+pub serial_is : (z : ZoneContents) (n : ℕ) → IsBuilt z → n ≡ first_serial (soas_at z.origin z.records) → n ≡ zone_serial z
+serial_is z n kept e = e ∙ ap first_serial (sym (one_soa z kept.low kept.passes))

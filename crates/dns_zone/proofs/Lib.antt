@@ -1,0 +1,14 @@
+pub mod KnownRecords
+pub mod BuiltZone
+pub mod PrintedRecords
+pub mod Pairs
+pub mod NameOrder
+pub mod AtName
+pub mod Types
+pub mod SetTests
+pub mod NameTree
+pub mod AboveCuts
+pub mod TopmostLoop
+pub mod PartsLoop
+pub mod OwnRecords
+pub mod ToldNames

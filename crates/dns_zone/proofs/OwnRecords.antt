@@ -1,0 +1,74 @@
+-- The records of a name of a zone, by their types, and what is found for a target.
+use Rattle.std.proofs.Common.{◌≡◌, ℕ, ◌≤◌, ◌<◌, Bool, true, false, ◌&&◌, ◌||◌, not, cond, ◌==◌, List, [], ◌∷◌, refl, sym, ap, ap₂, ◌∙◌, arith, filter, is_gt, Less, Equal, Greater, nat_cmp, inl, inr, ◌⊎◌}
+use Rattle.std.proofs.lemmas.Bool.{cases_lt, le-ltb, ne_eqb, true≢false}
+use Rattle.std.specs.List.{list_any}
+use Rattle.std.specs.List.Sorted.{IsNonDecreasingBy}
+use Rattle.std.specs.Ordering.{ordering_then}
+use Rattle.dns_spec.specs.Names.{DomainName, folded, same, at_or_below, name_order}
+use Rattle.dns_spec.specs.Data.{type_a, type_aaaa}
+use Rattle.dns_spec.specs.Records.{ResourceRecord, ZoneContents, at, owns, data_order, record_order}
+use Rattle.dns_spec.specs.Tree.{is_cut}
+use Rattle.dns_spec.specs.Checks.{at_or_below_cut, lacks_address}
+use Rattle.dns_spec.proofs.SortedOnce.{filter_each}
+use Rattle.dns_zone.specs.ZoneForm.{AreOrdered}
+use Rattle.dns_zone.specs.CutForm.{AreTopmost}
+use Rattle.dns_zone.proofs.Pairs.{pairs_of, pairs_filter, rising}
+use Rattle.dns_zone.proofs.NameOrder.{same-is, same-from, same-tied, lower_twice}
+use Rattle.dns_zone.proofs.NameTree.{same-under}
+use Rattle.dns_zone.proofs.AtName.{ordered_records}
+use Rattle.dns_zone.proofs.AboveCuts.{at_cut-any, owns-folded}
+
+-- the records of one name stand by their types
+type_up_to : (r s : ResourceRecord) → name_order r.owner s.owner ≡ Equal → is_gt (record_order r s) ≡ false → r.rtype ≤ s.rtype
+type_up_to r s e h = go (cases_lt s.rtype r.rtype)
+  where
+    go : (s.rtype < r.rtype) ⊎ (r.rtype ≤ s.rtype) → r.rtype ≤ s.rtype
+    go (inr l) = l
+    go (inl l) =
+        let greater : nat_cmp r.rtype s.rtype ≡ Greater =
+        ap (λ b. cond b Less (cond (r.rtype == s.rtype) Equal Greater)) (le-ltb r.rtype s.rtype (omega arith))
+        ∙ ap (λ b. cond b Equal Greater) (ne_eqb r.rtype s.rtype (λ k. absurd (omega arith)))
+        in
+        absurd (true≢false (sym (ap (λ o. is_gt (ordering_then o (ordering_then (nat_cmp r.rtype s.rtype) (ordering_then (data_order r s) (nat_cmp r.ttl s.ttl))))) e
+        ∙ ap (λ o. is_gt (ordering_then o (ordering_then (data_order r s) (nat_cmp r.ttl s.ttl)))) greater) ∙ h))
+
+pub own_types : (z : ZoneContents) (n : DomainName) → AreOrdered z.records → IsNonDecreasingBy (λ (r : ResourceRecord). r.rtype) (at z n)
+own_types z n h =
+    rising (λ (r : ResourceRecord). r.rtype) (at z n)
+    (pairs_of (λ (r : ResourceRecord). same r.owner n ≡ true) (λ r s. is_gt (record_order r s) ≡ false) (λ r s. r.rtype ≤ s.rtype) (at z n)
+    (λ r s p q e. type_up_to r s (same-tied r.owner s.owner (same-from r.owner s.owner (same-is r.owner n p ∙ sym (same-is s.owner n q)))) e)
+    (filter_each (λ (r : ResourceRecord). same r.owner n) z.records)
+    (pairs_filter (λ r s. is_gt (record_order r s) ≡ false) (λ (r : ResourceRecord). same r.owner n) z.records (ordered_records z.records h)))
+
+any_filter : {X : Type 0} (p q : X → Bool) (xs : List X) → list_any q (filter p xs) ≡ list_any (λ x. p x && q x) xs
+any_filter p q [] = refl
+any_filter p q (x ∷ xs) = go (p x) (any_filter p q xs)
+  where
+    go : (t : Bool) → list_any q (filter p xs) ≡ list_any (λ x. p x && q x) xs → list_any q (cond t (x ∷ filter p xs) (filter p xs)) ≡ ((t && q x) || list_any (λ x. p x && q x) xs)
+    go true e = ap (λ b. q x || b) e
+    go false e = e
+
+pub own-owns : (z : ZoneContents) (n : DomainName) (t : ℕ) → list_any (λ (r : ResourceRecord). r.rtype == t) (at z n) ≡ owns z n t
+own-owns z n t = any_filter (λ (r : ResourceRecord). same r.owner n) (λ (r : ResourceRecord). r.rtype == t) z.records
+
+-- only the lower case of a target counts
+pub itself-folded : (m : DomainName) → same (folded m) m ≡ true
+itself-folded m = same-from (folded m) m (lower_twice m)
+
+pub owns-lower : (z : ZoneContents) (m : DomainName) (t : ℕ) → owns z (folded m) t ≡ owns z m t
+owns-lower z m t = owns-folded z (folded m) m t (itself-folded m)
+
+any_alike : {X : Type 0} (p q : X → Bool) (xs : List X) → ((x : X) → p x ≡ q x) → list_any p xs ≡ list_any q xs
+any_alike p q [] f = refl
+any_alike p q (x ∷ xs) f = ap₂ ◌||◌ (f x) (any_alike p q xs f)
+
+at_cut-lower : (z : ZoneContents) (cs : List ResourceRecord) → AreTopmost z cs → (m : DomainName) → at_or_below_cut z (folded m) ≡ at_or_below_cut z m
+at_cut-lower z cs h m =
+    at_cut-any z cs h (folded m)
+    ∙ any_alike (λ (c : ResourceRecord). at_or_below (folded m) c.owner) (λ (c : ResourceRecord). at_or_below m c.owner) cs (λ c. same-under (folded m) m c.owner (itself-folded m))
+    ∙ sym (at_cut-any z cs h m)
+
+pub lacks-lower : (z : ZoneContents) (cs : List ResourceRecord) → AreTopmost z cs → (n m : DomainName) → lacks_address z n (folded m) ≡ lacks_address z n m
+lacks-lower z cs h n m =
+    ap₂ (λ a b. not a && b) (ap₂ ◌||◌ (owns-lower z m type_a) (owns-lower z m type_aaaa))
+    (ap₂ (λ a b. not a || (is_cut z n && b)) (at_cut-lower z cs h m) (same-under (folded m) m n (itself-folded m)))

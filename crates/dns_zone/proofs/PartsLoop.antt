@@ -1,0 +1,46 @@
+-- A walk over the parts of data.
+use Rattle.std.proofs.Common.{◌≡◌, Option, None, All, List, [], ◌∷◌, map, get_or, drop, refl, sym, ap, ◌∙◌, subst}
+use Rattle.std.proofs.lemmas.List.Elements.{All-head, All-tail}
+use Rattle.dns_spec.specs.Names.{Octets, DomainName}
+use Rattle.dns_spec.specs.Data.{part_octets, first_name}
+use Rattle.dns_spec.specs.Data as Data
+use Rattle.dns_rdata.specs.declared.parts.Part.{Part}
+use Rattle.dns_rdata.specs.declared.parts.Part.TheVariants.{Octets as Run, Name}
+use Rattle.dns_rdata.specs.Parts.{part_for, part_lends, shown_part, with_octets, IsLent, HasName}
+
+-- the part that is lent, and those that are still to come
+pub record Walked (old new : List Data.Part) (x : Part) : Type 0 where
+  pub lent : IsLent x
+  pub names : All HasName new
+  pub are : old ≡ part_for x ∷ new
+
+lent_part : (x : Part) → HasName (part_for x) → part_octets (part_for x) ≡ part_lends x → IsLent x
+lent_part (Run o) ok e = tt
+lent_part (Name o) ok e = record { wire_is = e; is_name = ok }
+
+unshown : (xs : List Data.Part) → map (λ (y : Data.Part × Octets). y.0) (map with_octets xs) ≡ xs
+unshown [] = refl
+unshown (x ∷ xs) = ap (λ ys. x ∷ ys) (unshown xs)
+
+pub walked : (old new : List Data.Part) (x : Part) → All HasName old → map with_octets old ≡ shown_part x ∷ map with_octets new → Walked old new x
+walked [] new x names e = absurd (no_shown e)
+  where
+    no_shown : ◌≡◌ {A = List (Data.Part × Octets)} [] (shown_part x ∷ map with_octets new) → ⊥
+    no_shown g = cc
+walked (p ∷ ps) new x names e =
+    let first : with_octets p ≡ shown_part x = ap (λ (xs : List (Data.Part × Octets)). get_or xs 0 (shown_part x)) e in
+    let same : p ≡ part_for x = ap (λ y. y.0) first in
+    let others : ps ≡ new = sym (unshown ps) ∙ ap (λ (xs : List (Data.Part × Octets)). map (λ y. y.0) (drop 1 xs)) e ∙ unshown new in
+    record {
+      lent = lent_part x (subst HasName same (All-head HasName p ps names)) (ap part_octets (sym same) ∙ ap (λ y. y.1) first);
+      names = subst (All HasName) others (All-tail HasName p ps names);
+      are = ap (λ y. y ∷ ps) same ∙ ap (λ ys. part_for x ∷ ys) others;
+    }
+
+-- where no part is left there is no name
+pub none_left : (ps : List Data.Part) → map with_octets ps ≡ [] → ◌≡◌ {A = Option DomainName} None (first_name ps)
+none_left [] e = refl
+none_left (p ∷ ps) e = absurd (some_shown e)
+  where
+    some_shown : ◌≡◌ {A = List (Data.Part × Octets)} (with_octets p ∷ map with_octets ps) [] → ⊥
+    some_shown g = cc

@@ -1,0 +1,45 @@
+-- Records that stand by their types: the types of one owner.
+use Rattle.std.proofs.Common.{◌≡◌, ℕ, ◌<◌, ◌≤◌, Bool, true, false, not, ◌||◌, ◌⊎◌, cond, nat_lt, eqb, Some, None, List, [], ◌∷◌, refl, sym, ap, ap₂, ◌∙◌, arith, filter, inl, inr}
+use Rattle.std.proofs.lemmas.Bool.{ltb-true, ltb-false, eqb-true, ne_eqb, eqb-false, cases_lt}
+use Rattle.std.specs.List.{list_any, slice_get}
+use Rattle.dns_spec.proofs.SortedOnce.{Each}
+use Rattle.dns_zone.proofs.Pairs.{Pairs, first_passes}
+
+pub none_pass : {X : Type 0} (p : X → Bool) (xs : List X) → Each (λ x. p x ≡ false) xs → list_any p xs ≡ false
+none_pass p [] e = refl
+none_pass p (x ∷ xs) e = ap₂ ◌||◌ e.0 (none_pass p xs e.1)
+
+pub first_is : {X : Type 0} (p : X → Bool) (x : X) (xs : List X) → Some x ≡ slice_get xs 0 → p x ≡ first_passes p xs
+first_is p x [] e = cc
+first_is p x (y ∷ ys) e = let same : x ≡ y = cc in ap p same
+
+pub first_none : {X : Type 0} (p : X → Bool) (xs : List X) → None ≡ slice_get xs 0 → false ≡ first_passes p xs
+first_none p [] e = refl
+first_none p (y ∷ ys) e = cc
+
+module _ {X : Type 0} (n : X → ℕ) (t : ℕ) where
+  greater : (x : X) (xs : List X) → t < n x → Each (λ y. n x ≤ n y) xs → Each (λ y. eqb (n y) t ≡ false) xs
+  greater x [] l e = tt
+  greater x (y ∷ ys) l e =
+      let first = e.0 in
+      (ne_eqb (n y) t (λ k. absurd (omega arith)), greater x ys l e.1)
+
+  -- one has the number exactly where the first that is not below it has
+  pub found_first : (xs : List X) → Pairs (λ x y. n x ≤ n y) xs → list_any (λ x. eqb (n x) t) xs ≡ first_passes (λ x. eqb (n x) t) (filter (λ x. not (nat_lt (n x) t)) xs)
+  found_first [] h = refl
+  found_first (x ∷ xs) h = go (nat_lt (n x) t) (eqb (n x) t) refl refl (found_first xs h.1)
+    where
+      go : (b c : Bool) → nat_lt (n x) t ≡ b → eqb (n x) t ≡ c
+          → list_any (λ x. eqb (n x) t) xs ≡ first_passes (λ x. eqb (n x) t) (filter (λ x. not (nat_lt (n x) t)) xs)
+          → (c || list_any (λ x. eqb (n x) t) xs) ≡ first_passes (λ x. eqb (n x) t) (cond (not b) (x ∷ filter (λ x. not (nat_lt (n x) t)) xs) (filter (λ x. not (nat_lt (n x) t)) xs))
+      go true true l e r = let below = ltb-true _ _ l in let level = eqb-true _ _ e in absurd (omega arith)
+      go true false l e r = r
+      go false true l e r = sym e
+      go false false l e r =
+          let above : t ≤ n x = ltb-false _ _ l in
+          let other : t < n x = other_than (cases_lt t (n x)) above in
+          none_pass (λ x. eqb (n x) t) xs (greater x xs other h.0) ∙ sym e
+        where
+          other_than : (t < n x) ⊎ (n x ≤ t) → t ≤ n x → t < n x
+          other_than (inl k) a = k
+          other_than (inr k) a = absurd (eqb-false (n x) t e (omega arith))

@@ -1,0 +1,30 @@
+use Rattle.std.proofs.Common.{◌++◌, not, sym, subst, ap, ◌∙◌, filter, List}
+use Rattle.std.specs.List.Sorted.{IsPartitionedBy}
+use Rattle.dns_spec.specs.Records.{ResourceRecord, ZoneContents}
+use Rattle.dns_spec.specs.Checks.{Fault}
+use Rattle.dns_zone.specs.ToldForm.{told_around}
+use Rattle.dns_zone.proofs.AtName.{is_at, is_before, at_parted}
+use Rattle.dns_zone.proofs.ToldNames.{faults-around}
+use Rattle.dns_zone.proofs.faults.faults.Goals as goal
+
+pub count_at-requires-clause-in_front : goal.count_at-requires-clause-in_front
+count_at-requires-clause-in_front c =
+    let o = c.args.origin.now in
+    subst (IsPartitionedBy (is_at o)) (sym (c.split_at.ensures.back ∙ c.count_before.ensures.others)) (at_parted o c.args.records.now c.requires.ordered)
+
+pub returns : goal.returns
+returns c =
+    let o = c.args.origin.now in
+    let rs = c.args.records.now in
+    let z : ZoneContents = record { origin = o; records = rs } in
+    let b = c.split_at.result.0.now in
+    let d = c.split_at-2.result.1.now in
+    let before = c.split_at.ensures.front ∙ c.count_before.ensures.before in
+    let behind =
+    c.split_at-2.ensures.back ∙ c.count_at.ensures.others
+    ∙ ap (filter (λ (r : ResourceRecord). not (is_at o r))) (c.split_at.ensures.back ∙ c.count_before.ensures.others)
+    in
+    c.in_ok-tell_around.ensures ∙ ap (λ (fs : List Fault). fs ++ told_around c.in_ok-survey.survey b o d) c.new-found.ensures.items
+    ∙ ap (λ (y : ZoneContents). told_around y b o d) c.in_ok-survey.ensures
+    ∙ ap (λ ss. told_around z ss o d) before ∙ ap (told_around z (filter (is_before o) rs) o) behind
+    ∙ sym (faults-around o c.requires.lower rs c.requires.ordered)

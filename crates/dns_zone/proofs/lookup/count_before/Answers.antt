@@ -1,0 +1,19 @@
+use Rattle.std.proofs.Common.{rules}
+use Rattle.std.proofs.lemmas.List.Sorted.{IsPartitionPoint-from_clause}
+use Rattle.dns_zone.proofs.Pairs.{halves}
+use Rattle.dns_zone.proofs.AtName.{is_before, before_parted}
+use Rattle.dns_zone.proofs.lookup.count_before.Goals as goal
+
+pub returns-clause-before : goal.returns-clause-before
+returns-clause-before c =
+    let p = is_before c.args.name.now in
+    let rs = c.args.records.now in
+    (halves p rs _ c.partition_point.ensures.bound
+    (IsPartitionPoint-from_clause p rs _ c.partition_point.ensures.partitioned (before_parted c.args.name.now rs c.requires.ordered) (λ a r q k. search rules))).0
+
+pub returns-clause-others : goal.returns-clause-others
+returns-clause-others c =
+    let p = is_before c.args.name.now in
+    let rs = c.args.records.now in
+    (halves p rs _ c.partition_point.ensures.bound
+    (IsPartitionPoint-from_clause p rs _ c.partition_point.ensures.partitioned (before_parted c.args.name.now rs c.requires.ordered) (λ a r q k. search rules))).1

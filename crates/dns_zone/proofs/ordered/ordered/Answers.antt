@@ -1,0 +1,29 @@
+use Rattle.std.proofs.Common.{All, is_lt, sym, subst, ◌∙◌, ◌≡◌, rules, arith}
+use Rattle.std.proofs.lemmas.Fn.{dedup_same, always_returns_same}
+use Rattle.std.proofs.lemmas.List.Elements.{All-weaker}
+use Rattle.std.proofs.lemmas.List.Sorted.{ranks_by, length_permutation}
+use Rattle.std.specs.List.{dedup}
+use Rattle.std.specs.List.Sorted.{IsSorted}
+use Rattle.dns_spec.specs.Records.{records_equal, distinct, sort_by, record_order}
+use Rattle.dns_spec.proofs.RecordOrder.{sort_risen, rises_canonical, LowerOwner, record_order_total, canonical_records, all_canonical}
+use Rattle.dns_spec.specs.ZonePrinted.{IsReadRecord}
+use Rattle.dns_zone.specs.ZoneForm.{AreOrdered}
+use Rattle.dns_zone.proofs.ordered.ordered.Goals as goal
+
+pub returns : goal.returns
+returns c =
+    let rs = c.args.records.items in
+    let xs = c.sort_unstable_by.new.self.items in
+    let moved = c.sort_unstable_by.ensures.permutation in
+    let sorted : IsSorted record_order xs =
+    c.sort_unstable_by.ensures.sorted (λ r s. is_lt (record_order r s)) (ranks_by record_order_total (λ r. r)) (always_returns_same _ _ _ (λ a r f' k. search rules)) in
+    let each : All IsReadRecord rs = subst (All IsReadRecord) c.as_slice.ensures.value c.know_each.ensures in
+    let kept : c.dedup_by.new.self.items ≡ dedup records_equal xs =
+    dedup_same _ records_equal _ (λ r s b f' r' s' k. search rules) xs c.dedup_by.new.self.items c.dedup_by.ensures.filtered in
+    let whole = kept ∙ canonical_records rs xs (All-weaker IsReadRecord LowerOwner (λ r h. h.lower_owner) rs each) moved sorted in
+    record {
+      records = whole;
+      in_order = subst AreOrdered (sym whole) (sort_risen record_order (sort_by record_order (distinct records_equal rs)) (rises_canonical rs));
+      count = omega (arith, c.dedup_by.ensures.bound, length_permutation rs xs moved);
+      each = subst (All IsReadRecord) (sym whole) (all_canonical IsReadRecord rs each);
+    }

@@ -1,0 +1,15 @@
+use Rattle.std.proofs.Common.{◌==◌, nat_lt, length, map, ap, sym, ◌∙◌, List}
+use Rattle.dns_spec.specs.Records.{ResourceRecord, distinct}
+use Rattle.dns_spec.specs.Checks.{many_sets}
+use Rattle.dns_zone.specs.OwnerForm.{NameOfZone}
+use Rattle.dns_zone.proofs.Pairs.{pairs_rising}
+use Rattle.dns_zone.proofs.SetTests.{types-walk}
+use Rattle.dns_zone.proofs.owner.Owner.has_many_sets.Goals as goal
+
+pub returns : goal.returns
+returns c =
+    let own = c.self.inside.own.now in
+    let by_types = pairs_rising (λ (r : ResourceRecord). r.rtype) own c.self.invariant.by_types in
+    c.have_many_sets.ensures ∙ ap (nat_lt 32) (sym (types-walk own by_types))
+    ∙ ap (λ (rs : List ResourceRecord). nat_lt 32 (length (distinct ◌==◌ (map (λ (r : ResourceRecord). r.rtype) rs)))) c.self.invariant.own_is
+    ∙ ap (λ (o : NameOfZone). many_sets o.zone o.name) c.self.view_is

@@ -1,0 +1,21 @@
+use Rattle.std.proofs.Common.{◌==◌, ◌||◌, ap, sym, ◌∙◌}
+use Rattle.std.specs.List.{list_any}
+use Rattle.dns_spec.specs.Data.{type_a, type_aaaa}
+use Rattle.dns_spec.specs.Records.{ResourceRecord, owns}
+use Rattle.dns_zone.proofs.OwnRecords.{own-owns}
+use Rattle.dns_zone.proofs.survey.Survey.has_address.Goals as goal
+
+pub returns-then-has_type : goal.returns-then-has_type
+returns-then-has_type c =
+    let z = c.args.self.now in
+    let n = c.args.name.now in
+    let here = c.has_type.ensures ∙ ap (list_any (λ (r : ResourceRecord). r.rtype == type_a)) c.at-own.ensures.own ∙ own-owns z n type_a in
+    c.if-has_type.true ∙ ap (λ b. b || owns z n type_aaaa) (sym c.if-has_type.true ∙ here)
+
+pub returns-else-has_type : goal.returns-else-has_type
+returns-else-has_type c =
+    let z = c.args.self.now in
+    let n = c.args.name.now in
+    let none = c.has_type.ensures ∙ ap (list_any (λ (r : ResourceRecord). r.rtype == type_a)) c.at-own.ensures.own ∙ own-owns z n type_a in
+    c.has_type-else-has_type.ensures ∙ ap (list_any (λ (r : ResourceRecord). r.rtype == type_aaaa)) c.at-own.ensures.own ∙ own-owns z n type_aaaa
+    ∙ ap (λ b. b || owns z n type_aaaa) (sym c.if-has_type.false ∙ none)

@@ -1,0 +1,38 @@
+use Rattle.std.proofs.Common.{◌≡◌, ap, sym, ◌∙◌, arith, length, vec_len, List}
+use Rattle.std.proofs.lemmas.List.{nil_from_length}
+use Rattle.std.proofs.lemmas.Bool.{false≢true, eqb-true, eq-eqb}
+use Rattle.dns_spec.specs.Names.{folded}
+use Rattle.dns_spec.specs.Records.{ResourceRecord}
+use Rattle.dns_spec.specs.Checks.{faults}
+use Rattle.dns_spec.proofs.FaultOrder.{folded_folded}
+use Rattle.dns_zone.proofs.BuiltZone.{found_of_read, built}
+use Rattle.dns_zone.proofs.zone.Zone.build.Goals as goal
+
+pub faults-requires-clause-lower : goal.faults-requires-clause-lower
+faults-requires-clause-lower c = ap folded c.fold-origin.ensures ∙ folded_folded c.args.origin.now ∙ sym c.fold-origin.ensures
+
+pub returns-then-not-is_empty-clause-faults : goal.returns-then-not-is_empty-clause-faults
+returns-then-not-is_empty-clause-faults c =
+    let found = c.in-Ok.ensures ∙ ap (λ (xs : List ResourceRecord). faults (record { origin = c.fold-origin.result; records = xs })) c.as_slice.ensures.value in
+    let same = found_of_read c.args.origin.now c.fold-origin.result c.args.records.items c.ordered-records.result.items c.in-Ok.found.items c.fold-origin.ensures c.ordered-records.ensures.records found in (
+      same,
+      λ none.
+          let length_is : length c.in-Ok.found.items ≡ 0 = ap length (same ∙ none) in
+          let empty : vec_len c.in-Ok.found ≡ 0 = omega (arith, c.in-Ok.found.ok.0) in
+          false≢true (sym c.if-not-is_empty.true ∙ c.is_empty.ensures ∙ eq-eqb (vec_len c.in-Ok.found) 0 empty),
+    )
+
+pub invariant_of-result : goal.invariant_of-result
+invariant_of-result c =
+    let found = c.in-Ok.ensures ∙ ap (λ (xs : List ResourceRecord). faults (record { origin = c.fold-origin.result; records = xs })) c.as_slice.ensures.value in
+    let empty : vec_len c.in-Ok.found ≡ 0 = eqb-true (vec_len c.in-Ok.found) 0 (sym c.is_empty.ensures ∙ c.if-not-is_empty.false) in
+    built c.args.origin.now c.fold-origin.result c.args.records.items c.ordered-records.result.items c.in-Ok.found.items c.fold-origin.ensures c.ordered-records.ensures.records found
+    (omega (arith, c.in-Ok.found.ok.0)) c.requires c.ordered-records.ensures.count c.ordered-records.ensures.in_order c.ordered-records.ensures.each
+
+pub returns-clause-passes : goal.returns-clause-passes
+returns-clause-passes c =
+    let found = c.in-Ok.ensures ∙ ap (λ (xs : List ResourceRecord). faults (record { origin = c.fold-origin.result; records = xs })) c.as_slice.ensures.value in
+    let empty : vec_len c.in-Ok.found ≡ 0 = eqb-true (vec_len c.in-Ok.found) 0 (sym c.is_empty.ensures ∙ c.if-not-is_empty.false) in
+    let none : length c.in-Ok.found.items ≡ 0 = omega (arith, c.in-Ok.found.ok.0) in
+    sym (found_of_read c.args.origin.now c.fold-origin.result c.args.records.items c.ordered-records.result.items c.in-Ok.found.items c.fold-origin.ensures c.ordered-records.ensures.records found)
+    ∙ nil_from_length c.in-Ok.found.items none

@@ -1,0 +1,5 @@
+pub mod ZoneForm
+pub mod SetWalks
+pub mod CutForm
+pub mod OwnerForm
+pub mod ToldForm

@@ -1,0 +1,30 @@
+-- What a reader learns here: how records are kept for a zone, and what every built zone keeps.
+use Rattle.std.specs.Prelude.{⊤, ◌≡◌, ◌≢◌, ◌≤◌, List, [], All, length, Bool, not, if◌then◌else◌}
+use Rattle.dns_spec.specs.Names.{folded}
+use Rattle.dns_spec.specs.Records.{ResourceRecord, ZoneContents, sort_by, record_order}
+use Rattle.dns_spec.specs.Checks.{faults, Passes}
+use Rattle.dns_spec.specs.Meaning.{most_records}
+use Rattle.dns_spec.specs.ZonePrinted.{IsReadRecord, is_soa}
+use Rattle.dns_zone.specs.declared.fault.BuildFault.{BuildFault}
+use Rattle.dns_zone.specs.declared.fault.BuildFault.TheVariants.{Faults, NoMemory}
+
+-- in canonical order: sorting them changes nothing
+abbrev pub AreOrdered : List ResourceRecord → Type 0
+AreOrdered rs = sort_by record_order rs ≡ rs
+
+-- what every built zone keeps: an origin in lower case, and records in canonical order, without a fault
+pub record IsBuilt (z : ZoneContents) : Type 0 where
+  pub low : folded z.origin ≡ z.origin
+  pub each : All IsReadRecord z.records
+  pub ordered : AreOrdered z.records
+  pub few : length z.records ≤ most_records
+  pub passes : Passes z
+
+-- what is told of a zone that can't be built: its faults, one at least, or nothing where no memory was found
+abbrev pub TellsFaults : BuildFault → ZoneContents → Type 0
+TellsFaults (Faults found) z = (found.items ≡ faults z) × (faults z ≢ [])
+TellsFaults NoMemory z = ⊤
+
+-- the records that are an SOA, or those that are none
+abbrev pub is_chosen : Bool → ResourceRecord → Bool
+is_chosen soa r = if soa then is_soa r else not (is_soa r)

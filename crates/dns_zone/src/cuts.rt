@@ -1,0 +1,92 @@
+//! Cuts of a zone: the names below its origin where another zone begins (RFC 1034 4.2).
+ghost use Rattle.std.specs.Prelude.{◌≡◌, ◌==◌, ◌&&◌, not, IfOk};
+ghost use Rattle.std.specs.List.{filter};
+ghost use Rattle.std.specs.Ordering.{is_gt};
+ghost use Rattle.dns_spec.specs.Names.{folded, name_order, at_or_below, below};
+ghost use Rattle.dns_spec.specs.Records.{ResourceRecord};
+ghost use Rattle.dns_spec.specs.Data.{type_ns};
+ghost use Rattle.dns_zone.specs.ZoneForm.{AreOrdered};
+ghost use Rattle.dns_zone.specs.CutForm.{behind, AreTopmost, AreApart, last_passes};
+
+use dns_master::Record;
+use dns_name::Name;
+use dns_rdata::RType;
+use std::alloc::{AllocError, Global};
+
+/// A record of each cut that is below no other cut, by the order of owners. Memory is taken once, 8 octets for each record.
+///
+/// In canonical order a cut comes before all names below it, and they stand side by side. So it is enough to look at the
+/// cut that was found last.
+pub(crate) fn topmost_cuts<'a>(
+    alloc: Global,
+    origin: &Name,
+    records: &'a [Record],
+) -> Result<Vec<&'a Record>, AllocError>
+    requires { AreOrdered records.now }
+    ensures { IfOk result (λ cuts. AreTopmost (record { origin = origin.now; records = records.now }) (behind cuts.items)) }
+{
+    let mut cuts: Vec<&'a Record> = Vec::with_capacity(alloc, records.len())?;
+    'records: for listed in records {
+        if is_topmost(origin, cuts.as_slice(), listed) {
+            cuts.push(listed)?;
+        }
+    }
+    Ok(cuts)
+}
+
+// Whether the record makes a cut that is not at or below the last of the cuts.
+fn is_topmost(origin: &Name, cuts: &[&Record], listed: &Record) -> bool
+    ensures { result ≡ ((listed.now.rtype == type_ns && below listed.now.owner origin.now)
+        && not (last_passes (λ (c : ResourceRecord). at_or_below listed.now.owner c.owner) (behind cuts.now))) }
+{
+    is_delegation(origin, listed) && !is_covered(cuts, &listed.owner)
+}
+
+fn is_delegation(origin: &Name, listed: &Record) -> bool
+    ensures { result ≡ (listed.now.rtype == type_ns && below listed.now.owner origin.now) }
+{
+    listed.rtype == RType::NS && is_below(&listed.owner, origin)
+}
+
+/// The cuts that are not behind the name in canonical order.
+pub(crate) fn not_behind<'a, 'b>(cuts: &'b [&'a Record], name: &Name) -> &'b [&'a Record]
+    requires apart { AreApart (behind cuts.now) }
+    requires lower { folded name.now ≡ name.now }
+    ensures { behind result.now ≡ filter (λ (c : ResourceRecord). not (is_gt (name_order c.owner name.now))) (behind cuts.now) }
+{
+    &cuts[..cuts.partition_point(|cut| !is_behind(cut, name))]
+}
+
+fn is_behind(listed: &Record, name: &Name) -> bool
+    requires { folded name.now ≡ name.now }
+    ensures { result ≡ is_gt (name_order listed.now.owner name.now) }
+{
+    listed.owner.order_in_lower_case(name).is_gt()
+}
+
+/// Whether the name is at or below the last of the cuts.
+pub(crate) fn is_covered(cuts: &[&Record], name: &Name) -> bool
+    ensures { result ≡ last_passes (λ (c : ResourceRecord). at_or_below name.now c.owner) (behind cuts.now) }
+{
+    match cuts.last() {
+        Some(cut) => name.at_or_below(&cut.owner),
+        None => false,
+    }
+}
+
+/// Whether the name is below the last of the cuts.
+pub(crate) fn is_below_last(cuts: &[&Record], name: &Name) -> bool
+    ensures { result ≡ last_passes (λ (c : ResourceRecord). below name.now c.owner) (behind cuts.now) }
+{
+    match cuts.last() {
+        Some(cut) => is_below(name, &cut.owner),
+        None => false,
+    }
+}
+
+/// Whether the name is below an ancestor, and not the same.
+pub(crate) fn is_below(name: &Name, ancestor: &Name) -> bool
+    ensures { result ≡ below name.now ancestor.now }
+{
+    name.label_count() > ancestor.label_count() && name.at_or_below(ancestor)
+}

@@ -1,0 +1,29 @@
+//! Why records are no zone that may be served.
+use dns_name::Name;
+use std::marker::Model;
+
+/// A fault of a zone: the owner that it is told of, in lower case, and the number of its code, 1 to 15 (`Z01` to `Z15`).
+#[derive(Drop)]
+pub struct CheckFault {
+    /// The name that it is told of.
+    pub owner: Name,
+    /// The number of its code.
+    pub code: u8,
+}
+
+impl Model for CheckFault {
+    ghost use Rattle.dns_spec.specs.Checks.{Fault};
+
+    ghost Value = { Fault };
+
+    ghost view = { λ f. record { owner = f.owner; code = f.code } };
+}
+
+/// Why records are no zone.
+#[derive(Drop)]
+pub enum BuildFault {
+    /// Their faults, one at least, by the order of owners, then by code.
+    Faults(Vec<CheckFault>),
+    /// No memory was found.
+    NoMemory,
+}

@@ -1,0 +1,116 @@
+//! The faults of a zone, by the order of owners, then by code.
+ghost use Rattle.std.specs.Prelude.{◌≡◌, ◌≤◌, ◌++◌, ◌∷◌, [], length, IfOk, OnOk};
+ghost use Rattle.std.specs.List.{flat_map};
+ghost use Rattle.dns_spec.specs.Names.{folded};
+ghost use Rattle.dns_spec.specs.Checks.{faults};
+ghost use Rattle.dns_zone.specs.ZoneForm.{AreOrdered};
+ghost use Rattle.dns_zone.specs.ToldForm.{begins_with_owner, failed_from, owners_once, told_around, told_at};
+
+use crate::fault::CheckFault;
+use crate::lookup::{count_at, count_before, is_at};
+use crate::owner::Owner;
+use crate::survey::Survey;
+use dns_master::Record;
+use dns_name::Name;
+use std::alloc::{AllocError, Global};
+
+/// The faults of the zone of these records, by the order of owners, then by code. They are told of all owners, and of
+/// the origin where it owns nothing too.
+///
+/// An error only where memory for the list of faults, or for that of cuts, was not found.
+pub(crate) fn faults(
+    alloc: Global,
+    origin: &Name,
+    records: &[Record],
+) -> Result<Vec<CheckFault>, AllocError>
+    requires ordered { AreOrdered records.now }
+    requires lower { folded origin.now ≡ origin.now }
+    ensures { IfOk result (λ found. found.items ≡ faults (record { origin = origin.now; records = records.now })) }
+{
+    let survey = Survey::new(alloc, origin, records)?;
+    let (before, others) = records.split_at(count_before(records, origin));
+    let (_, behind) = others.split_at(count_at(others, origin));
+    let mut found = Vec::new(alloc);
+    tell_around(&survey, before, origin, behind, &mut found)?;
+    Ok(found)
+}
+
+// Adds the faults of the owners before a name, of the name, and of the owners behind it.
+fn tell_around(
+    survey: &Survey<'_>,
+    before: &[Record],
+    name: &Name,
+    behind: &[Record],
+    found: &mut Vec<CheckFault>,
+) -> Result<(), AllocError>
+    requires { folded name.now ≡ name.now }
+    ensures { OnOk result (found.new.items ≡ found.old.items ++ told_around survey.now before.now name.now behind.now) }
+{
+    tell_owners(survey, before, found)?;
+    tell(survey, name, found)?;
+    tell_owners(survey, behind, found)
+}
+
+// Adds the faults of all owners of records that stand by them.
+fn tell_owners(
+    survey: &Survey<'_>,
+    records: &[Record],
+    found: &mut Vec<CheckFault>,
+) -> Result<(), AllocError>
+    ensures { OnOk result (found.new.items ≡ found.old.items ++ flat_map (told_at survey.now) (owners_once records.now)) }
+{
+    let mut rest = records;
+    'owners: while let Some((first, others)) = rest.split_first() {
+        if !begins_with_owner(others, &first.owner) {
+            tell(survey, &first.owner, found)?;
+        }
+        rest = others;
+    }
+    Ok(())
+}
+
+fn begins_with_owner(records: &[Record], owner: &Name) -> bool
+    requires { folded owner.now ≡ owner.now }
+    ensures { result ≡ begins_with_owner owner.now records.now }
+{
+    match records.first() {
+        Some(first) => is_at(first, owner),
+        None => false,
+    }
+}
+
+// Adds the faults of a name.
+fn tell(survey: &Survey<'_>, name: &Name, found: &mut Vec<CheckFault>) -> Result<(), AllocError>
+    requires { folded name.now ≡ name.now }
+    ensures { OnOk result (found.new.items ≡ found.old.items ++ told_at survey.now name.now) }
+{
+    let failed = Owner::new(survey, name).judged();
+    add_failed(name, &failed, found)
+}
+
+// Adds the faults of a name that fails these of the checks from the first on.
+fn add_failed(name: &Name, failed: &[bool], found: &mut Vec<CheckFault>) -> Result<(), AllocError>
+    requires { length failed.now ≤ 15 }
+    ensures { OnOk result (found.new.items ≡ found.old.items ++ failed_from name.now 1 failed.now) }
+{
+    let mut rest = failed;
+    let mut code = 1;
+    'checks: while let Some((fails, others)) = rest.split_first() {
+        if *fails {
+            add(name, code, found)?;
+        }
+        rest = others;
+        code += 1;
+    }
+    Ok(())
+}
+
+fn add(name: &Name, code: u8, found: &mut Vec<CheckFault>) -> Result<(), AllocError>
+    ensures { OnOk result (found.new.items ≡ found.old.items ++ record { owner = name.now; code = code } ∷ []) }
+{
+    found.push(CheckFault {
+        owner: name.copied(),
+        code,
+    })?;
+    Ok(())
+}

@@ -1,0 +1,79 @@
+//! Records of a name, found by halves among records in canonical order.
+ghost use Rattle.std.specs.Prelude.{◌≡◌, ◌≤◌, ◌==◌, length, take, drop, not, nat_lt};
+ghost use Rattle.std.specs.List.{list_any, filter};
+ghost use Rattle.std.specs.List.Sorted.{IsPartitionedBy, IsNonDecreasingBy};
+ghost use Rattle.std.specs.Ordering.{is_lt};
+ghost use Rattle.dns_spec.specs.Names.{folded, same, name_order};
+ghost use Rattle.dns_spec.specs.Records.{ResourceRecord};
+ghost use Rattle.dns_zone.specs.ZoneForm.{AreOrdered};
+
+use dns_master::Record;
+use dns_name::Name;
+use dns_rdata::RType;
+
+/// The records whose owner is the name, which stand side by side.
+pub(crate) fn records_at<'a>(records: &'a [Record], name: &Name) -> &'a [Record]
+    requires ordered { AreOrdered records.now }
+    requires lower { folded name.now ≡ name.now }
+    ensures { result.now ≡ filter (λ (r : ResourceRecord). same r.owner name.now) records.now }
+{
+    let others = &records[count_before(records, name)..];
+    &others[..count_at(others, name)]
+}
+
+/// How many of the records have an owner that comes before the name.
+pub(crate) fn count_before(records: &[Record], name: &Name) -> usize
+    requires ordered { AreOrdered records.now }
+    requires lower { folded name.now ≡ name.now }
+    ensures bound { result ≤ length records.now }
+    ensures before { take result records.now ≡ filter (λ (r : ResourceRecord). is_lt (name_order r.owner name.now)) records.now }
+    ensures others { drop result records.now ≡ filter (λ (r : ResourceRecord). not (is_lt (name_order r.owner name.now))) records.now }
+{
+    records.partition_point(|listed| is_before(listed, name))
+}
+
+/// How many of the records have the name as owner, where these stand in front.
+pub(crate) fn count_at(records: &[Record], name: &Name) -> usize
+    requires in_front { IsPartitionedBy (λ (r : ResourceRecord). same r.owner name.now) records.now }
+    requires lower { folded name.now ≡ name.now }
+    ensures bound { result ≤ length records.now }
+    ensures own { take result records.now ≡ filter (λ (r : ResourceRecord). same r.owner name.now) records.now }
+    ensures others { drop result records.now ≡ filter (λ (r : ResourceRecord). not (same r.owner name.now)) records.now }
+{
+    records.partition_point(|listed| is_at(listed, name))
+}
+
+/// Whether one of the records is of the type, where they stand by their types.
+pub(crate) fn has_type(records: &[Record], rtype: RType) -> bool
+    requires { IsNonDecreasingBy (λ (r : ResourceRecord). r.rtype) records.now }
+    ensures { result ≡ list_any (λ (r : ResourceRecord). r.rtype == rtype.0) records.now }
+{
+    match records[count_below(records, rtype)..].first() {
+        Some(listed) => listed.rtype == rtype,
+        None => false,
+    }
+}
+
+// How many of the records are of a type below this one.
+fn count_below(records: &[Record], rtype: RType) -> usize
+    requires { IsNonDecreasingBy (λ (r : ResourceRecord). r.rtype) records.now }
+    ensures bound { result ≤ length records.now }
+    ensures others { drop result records.now ≡ filter (λ (r : ResourceRecord). not (nat_lt r.rtype rtype.0)) records.now }
+{
+    records.partition_point(|listed| listed.rtype.0 < rtype.0)
+}
+
+fn is_before(listed: &Record, name: &Name) -> bool
+    requires { folded name.now ≡ name.now }
+    ensures { result ≡ is_lt (name_order listed.now.owner name.now) }
+{
+    listed.owner.order_in_lower_case(name).is_lt()
+}
+
+/// Whether the record stands at the name.
+pub(crate) fn is_at(listed: &Record, name: &Name) -> bool
+    requires { folded name.now ≡ name.now }
+    ensures { result ≡ same listed.now.owner name.now }
+{
+    listed.owner == *name
+}

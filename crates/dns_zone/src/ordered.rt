@@ -1,0 +1,52 @@
+//! Records in canonical order, each once.
+ghost use Rattle.std.specs.Prelude.{◌≡◌, ◌<◌, ◌≤◌, All, length};
+ghost use Rattle.dns_spec.specs.Records.{records_equal, distinct, sort_by, record_order};
+ghost use Rattle.dns_spec.specs.ZonePrinted.{IsReadRecord};
+ghost use Rattle.dns_zone.specs.ZoneForm.{AreOrdered};
+
+use crate::order::record_order;
+use dns_master::Record;
+
+// The records, each once, in canonical order (RFC 4034 6.1, 6.3, RFC 2181 5). No memory is taken.
+pub(crate) fn ordered(mut records: Vec<Record>) -> Vec<Record>
+    ensures records { result.items ≡ sort_by record_order (distinct records_equal records.items) }
+    ensures in_order { AreOrdered result.items }
+    ensures count { length result.items ≤ length records.items }
+    ensures each { All IsReadRecord result.items }
+{
+    know_each(records.as_slice());
+    records.sort_unstable_by(|one, other| record_order(one, other));
+    records.dedup_by(|one, other| records_equal(one, other));
+    records
+}
+
+// Whether two records are equal in owner, type, data and TTL (RFC 2181 5).
+fn records_equal(one: &Record, other: &Record) -> bool
+    ensures { result ≡ records_equal one.now other.now }
+{
+    one.owner.same(&other.owner)
+        && one.rtype == other.rtype
+        && one.rdata.octets() == other.rdata.octets()
+        && one.ttl == other.ttl
+}
+
+// What each record keeps is known once it is read. Nothing else is done.
+fn know_each(records: &[Record])
+    ensures { All IsReadRecord records.now }
+{
+    'records: for each in records {
+        know(each);
+    }
+}
+
+fn know(one: &Record)
+    ensures { IsReadRecord one.now }
+{
+    let _type = one.rtype.0;
+    know_octets(one.owner.octets());
+    know_octets(one.rdata.octets());
+}
+
+fn know_octets(_octets: &[u8])
+    ensures { All (λ o. o < 256) _octets.now }
+{}

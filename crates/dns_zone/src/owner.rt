@@ -1,0 +1,242 @@
+//! The fifteen checks of a name of a zone.
+ghost use Rattle.std.specs.Prelude.{◌≡◌, ◌==◌, ◌&&◌, ◌||◌, not, map};
+ghost use Rattle.dns_spec.specs.Names.{folded};
+ghost use Rattle.dns_spec.specs.Records.{owns};
+ghost use Rattle.dns_spec.specs.Tree.{is_cut};
+ghost use Rattle.dns_spec.specs.Checks.{is_origin, count, owns_such, is_address_type, below_cut, first_is_asterisk, checks, no_soa, many_soa, soa_elsewhere, no_ns, outside, cname_and_other, many_cname, ttls_differ, ns_target_alias, ns_target_lost, mx_target_alias, data_at_cut, wildcard_ns, large_set, many_sets};
+ghost use Rattle.dns_spec.specs.Data.{type_ns, type_cname};
+
+use crate::cuts::is_below;
+use crate::lookup::has_type;
+use crate::sets::{have_large_set, have_many_sets, have_other_ttls};
+use crate::survey::Survey;
+use dns_master::Record;
+use dns_name::Name;
+use dns_rdata::RType;
+use std::marker::Model;
+
+/// A name of a zone, with its records.
+#[derive(Drop)]
+pub(crate) struct Owner<'a> {
+    survey: &'a Survey<'a>,
+    name: &'a Name,
+    own: &'a [Record],
+}
+
+impl<'a> Model for Owner<'a> {
+    ghost use Rattle.dns_zone.specs.OwnerForm.{NameOfZone, IsOwner};
+
+    ghost Value = { NameOfZone };
+
+    ghost view = { λ o. record { zone = o.survey.now; name = o.name.now } };
+
+    ghost invariant = { λ o. IsOwner o.survey.now o.name.now o.own.now };
+}
+
+impl<'a> Owner<'a> {
+    /// A name in lower case, of a zone.
+    pub(crate) fn new(survey: &'a Survey<'a>, name: &'a Name) -> Owner<'a>
+        requires { folded name.now ≡ name.now }
+        ensures { result ≡ record { zone = survey.now; name = name.now } }
+    {
+        let own = survey.at(name);
+        Owner { survey, name, own }
+    }
+
+    /// Which checks the name fails, by their codes.
+    pub(crate) fn judged(&self) -> [bool; 15]
+        ensures { result ≡ map (λ c. c.1 self.now.zone self.now.name) checks }
+    {
+        [
+            self.has_no_soa(),
+            self.has_many_soa(),
+            self.has_soa_elsewhere(),
+            self.has_no_ns(),
+            self.is_outside(),
+            self.has_cname_and_other(),
+            self.has_many_cname(),
+            self.has_other_ttls(),
+            self.has_ns_target_alias(),
+            self.has_ns_target_lost(),
+            self.has_mx_target_alias(),
+            self.has_data_at_cut(),
+            self.has_wildcard_ns(),
+            self.has_large_set(),
+            self.has_many_sets(),
+        ]
+    }
+}
+
+/// The checks (RFC 1034 3.6.2, 4.2; RFC 1035 5.2; RFC 2181 5.2, 10; RFC 4592 4.2).
+impl<'a> Owner<'a> {
+    fn has_no_soa(&self) -> bool
+        ensures { result ≡ no_soa self.now.zone self.now.name }
+    {
+        self.is_origin() && !self.owns(RType::SOA)
+    }
+
+    fn has_many_soa(&self) -> bool
+        ensures { result ≡ many_soa self.now.zone self.now.name }
+    {
+        self.is_origin() && self.count(RType::SOA) > 1
+    }
+
+    fn has_soa_elsewhere(&self) -> bool
+        ensures { result ≡ soa_elsewhere self.now.zone self.now.name }
+    {
+        !self.is_origin() && self.owns(RType::SOA)
+    }
+
+    fn has_no_ns(&self) -> bool
+        ensures { result ≡ no_ns self.now.zone self.now.name }
+    {
+        self.is_origin() && !self.owns(RType::NS)
+    }
+
+    fn is_outside(&self) -> bool
+        ensures { result ≡ outside self.now.zone self.now.name }
+    {
+        !self.name.at_or_below(self.survey.origin())
+    }
+
+    fn has_cname_and_other(&self) -> bool
+        ensures { result ≡ cname_and_other self.now.zone self.now.name }
+    {
+        self.owns(RType::CNAME) && self.owns_other_than_cname()
+    }
+
+    fn has_many_cname(&self) -> bool
+        ensures { result ≡ many_cname self.now.zone self.now.name }
+    {
+        self.count(RType::CNAME) > 1
+    }
+
+    fn has_other_ttls(&self) -> bool
+        ensures { result ≡ ttls_differ self.now.zone self.now.name }
+    {
+        have_other_ttls(self.own)
+    }
+
+    fn has_ns_target_alias(&self) -> bool
+        ensures { result ≡ ns_target_alias self.now.zone self.now.name }
+    {
+        self.own.iter().any(|listed| listed.rtype == RType::NS
+            && self.survey.is_target_alias(listed))
+    }
+
+    fn has_ns_target_lost(&self) -> bool
+        ensures { result ≡ ns_target_lost self.now.zone self.now.name }
+    {
+        let is_cut = self.is_cut();
+        self.own.iter().any(|listed| listed.rtype == RType::NS
+            && self.survey.is_target_lost(listed, self.name, is_cut))
+    }
+
+    fn has_mx_target_alias(&self) -> bool
+        ensures { result ≡ mx_target_alias self.now.zone self.now.name }
+    {
+        self.own.iter().any(|listed| (listed.rtype == RType::MX || listed.rtype == RType::SRV)
+            && self.survey.is_target_alias(listed))
+    }
+
+    fn has_data_at_cut(&self) -> bool
+        ensures { result ≡ data_at_cut self.now.zone self.now.name }
+    {
+        self.has_own_data_at_cut() || self.has_data_below_cut()
+    }
+
+    fn has_wildcard_ns(&self) -> bool
+        ensures { result ≡ wildcard_ns self.now.zone self.now.name }
+    {
+        first_is_asterisk(self.name) && self.owns(RType::NS)
+    }
+
+    fn has_large_set(&self) -> bool
+        ensures { result ≡ large_set self.now.zone self.now.name }
+    {
+        have_large_set(self.own)
+    }
+
+    fn has_many_sets(&self) -> bool
+        ensures { result ≡ many_sets self.now.zone self.now.name }
+    {
+        have_many_sets(self.own)
+    }
+}
+
+/// What the checks ask.
+impl<'a> Owner<'a> {
+    fn is_origin(&self) -> bool
+        ensures { result ≡ is_origin self.now.zone self.now.name }
+    {
+        self.name.same(self.survey.origin())
+    }
+
+    fn owns(&self, rtype: RType) -> bool
+        ensures { result ≡ owns self.now.zone self.now.name rtype.0 }
+    {
+        has_type(self.own, rtype)
+    }
+
+    fn count(&self, rtype: RType) -> usize
+        ensures { result ≡ count self.now.zone self.now.name rtype.0 }
+    {
+        self.own
+            .iter()
+            .filter(|listed| listed.rtype == rtype)
+            .count()
+    }
+
+    fn is_cut(&self) -> bool
+        ensures { result ≡ is_cut self.now.zone self.now.name }
+    {
+        is_below(self.name, self.survey.origin()) && self.owns(RType::NS)
+    }
+
+    // At a cut stand its NS records and addresses alone.
+    fn has_own_data_at_cut(&self) -> bool
+        ensures { result ≡ (is_cut self.now.zone self.now.name && owns_such self.now.zone self.now.name (λ t. not (t == type_ns || is_address_type t))) }
+    {
+        self.is_cut() && self.owns_other_than_delegation()
+    }
+
+    // Below a cut stands glue alone.
+    fn has_data_below_cut(&self) -> bool
+        ensures { result ≡ (below_cut self.now.zone self.now.name && owns_such self.now.zone self.now.name (λ t. not (is_address_type t))) }
+    {
+        self.survey.is_below_cut(self.name) && self.owns_other_than_address()
+    }
+
+    fn owns_other_than_cname(&self) -> bool
+        ensures { result ≡ owns_such self.now.zone self.now.name (λ t. not (t == type_cname)) }
+    {
+        self.own.iter().any(|listed| listed.rtype != RType::CNAME)
+    }
+
+    fn owns_other_than_delegation(&self) -> bool
+        ensures { result ≡ owns_such self.now.zone self.now.name (λ t. not (t == type_ns || is_address_type t)) }
+    {
+        self.own.iter().any(|listed| !(listed.rtype == RType::NS || is_address_type(listed.rtype)))
+    }
+
+    fn owns_other_than_address(&self) -> bool
+        ensures { result ≡ owns_such self.now.zone self.now.name (λ t. not (is_address_type t)) }
+    {
+        self.own.iter().any(|listed| !is_address_type(listed.rtype))
+    }
+}
+
+fn is_address_type(rtype: RType) -> bool
+    ensures { result ≡ is_address_type rtype.0 }
+{
+    rtype == RType::A || rtype == RType::AAAA
+}
+
+fn first_is_asterisk(name: &Name) -> bool
+    ensures { result ≡ first_is_asterisk name.now }
+{
+    match name.labels().next() {
+        Some(label) => label.octets() == b"*".as_slice(),
+        None => false,
+    }
+}

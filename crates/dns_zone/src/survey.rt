@@ -1,0 +1,163 @@
+//! A zone under check: its origin, its records in canonical order, and its cuts.
+ghost use Rattle.std.specs.Prelude.{◌≡◌, ◌==◌, ◌&&◌, true, not, false, IfOk, OnOk, length, take};
+ghost use Rattle.std.specs.List.{filter, list_any};
+ghost use Rattle.std.specs.Ordering.{is_gt};
+ghost use Rattle.dns_spec.specs.Names.{folded, name_order, at_or_below, below};
+ghost use Rattle.dns_spec.specs.Records.{ResourceRecord, at, owns};
+ghost use Rattle.std.specs.List.Sorted.{IsNonDecreasingBy};
+ghost use Rattle.std.specs.Option.{option_map_or};
+ghost use Rattle.dns_spec.specs.Data.{type_ns, type_cname, target};
+ghost use Rattle.dns_spec.specs.Tree.{is_cut};
+ghost use Rattle.dns_spec.specs.Checks.{at_or_below_cut, below_cut, lacks_address, has_address};
+ghost use Rattle.dns_zone.specs.ZoneForm.{AreOrdered};
+ghost use Rattle.dns_zone.specs.CutForm.{behind, AreTopmost, AreApart, last_passes};
+
+use crate::cuts::{is_below_last, is_covered, not_behind, topmost_cuts};
+use crate::lookup::{has_type, records_at};
+use crate::target::target;
+use dns_master::Record;
+use dns_name::Name;
+use dns_rdata::RType;
+use std::alloc::{AllocError, Global};
+use std::marker::Model;
+
+/// The zone of an origin and of records in canonical order, whose checks are asked for.
+#[derive(Drop)]
+pub(crate) struct Survey<'a> {
+    origin: &'a Name,
+    records: &'a [Record],
+    // An NS record of each cut that is below no other.
+    cuts: Vec<&'a Record>,
+}
+
+impl<'a> Model for Survey<'a> {
+    ghost use Rattle.dns_spec.specs.Records.{ZoneContents};
+    ghost use Rattle.dns_zone.specs.CutForm.{IsSurvey, behind};
+
+    ghost Value = { ZoneContents };
+
+    ghost view = { λ s. record { origin = s.origin.now; records = s.records.now } };
+
+    ghost invariant = { λ s. IsSurvey (record { origin = s.origin.now; records = s.records.now }) (behind s.cuts.items) };
+}
+
+impl<'a> Survey<'a> {
+    /// The zone of an origin in lower case and of records. An error only where no memory for its cuts was found.
+    pub(crate) fn new(
+        alloc: Global,
+        origin: &'a Name,
+        records: &'a [Record],
+    ) -> Result<Survey<'a>, AllocError>
+        requires ordered { AreOrdered records.now }
+        requires lower { folded origin.now ≡ origin.now }
+        ensures { IfOk result (λ survey. survey ≡ record { origin = origin.now; records = records.now }) }
+    {
+        let cuts = topmost_cuts(alloc, origin, records)?;
+        Ok(Survey {
+            origin,
+            records,
+            cuts,
+        })
+    }
+
+    /// The name at and below which the zone speaks.
+    pub(crate) fn origin(&self) -> &Name
+        ensures value { result.now ≡ self.now.origin }
+        ensures lower { folded result.now ≡ result.now }
+    {
+        self.origin
+    }
+
+    /// The records at the name, by their types.
+    pub(crate) fn at(&self, name: &Name) -> &'a [Record]
+        requires { folded name.now ≡ name.now }
+        ensures own { result.now ≡ at self.now name.now }
+        ensures by_types { IsNonDecreasingBy (λ (r : ResourceRecord). r.rtype) result.now }
+    {
+        records_at(self.records, name)
+    }
+
+    /// Whether the name owns a record of the type.
+    pub(crate) fn owns(&self, name: &Name, rtype: RType) -> bool
+        requires { folded name.now ≡ name.now }
+        ensures { result ≡ owns self.now name.now rtype.0 }
+    {
+        has_type(self.at(name), rtype)
+    }
+
+    /// Whether the record's target is a name of the zone that owns a CNAME.
+    pub(crate) fn is_target_alias(&self, listed: &Record) -> bool
+        ensures { result ≡ option_map_or (λ m. at_or_below m self.now.origin && owns self.now m type_cname) (target listed.now.rtype listed.now.rdata) false }
+    {
+        match target(listed) {
+            Some(target) => self.is_alias(&target),
+            None => false,
+        }
+    }
+
+    fn is_alias(&self, target: &Name) -> bool
+        ensures { result ≡ (at_or_below target.now self.now.origin && owns self.now target.now type_cname) }
+    {
+        if !target.at_or_below(self.origin) {
+            return false;
+        }
+        self.owns(&target.fold(), RType::CNAME)
+    }
+
+    /// Whether the record's target is a name of the zone that lacks an address there (RFC 1034 4.2.1). The record stands
+    /// at `owner`.
+    pub(crate) fn is_target_lost(&self, listed: &Record, owner: &Name, owner_is_cut: bool) -> bool
+        requires { owner_is_cut ≡ is_cut self.now owner.now }
+        ensures { result ≡ option_map_or (λ m. at_or_below m self.now.origin && lacks_address self.now owner.now m) (target listed.now.rtype listed.now.rdata) false }
+    {
+        match target(listed) {
+            Some(target) => self.is_lost(&target, owner, owner_is_cut),
+            None => false,
+        }
+    }
+
+    fn is_lost(&self, target: &Name, owner: &Name, owner_is_cut: bool) -> bool
+        requires { owner_is_cut ≡ is_cut self.now owner.now }
+        ensures { result ≡ (at_or_below target.now self.now.origin && lacks_address self.now owner.now target.now) }
+    {
+        if !target.at_or_below(self.origin) {
+            return false;
+        }
+        self.lacks_address(&target.fold(), owner, owner_is_cut)
+    }
+
+    fn lacks_address(&self, target: &Name, owner: &Name, owner_is_cut: bool) -> bool
+        requires lower { folded target.now ≡ target.now }
+        requires cut { owner_is_cut ≡ is_cut self.now owner.now }
+        ensures { result ≡ lacks_address self.now owner.now target.now }
+    {
+        if self.has_address(target) {
+            return false;
+        }
+        !self.is_at_or_below_cut(target) || owner_is_cut && target.at_or_below(owner)
+    }
+
+    fn has_address(&self, name: &Name) -> bool
+        requires { folded name.now ≡ name.now }
+        ensures { result ≡ has_address self.now name.now }
+    {
+        let own = self.at(name);
+        has_type(own, RType::A) || has_type(own, RType::AAAA)
+    }
+
+    /// Whether the name is at or below a cut (RFC 1034 4.2).
+    pub(crate) fn is_at_or_below_cut(&self, name: &Name) -> bool
+        requires { folded name.now ≡ name.now }
+        ensures { result ≡ at_or_below_cut self.now name.now }
+    {
+        is_covered(not_behind(self.cuts.as_slice(), name), name)
+    }
+
+    /// Whether the name is below a cut.
+    pub(crate) fn is_below_cut(&self, name: &Name) -> bool
+        requires { folded name.now ≡ name.now }
+        ensures { result ≡ below_cut self.now name.now }
+    {
+        is_below_last(not_behind(self.cuts.as_slice(), name), name)
+    }
+}

@@ -1,0 +1,3 @@
+mod building;
+mod printing;
+mod texts;

@@ -1,0 +1,69 @@
+//! Zones that are built, and faults that are told.
+
+use super::texts::{built, file_with};
+use crate::BuildFault;
+use std::test::Fail;
+
+// A fault: the owner's wire form, and the number of the code.
+type Told<'a> = (&'a [u8], u8);
+
+#[test]
+fn origins_and_serials(rt: HostRuntime) -> Result<(), Fail> {
+    let rows: [(&[u8], &[u8], &[u8], u32); 3] = [
+        (
+            b"Example.",
+            b"@ 60 SOA ns h 1 2 3 4 5\n@ 60 NS ns.other.",
+            b"\x07example\x00",
+            1,
+        ),
+        (
+            b"a.b.",
+            b"x 60 A 192.0.2.1\n@ 60 NS x\n@ 60 SOA x x 4294967295 2 3 4 5",
+            b"\x01a\x01b\x00",
+            4_294_967_295,
+        ),
+        (
+            b".",
+            b"@ 60 NS x\nx 60 A 192.0.2.1\n@ 60 SOA x x 16909060 0 0 0 0",
+            b"\x00",
+            16_909_060,
+        ),
+    ];
+    for (origin, text, wire, serial) in rows {
+        let Some(Ok(zone)) = built(rt.alloc(), origin, text)? else {
+            panic!(rt; "no zone of {text:?}");
+        };
+        assert_eq!(rt; zone.origin().octets(), wire);
+        assert_eq!(rt; zone.serial(), serial);
+    }
+    Ok(())
+}
+
+#[test]
+fn faults_are_told(rt: HostRuntime) -> Result<(), Fail> {
+    let more = file_with(rt.alloc(), b"www CNAME ns\nx.sub TXT \"q\"\n")?;
+    let other_ttl = file_with(rt.alloc(), b"www 1 A 192.0.2.10\n")?;
+    let rows: [(&[u8], &[Told<'_>]); 3] = [
+        (
+            &more,
+            &[
+                (b"\x01x\x03sub\x07example\x00", 12),
+                (b"\x03www\x07example\x00", 6),
+            ],
+        ),
+        (b"", &[(b"\x07example\x00", 1), (b"\x07example\x00", 4)]),
+        // A record that differs in its TTL alone is another.
+        (&other_ttl, &[(b"\x03www\x07example\x00", 8)]),
+    ];
+    for (text, wanted) in rows {
+        let Some(Err(BuildFault::Faults(told))) = built(rt.alloc(), b"example.", text)? else {
+            panic!(rt; "no faults of {text:?}");
+        };
+        assert_eq!(rt; told.len(), wanted.len());
+        for (fault, (owner, code)) in told.iter().zip(wanted) {
+            assert_eq!(rt; fault.owner.octets(), *owner);
+            assert_eq!(rt; fault.code, *code);
+        }
+    }
+    Ok(())
+}

@@ -1,0 +1,164 @@
+//! The canonical text of zones, and sinks that fail.
+ghost use Rattle.std.specs.Prelude.{◌<◌, ◌-◌, ◌^◌};
+
+use super::texts::{PRINTED, built, file_with};
+use crate::{PrintFault, print};
+use dns_name::Tally;
+use std::alloc::Global;
+use std::io::{self, ErrorKind, Write};
+use std::test::Fail;
+
+// Words, comments, types and owners of many kinds.
+const MIXED: &[u8] = b"$TTL 60
+@ SOA ns h ( 1 2
+ 3 4 ; c
+ 5 )
+ NS ns
+ns A 192.0.2.1
+ AAAA 2001:DB8:0:0:1::1
+$ORIGIN deep
+a\\.b 7 IN TXT hi \"x;y\"
+ CLASS1 9 TYPE65280 \\# 3 AB cdef
+";
+
+const MIXED_PRINTED: &[u8] = b"example. 60 IN SOA ns.example. h.example. 1 2 3 4 5
+example. 60 IN NS ns.example.
+a\\.b.deep.example. 7 IN TXT \"hi\" \"x;y\"
+a\\.b.deep.example. 9 IN TYPE65280 \\# 3 abcdef
+ns.example. 60 IN A 192.0.2.1
+ns.example. 60 IN AAAA 2001:db8::1:0:0:1
+";
+
+// The names of RFC 4034 6.1, turned about, and records of one name that differ in type and in data.
+const TURNED: &[u8] = b"$TTL 60
+\\200.z TXT \"\"
+*.z TXT \"\"
+\\001.z TXT \"\"
+z TXT \"\"
+zABC.a TXT \"\"
+Z.a TXT \"\"
+yljkjljk.a TXT \"\"
+a TXT b
+a AAAA ::
+a TXT \"\" \"\"
+a A 192.0.2.200
+a A 192.0.2.3
+A A 192.0.2.3
+@ NS ns.other.
+@ A 192.0.2.3
+@ SOA ns.other. h 1 2 3 4 5
+";
+
+const TURNED_PRINTED: &[u8] = b"example. 60 IN SOA ns.other. h.example. 1 2 3 4 5
+example. 60 IN A 192.0.2.3
+example. 60 IN NS ns.other.
+a.example. 60 IN A 192.0.2.3
+a.example. 60 IN A 192.0.2.200
+a.example. 60 IN TXT \"\" \"\"
+a.example. 60 IN TXT \"b\"
+a.example. 60 IN AAAA ::
+yljkjljk.a.example. 60 IN TXT \"\"
+z.a.example. 60 IN TXT \"\"
+zabc.a.example. 60 IN TXT \"\"
+z.example. 60 IN TXT \"\"
+\\001.z.example. 60 IN TXT \"\"
+*.z.example. 60 IN TXT \"\"
+\\200.z.example. 60 IN TXT \"\"
+";
+
+const SHORT: &[u8] = b"@ 1 NS ns\n@ 1 SOA ns . 1 2 3 4 5\nns 1 A 192.0.2.1";
+
+const SHORT_PRINTED: &[u8] = b". 1 IN SOA ns. . 1 2 3 4 5
+. 1 IN NS ns.
+ns. 1 IN A 192.0.2.1
+";
+
+// A sink that takes so many octets, and then fails.
+#[derive(Drop)]
+struct Failing {
+    most: usize,
+    written: Vec<u8>,
+}
+
+impl Write for Failing {
+    fn write(&mut self, piece: &[u8]) -> io::Result<usize> {
+        let count = piece
+            .len()
+            .min(self.most.saturating_sub(self.written.len()));
+        if count == 0 || self.written.extend_from_slice(&piece[..count]).is_err() {
+            return Err(io::Error::from(ErrorKind::Other));
+        }
+        Ok(count)
+    }
+
+    fn flush(&mut self) -> io::Result<()> {
+        Ok(())
+    }
+}
+
+// What comes of printing the zone of a file; `None` where there is none.
+fn printed<W: Write>(
+    alloc: Global,
+    origin: &[u8],
+    text: &[u8],
+    sink: &mut Tally<W>,
+) -> Result<Option<Result<(), PrintFault>>, Fail>
+    requires { sink.old.failures < 2 ^ 64 - 1 }
+{
+    match built(alloc, origin, text)? {
+        Some(Ok(zone)) => Ok(Some(print(&zone, sink))),
+        _ => Ok(None),
+    }
+}
+
+#[test]
+fn zones_printed(rt: HostRuntime) -> Result<(), Fail> {
+    let file = file_with(rt.alloc(), b"")?;
+    let doubled = file_with(rt.alloc(), b"WWW A 192.0.2.10\n@ NS ns\n")?;
+    let rows: [(&[u8], &[u8], &[u8]); 5] = [
+        (b"example.", &file, PRINTED),
+        (b"example.", &doubled, PRINTED),
+        (b"example.", MIXED, MIXED_PRINTED),
+        (b"example.", TURNED, TURNED_PRINTED),
+        (b".", SHORT, SHORT_PRINTED),
+    ];
+    for (origin, text, wanted) in rows {
+        let mut sink = Tally::new(Vec::new(rt.alloc()));
+        let outcome = printed(rt.alloc(), origin, text, &mut sink)?;
+        assert_eq!(rt; outcome, Some(Ok(())), "at {text:?}");
+        assert_eq!(rt; sink.failures(), 0);
+        assert_eq!(rt; sink.into_inner().as_slice(), wanted);
+    }
+    Ok(())
+}
+
+#[test]
+fn the_printed_text_is_printed_again(rt: HostRuntime) -> Result<(), Fail> {
+    for text in [PRINTED, MIXED_PRINTED, TURNED_PRINTED] {
+        let mut sink = Tally::new(Vec::new(rt.alloc()));
+        let outcome = printed(rt.alloc(), b"example.", text, &mut sink)?;
+        assert_eq!(rt; outcome, Some(Ok(())), "at {text:?}");
+        assert_eq!(rt; sink.into_inner().as_slice(), text);
+    }
+    Ok(())
+}
+
+#[test]
+fn a_sink_that_fails_behind_each_octet(rt: HostRuntime) -> Result<(), Fail> {
+    for most in 0..SHORT_PRINTED.len() + 1 {
+        let whole = most == SHORT_PRINTED.len();
+        let mut sink = Tally::new(Failing {
+            most,
+            written: Vec::new(rt.alloc()),
+        });
+        let outcome = printed(rt.alloc(), b".", SHORT, &mut sink)?;
+        let wanted = if whole { Ok(()) } else { Err(PrintFault) };
+        assert_eq!(rt; outcome, Some(wanted), "behind {most}");
+        assert_eq!(rt; sink.failures(), u64::from(!whole), "behind {most}");
+        assert_eq!(rt;
+            sink.into_inner().written.as_slice(),
+            &SHORT_PRINTED[..most]
+        );
+    }
+    Ok(())
+}
