@@ -15,3 +15,6 @@ pub mod Decisions
 pub mod RespondCases
 pub mod ListedRecords
 pub mod PlainZone
+mod LateDash
+mod ReportLines
+mod CheckedZone

@@ -6,3 +6,4 @@ pub mod Load
 pub mod Status
 pub mod Stops
 pub mod Words
+pub mod Checked

@@ -1,5 +1,7 @@
 -- What a reader learns here: which words of a command line are never taken as values.
-use Rattle.std.specs.Prelude.{ℕ, Bool, true, false, ◌==◌, List, [], ◌∷◌}
+use Rattle.std.specs.Prelude.{ℕ, Bool, true, false, ◌||◌, ◌==◌, List, [], ◌∷◌, if◌then◌else◌, codes}
+use Rattle.std.specs.List.{list_any}
+use Rattle.dns_spec.specs.Names.{octets_equal}
 use Rattle.dns_tools.specs.declared.fault.FaultWord.{FaultWord}
 use Rattle.dns_tools.specs.declared.fault.FaultWord.TheVariants.{Usage, BadOrigin, NoMemory, SourceFailed, SinkFailed, ZoneRefused, FaultyEntry}
 
@@ -7,6 +9,15 @@ use Rattle.dns_tools.specs.declared.fault.FaultWord.TheVariants.{Usage, BadOrigi
 abbrev pub is_dashed : List ℕ → Bool
 is_dashed [] = false
 is_dashed (octet ∷ rest) = octet == 45
+
+-- an option of the checker
+abbrev pub is_option : List ℕ → Bool
+is_option word = octets_equal word (codes "--quiet") || octets_equal word (codes "--print")
+
+-- behind the options a word begins with `-`
+abbrev pub has_late_dash : List (List ℕ) → Bool
+has_late_dash [] = false
+has_late_dash (word ∷ rest) = if is_option word then has_late_dash rest else list_any is_dashed (word ∷ rest)
 
 -- what the words of a command line can be refused for
 abbrev pub is_word_fault : FaultWord → Bool

@@ -1,3 +1,4 @@
+mod check;
 mod devices;
 mod fault;
 mod load;

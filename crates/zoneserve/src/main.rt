@@ -3,11 +3,12 @@
 #![tactic(auto)]
 
 use dns_name::Tally;
-use dns_tools::{FaultWord, Limit, exit_status, load_zone, run_once, serve_words};
-use std::io::{Error, ErrorKind};
+use dns_tools::{
+    FaultWord, Limit, exit_status, given_words, load_zone, open_file, run_once, serve_words, told,
+};
+use std::io;
 use std::process::ExitCode;
 use std::rt::{Env, Files};
-use std::{env, fs, io};
 
 fn main(rt: HostRuntime) -> ExitCode {
     ExitCode::from(match serve(&rt) {
@@ -21,39 +22,10 @@ fn serve<R: Env + Files + Input + Print + AllocGlobal>(rt: &R) -> Result<u8, Fau
     let alloc = rt.alloc();
     let words = given_words(rt)?;
     let words = serve_words(alloc, words.as_slice())?;
-    let file = fs::open(rt, words.file).map_err(|error| word_or_no_memory(
-        &error,
-        FaultWord::SourceFailed,
-    ))?;
+    let file = open_file(rt, words.file)?;
     let zone = load_zone(alloc, &words.origin, &mut Tally::new(file))?;
     let (mut source, mut sink) = (Tally::new(rt.reader()), Tally::new(io::writer(rt)));
     let outcome = run_once(alloc, &zone, Limit::Udp, &mut source, &mut sink);
     outcome?;
     Ok(exit_status(&outcome))
-}
-
-// The words behind the program's own name. Words that are no text are none that the program takes.
-fn given_words<R: Env + AllocGlobal>(rt: &R) -> Result<Vec<String>, FaultWord> {
-    let given = env::args(rt).map_err(|error| word_or_no_memory(&error, FaultWord::Usage))?;
-    let mut words = Vec::new(rt.alloc());
-    for word in given.skip(1) {
-        words.push(word).map_err(|_| FaultWord::NoMemory)?;
-    }
-    Ok(words)
-}
-
-fn word_or_no_memory(error: &Error, word: FaultWord) -> FaultWord {
-    if error.kind() == ErrorKind::OutOfMemory {
-        FaultWord::NoMemory
-    } else {
-        word
-    }
-}
-
-// Tells a fault on standard error, and gives the status for it: 2 also where standard error can't be written.
-fn told(rt: &impl Eprint, word: FaultWord) -> u8 {
-    match rt.eprintln(word) {
-        Ok(()) => word.status(),
-        Err(_) => 2,
-    }
 }

@@ -1,0 +1,77 @@
+//! The lines of the checker's report.
+ghost use Rattle.std.specs.Prelude.{◌≡◌, ◌-◌, ◌^◌, ◌<◌, OnOk, OnErr};
+ghost use Rattle.std.specs.List.{flat_map};
+ghost use Rattle.std.specs.Io.KnownBytes.{Appends};
+ghost use Rattle.dns_spec.specs.Report.{two_digits, line_report, fault_report, loaded_report};
+ghost use Rattle.dns_name.specs.Counted.{failures_after, AppendsBeginning};
+ghost use Rattle.dns_master.specs.Codes.{code_number};
+
+use dns_master::ReadFault;
+use dns_name::{SinkFailed, Tally};
+use dns_zone::{CheckFault, Zone};
+use itoa::Buffer;
+use std::io::Write;
+
+/// Writes the line of a fault of the file: `line 7: R11`.
+pub(crate) fn write_read_fault<W: Write>(
+    fault: &ReadFault,
+    sink: &mut Tally<W>,
+) -> Result<(), SinkFailed>
+    requires { sink.old.failures < 2 ^ 64 - 1 }
+    ensures ok { OnOk result (Appends (W.contents sink.old.device) (W.contents sink.new.device) (line_report (code_number fault.now.code) fault.now.line)) }
+    ensures err { OnErr result (AppendsBeginning (W.contents sink.old.device) (W.contents sink.new.device) (line_report (code_number fault.now.code) fault.now.line)) }
+    ensures counted { sink.new.failures ≡ failures_after sink.old.failures result }
+{
+    let mut digits = Buffer::new();
+    let line = digits.format(fault.line).as_bytes();
+    let code = two_digits(fault.code.number());
+    sink.write_parts(&[b"line ", line, b": R", code.as_slice(), b"\n"])
+}
+
+/// Writes a line for each fault of the zone: `www.example. Z06`.
+pub(crate) fn write_check_faults<W: Write>(
+    faults: &[CheckFault],
+    sink: &mut Tally<W>,
+) -> Result<(), SinkFailed>
+    requires { sink.old.failures < 2 ^ 64 - 1 }
+    ensures ok { OnOk result (Appends (W.contents sink.old.device) (W.contents sink.new.device) (flat_map fault_report faults.now)) }
+    ensures err { OnErr result (AppendsBeginning (W.contents sink.old.device) (W.contents sink.new.device) (flat_map fault_report faults.now)) }
+    ensures counted { sink.new.failures ≡ failures_after sink.old.failures result }
+{
+    'faults: for fault in faults {
+        write_check_fault(fault, sink)?;
+    }
+    Ok(())
+}
+
+fn write_check_fault<W: Write>(fault: &CheckFault, sink: &mut Tally<W>) -> Result<(), SinkFailed>
+    requires { sink.old.failures < 2 ^ 64 - 1 }
+    ensures ok { OnOk result (Appends (W.contents sink.old.device) (W.contents sink.new.device) (fault_report fault.now)) }
+    ensures err { OnErr result (AppendsBeginning (W.contents sink.old.device) (W.contents sink.new.device) (fault_report fault.now)) }
+    ensures counted { sink.new.failures ≡ failures_after sink.old.failures result }
+{
+    fault.owner.write_text(sink)?;
+    let code = two_digits(fault.code);
+    sink.write_parts(&[b" Z", code.as_slice(), b"\n"])
+}
+
+/// Writes the lines of a zone that passes: `zone example/IN: loaded serial 1` and `OK`.
+pub(crate) fn write_loaded<W: Write>(zone: &Zone, sink: &mut Tally<W>) -> Result<(), SinkFailed>
+    requires { sink.old.failures < 2 ^ 64 - 1 }
+    ensures ok { OnOk result (Appends (W.contents sink.old.device) (W.contents sink.new.device) (loaded_report zone.now)) }
+    ensures err { OnErr result (AppendsBeginning (W.contents sink.old.device) (W.contents sink.new.device) (loaded_report zone.now)) }
+    ensures counted { sink.new.failures ≡ failures_after sink.old.failures result }
+{
+    sink.write_all(b"zone ")?;
+    zone.origin().write_bare_text(sink)?;
+    let mut digits = Buffer::new();
+    let serial = digits.format(zone.serial()).as_bytes();
+    sink.write_parts(&[b"/IN: loaded serial ", serial, b"\nOK\n"])
+}
+
+// The two decimal digits of a code.
+fn two_digits(code: u8) -> [u8; 2]
+    ensures { result ≡ two_digits code }
+{
+    [b'0' + code / 10, b'0' + code % 10]
+}

@@ -1,0 +1,31 @@
+//! A checker of zone files: `zonecheck [--quiet] [--print] ORIGIN FILE` says whether the zone of ORIGIN in FILE may be
+//! served, tells all of its faults, or prints it in its canonical text.
+#![tactic(auto)]
+
+use dns_name::Tally;
+use dns_tools::{FaultWord, check_words, check_zone, exit_status, given_words, open_file, told};
+use std::io::{self, BufWriter, Write};
+use std::process::ExitCode;
+use std::rt::{Env, Files};
+
+fn main(rt: HostRuntime) -> ExitCode {
+    ExitCode::from(match check(&rt) {
+        Ok(status) => status,
+        Err(word) => told(&rt, word),
+    })
+}
+
+// Writes the report of the zone that the words name, and gives the status for it.
+fn check<R: Env + Files + Print + AllocGlobal>(rt: &R) -> Result<u8, FaultWord> {
+    let alloc = rt.alloc();
+    let words = given_words(rt)?;
+    let words = check_words(alloc, words.as_slice())?;
+    let mut source = Tally::new(open_file(rt, words.file)?);
+    let output = BufWriter::new(alloc, io::writer(rt)).map_err(|_| FaultWord::NoMemory)?;
+    let mut sink = Tally::new(output);
+    let outcome = check_zone(alloc, &words.origin, words.flags, &mut source, &mut sink);
+    outcome?;
+    let flushed = sink.into_inner().flush();
+    flushed.map_err(|_| FaultWord::SinkFailed)?;
+    Ok(exit_status(&outcome))
+}
