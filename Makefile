@@ -1,9 +1,22 @@
-.PHONY: run test memory bench
+.PHONY: run programs install test memory bench
 
-# Builds the server and asks it about the zone in examples/.
-run:
-	cd crates/zoneserve && rt run -- once example ../../examples/example.zone </dev/null
+PREFIX ?= /usr/local
+
+# Builds the programs, checks two zones in examples/, and asks the server about one of them.
+run: programs
+	examples/check crates/zonecheck/out/zonecheck
 	examples/ask crates/zoneserve/out/zoneserve
+
+# Proves and builds each program, to crates/NAME/out/NAME, and runs it once.
+programs:
+	cd crates/zonecheck && rt run -- example ../../examples/example.zone
+	cd crates/zoneserve && rt run -- once example ../../examples/example.zone </dev/null
+
+# Installs the programs and the manual page below PREFIX, or below DESTDIR where a package is made.
+install: programs
+	install -d "$(DESTDIR)$(PREFIX)/bin" "$(DESTDIR)$(PREFIX)/share/man/man1"
+	install -m 755 crates/zonecheck/out/zonecheck crates/zoneserve/out/zoneserve "$(DESTDIR)$(PREFIX)/bin"
+	install -m 644 man/zonecheck.1 "$(DESTDIR)$(PREFIX)/share/man/man1"
 
 test:
 	rt ci
