@@ -101,3 +101,23 @@ order_is n m left right k a b longer result p q shared e f g h =
       | inr (inr more) ↦ inr (omega arith)
     ] in
     h ∙ rw (g, e, f, p, q) (order_of_last n m k (omega arith) (omega arith) shorter)
+
+cmp_self : {A : Type 0} (R : A → A → Ordering) → ((x : A) → R x x ≡ Equal) → (xs : List A) → slice_cmp R xs xs ≡ Equal
+cmp_self R h [] = refl
+cmp_self R h (x ∷ xs) = rw (h x) (cmp_self R h xs)
+
+-- where the labels that are left are the same, those so far decide
+pub order_stays : (n m : DomainName) (order : Ordering) → n ≡ m → ordering_then (slice_cmp label_order (reverse n) (reverse m)) order ≡ order
+order_stays n m order e =
+    let same : slice_cmp label_order (reverse n) (reverse n) ≡ Equal = cmp_self label_order (cmp_self nat_cmp (λ x. sym (nat_cmp_is x x Equal refl))) (reverse n) in
+    rw (sym e, same) refl
+
+-- names below one name
+pub order_of_first : (n n' m m' : DomainName) (l k : Octets) (result : Ordering) → n ≡ l ∷ n' → m ≡ k ∷ m' → n' ≡ m' → result ≡ label_order l k
+    → result ≡ slice_cmp label_order (reverse n) (reverse m)
+order_of_first n n' m m' l k result e f same g =
+    let behind : ordering_then (slice_cmp label_order (reverse n') (reverse m')) (ordering_then (label_order l k) Equal) ≡ ordering_then (label_order l k) Equal =
+    order_stays n' m' (ordering_then (label_order l k) Equal) same
+    in
+    let all = slice_cmp-reverse-cons label_order l k n' m' Equal (ap length same) in
+    g ∙ sym (then_equal (label_order l k)) ∙ sym behind ∙ all ∙ then_equal (slice_cmp label_order (reverse (l ∷ n')) (reverse (k ∷ m'))) ∙ rw (e, f) refl

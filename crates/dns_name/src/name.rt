@@ -1,5 +1,5 @@
 //! Domain names in their wire form.
-ghost use Rattle.std.specs.Prelude.{⊤, ◌≡◌, ℕ, ◌+◌, ◌≤◌, ◌↔◌, List, [], ◌∷◌, ◌++◌, length, map, reverse, IsTrue, MatchOption};
+ghost use Rattle.std.specs.Prelude.{⊤, ◌≡◌, ℕ, ◌+◌, ◌≤◌, ◌↔◌, List, [], ◌∷◌, ◌++◌, length, map, reverse, IsTrue, IfSome, MatchOption};
 ghost use Rattle.std.specs.Bool.{OnTrue, OnFalse};
 ghost use Rattle.std.specs.Char.{to_ascii_lowercase};
 ghost use Rattle.std.specs.Cmp.{nat_eq_equiv, partial_equiv_from_equiv};
@@ -170,6 +170,9 @@ impl Name {
     fn order_as_spelled(&self, other: &Name) -> Ordering
         ensures { result ≡ slice_cmp label_order (reverse self.now) (reverse other.now) }
     {
+        if let Some(order) = order_of_siblings(self, other) {
+            return order;
+        }
         let (own_count, other_count) = (self.label_count(), other.label_count());
         let shared = own_count.min(other_count);
         let longer = own_count.cmp(&other_count);
@@ -264,6 +267,15 @@ impl<'a> Iterator for Labels<'a> {
     }
 }
 
+impl Labels<'_> {
+    // Whether the labels that are still to come are the same, octet by octet.
+    fn are_those_of(&self, other: &Labels<'_>) -> bool
+        ensures { OnTrue result (self.now ≡ other.now) }
+    {
+        self.octets == other.octets
+    }
+}
+
 // The first label of a wire form, if it is not the root's, and the wire form behind it.
 fn first_label(octets: &[u8]) -> Option<(Label<'_>, &[u8])>
     requires { IsWireForm octets.now }
@@ -279,7 +291,21 @@ fn first_label(octets: &[u8]) -> Option<(Label<'_>, &[u8])>
     Some((Label::new(label)?, rest))
 }
 
-// The order of as many labels on both sides, compared from the right, and `longer` where they are equal.
+// The order of two names below one name, which is that of their first labels. Most names of a zone are such, so that
+// their labels need not be counted.
+fn order_of_siblings(one: &Name, other: &Name) -> Option<Ordering>
+    ensures { IfSome result (λ order. order ≡ slice_cmp label_order (reverse one.now) (reverse other.now)) }
+{
+    let (mut left, mut right) = (one.labels(), other.labels());
+    let (first, second) = (left.next()?, right.next()?);
+    if !left.are_those_of(&right) {
+        return None;
+    }
+    Some(first.octets().cmp(second.octets()))
+}
+
+// The order of as many labels on both sides, compared from the right, and `longer` where they are equal. Names of a zone
+// mostly differ in their first labels alone, and what is equal behind a label need not be walked.
 fn order_of_labels(left: Labels<'_>, right: Labels<'_>, longer: Ordering) -> Ordering
     requires { length left ≡ length right }
     ensures { result ≡ ordering_then (slice_cmp label_order (reverse left.entry) (reverse right.entry)) longer }
@@ -289,6 +315,9 @@ fn order_of_labels(left: Labels<'_>, right: Labels<'_>, longer: Ordering) -> Ord
     let mut order = longer;
     'labels: while let (Some(l), Some(r)) = (left.next(), right.next()) {
         order = l.octets().cmp(r.octets()).then(order);
+        if left.are_those_of(&right) {
+            return order;
+        }
     }
     order
 }
