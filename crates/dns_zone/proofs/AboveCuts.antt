@@ -1,5 +1,5 @@
 -- A record of each cut that is below no other, and what a search among them tells of a name.
-use Rattle.std.proofs.Common.{◌≡◌, ℕ, suc, ◌-◌, Bool, true, false, ◌&&◌, ◌||◌, not, cond, ◌==◌, nat_lt, ◌⊎◌, inl, inr, Some, None, List, [], ◌∷◌, ◌++◌, length, refl, sym, ap, ap₂, ◌∙◌, subst, arith, filter, is_gt, is_lt, Ordering, Less, Equal, Greater, All}
+use Rattle.std.proofs.Common.{◌≡◌, ℕ, suc, ◌-◌, ◌<◌, ◌≤◌, Bool, true, false, ◌&&◌, ◌||◌, not, cond, ◌==◌, nat_lt, ◌⊎◌, inl, inr, Some, None, List, [], ◌∷◌, ◌++◌, length, refl, sym, ap, ap₂, ◌∙◌, subst, arith, filter, is_gt, is_lt, Ordering, Less, Equal, Greater, All}
 use Rattle.std.proofs.lemmas.Bool.{false≢true, and_parts, and_left, or_cases, or_parts, or_left, or_right, false_from_ne_true, not-true, le-ltb}
 use Rattle.std.proofs.lemmas.List.Elements.{All-head, All-tail}
 use Rattle.std.specs.Borrow.{Bor}
@@ -186,3 +186,15 @@ module _ (z : ZoneContents) (cs : List ResourceRecord) (topmost : AreTopmost z c
   pub below_cut-last : (n : DomainName) → below_cut z n ≡ last_passes (λ (c : ResourceRecord). below n c.owner) (filter (λ (c : ResourceRecord). not (is_gt (name_order c.owner n))) cs)
   below_cut-last n =
       below_cut-any n ∙ last_above n (λ (c : ResourceRecord). below n c.owner) (λ c h. (and_parts (nat_lt (length c.owner) (length n)) (at_or_below n c.owner) h).1) cs (apart_pairs cs topmost.apart)
+
+-- a cut has a label more than the origin at least, and what is below it has two
+no_cut : (z : ZoneContents) (n : DomainName) → length n ≤ length z.origin → is_cut z n ≡ false
+no_cut z n h = ap (λ b. (b && at_or_below n z.origin) && owns z n type_ns) (le-ltb (length z.origin) (length n) h)
+
+none_short : (z : ZoneContents) (n : DomainName) → length n ≤ length z.origin → at_or_below_cut z n ≡ false
+none_short z [] h = ap (λ b. b || false) (no_cut z [] h)
+none_short z (l ∷ n) h = ap₂ ◌||◌ (no_cut z (l ∷ n) h) (none_short z n (omega arith))
+
+pub below_cut-short : (z : ZoneContents) (n : DomainName) → length n - length z.origin < 2 → below_cut z n ≡ false
+below_cut-short z [] h = refl
+below_cut-short z (l ∷ n) h = none_short z n (omega arith)

@@ -12,3 +12,4 @@ pub mod TopmostLoop
 pub mod PartsLoop
 pub mod OwnRecords
 pub mod ToldNames
+pub mod OwnersWalk

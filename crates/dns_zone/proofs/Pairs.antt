@@ -23,7 +23,7 @@ pairs_weaker R S [] f p = tt
 pairs_weaker R S (x ∷ xs) f p = (each_weaker (R x) (S x) xs (f x) p.0, pairs_weaker R S xs f p.1)
 
 -- the same, of elements of which P holds
-each_both : {X : Type 0} (P Q S : X → Type 0) (xs : List X) → ((x : X) → P x → Q x → S x) → Each P xs → Each Q xs → Each S xs
+pub each_both : {X : Type 0} (P Q S : X → Type 0) (xs : List X) → ((x : X) → P x → Q x → S x) → Each P xs → Each Q xs → Each S xs
 each_both P Q S [] f p q = tt
 each_both P Q S (x ∷ xs) f p q = (f x p.0 q.0, each_both P Q S xs f p.1 q.1)
 

@@ -79,7 +79,7 @@ less_other n m h s = go (name_order n m) refl h
     go Greater e g = absurd (true≢false g)
 
 -- behind an owner that is not that of the next record, all owners are greater
-greater_behind : (r : ResourceRecord) (rs : List ResourceRecord) → Pairs OwnerNotAfter (r ∷ rs) → begins_with_owner r.owner rs ≡ false → Each (λ s. Rises (folded r.owner) (folded s.owner)) rs
+pub greater_behind : (r : ResourceRecord) (rs : List ResourceRecord) → Pairs OwnerNotAfter (r ∷ rs) → begins_with_owner r.owner rs ≡ false → Each (λ s. Rises (folded r.owner) (folded s.owner)) rs
 greater_behind r [] h e = tt
 greater_behind r (q ∷ rs) h e =
     let next = less_other r.owner q.owner h.0.0 e in (

@@ -1,9 +1,10 @@
 -- What a reader learns here: in which order faults are told.
-use Rattle.std.specs.Prelude.{ℕ, suc, Bool, false, List, [], ◌∷◌, ◌++◌, if◌then◌else◌}
-use Rattle.std.specs.List.{flat_map}
+use Rattle.std.specs.Prelude.{◌≡◌, ℕ, suc, Bool, false, List, [], ◌∷◌, ◌++◌, All, if◌then◌else◌}
+use Rattle.std.specs.List.{flat_map, filter}
 use Rattle.dns_spec.specs.Names.{DomainName, folded, same}
-use Rattle.dns_spec.specs.Records.{ResourceRecord, ZoneContents}
+use Rattle.dns_spec.specs.Records.{ResourceRecord, ZoneContents, at}
 use Rattle.dns_spec.specs.Checks.{Fault, faults_at}
+use Rattle.dns_zone.specs.ZoneForm.{AreOrdered}
 
 -- the faults of a name, by whether it fails the checks from a code on
 abbrev pub failed_from : DomainName → ℕ → List Bool → List Fault
@@ -19,6 +20,11 @@ begins_with_owner n (r ∷ rs) = same r.owner n
 abbrev pub owners_once : List ResourceRecord → List DomainName
 owners_once [] = []
 owners_once (r ∷ rs) = (if begins_with_owner r.owner rs then [] else folded r.owner ∷ []) ++ owners_once rs
+
+-- Some of a zone's records, in canonical order: of each owner that they have, all records of the zone.
+pub record HasOwners (z : ZoneContents) (rs : List ResourceRecord) : Type 0 where
+  pub ordered : AreOrdered rs
+  pub all : All (λ (r : ResourceRecord). filter (λ (s : ResourceRecord). same s.owner r.owner) rs ≡ at z r.owner) rs
 
 -- the faults of a name, as one word
 unfoldable pub told_at : ZoneContents → DomainName → List Fault

@@ -4,10 +4,11 @@ ghost use Rattle.std.specs.List.{flat_map};
 ghost use Rattle.dns_spec.specs.Names.{folded};
 ghost use Rattle.dns_spec.specs.Checks.{faults};
 ghost use Rattle.dns_zone.specs.ZoneForm.{AreOrdered};
-ghost use Rattle.dns_zone.specs.ToldForm.{begins_with_owner, failed_from, owners_once, told_around, told_at};
+ghost use Rattle.dns_zone.specs.OwnerForm.{IsOwner};
+ghost use Rattle.dns_zone.specs.ToldForm.{HasOwners, failed_from, owners_once, told_around, told_at};
 
 use crate::fault::CheckFault;
-use crate::lookup::{count_at, count_before, is_at};
+use crate::lookup::{count_at, count_before, count_in_front};
 use crate::owner::Owner;
 use crate::survey::Survey;
 use dns_master::Record;
@@ -29,9 +30,9 @@ pub(crate) fn faults(
 {
     let survey = Survey::new(alloc, origin, records)?;
     let (before, others) = records.split_at(count_before(records, origin));
-    let (_, behind) = others.split_at(count_at(others, origin));
+    let (own, behind) = others.split_at(count_at(others, origin));
     let mut found = Vec::new(alloc);
-    tell_around(&survey, before, origin, behind, &mut found)?;
+    tell_around(&survey, before, origin, own, behind, &mut found)?;
     Ok(found)
 }
 
@@ -40,14 +41,17 @@ fn tell_around(
     survey: &Survey<'_>,
     before: &[Record],
     name: &Name,
+    own: &[Record],
     behind: &[Record],
     found: &mut Vec<CheckFault>,
 ) -> Result<(), AllocError>
-    requires { folded name.now ≡ name.now }
+    requires before { HasOwners survey.now before.now }
+    requires own { IsOwner survey.now name.now own.now }
+    requires behind { HasOwners survey.now behind.now }
     ensures { OnOk result (found.new.items ≡ found.old.items ++ told_around survey.now before.now name.now behind.now) }
 {
     tell_owners(survey, before, found)?;
-    tell(survey, name, found)?;
+    tell(survey, name, own, found)?;
     tell_owners(survey, behind, found)
 }
 
@@ -57,34 +61,29 @@ fn tell_owners(
     records: &[Record],
     found: &mut Vec<CheckFault>,
 ) -> Result<(), AllocError>
+    requires { HasOwners survey.now records.now }
     ensures { OnOk result (found.new.items ≡ found.old.items ++ flat_map (told_at survey.now) (owners_once records.now)) }
 {
     let mut rest = records;
-    'owners: while let Some((first, others)) = rest.split_first() {
-        if !begins_with_owner(others, &first.owner) {
-            tell(survey, &first.owner, found)?;
-        }
+    'owners: while let Some((first, _)) = rest.split_first() {
+        let (own, others) = rest.split_at(count_in_front(rest, &first.owner));
+        tell(survey, &first.owner, own, found)?;
         rest = others;
     }
     Ok(())
 }
 
-fn begins_with_owner(records: &[Record], owner: &Name) -> bool
-    requires { folded owner.now ≡ owner.now }
-    ensures { result ≡ begins_with_owner owner.now records.now }
-{
-    match records.first() {
-        Some(first) => is_at(first, owner),
-        None => false,
-    }
-}
-
-// Adds the faults of a name.
-fn tell(survey: &Survey<'_>, name: &Name, found: &mut Vec<CheckFault>) -> Result<(), AllocError>
-    requires { folded name.now ≡ name.now }
+// Adds the faults of a name, whose records these are.
+fn tell(
+    survey: &Survey<'_>,
+    name: &Name,
+    own: &[Record],
+    found: &mut Vec<CheckFault>,
+) -> Result<(), AllocError>
+    requires { IsOwner survey.now name.now own.now }
     ensures { OnOk result (found.new.items ≡ found.old.items ++ told_at survey.now name.now) }
 {
-    let failed = Owner::new(survey, name).judged();
+    let failed = Owner::new(survey, name, own).judged();
     add_failed(name, &failed, found)
 }
 

@@ -1,6 +1,6 @@
 //! Records of a name, found by halves among records in canonical order.
 ghost use Rattle.std.specs.Prelude.{◌≡◌, ◌≤◌, ◌==◌, length, take, drop, not, nat_lt};
-ghost use Rattle.std.specs.List.{list_any, filter};
+ghost use Rattle.std.specs.List.{list_any, filter, prefix_len};
 ghost use Rattle.std.specs.List.Sorted.{IsPartitionedBy, IsNonDecreasingBy};
 ghost use Rattle.std.specs.Ordering.{is_lt};
 ghost use Rattle.dns_spec.specs.Names.{folded, same, name_order};
@@ -43,6 +43,18 @@ pub(crate) fn count_at(records: &[Record], name: &Name) -> usize
     records.partition_point(|listed| is_at(listed, name))
 }
 
+/// How many records stand in front whose owner is the name. They are passed one by one.
+pub(crate) fn count_in_front(records: &[Record], name: &Name) -> usize
+    requires { folded name.now ≡ name.now }
+    ensures value { result ≡ prefix_len (λ (r : ResourceRecord). same r.owner name.now) records.now }
+    ensures bound { result ≤ length records.now }
+{
+    records
+        .iter()
+        .take_while(|listed| is_at(listed, name))
+        .count()
+}
+
 /// Whether one of the records is of the type, where they stand by their types.
 pub(crate) fn has_type(records: &[Record], rtype: RType) -> bool
     requires { IsNonDecreasingBy (λ (r : ResourceRecord). r.rtype) records.now }
@@ -70,8 +82,7 @@ fn is_before(listed: &Record, name: &Name) -> bool
     listed.owner.order_in_lower_case(name).is_lt()
 }
 
-/// Whether the record stands at the name.
-pub(crate) fn is_at(listed: &Record, name: &Name) -> bool
+fn is_at(listed: &Record, name: &Name) -> bool
     requires { folded name.now ≡ name.now }
     ensures { result ≡ same listed.now.owner name.now }
 {

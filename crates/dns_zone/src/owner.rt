@@ -1,10 +1,10 @@
 //! The fifteen checks of a name of a zone.
 ghost use Rattle.std.specs.Prelude.{◌≡◌, ◌==◌, ◌&&◌, ◌||◌, not, map};
-ghost use Rattle.dns_spec.specs.Names.{folded};
 ghost use Rattle.dns_spec.specs.Records.{owns};
 ghost use Rattle.dns_spec.specs.Tree.{is_cut};
 ghost use Rattle.dns_spec.specs.Checks.{is_origin, count, owns_such, is_address_type, below_cut, first_is_asterisk, checks, no_soa, many_soa, soa_elsewhere, no_ns, outside, cname_and_other, many_cname, ttls_differ, ns_target_alias, ns_target_lost, mx_target_alias, data_at_cut, wildcard_ns, large_set, many_sets};
 ghost use Rattle.dns_spec.specs.Data.{type_ns, type_cname};
+ghost use Rattle.dns_zone.specs.OwnerForm.{IsOwner};
 
 use crate::cuts::is_below;
 use crate::lookup::has_type;
@@ -34,12 +34,11 @@ impl<'a> Model for Owner<'a> {
 }
 
 impl<'a> Owner<'a> {
-    /// A name in lower case, of a zone.
-    pub(crate) fn new(survey: &'a Survey<'a>, name: &'a Name) -> Owner<'a>
-        requires { folded name.now ≡ name.now }
+    /// A name in lower case, of a zone, with the name's records.
+    pub(crate) fn new(survey: &'a Survey<'a>, name: &'a Name, own: &'a [Record]) -> Owner<'a>
+        requires { IsOwner survey.now name.now own.now }
         ensures { result ≡ record { zone = survey.now; name = name.now } }
     {
-        let own = survey.at(name);
         Owner { survey, name, own }
     }
 
@@ -200,11 +199,11 @@ impl<'a> Owner<'a> {
         self.is_cut() && self.owns_other_than_delegation()
     }
 
-    // Below a cut stands glue alone.
+    // Below a cut stands glue alone. Most names own something else, and the cuts are searched for the fewest.
     fn has_data_below_cut(&self) -> bool
         ensures { result ≡ (below_cut self.now.zone self.now.name && owns_such self.now.zone self.now.name (λ t. not (is_address_type t))) }
     {
-        self.survey.is_below_cut(self.name) && self.owns_other_than_address()
+        self.owns_other_than_address() && self.survey.is_below_cut(self.name)
     }
 
     fn owns_other_than_cname(&self) -> bool

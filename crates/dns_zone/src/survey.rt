@@ -68,8 +68,8 @@ impl<'a> Survey<'a> {
         self.origin
     }
 
-    /// The records at the name, by their types.
-    pub(crate) fn at(&self, name: &Name) -> &'a [Record]
+    // The records at the name, by their types.
+    fn at(&self, name: &Name) -> &'a [Record]
         requires { folded name.now ≡ name.now }
         ensures own { result.now ≡ at self.now name.now }
         ensures by_types { IsNonDecreasingBy (λ (r : ResourceRecord). r.rtype) result.now }
@@ -153,11 +153,15 @@ impl<'a> Survey<'a> {
         is_covered(not_behind(self.cuts.as_slice(), name), name)
     }
 
-    /// Whether the name is below a cut.
+    /// Whether the name is below a cut. A cut is below the origin, so what is below a cut has two labels more than the
+    /// origin at least: that costs no search.
     pub(crate) fn is_below_cut(&self, name: &Name) -> bool
         requires { folded name.now ≡ name.now }
         ensures { result ≡ below_cut self.now name.now }
     {
+        if name.label_count().saturating_sub(self.origin.label_count()) < 2 {
+            return false;
+        }
         is_below_last(not_behind(self.cuts.as_slice(), name), name)
     }
 }

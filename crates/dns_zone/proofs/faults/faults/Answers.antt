@@ -2,8 +2,10 @@ use Rattle.std.proofs.Common.{◌++◌, not, sym, subst, ap, ◌∙◌, filter, 
 use Rattle.std.specs.List.Sorted.{IsPartitionedBy}
 use Rattle.dns_spec.specs.Records.{ResourceRecord, ZoneContents}
 use Rattle.dns_spec.specs.Checks.{Fault}
-use Rattle.dns_zone.specs.ToldForm.{told_around}
+use Rattle.dns_zone.specs.OwnerForm.{IsOwner}
+use Rattle.dns_zone.specs.ToldForm.{HasOwners, told_around}
 use Rattle.dns_zone.proofs.AtName.{is_at, is_before, at_parted}
+use Rattle.dns_zone.proofs.OwnersWalk.{before_owners, behind_owners, origin_owner}
 use Rattle.dns_zone.proofs.ToldNames.{faults-around}
 use Rattle.dns_zone.proofs.faults.faults.Goals as goal
 
@@ -11,6 +13,34 @@ pub count_at-requires-clause-in_front : goal.count_at-requires-clause-in_front
 count_at-requires-clause-in_front c =
     let o = c.args.origin.now in
     subst (IsPartitionedBy (is_at o)) (sym (c.split_at.ensures.back ∙ c.count_before.ensures.others)) (at_parted o c.args.records.now c.requires.ordered)
+
+pub tell_around-requires-clause-before : goal.tell_around-requires-clause-before
+tell_around-requires-clause-before c =
+    let o = c.args.origin.now in
+    let z : ZoneContents = record { origin = o; records = c.args.records.now } in
+    subst (λ y. HasOwners y c.split_at.result.0.now) (sym c.in_ok-survey.ensures)
+    (subst (HasOwners z) (sym (c.split_at.ensures.front ∙ c.count_before.ensures.before)) (before_owners z o c.requires.ordered))
+
+pub tell_around-requires-clause-own : goal.tell_around-requires-clause-own
+tell_around-requires-clause-own c =
+    let o = c.args.origin.now in
+    let z : ZoneContents = record { origin = o; records = c.args.records.now } in
+    let own =
+    c.split_at-2.ensures.front ∙ c.count_at.ensures.own ∙ ap (filter (is_at o)) (c.split_at.ensures.back ∙ c.count_before.ensures.others)
+    in
+    subst (λ y. IsOwner y o c.split_at-2.result.0.now) (sym c.in_ok-survey.ensures)
+    (subst (IsOwner z o) (sym own) (origin_owner z o c.requires.ordered c.requires.lower))
+
+pub tell_around-requires-clause-behind : goal.tell_around-requires-clause-behind
+tell_around-requires-clause-behind c =
+    let o = c.args.origin.now in
+    let z : ZoneContents = record { origin = o; records = c.args.records.now } in
+    let behind =
+    c.split_at-2.ensures.back ∙ c.count_at.ensures.others
+    ∙ ap (filter (λ (r : ResourceRecord). not (is_at o r))) (c.split_at.ensures.back ∙ c.count_before.ensures.others)
+    in
+    subst (λ y. HasOwners y c.split_at-2.result.1.now) (sym c.in_ok-survey.ensures)
+    (subst (HasOwners z) (sym behind) (behind_owners z o c.requires.ordered))
 
 pub returns : goal.returns
 returns c =

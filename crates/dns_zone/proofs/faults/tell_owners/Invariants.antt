@@ -1,12 +1,14 @@
 use Rattle.std.proofs.Common.{◌≡◌, ◌++◌, length}
 use Rattle.std.specs.List.{flat_map}
-use Rattle.dns_zone.specs.ToldForm.{owners_once, told_at}
+use Rattle.dns_zone.specs.ToldForm.{HasOwners, owners_once, told_at}
 use Rattle.dns_zone.proofs.faults.tell_owners.Given as goal
 
 -- the faults of the rest, behind what was found, are all of them
 abbrev pub invariant-owners : goal.invariant-owners
-invariant-owners l =
-    l.found.items ++ flat_map (told_at l.survey) (owners_once l.rest) ≡ l.initial.found.items ++ flat_map (told_at l.survey) (owners_once l.records)
+invariant-owners l = record {
+  all : l.found.items ++ flat_map (told_at l.survey) (owners_once l.rest) ≡ l.initial.found.items ++ flat_map (told_at l.survey) (owners_once l.records);
+  whole : HasOwners l.survey l.rest;
+}
 
 abbrev pub decreases-owners : goal.decreases-owners
 decreases-owners l = length l.rest

@@ -1,0 +1,174 @@
+-- A walk over records of a zone in canonical order, owner by owner.
+use Rattle.std.proofs.Common.{◌≡◌, ℕ, Bool, true, false, not, cond, List, [], ◌∷◌, ◌++◌, ◌<◌, length, take, drop, refl, sym, ap, ap₂, ◌∙◌, arith, subst, filter, is_gt, is_lt, Ordering, Less, Equal, Greater}
+use Rattle.std.proofs.lemmas.Bool.{false≢true, true≢false, false_from_ne_true}
+use Rattle.std.proofs.lemmas.List.Filters.{length-filter_both}
+use Rattle.std.proofs.lemmas.List.Elements.{All-head}
+use Rattle.std.proofs.lemmas.List.Sums.{prefix_len_passes, prefix_len_stops, prefix_len-le-length}
+use Rattle.std.specs.List.{prefix_len}
+use Rattle.std.specs.List.Sorted.{IsPartitionedBy}
+use Rattle.std.specs.Ordering.{ordering_reverse}
+use Rattle.dns_spec.specs.Names.{DomainName, folded, same, names_equal, name_order}
+use Rattle.dns_spec.specs.Records.{ResourceRecord, ZoneContents, at, insert_by, record_order}
+use Rattle.dns_spec.proofs.RecordOrder.{each_all, all_each}
+use Rattle.dns_spec.proofs.SortedOnce.{Each, each_filter, filter_each, each_weaker}
+use Rattle.dns_zone.specs.ZoneForm.{AreOrdered}
+use Rattle.dns_zone.specs.OwnerForm.{IsOwner}
+use Rattle.dns_zone.specs.ToldForm.{HasOwners, begins_with_owner, owners_once}
+use Rattle.dns_zone.proofs.Pairs.{Pairs, pairs_filter, each_both, filter_all, filter_within, halves}
+use Rattle.dns_zone.proofs.NameOrder.{name_order_total, same-is, same-from, same-tied}
+use Rattle.dns_zone.proofs.AtName.{is_before, is_at, OwnerNotAfter, ordered_records, owners_in_order, at_parted, at_others}
+use Rattle.dns_zone.proofs.OwnRecords.{own_types}
+use Rattle.dns_zone.proofs.ToldNames.{greater_behind}
+
+-- what passes a test, counted from the front, is all that passes it where this comes first
+pub front : {X : Type 0} (p : X → Bool) (xs : List X) → IsPartitionedBy p xs → (take (prefix_len p xs) xs ≡ filter p xs) × (drop (prefix_len p xs) xs ≡ filter (λ x. not (p x)) xs)
+front p xs h =
+    halves p xs (prefix_len p xs) (prefix_len-le-length p xs) (
+      λ k d a m. prefix_len_passes p xs k d m,
+      λ k d a m. false_from_ne_true _ (λ t. false≢true (sym (prefix_len_stops p xs d (omega arith)) ∙ h (prefix_len p xs) k d a m t)),
+    )
+
+-- a part of ordered records is ordered
+first_in : (r : ResourceRecord) (rs : List ResourceRecord) → Each (λ s. is_gt (record_order r s) ≡ false) rs → insert_by record_order r rs ≡ r ∷ rs
+first_in r [] e = refl
+first_in r (s ∷ rs) e = ap (λ b. cond b (s ∷ insert_by record_order r rs) (r ∷ s ∷ rs)) e.0
+
+ordered_from : (rs : List ResourceRecord) → Pairs (λ r s. is_gt (record_order r s) ≡ false) rs → AreOrdered rs
+ordered_from [] h = refl
+ordered_from (r ∷ rs) h = ap (insert_by record_order r) (ordered_from rs h.1) ∙ first_in r rs h.0
+
+ordered_filter : (p : ResourceRecord → Bool) (rs : List ResourceRecord) → AreOrdered rs → AreOrdered (filter p rs)
+ordered_filter p rs h = ordered_from (filter p rs) (pairs_filter (λ r s. is_gt (record_order r s) ≡ false) p rs (ordered_records rs h))
+
+each_always : (P : ResourceRecord → Type 0) (rs : List ResourceRecord) → ((r : ResourceRecord) → P r) → Each P rs
+each_always P [] f = tt
+each_always P (r ∷ rs) f = (f r, each_always P rs f)
+
+module _ (z : ZoneContents) where
+  abbrev IsAll : List ResourceRecord → ResourceRecord → Type 0
+  IsAll rs r = filter (is_at r.owner) rs ≡ at z r.owner
+
+  pub all_owners : AreOrdered z.records → HasOwners z z.records
+  all_owners h = record { ordered = h; all = all_each (IsAll z.records) z.records (each_always (IsAll z.records) z.records (λ r. refl)) }
+
+  -- a test of owners keeps all records of an owner or none
+  pub kept_owners : (p : ResourceRecord → Bool) (rs : List ResourceRecord) → ((s r : ResourceRecord) → same s.owner r.owner ≡ true → p r ≡ true → p s ≡ true)
+      → HasOwners z rs → HasOwners z (filter p rs)
+  kept_owners p rs f h = record {
+    ordered = ordered_filter p rs h.ordered;
+    all = all_each (IsAll (filter p rs)) (filter p rs)
+        (each_both (λ r. p r ≡ true) (IsAll rs) (IsAll (filter p rs)) (filter p rs)
+        (λ r t e. filter_within p (is_at r.owner) rs (λ s g. f s r g t) ∙ e)
+        (filter_each p rs) (each_filter (IsAll rs) p rs (each_all (IsAll rs) rs h.all)));
+  }
+
+  before_origin : (o : DomainName) (s r : ResourceRecord) → same s.owner r.owner ≡ true → is_before o s ≡ is_before o r
+  before_origin o s r g = ap is_lt (name_order_total.congr s.owner r.owner o (same-tied s.owner r.owner g))
+
+  at_one : (o : DomainName) (s r : ResourceRecord) → same s.owner r.owner ≡ true → is_at o s ≡ is_at o r
+  at_one o s r g = ap (λ (k : DomainName). names_equal k (folded o)) (same-is s.owner r.owner g)
+
+  pub others_owners : (n : DomainName) (rs : List ResourceRecord) → HasOwners z rs → HasOwners z (filter (λ r. not (is_at n r)) rs)
+  others_owners n rs = kept_owners (λ r. not (is_at n r)) rs (λ s r g t. ap not (at_one n s r g) ∙ t)
+
+  module _ (o : DomainName) (ordered : AreOrdered z.records) where
+    pub before_owners : HasOwners z (filter (is_before o) z.records)
+    before_owners = kept_owners (is_before o) z.records (λ s r g t. before_origin o s r g ∙ t) (all_owners ordered)
+
+    pub behind_owners : HasOwners z (filter (λ r. not (is_at o r)) (filter (λ r. not (is_before o r)) z.records))
+    behind_owners =
+        others_owners o (filter (λ r. not (is_before o r)) z.records)
+        (kept_owners (λ r. not (is_before o r)) z.records (λ s r g t. ap not (before_origin o s r g) ∙ t) (all_owners ordered))
+
+    pub origin_owner : folded o ≡ o → IsOwner z o (filter (is_at o) (filter (λ r. not (is_before o r)) z.records))
+    origin_owner low = subst (IsOwner z o) (sym (at_others o z.records)) (record { lower = low; own_is = refl; by_types = own_types z o ordered })
+
+  -- the owner of the first record
+  module _ (r : ResourceRecord) (rs : List ResourceRecord) (h : HasOwners z (r ∷ rs)) where
+    pub first_owner : folded r.owner ≡ r.owner → IsOwner z r.owner (filter (is_at r.owner) (r ∷ rs))
+    first_owner low = record {
+      lower = low;
+      own_is = All-head (IsAll (r ∷ rs)) r rs h.all;
+      by_types = own_types (record { origin = z.origin; records = r ∷ rs }) r.owner h.ordered;
+    }
+
+    not_less : (s : ResourceRecord) → OwnerNotAfter r s → not (is_before r.owner s) ≡ true
+    not_less s e = go (name_order r.owner s.owner) refl e
+      where
+        go : (c : Ordering) → name_order r.owner s.owner ≡ c → is_gt c ≡ false → not (is_before r.owner s) ≡ true
+        go Less f g = ap (λ c. not (is_lt c)) (name_order_total.antisymm s.owner r.owner ∙ ap ordering_reverse f)
+        go Equal f g = ap (λ c. not (is_lt c)) (name_order_total.antisymm s.owner r.owner ∙ ap ordering_reverse f)
+        go Greater f g = absurd (true≢false g)
+
+    itself : same r.owner r.owner ≡ true
+    itself = same-from r.owner r.owner refl
+
+    pub first_parted : IsPartitionedBy (is_at r.owner) (r ∷ rs)
+    first_parted =
+        subst (IsPartitionedBy (is_at r.owner))
+        (filter_all (λ s. not (is_before r.owner s)) (r ∷ rs) (
+          ap (λ c. not (is_lt c)) (same-tied r.owner r.owner itself),
+          each_weaker (OwnerNotAfter r) (λ s. not (is_before r.owner s) ≡ true) rs not_less (owners_in_order (r ∷ rs) h.ordered).0,
+        ))
+        (at_parted r.owner (r ∷ rs) h.ordered)
+
+-- the owners are that of the first record, and those of the records at other names
+without_first : (p : ResourceRecord → Bool) (r : ResourceRecord) (rs : List ResourceRecord) → p r ≡ true → filter (λ s. not (p s)) (r ∷ rs) ≡ filter (λ s. not (p s)) rs
+without_first p r rs e = ap (λ t. cond (not t) (r ∷ filter (λ s. not (p s)) rs) (filter (λ s. not (p s)) rs)) e
+
+pub once_others : (r : ResourceRecord) (rs : List ResourceRecord) → Pairs OwnerNotAfter (r ∷ rs)
+    → owners_once (r ∷ rs) ≡ folded r.owner ∷ owners_once (filter (λ s. not (is_at r.owner s)) (r ∷ rs))
+once_others r [] h = ap (λ ss. folded r.owner ∷ owners_once ss) (sym (without_first (is_at r.owner) r [] (same-from r.owner r.owner refl)))
+once_others r (q ∷ rs) h = go (begins_with_owner r.owner (q ∷ rs)) refl (once_others q rs h.1)
+  where
+    rest : filter (λ s. not (is_at r.owner s)) (r ∷ q ∷ rs) ≡ filter (λ s. not (is_at r.owner s)) (q ∷ rs)
+    rest = without_first (is_at r.owner) r (q ∷ rs) (same-from r.owner r.owner refl)
+
+    go : (b : Bool) → same q.owner r.owner ≡ b → owners_once (q ∷ rs) ≡ folded q.owner ∷ owners_once (filter (λ s. not (is_at q.owner s)) (q ∷ rs))
+        → (cond b [] (folded r.owner ∷ [])) ++ owners_once (q ∷ rs) ≡ folded r.owner ∷ owners_once (filter (λ s. not (is_at r.owner s)) (r ∷ q ∷ rs))
+    go true e f =
+        f ∙ ap (λ (k : DomainName). k ∷ owners_once (filter (λ (s : ResourceRecord). not (names_equal (folded s.owner) k)) (q ∷ rs))) (same-is q.owner r.owner e)
+        ∙ ap (λ ss. folded r.owner ∷ owners_once ss) (sym rest)
+    go false e f =
+        ap (λ ss. folded r.owner ∷ owners_once ss)
+        (sym (rest ∙ filter_all (λ s. not (is_at r.owner s)) (q ∷ rs)
+        (each_weaker (λ s. name_order (folded r.owner) (folded s.owner) ≡ Less) (λ s. not (is_at r.owner s) ≡ true) (q ∷ rs) other (greater_behind r (q ∷ rs) h e))))
+      where
+        other : (s : ResourceRecord) → name_order (folded r.owner) (folded s.owner) ≡ Less → not (is_at r.owner s) ≡ true
+        other s l = ap not (false_from_ne_true (same s.owner r.owner) (λ k.
+            false≢true (ap is_lt (sym (same-tied (folded r.owner) (folded s.owner) (same-from (folded r.owner) (folded s.owner) (ap folded (sym (same-is s.owner r.owner k))))) ∙ l))))
+
+-- one owner is told, and the walk goes on behind it
+pub record Step (z : ZoneContents) (n : DomainName) (rs own others : List ResourceRecord) : Type 0 where
+  pub is_owner : IsOwner z n own
+  pub has_owners : HasOwners z others
+  pub names : owners_once rs ≡ n ∷ owners_once others
+  pub fewer : length others < length rs
+
+-- how the walk takes the records of a name from the others
+pub record IsTaken (n : DomainName) (k : ℕ) (rs own others : List ResourceRecord) : Type 0 where
+  pub count : k ≡ prefix_len (is_at n) rs
+  pub own_is : own ≡ take k rs
+  pub others_are : others ≡ drop k rs
+
+step_first : (z : ZoneContents) (r : ResourceRecord) (rs own others : List ResourceRecord) (k : ℕ) → folded r.owner ≡ r.owner
+    → HasOwners z (r ∷ rs) → IsTaken r.owner k (r ∷ rs) own others → Step z r.owner (r ∷ rs) own others
+step_first z r rs own others k low h t =
+    let parts = front (is_at r.owner) (r ∷ rs) (first_parted z r rs h) in
+    let own_is : own ≡ filter (is_at r.owner) (r ∷ rs) = t.own_is ∙ ap (λ i. take i (r ∷ rs)) t.count ∙ parts.0 in
+    let others_are : others ≡ filter (λ s. not (is_at r.owner s)) (r ∷ rs) = t.others_are ∙ ap (λ i. drop i (r ∷ rs)) t.count ∙ parts.1 in
+    let behind : others ≡ filter (λ s. not (is_at r.owner s)) rs = others_are ∙ without_first (is_at r.owner) r rs (same-from r.owner r.owner refl) in
+    let count : length others ≡ length (filter (λ s. not (is_at r.owner s)) rs) = ap length behind in
+    let both = length-filter_both (is_at r.owner) (λ s. not (is_at r.owner s)) (λ s. refl) rs in
+    record {
+      is_owner = subst (IsOwner z r.owner) (sym own_is) (first_owner z r rs h low);
+      has_owners = subst (HasOwners z) (sym others_are) (others_owners z r.owner (r ∷ rs) h);
+      names = once_others r rs (owners_in_order (r ∷ rs) h.ordered) ∙ ap₂ (λ (n : DomainName) ss. n ∷ owners_once ss) low (sym others_are);
+      fewer = omega arith;
+    }
+
+pub step : (z : ZoneContents) (n : DomainName) (r : ResourceRecord) (rs ss own others : List ResourceRecord) (k : ℕ) → n ≡ r.owner → folded n ≡ n
+    → ss ≡ r ∷ rs → HasOwners z ss → IsTaken n k ss own others → Step z n ss own others
+step z n r rs ss own others k f low e =
+    subst (λ ts. HasOwners z ts → IsTaken n k ts own others → Step z n ts own others) (sym e)
+    (subst (λ m. folded m ≡ m → HasOwners z (r ∷ rs) → IsTaken m k (r ∷ rs) own others → Step z m (r ∷ rs) own others) (sym f) (step_first z r rs own others k) low)
