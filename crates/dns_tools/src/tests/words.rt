@@ -1,4 +1,4 @@
-use crate::{FaultWord, serve_words};
+use crate::{FaultWord, Flags, check_words, serve_words};
 use std::test::Fail;
 
 fn fault(rt: &impl AllocGlobal, words: &[&str]) -> Option<FaultWord> {
@@ -62,4 +62,55 @@ fn words_that_are_refused(rt: HostRuntime) {
             "at {words:?}"
         );
     }
+}
+
+#[test]
+fn words_of_the_checker_that_are_taken(rt: HostRuntime) -> Result<(), Fail> {
+    let rows: [(&[&str], bool, bool); 6] = [
+        (&["example", "zone"], false, false),
+        (&["--quiet", "example", "zone"], true, false),
+        (&["--print", "example", "zone"], false, true),
+        (&["--quiet", "--print", "example", "zone"], true, true),
+        (&["--print", "--quiet", "Example.", "zone"], true, true),
+        (&["--print", "example", "zone"], false, true),
+    ];
+    for (words, quiet, print) in rows {
+        let said = check_words(rt.alloc(), words)?;
+        assert_eq!(rt; said.flags, Flags { quiet, print }, "at {words:?}");
+        assert_eq!(rt;
+            said.origin.octets(),
+            b"\x07example\x00".as_slice(),
+            "at {words:?}"
+        );
+        assert_eq!(rt; said.file, "zone");
+    }
+    Ok(())
+}
+
+#[test]
+fn words_of_the_checker_that_are_refused(rt: HostRuntime) {
+    let usage: [&[&str]; 15] = [
+        &[],
+        &["example"],
+        &["example", "zone", "zone"],
+        &["--quiet"],
+        &["--quiet", "example"],
+        &["--quiet", "--quiet", "example", "zone"],
+        &["example", "--quiet", "zone"],
+        &["example", "zone", "--print"],
+        &["--", "example", "zone"],
+        &["--quiet", "--", "example", "zone"],
+        &["--quiet=1", "example", "zone"],
+        &["--qui", "example", "zone"],
+        &["-q", "example", "zone"],
+        &["--help"],
+        &["--version"],
+    ];
+    for words in usage {
+        let found = check_words(rt.alloc(), words).err();
+        assert_eq!(rt; found, Some(FaultWord::Usage), "at {words:?}");
+    }
+    let words = ["--quiet", "a..b", "zone"];
+    let found = check_words(rt.alloc(), words.as_slice()).err();
+    assert_eq!(rt; found, Some(FaultWord::BadOrigin));
 }
