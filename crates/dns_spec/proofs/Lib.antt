@@ -62,3 +62,4 @@ mod PrintedRows
 pub mod RecordOrder
 pub mod PassedChecks
 pub mod OrderedReport
+pub mod SameRecords

@@ -1,18 +1,19 @@
 -- What is reported of worked zones, octet for octet.
-use Rattle.std.specs.Prelude.{◌≡◌, true, false, List, [], ◌∷◌, ◌++◌, codes}
-use mathlib.Core.Path.{refl}
+use Rattle.std.proofs.Common.{◌≡◌, ℕ, true, false, List, [], ◌∷◌, ◌++◌, codes, refl, lit<}
+use Rattle.std.specs.List.{Contains}
 use Rattle.std.specs.Fmt.{digits}
 use Rattle.dns_spec.specs.NameText.{octet_text}
 use Rattle.dns_spec.specs.Names.{Octets, DomainName, wire, labels_from}
 use Rattle.dns_spec.specs.Data.{type_a, type_ns, type_soa, type_txt, cut}
 use Rattle.dns_spec.specs.DataText.{hex_octets}
 use Rattle.dns_spec.specs.WrittenText.{data_text}
-use Rattle.dns_spec.specs.Records.{ResourceRecord, zone_of}
+use Rattle.dns_spec.specs.Records.{ResourceRecord, HoldSameRecords, zone_of}
 use Rattle.dns_spec.specs.Checks.{faults}
 use Rattle.dns_spec.specs.Meaning.{records, fault_at}
 use Rattle.dns_spec.specs.ZonePrinted.{zone_text}
 use Rattle.dns_spec.specs.Report.{Options, Report, Reports, report_of_meaning, zone_report}
 use Rattle.dns_spec.proofs.FileRows.{small_file, six_records, small_file_means}
+use Rattle.dns_spec.proofs.RecordOrder.{all_each}
 use Rattle.dns_spec.proofs.Examples.{dotted, example, entry, in_zone, alias, server, soa_of, strings_data, net_192, small_records, small_zone_with}
 
 abbrev no_options : Options
@@ -122,6 +123,27 @@ printed_once : zone_report quiet_printing (zone_of [] (root_records
     ≡ passed (codes ". 3600 IN SOA ns. h. 7 2 3 4 5\n. 3600 IN NS ns.\n. 3600 IN TYPE65280 \\# 0\n. 3600 IN TYPE65280 \\# 1 00\nns. 3600 IN A 192.0.2.1\n")
 unfolding faults labels_from cut zone_text data_text hex_octets octet_text digits
 printed_once = refl
+
+-- an address with two TTLs
+abbrev address_for : ℕ → ResourceRecord
+address_for ttl = record { owner = dotted (codes "ns"); ttl = ttl; rtype = type_a; rdata = net_192 1 }
+
+abbrev once_each : List ResourceRecord
+once_each = address_for 5 ∷ address_for 7 ∷ []
+
+abbrev twice_for_7 : List ResourceRecord
+twice_for_7 = address_for 7 ∷ address_for 5 ∷ address_for 7 ∷ []
+
+same_in_another_order : HoldSameRecords once_each twice_for_7
+same_in_another_order = (
+  all_each (Contains twice_for_7) once_each ((1, lit< tt, refl), ((0, lit< tt, refl), tt)),
+  all_each (Contains once_each) twice_for_7 ((1, lit< tt, refl), ((0, lit< tt, refl), ((1, lit< tt, refl), tt))),
+)
+
+-- records that differ in nothing but their TTL: the lower goes first
+lower_ttl_first : zone_text (zone_of [] twice_for_7) ≡ codes "ns. 5 IN A 192.0.2.1\nns. 7 IN A 192.0.2.1\n"
+unfolding zone_text data_text cut octet_text digits
+lower_ttl_first = refl
 
 -- a file of comments, parentheses and relative names, and the text in which its zone is printed
 small_file_printed : Reports example small_file printing (passed (

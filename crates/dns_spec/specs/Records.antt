@@ -1,6 +1,6 @@
 -- What a reader learns here: what a zone is, which records are at a name, and which of them make an RRset.
-use Rattle.std.specs.Prelude.{ℕ, Bool, ◌&&◌, not, List, [], ◌∷◌, map, ◌==◌, if◌then◌else◌}
-use Rattle.std.specs.List.{list_any, filter}
+use Rattle.std.specs.Prelude.{ℕ, Bool, ◌&&◌, not, All, List, [], ◌∷◌, map, ◌==◌, if◌then◌else◌}
+use Rattle.std.specs.List.{Contains, list_any, filter}
 use Rattle.std.specs.Ordering.{nat_cmp, is_gt, ordering_then}
 use Rattle.std.specs.Cmp.Lexicographic.{slice_cmp}
 use Rattle.std.specs.declared.cmp.Ordering.{Ordering}
@@ -17,6 +17,10 @@ pub record ResourceRecord : Type 0 where
 -- equal in owner, type, data and TTL (RFC 2181 section 5)
 abbrev pub records_equal : ResourceRecord → ResourceRecord → Bool
 records_equal r s = same r.owner s.owner && r.rtype == s.rtype && octets_equal r.rdata s.rdata && r.ttl == s.ttl
+
+-- each record of one list stands in the other, in whatever order and however often
+abbrev pub HoldSameRecords : List ResourceRecord → List ResourceRecord → Type 0
+HoldSameRecords rs ss = All (Contains ss) rs × All (Contains rs) ss
 
 -- an origin in lower case, and records whose order says nothing
 pub record ZoneContents : Type 0 where

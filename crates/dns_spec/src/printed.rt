@@ -4,7 +4,7 @@ ghost use Rattle.std.specs.Prelude.{◌≡◌, ◌≤◌, List, All, length};
 ghost use Rattle.std.specs.List.{flat_map};
 ghost use Rattle.std.specs.List.Sorted.{IsPermutation};
 ghost use Rattle.dns_spec.specs.Names.{DomainName};
-ghost use Rattle.dns_spec.specs.Records.{ResourceRecord, ZoneContents, zone_of, ordered_zone};
+ghost use Rattle.dns_spec.specs.Records.{ResourceRecord, HoldSameRecords, ZoneContents, zone_of, ordered_zone};
 ghost use Rattle.dns_spec.specs.ZoneText.{most_octets};
 ghost use Rattle.dns_spec.specs.Meaning.{records, Means, most_records};
 ghost use Rattle.dns_spec.specs.Report.{Options, zone_report};
@@ -27,4 +27,13 @@ pub fn zone_text_means_the_zone()
 /// What is reported of a zone is the same for its records in canonical order.
 pub fn order_of_records_changes_no_report()
     ensures { (options : Options) (o : DomainName) (rs : List ResourceRecord) → zone_report options (ordered_zone o rs) ≡ zone_report options (zone_of o rs) }
+{}
+
+/// Lists that hold the same records, in another order and with doubles or without, make one zone: in canonical order they
+/// are one list, with one canonical text and one report (RFC 2181 section 5, RFC 4034 section 6). The records are such as
+/// are read, in lower case; it is enough that those of one list are.
+pub fn one_zone_has_one_text()
+    ensures { (options : Options) (o : DomainName) (rs ss : List ResourceRecord) → All IsReadRecord rs → HoldSameRecords rs ss
+        → (ordered_zone o rs ≡ ordered_zone o ss) × (zone_text (zone_of o rs) ≡ zone_text (zone_of o ss))
+        × (zone_report options (zone_of o rs) ≡ zone_report options (zone_of o ss)) }
 {}
