@@ -62,4 +62,5 @@ mod PrintedRows
 pub mod RecordOrder
 pub mod PassedChecks
 pub mod OrderedReport
+pub mod ReadOwners
 pub mod SameRecords

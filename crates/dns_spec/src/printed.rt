@@ -1,13 +1,13 @@
 //! Laws of the text in which records and zones are printed.
 
-ghost use Rattle.std.specs.Prelude.{◌≡◌, ◌≤◌, List, All, length};
+ghost use Rattle.std.specs.Prelude.{◌≡◌, ◌≤◌, ◌↔◌, List, All, length};
 ghost use Rattle.std.specs.List.{flat_map};
 ghost use Rattle.std.specs.List.Sorted.{IsPermutation};
-ghost use Rattle.dns_spec.specs.Names.{DomainName};
+ghost use Rattle.dns_spec.specs.Names.{Octets, DomainName, folded};
 ghost use Rattle.dns_spec.specs.Records.{ResourceRecord, HoldSameRecords, ZoneContents, zone_of, ordered_zone};
 ghost use Rattle.dns_spec.specs.ZoneText.{most_octets};
 ghost use Rattle.dns_spec.specs.Meaning.{records, Means, most_records};
-ghost use Rattle.dns_spec.specs.Report.{Options, zone_report};
+ghost use Rattle.dns_spec.specs.Report.{Options, Report, Reports, zone_report};
 ghost use Rattle.dns_spec.specs.ZonePrinted.{IsReadRecord, HasZoneType, record_line, printed_records, zone_text};
 
 /// The text that is printed for records means these records, in the order in which they stand, whatever the origin
@@ -36,4 +36,11 @@ pub fn one_zone_has_one_text()
     ensures { (options : Options) (o : DomainName) (rs ss : List ResourceRecord) → All IsReadRecord rs → HoldSameRecords rs ss
         → (ordered_zone o rs ≡ ordered_zone o ss) × (zone_text (zone_of o rs) ≡ zone_text (zone_of o ss))
         × (zone_report options (zone_of o rs) ≡ zone_report options (zone_of o ss)) }
+{}
+
+/// Two files of one zone that mean the same records, in another order and with doubles or without, have one report: the
+/// faults, the line of a zone that passes, and where it is asked for the canonical text.
+pub fn files_of_one_zone_have_one_report()
+    ensures { (o : DomainName) (t u : Octets) (rs ss : List ResourceRecord) → Means (folded o) t (records rs) → Means (folded o) u (records ss)
+        → HoldSameRecords rs ss → (options : Options) (report : Report) → Reports o t options report ↔ Reports o u options report }
 {}

@@ -1,0 +1,5 @@
+use Rattle.dns_spec.proofs.SameRecords.{same_reports}
+use Rattle.dns_spec.proofs.printed.files_of_one_zone_have_one_report.Goals as goal
+
+pub returns : goal.returns
+returns c = same_reports
