@@ -1,6 +1,7 @@
 //! Zones: the checks that a zone has to pass before it is served, and its canonical text.
 #![tactic(auto)]
 
+mod arranged;
 mod cuts;
 mod fault;
 mod faults;

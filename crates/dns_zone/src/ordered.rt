@@ -1,23 +1,32 @@
 //! Records in canonical order, each once.
-ghost use Rattle.std.specs.Prelude.{◌≡◌, ◌<◌, ◌≤◌, All, length};
+ghost use Rattle.std.specs.Prelude.{◌≡◌, ◌<◌, ◌≤◌, All, length, IfOk};
 ghost use Rattle.dns_spec.specs.Records.{records_equal, distinct, sort_by, record_order};
 ghost use Rattle.dns_spec.specs.ZonePrinted.{IsReadRecord};
 ghost use Rattle.dns_zone.specs.ZoneForm.{AreOrdered};
 
+use crate::arranged::arrange;
 use crate::order::record_order;
 use dns_master::Record;
+use dns_name::Name;
+use std::alloc::{AllocError, Global};
 
-// The records, each once, in canonical order (RFC 4034 6.1, 6.3, RFC 2181 5). No memory is taken.
-pub(crate) fn ordered(mut records: Vec<Record>) -> Vec<Record>
-    ensures records { result.items ≡ sort_by record_order (distinct records_equal records.items) }
-    ensures in_order { AreOrdered result.items }
-    ensures count { length result.items ≤ length records.items }
-    ensures each { All IsReadRecord result.items }
+// The records, each once, in canonical order (RFC 4034 6.1, 6.3, RFC 2181 5). The sort here moves nothing where the records
+// are arranged already, and they mostly are.
+pub(crate) fn ordered(
+    alloc: Global,
+    origin: &Name,
+    mut records: Vec<Record>,
+) -> Result<Vec<Record>, AllocError>
+    ensures records { IfOk result (λ kept. kept.items ≡ sort_by record_order (distinct records_equal records.items)) }
+    ensures in_order { IfOk result (λ kept. AreOrdered kept.items) }
+    ensures count { IfOk result (λ kept. length kept.items ≤ length records.items) }
+    ensures each { IfOk result (λ kept. All IsReadRecord kept.items) }
 {
     know_each(records.as_slice());
+    arrange(alloc, origin, records.as_mut_slice())?;
     records.sort_unstable_by(|one, other| record_order(one, other));
     records.dedup_by(|one, other| records_equal(one, other));
-    records
+    Ok(records)
 }
 
 // Whether two records are equal in owner, type, data and TTL (RFC 2181 5).

@@ -49,7 +49,9 @@ impl Zone {
         ensures faults { IfErr result (λ fault. TellsFaults fault (zone_of origin.now records.items)) }
     {
         let origin = origin.fold();
-        let records = ordered(records);
+        let Ok(records) = ordered(alloc, &origin, records) else {
+            return Err(BuildFault::NoMemory);
+        };
         let Ok(found) = faults(alloc, &origin, records.as_slice()) else {
             return Err(BuildFault::NoMemory);
         };

@@ -1,9 +1,10 @@
-use Rattle.std.proofs.Common.{All, is_lt, sym, subst, ◌∙◌, ◌≡◌, rules, arith}
+use Rattle.std.proofs.Common.{All, length, take, drop, ◌++◌, is_lt, sym, subst, ◌∙◌, ◌≡◌, rules, arith}
 use Rattle.std.proofs.lemmas.Fn.{dedup_same, always_returns_same}
+use Rattle.std.proofs.Math.Seq.{take-append_seam}
 use Rattle.std.proofs.lemmas.List.Elements.{All-weaker}
-use Rattle.std.proofs.lemmas.List.Sorted.{ranks_by, length_permutation}
+use Rattle.std.proofs.lemmas.List.Sorted.{ranks_by, length_permutation, IsPermutation-trans}
 use Rattle.std.specs.List.{dedup}
-use Rattle.std.specs.List.Sorted.{IsSorted}
+use Rattle.std.specs.List.Sorted.{IsSorted, IsPermutation}
 use Rattle.dns_spec.specs.Records.{records_equal, distinct, sort_by, record_order}
 use Rattle.dns_spec.proofs.RecordOrder.{sort_risen, rises_canonical, LowerOwner, record_order_total, canonical_records, all_canonical}
 use Rattle.dns_spec.specs.ZonePrinted.{IsReadRecord}
@@ -14,7 +15,11 @@ pub returns : goal.returns
 returns c =
     let rs = c.args.records.items in
     let xs = c.sort_unstable_by.new.self.items in
-    let moved = c.sort_unstable_by.ensures.permutation in
+    let near = c.arrange.new.records in
+    let arranged = subst (λ ys. IsPermutation ys near) c.as_mut_slice.ensures.value c.arrange.ensures in
+    let count : c.args.records.len ≡ length near = sym (length_permutation c.as_mut_slice.result.now near c.arrange.ensures ∙ c.as_mut_slice.ensures.len) in
+    let written = subst (λ n. take n (near ++ drop (length near) rs) ≡ near) (sym count) (take-append_seam near (drop (length near) rs)) in
+    let moved = IsPermutation-trans rs near xs arranged (subst (λ ys. IsPermutation ys xs) written c.sort_unstable_by.ensures.permutation) in
     let sorted : IsSorted record_order xs =
     c.sort_unstable_by.ensures.sorted (λ r s. is_lt (record_order r s)) (ranks_by record_order_total (λ r. r)) (always_returns_same _ _ _ (λ a r f' k. search rules)) in
     let each : All IsReadRecord rs = subst (All IsReadRecord) c.as_slice.ensures.value c.know_each.ensures in

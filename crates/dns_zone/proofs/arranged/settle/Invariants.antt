@@ -1,0 +1,10 @@
+use Rattle.std.proofs.Common.{◌≡◌, ◌<◌, All, length}
+use Rattle.std.specs.List.Sorted.{IsPermutation}
+use Rattle.dns_zone.proofs.arranged.settle.Given as goal
+
+abbrev pub invariant-moves : goal.invariant-moves
+invariant-moves l = record {
+  permutation : IsPermutation l.fn.records l.records;
+  below : All (λ r. r < length l.fn.records) l.ranks;
+  count : length l.ranks ≡ length l.fn.records;
+}
