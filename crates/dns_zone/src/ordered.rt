@@ -29,14 +29,14 @@ pub(crate) fn ordered(
     Ok(records)
 }
 
-// Whether two records are equal in owner, type, data and TTL (RFC 2181 5).
+// Whether two records are equal in owner, type, data and TTL (RFC 2181 5). Neighbours mostly differ by type or owner.
 fn records_equal(one: &Record, other: &Record) -> bool
     ensures { result ≡ records_equal one.now other.now }
 {
-    one.owner.same(&other.owner)
-        && one.rtype == other.rtype
-        && one.rdata.octets() == other.rdata.octets()
+    one.rtype == other.rtype
         && one.ttl == other.ttl
+        && one.owner.same(&other.owner)
+        && one.rdata.octets() == other.rdata.octets()
 }
 
 // What each record keeps is known once it is read. Nothing else is done.

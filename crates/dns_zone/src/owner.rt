@@ -189,7 +189,7 @@ impl<'a> Owner<'a> {
     fn is_cut(&self) -> bool
         ensures { result ≡ is_cut self.now.zone self.now.name }
     {
-        is_below(self.name, self.survey.origin()) && self.owns(RType::NS)
+        self.owns(RType::NS) && is_below(self.name, self.survey.origin())
     }
 
     // At a cut stand its NS records and addresses alone.
