@@ -1,5 +1,5 @@
 //! Domain names in their wire form.
-ghost use Rattle.std.specs.Prelude.{⊤, ◌≡◌, ℕ, ◌+◌, ◌≤◌, ◌↔◌, List, [], ◌∷◌, ◌++◌, length, map, reverse, IsTrue, IfSome, MatchOption};
+ghost use Rattle.std.specs.Prelude.{⊤, ◌≡◌, ℕ, ◌+◌, ◌≤◌, ◌↔◌, List, [], ◌∷◌, ◌++◌, length, map, reverse, drop, IsTrue, IfSome, MatchOption};
 ghost use Rattle.std.specs.Bool.{OnTrue, OnFalse};
 ghost use Rattle.std.specs.Char.{to_ascii_lowercase};
 ghost use Rattle.std.specs.Cmp.{nat_eq_equiv, partial_equiv_from_equiv};
@@ -8,7 +8,7 @@ ghost use Rattle.std.specs.Cmp.Lexicographic.{slice_cmp};
 ghost use Rattle.std.specs.Ordering.{ordering_then};
 ghost use Rattle.std.specs.Iterator.{YieldsFirst, item_count};
 ghost use Rattle.arrayvec.specs.ArrayVec.{array_vec_len};
-ghost use Rattle.dns_spec.specs.Names.{is_name, wire, folded, same, at_or_below, names_equal, label_order, name_order, last_labels};
+ghost use Rattle.dns_spec.specs.Names.{is_name, wire, folded, same, at_or_below, names_equal, label_order, name_order};
 ghost use Rattle.dns_name.specs.TextForm.{Appended};
 ghost use Rattle.dns_name.specs.WireForm.{labels_of, IsWireForm};
 
@@ -176,16 +176,19 @@ impl Name {
         let (own_count, other_count) = (self.label_count(), other.label_count());
         let shared = own_count.min(other_count);
         let longer = own_count.cmp(&other_count);
-        order_of_labels(self.last_labels(shared), other.last_labels(shared), longer)
+        order_of_labels(
+            self.without_first(own_count - shared),
+            other.without_first(other_count - shared),
+            longer,
+        )
     }
 
-    // The last `count` labels.
-    fn last_labels(&self, count: usize) -> Labels<'_>
-        requires { count ≤ length self.now }
-        ensures { result ≡ last_labels count self.now }
+    // The labels without the first `extra` ones.
+    fn without_first(&self, extra: usize) -> Labels<'_>
+        ensures { result ≡ drop extra self.now }
     {
         let mut labels = self.labels();
-        'extra: for _ in 0..self.label_count() - count {
+        'extra: for _ in 0..extra {
             labels.next();
         }
         labels

@@ -1,7 +1,7 @@
-use Rattle.std.proofs.Common.{◌≡◌, ℕ, ◌-◌, drop, length, ap, ◌∙◌, arith}
+use Rattle.std.proofs.Common.{◌≡◌, ℕ, drop, ap, ◌∙◌, arith}
 use Rattle.dns_spec.specs.Names.{DomainName}
 use Rattle.dns_name.proofs.OrderLemmas.{drop-next}
-use Rattle.dns_name.proofs.name.Name.last_labels.Goals as goal
+use Rattle.dns_name.proofs.name.Name.without_first.Goals as goal
 
 dropped : (s n : DomainName) (j k : ℕ) → s ≡ drop j n → j ≡ k → s ≡ drop k n
 dropped s n j k e f = e ∙ ap (λ i. drop i n) f
@@ -10,4 +10,4 @@ pub extra-preserved : goal.extra-preserved
 extra-preserved c = drop-next _ _ c.args.self.now _ c.extra.counter c.extra.invariant c.next.ensures.steps
 
 pub returns : goal.returns
-returns c = dropped _ _ c.extra.counter (length c.args.self.now - c.args.count) c.extra.invariant (omega (arith, c.label_count.ensures, c.extra-test.false))
+returns c = dropped _ _ c.extra.counter c.args.extra c.extra.invariant (omega (arith, c.extra-test.false))
