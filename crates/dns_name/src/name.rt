@@ -342,8 +342,9 @@ fn lower_case(octets: &mut ArrayVec<u8, MAX_OCTETS>)
     octets.as_mut_slice().make_ascii_lowercase();
 }
 
+// Octets that are compared are mostly in one case, which costs less to see.
 fn same_octets(left: &[u8], right: &[u8]) -> bool
     ensures { IsTrue result ↔ (map to_ascii_lowercase left.now ≡ map to_ascii_lowercase right.now) }
 {
-    left.eq_ignore_ascii_case(right)
+    left == right || left.eq_ignore_ascii_case(right)
 }
