@@ -2,8 +2,10 @@
 //!
 //! A record has 300 octets, and a sort moves what it sorts again and again. So places are sorted in the records' stead, by
 //! short keys first, and each record is moved once.
-ghost use Rattle.std.specs.Prelude.{◌≡◌, ◌<◌, All, length, IfOk};
+ghost use Rattle.std.specs.Prelude.{◌≡◌, ◌<◌, ◌++◌, All, length, take, replicate, IfOk};
 ghost use Rattle.std.specs.List.Sorted.{IsPermutation};
+ghost use Rattle.std.specs.Ordering.{nat_cmp, ordering_then};
+ghost use Rattle.dns_spec.specs.Records.{record_order};
 
 use crate::order::record_order;
 use dns_master::Record;
@@ -79,20 +81,24 @@ fn key_below(origin_labels: usize, owner: &Name) -> u128 {
         return 0;
     }
     match owner.labels().nth(labels_below - 1) {
-        Some(label) => leading_number(label.octets()),
+        Some(label) => u128::from_be_bytes(leading_octets(label.octets())),
         None => 0,
     }
 }
 
-// The number that the first octets spell, as if zeros followed them.
-fn leading_number(octets: &[u8]) -> u128 {
+// The first octets, with zeros where there are fewer.
+fn leading_octets(octets: &[u8]) -> [u8; KEY_OCTETS]
+    ensures { result ≡ take 16 (octets.now ++ replicate 16 0) }
+{
     let mut leading = [0; KEY_OCTETS];
     let count = octets.len().min(KEY_OCTETS);
     leading[..count].copy_from_slice(&octets[..count]);
-    u128::from_be_bytes(leading)
+    leading
 }
 
-fn place_order(one: &Place<'_>, other: &Place<'_>) -> Ordering {
+fn place_order(one: &Place<'_>, other: &Place<'_>) -> Ordering
+    ensures { result ≡ ordering_then (nat_cmp one.now.key other.now.key) (record_order one.now.listed.now other.now.listed.now) }
+{
     one.key
         .cmp(&other.key)
         .then_with(|| record_order(one.listed, other.listed))
