@@ -4,7 +4,7 @@ use std::io::{self, ErrorKind, Read, Write};
 
 /// A reader that gives a text in pieces of at most `most` octets, until its calls are used up: then it fails.
 #[derive(Drop)]
-pub struct Pieces<'a> {
+pub(super) struct Pieces<'a> {
     pub text: &'a [u8],
     pub most: usize,
     pub calls_left: u32,
@@ -23,7 +23,7 @@ impl Read for Pieces<'_> {
 
 /// A writer that keeps what it is given, at most `most` octets a call, until its calls are used up: then it fails.
 #[derive(Drop)]
-pub struct Kept {
+pub(super) struct Kept {
     pub text: Vec<u8>,
     pub most: usize,
     pub calls_left: u32,

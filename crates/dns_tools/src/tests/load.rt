@@ -6,14 +6,15 @@ use dns_name::{Name, Tally};
 use std::alloc::Global;
 use std::test::Fail;
 
-pub const F1: &str = "example. 3600 IN SOA ns.example. hostmaster.example. 1 7200 900 1209600 300
+pub(super) const F1: &str =
+    "example. 3600 IN SOA ns.example. hostmaster.example. 1 7200 900 1209600 300
 example. 3600 IN NS ns.example.
 ns.example. 3600 IN A 192.0.2.1
 a.b.ent.example. 3600 IN A 192.0.2.11
 www.example. 3600 IN A 192.0.2.10
 ";
 
-pub fn example() -> Result<Name, Fail> {
+pub(super) fn example() -> Result<Name, Fail> {
     Ok(Name::read_text(b"example", &Name::root())?)
 }
 
