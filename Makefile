@@ -21,9 +21,10 @@ install: programs
 test:
 	rt ci
 
-# Refuses the program each of its allocations in turn. It proves nothing, and is no part of the gate.
+# Refuses each program each of its allocations in turn. It proves nothing, and is no part of the gate.
 memory:
-	examples/refuse-memory
+	examples/refuse-memory zonecheck
+	examples/refuse-memory zoneserve
 
 # Times how data is read and written. It tells no pass or fail, and is no part of the gate.
 bench:
