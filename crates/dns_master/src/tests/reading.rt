@@ -7,14 +7,14 @@ use std::process::Abort;
 use std::test::Fail;
 
 /// A file, and its fault as code and line; 0 and 0 where it has none.
-pub type Row<'a> = (&'a [u8], (u8, u32));
+pub(super) type Row<'a> = (&'a [u8], (u8, u32));
 
-pub fn example() -> Result<Name, Fail> {
+pub(super) fn example() -> Result<Name, Fail> {
     Ok(Name::read_text(b"example.", &Name::root())?)
 }
 
 /// The fault of a whole file, as its code and line; 0 and 0 where it has none.
-pub fn fault(alloc: Global, text: &[u8]) -> Result<(u8, u32), Fail> {
+pub(super) fn fault(alloc: Global, text: &[u8]) -> Result<(u8, u32), Fail> {
     let origin = example()?;
     let mut source = Tally::new(text);
     Ok(match read_zone(alloc, &origin, &mut source) {
@@ -24,14 +24,14 @@ pub fn fault(alloc: Global, text: &[u8]) -> Result<(u8, u32), Fail> {
 }
 
 /// The records of a whole file.
-pub fn records(alloc: Global, text: &[u8]) -> Result<Vec<Record>, Fail> {
+pub(super) fn records(alloc: Global, text: &[u8]) -> Result<Vec<Record>, Fail> {
     let origin = example()?;
     let mut source = Tally::new(text);
     Ok(read_zone(alloc, &origin, &mut source)?)
 }
 
 /// Files, each with its fault.
-pub fn judge<R: Abort + AllocGlobal>(rt: &R, rows: &[Row<'_>]) -> Result<(), Fail> {
+pub(super) fn judge<R: Abort + AllocGlobal>(rt: &R, rows: &[Row<'_>]) -> Result<(), Fail> {
     for (text, wanted) in rows {
         assert_eq!(rt; fault(rt.alloc(), text)?, *wanted, "at {text:?}");
     }
@@ -39,7 +39,7 @@ pub fn judge<R: Abort + AllocGlobal>(rt: &R, rows: &[Row<'_>]) -> Result<(), Fai
 }
 
 /// A text so many times, one after another.
-pub fn repeated(alloc: Global, text: &[u8], times: usize) -> Result<Vec<u8>, AllocError> {
+pub(super) fn repeated(alloc: Global, text: &[u8], times: usize) -> Result<Vec<u8>, AllocError> {
     let mut all = Vec::new(alloc);
     for _ in 0..times {
         all.extend_from_slice(text)?;

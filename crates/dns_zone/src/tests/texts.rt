@@ -7,7 +7,7 @@ use std::alloc::Global;
 use std::test::Fail;
 
 /// A file in the zone `example.`, line by line.
-pub const LINES: [&[u8]; 10] = [
+pub(super) const LINES: [&[u8]; 10] = [
     b"$TTL 3600",
     b"@ SOA ns hostmaster 1 7200 900 1209600 300",
     b"@ NS ns",
@@ -21,7 +21,7 @@ pub const LINES: [&[u8]; 10] = [
 ];
 
 /// Its canonical text.
-pub const PRINTED: &[u8] =
+pub(super) const PRINTED: &[u8] =
     b"example. 3600 IN SOA ns.example. hostmaster.example. 1 7200 900 1209600 300
 example. 3600 IN NS ns.example.
 alias.example. 3600 IN CNAME www.example.
@@ -34,7 +34,7 @@ www.example. 3600 IN A 192.0.2.10
 ";
 
 /// Those lines, and others behind them.
-pub fn file_with(alloc: Global, others: &[u8]) -> Result<Vec<u8>, Fail> {
+pub(super) fn file_with(alloc: Global, others: &[u8]) -> Result<Vec<u8>, Fail> {
     let mut text = Vec::new(alloc);
     for line in LINES {
         text.extend_from_slice(line)?;
@@ -45,7 +45,7 @@ pub fn file_with(alloc: Global, others: &[u8]) -> Result<Vec<u8>, Fail> {
 }
 
 /// What is built of a file that can be read and has few records; `None` of one with too many.
-pub fn built(
+pub(super) fn built(
     alloc: Global,
     origin: &[u8],
     text: &[u8],

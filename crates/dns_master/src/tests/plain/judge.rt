@@ -5,7 +5,7 @@ use std::alloc::{AllocError, Global};
 
 /// A record of type A: the octets of its owner, its TTL and its address.
 #[derive(Drop)]
-pub struct Meant {
+pub(super) struct Meant {
     pub owner: Vec<u8>,
     pub ttl: u32,
     pub address: [u8; 4],
@@ -13,7 +13,7 @@ pub struct Meant {
 
 /// What the entries so far say.
 #[derive(Drop)]
-pub struct Known {
+pub(super) struct Known {
     alloc: Global,
     origin: Vec<u8>,
     owner: Option<Vec<u8>>,

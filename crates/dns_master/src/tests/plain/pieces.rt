@@ -5,7 +5,7 @@ use std::alloc::{AllocError, AllocFailed, Global};
 
 /// A word: its octets as they are spelled, and what they stand for, each with whether it was an escape.
 #[derive(Drop)]
-pub struct PlainWord {
+pub(super) struct PlainWord {
     pub raw: Vec<u8>,
     pub units: Vec<(u8, bool)>,
     pub quoted: bool,
@@ -13,7 +13,7 @@ pub struct PlainWord {
 
 /// A text means nothing: the code of the fault, and the line; or memory is wanting.
 #[derive(Debug, Drop)]
-pub enum Stop {
+pub(super) enum Stop {
     Fault(u8, u32),
     Memory,
 }
@@ -62,7 +62,7 @@ struct Lexer {
 }
 
 /// The records of a text.
-pub fn plain_meaning(alloc: Global, text: &[u8]) -> Result<Vec<Meant>, Stop> {
+pub(super) fn plain_meaning(alloc: Global, text: &[u8]) -> Result<Vec<Meant>, Stop> {
     let mut lexer = Lexer::new(alloc)?;
     for octet in text {
         if let Err(code) = lexer.take(*octet)? {
