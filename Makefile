@@ -1,4 +1,4 @@
-.PHONY: run programs install test memory bench
+.PHONY: run programs install test misuse memory bench
 
 PREFIX ?= /usr/local
 
@@ -21,11 +21,16 @@ install: programs
 test:
 	rt ci
 
+# Runs zonecheck on wrong words, on files that can't be read, and on outputs that take nothing. It is no part of the gate.
+misuse: programs
+	examples/misuse crates/zonecheck/out/zonecheck
+
 # Refuses each program each of its allocations in turn. It proves nothing, and is no part of the gate.
 memory:
 	examples/refuse-memory zonecheck
 	examples/refuse-memory zoneserve
 
-# Times how data is read and written. It tells no pass or fail, and is no part of the gate.
+# Times how data is read and written, and measures the checker. It tells no pass or fail, and is no part of the gate.
 bench:
 	examples/bench
+	examples/bench-checker
