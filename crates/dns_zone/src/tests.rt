@@ -1,3 +1,4 @@
+mod arranging;
 mod building;
 mod printing;
 mod texts;

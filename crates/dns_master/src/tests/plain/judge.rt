@@ -32,7 +32,7 @@ struct Middle<'a> {
 }
 
 impl Known {
-    pub fn new(alloc: Global) -> Result<Known, AllocError> {
+    pub(super) fn new(alloc: Global) -> Result<Known, AllocError> {
         let mut origin = Vec::new(alloc);
         origin.extend_from_slice(b"\x07example\x00")?;
         Ok(Known {
@@ -46,7 +46,11 @@ impl Known {
     }
 
     /// Takes the words of an entry. Within: its least code.
-    pub fn judge(&mut self, blank: bool, words: &[PlainWord]) -> Result<Result<(), u8>, Stop> {
+    pub(super) fn judge(
+        &mut self,
+        blank: bool,
+        words: &[PlainWord],
+    ) -> Result<Result<(), u8>, Stop> {
         let Some((first, others)) = words.split_first() else {
             return Ok(Ok(()));
         };

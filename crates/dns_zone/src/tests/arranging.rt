@@ -1,0 +1,40 @@
+//! Records that are arranged before they are sorted.
+
+use crate::arranged::arrange;
+use crate::order::record_order;
+use dns_master::read_zone;
+use dns_name::{Name, Tally};
+use std::test::Fail;
+
+// Owners that differ by a label below another, behind their first 16 octets, by length, or not at all.
+const TURNED: &[u8] = b"$TTL 60
+zz A 192.0.2.1
+x.y TXT a
+_s._tcp.y SRV 1 2 53 zz
+y TXT a
+long-first-label-b A 192.0.2.1
+long-first-label-a TXT b
+long-first-label-a TXT a
+long-first-label-a A 192.0.2.1
+long-first-label A 192.0.2.1
+\\000a A 192.0.2.1
+\\000 A 192.0.2.1
+@ NS zz
+@ SOA zz zz 1 2 3 4 5
+";
+
+#[test]
+fn records_are_arranged_in_canonical_order(rt: HostRuntime) -> Result<(), Fail> {
+    let origin = Name::read_text(b"example.", &Name::root())?;
+    let mut records = read_zone(rt.alloc(), &origin, &mut Tally::new(TURNED))?;
+    arrange(rt.alloc(), &origin, records.as_mut_slice())?;
+    assert_eq!(rt; records.len(), 13);
+    for (one, next) in records.iter().zip(records.iter().skip(1)) {
+        assert!(rt;
+            record_order(one, next).is_lt(),
+            "at {:?}",
+            next.owner.octets()
+        );
+    }
+    Ok(())
+}
