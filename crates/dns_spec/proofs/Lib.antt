@@ -62,5 +62,7 @@ mod PrintedRows
 pub mod RecordOrder
 pub mod PassedChecks
 pub mod OrderedReport
-pub mod ReadOwners
+pub mod ReadOctets
+pub mod ReadPieces
+pub mod ReadRecords
 pub mod SameRecords

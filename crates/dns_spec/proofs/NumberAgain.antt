@@ -19,7 +19,7 @@ byte_at-below : (i n : ℕ) → byte_at i n < 256
 byte_at-below zero n = omega arith
 byte_at-below (suc i) n = mod_below (n / 256 ^ suc i) 256 (omega arith)
 
-bytes_below : (k n : ℕ) → Small (bytes_high_first k n)
+pub bytes_below : (k n : ℕ) → Small (bytes_high_first k n)
 bytes_below zero n i d inside = absurd (omega (arith, inside))
 bytes_below (suc k) n zero d inside = byte_at-below k n
 bytes_below (suc k) n (suc i) d inside = bytes_below k n i d (omega (arith, inside))

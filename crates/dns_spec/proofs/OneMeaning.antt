@@ -62,7 +62,7 @@ ttl_once : (earlier : List Entry) (stated : Option Word) (n m : ℕ) → TtlIs e
 ttl_once earlier stated n m h k =
     by_option (ttl_in_force earlier stated) n m (λ none none'. absurd none) (λ w. ttl_says_once w n m) h k
 
-type_once : (ws : List Word) (t u : ℕ) → TypeIs ws t → TypeIs ws u → t ≡ u
+pub type_once : (ws : List Word) (t u : ℕ) → TypeIs ws t → TypeIs ws u → t ≡ u
 type_once [] t u h k = absurd h
 type_once (w ∷ ws) t u h k = one_type w.raw t u h.1 k.1
 

@@ -11,7 +11,7 @@ use Rattle.dns_spec.proofs.SortedOnce.{Among, same_sorted}
 use Rattle.dns_spec.proofs.RecordOrder.{record_order_total, record_ties, LowerOwner, one_record, contains_among, among_contains, each_all}
 use Rattle.dns_spec.proofs.OrderedReport.{ordered_text, ordered_report}
 use Rattle.dns_spec.proofs.OneMeaning.{meaning_once}
-use Rattle.dns_spec.proofs.ReadOwners.{owners_low}
+use Rattle.dns_spec.proofs.ReadRecords.{owners_low}
 
 among_held : {X : Type 0} (a : X) (xs ys : List X) → All (Contains ys) xs → Among a xs → Among a ys
 among_held a xs ys held m = contains_among a ys (All-contains (Contains ys) xs a held (among_contains a xs m))

@@ -1,17 +1,18 @@
 -- Words that name types: a name in the table is no number, and a number is read as it is written.
-use Rattle.std.proofs.Common.{◌≡◌, ℕ, ◌^◌, ◌<◌, inl, inr, None, Some, [], ◌∷◌, ◌++◌, map, refl, sym, ap, ◌∙◌, arith, codes, drop}
+use Rattle.std.proofs.Common.{◌≡◌, ℕ, ◌^◌, ◌<◌, inl, inr, Bool, true, false, cond, nat_lt, None, Some, List, [], ◌∷◌, ◌++◌, map, refl, sym, ap, subst, ◌∙◌, arith, codes, drop}
 use Rattle.std.proofs.lemmas.Option.{none-some, same_Some}
 use Rattle.std.proofs.lemmas.Fmt.{decimal_is_IsNumeral, decimal_injective}
-use Rattle.std.proofs.lemmas.Bool.{lt-ltb}
+use Rattle.std.proofs.lemmas.Bool.{lt-ltb, ltb-true, and_parts}
 use Rattle.std.proofs.lemmas.Str.Parse.{digit_from_value}
 use Rattle.std.specs.Option.{option_map}
-use Rattle.std.specs.List.{find}
+use Rattle.std.specs.List.{find, list_all}
 use Rattle.std.specs.Fmt.{decimal}
 use Rattle.std.specs.Char.{to_ascii_lowercase, digit_value}
 use Rattle.std.specs.Str.Parse.{AllDigits}
 use Rattle.dns_spec.specs.Names.{Octets, octets_equal}
 use Rattle.dns_spec.specs.Data.{TypeRow, type_table}
 use Rattle.dns_spec.specs.TypeText.{text_in_lower_case, type_by_mnemonic, numbered_type, NamesType}
+use Rattle.dns_spec.proofs.SortedOnce.{Each}
 
 digit_lowered : (c : ℕ) → digit_value c < 10 → to_ascii_lowercase c ≡ c
 digit_lowered c h = let range = digit_from_value c h in rw (lt-ltb c 65 (omega (arith, range))) refl
@@ -45,3 +46,25 @@ one_type word t u (inl e) (inl f) = same_Some t u (sym e ∙ f)
 one_type word t u (inl e) (inr f) = absurd (apart word t u e f.1)
 one_type word t u (inr e) (inl f) = absurd (apart word u t f e.1)
 one_type word t u (inr e) (inr f) = numbers_alike t u e.0 f.0 (sym e.1 ∙ f.1)
+
+-- a word names a type of 16 bits
+found_small : (p : TypeRow → Bool) (rows : List TypeRow) (t : ℕ) → Each (λ (row : TypeRow). row.number < 65536) rows
+    → option_map (λ (row : TypeRow). row.number) (find p rows) ≡ Some t → t < 65536
+found_small p [] t small e = absurd (none-some t e)
+found_small p (row ∷ rows) t small e = go (p row) e (found_small p rows t small.1)
+  where
+    go : (b : Bool) → option_map (λ (row : TypeRow). row.number) (cond b (Some row) (find p rows)) ≡ Some t
+        → (option_map (λ (row : TypeRow). row.number) (find p rows) ≡ Some t → t < 65536) → t < 65536
+    go true f others = subst (λ n. n < 65536) (same_Some row.number t f) small.0
+    go false f others = others f
+
+rows_small : (rows : List TypeRow) → list_all (λ (row : TypeRow). nat_lt row.number 65536) rows ≡ true → Each (λ (row : TypeRow). row.number < 65536) rows
+rows_small [] ok = tt
+rows_small (row ∷ rows) ok =
+    let both = and_parts (nat_lt row.number 65536) (list_all (λ (r : TypeRow). nat_lt r.number 65536) rows) ok in
+    (ltb-true row.number 65536 both.0, rows_small rows both.1)
+
+pub named_type-small : (word : Octets) (t : ℕ) → NamesType word t → t < 65536
+named_type-small word t (inl e) =
+    found_small (λ (row : TypeRow). octets_equal (text_in_lower_case word) (text_in_lower_case row.mnemonic)) type_table t (rows_small type_table refl) e
+named_type-small word t (inr h) = h.0

@@ -1,6 +1,6 @@
 //! Laws of the text in which records and zones are printed.
 
-ghost use Rattle.std.specs.Prelude.{◌≡◌, ◌≤◌, ◌↔◌, List, All, length};
+ghost use Rattle.std.specs.Prelude.{◌≡◌, ◌<◌, ◌≤◌, ◌↔◌, List, All, length};
 ghost use Rattle.std.specs.List.{flat_map};
 ghost use Rattle.std.specs.List.Sorted.{IsPermutation};
 ghost use Rattle.dns_spec.specs.Names.{Octets, DomainName, folded};
@@ -43,4 +43,11 @@ pub fn one_zone_has_one_text()
 pub fn files_of_one_zone_have_one_report()
     ensures { (o : DomainName) (t u : Octets) (rs ss : List ResourceRecord) → Means (folded o) t (records rs) → Means (folded o) u (records ss)
         → HoldSameRecords rs ss → (options : Options) (report : Report) → Reports o t options report ↔ Reports o u options report }
+{}
+
+/// The records that a text means are such as the other laws here speak of: as they are read, of types that zones have, and at
+/// most 100,000. The octets of the origin are below 256, as in every name of a program.
+pub fn records_of_a_text_are_as_read()
+    ensures { (o : DomainName) (t : Octets) (rs : List ResourceRecord) → All (All (λ x. x < 256)) o → Means o t (records rs)
+        → All IsReadRecord rs × All HasZoneType rs × (length rs ≤ most_records) }
 {}
