@@ -66,3 +66,4 @@ pub mod ReadOctets
 pub mod ReadPieces
 pub mod ReadRecords
 pub mod SameRecords
+pub mod PrintedAgain

@@ -1,6 +1,6 @@
 //! Laws of the text in which records and zones are printed.
 
-ghost use Rattle.std.specs.Prelude.{◌≡◌, ◌<◌, ◌≤◌, ◌↔◌, List, All, length};
+ghost use Rattle.std.specs.Prelude.{◌≡◌, ◌<◌, ◌≤◌, ◌↔◌, IsTrue, List, All, length};
 ghost use Rattle.std.specs.List.{flat_map};
 ghost use Rattle.std.specs.List.Sorted.{IsPermutation};
 ghost use Rattle.dns_spec.specs.Names.{Octets, DomainName, folded};
@@ -50,4 +50,27 @@ pub fn files_of_one_zone_have_one_report()
 pub fn records_of_a_text_are_as_read()
     ensures { (o : DomainName) (t : Octets) (rs : List ResourceRecord) → All (All (λ x. x < 256)) o → Means o t (records rs)
         → All IsReadRecord rs × All HasZoneType rs × (length rs ≤ most_records) }
+{}
+
+/// The canonical text of the zone that a file means is itself a file of that zone: it has the file's report, whatever is asked
+/// for. So it has the same faults, or it passes as that zone.
+pub fn canonical_text_has_the_report_of_its_file()
+    ensures { (o : DomainName) (t : Octets) (rs : List ResourceRecord) → All (All (λ x. x < 256)) o → Means (folded o) t (records rs)
+        → length (zone_text (zone_of o rs)) ≤ most_octets → (options : Options) (report : Report)
+        → Reports o (zone_text (zone_of o rs)) options report ↔ Reports o t options report }
+{}
+
+/// Printing twice is printing once: what is printed of a file whose zone passes is a file that passes, of which that same text
+/// is printed.
+pub fn printing_twice_is_printing_once()
+    ensures { (o : DomainName) (t : Octets) (options : Options) (report : Report) → All (All (λ x. x < 256)) o → Reports o t options report
+        → IsTrue options.is_printing → IsTrue report.passes → length report.output ≤ most_octets → Reports o report.output options report }
+{}
+
+/// Zones with one canonical text hold the same records, each equally often. Their records are such as are read, of types that
+/// zones have, and few and short enough to be read again. The text names no origin, so it doesn't tell that.
+pub fn zones_with_one_text_hold_the_same_records()
+    ensures { (y z : ZoneContents) → All IsReadRecord y.records → All HasZoneType y.records → length y.records ≤ most_records
+        → All IsReadRecord z.records → All HasZoneType z.records → length z.records ≤ most_records
+        → length (zone_text y) ≤ most_octets → zone_text y ≡ zone_text z → IsPermutation y.records z.records }
 {}

@@ -1,0 +1,5 @@
+use Rattle.dns_spec.proofs.PrintedAgain.{reported_again}
+use Rattle.dns_spec.proofs.printed.canonical_text_has_the_report_of_its_file.Goals as goal
+
+pub returns : goal.returns
+returns c = reported_again
