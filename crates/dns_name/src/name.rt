@@ -120,8 +120,15 @@ impl Name {
         ensures { result ≡ folded self.now }
     {
         let mut folded = self.copied();
-        lower_case(&mut folded.octets);
+        folded.fold_in_place();
         folded
+    }
+
+    /// Puts the name itself in lower case, as `fold` gives a second name (RFC 1035 2.3.3). Nothing is copied.
+    pub fn fold_in_place(&mut self)
+        ensures { self.new ≡ folded self.old }
+    {
+        lower_case(&mut self.octets);
     }
 
     /// Whether the names are the same, without regard to the case of ASCII letters.

@@ -51,6 +51,9 @@ fn compared_names(rt: HostRuntime) -> Result<(), Fail> {
     let name = name_of(&[b"WWW", b"Example"])?;
     let lower = name_of(&[b"www", b"example"])?;
     assert_eq!(rt; name.fold().octets(), lower.octets());
+    let mut folded = name.copied();
+    folded.fold_in_place();
+    assert_eq!(rt; folded.octets(), lower.octets());
     assert!(rt; name.same(&lower));
     assert!(rt; name != lower);
     assert!(rt; name == name.copied());

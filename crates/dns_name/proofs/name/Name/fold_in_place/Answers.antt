@@ -3,21 +3,19 @@ use Rattle.dns_spec.specs.Names.{Octets, DomainName, folded, is_name}
 use Rattle.dns_spec.proofs.NameLaws.{is_name-folded}
 use Rattle.dns_name.specs.WireForm.{labels_of, IsWireForm}
 use Rattle.dns_name.proofs.WireLemmas.{IsWireForm-wire, labels_of_spelled, map-lowercase-octets}
-use Rattle.dns_name.proofs.name.Name.fold.Goals as goal
+use Rattle.dns_name.proofs.name.Name.fold_in_place.Goals as goal
 
 still_name : (xs : Octets) (n : DomainName) → IsWireForm xs → labels_of xs ≡ n → is_name (folded n) ≡ true
 still_name xs n form e = is_name-folded n (ap is_name (sym e) ∙ form.is_name)
 
-pub invariant_of-folded : goal.invariant_of-folded
-invariant_of-folded c =
-    let view_is = c.folded.view_is ∙ c.copied-folded.ensures.value in
+pub invariant_of-self : goal.invariant_of-self
+invariant_of-self c =
     IsWireForm-wire _ (folded c.args.self.now)
-    (c.lower_case.ensures ∙ map-lowercase-octets _ _ c.folded.invariant view_is)
-    (still_name _ _ c.folded.invariant view_is)
+    (c.lower_case.ensures ∙ map-lowercase-octets _ _ c.self.invariant c.self.view_is)
+    (still_name _ _ c.self.invariant c.self.view_is)
 
 pub returns : goal.returns
 returns c =
-    let view_is = c.folded.view_is ∙ c.copied-folded.ensures.value in
     labels_of_spelled _ (folded c.args.self.now)
-    (c.lower_case.ensures ∙ map-lowercase-octets _ _ c.folded.invariant view_is)
-    (still_name _ _ c.folded.invariant view_is)
+    (c.lower_case.ensures ∙ map-lowercase-octets _ _ c.self.invariant c.self.view_is)
+    (still_name _ _ c.self.invariant c.self.view_is)
