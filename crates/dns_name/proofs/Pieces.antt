@@ -43,7 +43,7 @@ joined_at parts i d h =
     ∙ ap (λ xs. xs ++ joined (drop (suc i) parts)) front
 
 -- what holds, holds where a call fails
-on_err : {A E : Type 0} (X : Type 0) (r : Result A E) → X → OnErr r X
+pub on_err : {A E : Type 0} (X : Type 0) (r : Result A E) → X → OnErr r X
 on_err X (Ok a) x = tt
 on_err X (Err e) x = x
 

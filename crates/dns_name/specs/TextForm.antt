@@ -1,5 +1,5 @@
 -- What a reader learns here: how the text of a name is read from left to right, by the cases of the code.
-use Rattle.std.specs.Prelude.{◌≡◌, ℕ, ◌+◌, ◌-◌, ◌*◌, ◌<◌, Bool, true, ◌&&◌, ◌==◌, nat_le, nat_lt, if◌then◌else◌, [], ◌∷◌, ◌++◌, length, take, Option, Some, None, Result, Ok, ◌↔◌}
+use Rattle.std.specs.Prelude.{◌≡◌, ℕ, ◌+◌, ◌-◌, ◌*◌, ◌<◌, Bool, true, ◌&&◌, ◌||◌, ◌==◌, nat_le, nat_lt, if◌then◌else◌, [], ◌∷◌, ◌++◌, length, take, Option, Some, None, Result, Ok, ◌↔◌}
 use Rattle.std.specs.Option.{option_and_then}
 use Rattle.std.specs.Bool.{MatchBool}
 use Rattle.std.specs.Borrow.{Bor}
@@ -36,6 +36,10 @@ escaped_at (a ∷ rest) =
 unfoldable pub octet_at : Octets → Option (ℕ × Octets)
 octet_at [] = None
 octet_at (a ∷ rest) = if a == 92 then escaped_at rest else Some (a, rest)
+
+-- a dot or a backslash, which never spells itself
+abbrev pub is_mark : ℕ → Bool
+is_mark a = a == 46 || a == 92
 
 -- the text of a label ends here: at the text's end or at a dot
 abbrev pub is_label_end : Octets → Bool

@@ -3,7 +3,8 @@ ghost use Rattle.std.specs.Prelude.{◌≡◌, ◌≢◌, true, ℕ, if◌then�
 ghost use Rattle.dns_spec.specs.Names.{Octets, DomainName, is_label, is_name};
 ghost use Rattle.dns_spec.specs.NameText.{LabelThen, TextSpells, SpellsName};
 ghost use Rattle.dns_name.specs.NameFault.{fault_code};
-ghost use Rattle.dns_name.specs.TextForm.{ReadsLabel, PushesLabel, HasNoLabel, SpellsIff, Gives, digit_at, decimal_at, escaped_at, octet_at, is_label_end, Appended};
+ghost use Rattle.std.specs.List.{position};
+ghost use Rattle.dns_name.specs.TextForm.{is_mark, ReadsLabel, PushesLabel, HasNoLabel, SpellsIff, Gives, digit_at, decimal_at, escaped_at, octet_at, is_label_end, Appended};
 
 use crate::label::Label;
 use crate::name::Name;
@@ -91,21 +92,58 @@ fn name_that_fits(name: Name, fits: bool) -> Result<Name, NameFault>
 
 // Reads the label that a text begins with, and adds it to the name where it fits there.
 //
-// Gives whether it fits, and the text from the label's end on: empty, or with a dot first.
+// Gives whether it fits, and the text from the label's end on: empty, or with a dot first. Most labels have no escape:
+// their octets are taken from the text itself.
 fn push_label<'a>(name: &mut Name, text: &'a [u8]) -> Result<(bool, &'a [u8]), NameFault>
     ensures ok { IfOk result (λ x. PushesLabel text.now name.old x.0 x.1.now name.new) }
     ensures err { OnErr result (HasNoLabel text.now) }
 {
+    let (octets, end) = plain_octets(text);
+    if at_label_end(end) {
+        return Ok((push_octets(name, octets)?, end));
+    }
     let Some((octets, end)) = label_text(text) else {
         return Err(NameFault::BadEscape);
     };
+    Ok((push_octets(name, octets.as_slice())?, end))
+}
+
+// Adds the label of these octets to the name where it fits there, and gives whether it fits.
+fn push_octets(name: &mut Name, octets: &[u8]) -> Result<bool, NameFault>
+    ensures label { IfOk result (λ _. IsTrue (is_label octets.now)) }
+    ensures ok { IfOk result (λ fits. Appended name.old (octets.now ∷ []) fits name.new) }
+    ensures err { OnErr result (is_label octets.now ≡ true → ⊥) }
+{
     if octets.is_empty() {
         return Err(NameFault::EmptyLabel);
     }
-    let Some(label) = Label::new(octets.as_slice()) else {
+    let Some(label) = Label::new(octets) else {
         return Err(NameFault::LabelTooLong);
     };
-    Ok((name.push(label), end))
+    Ok(name.push(label))
+}
+
+// The octets at the beginning of a text that spell themselves, up to a dot or a backslash, and the text from there on.
+fn plain_octets(text: &[u8]) -> (&[u8], &[u8])
+    ensures { LabelThen text.now result.0.now result.1.now }
+{
+    let Some(place) = mark_place(text) else {
+        return (text, &[]);
+    };
+    text.split_at(place)
+}
+
+// Where the first dot or backslash stands.
+fn mark_place(text: &[u8]) -> Option<usize>
+    ensures { result ≡ position is_mark text.now }
+{
+    text.iter().position(|octet| is_mark(*octet))
+}
+
+fn is_mark(octet: u8) -> bool
+    ensures { result ≡ is_mark octet }
+{
+    octet == b'.' || octet == b'\\'
 }
 
 // The octets of the label that a text begins with, at most 64 of them, and the text from its end on. `None` where

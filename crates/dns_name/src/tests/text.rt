@@ -73,12 +73,14 @@ fn long_labels_and_names(rt: HostRuntime) -> Result<(), Fail> {
     let label = LABEL.as_slice();
     let three = [label, b".", label, b".", label, b"."];
     // With `example.` three of them and one of 53 octets fill 255 octets on the wire.
-    let rows: [(&[&[u8]], u8); 8] = [
+    let rows: [(&[&[u8]], u8); 10] = [
         (&[&OCTETS_53], 0),
         (&[&OCTETS_54], 3),
         (&[&OCTETS_54, b"."], 0),
         (&[label, b"."], 3),
         (&[label, b"x"], 2),
+        (&[label, b"\\x"], 2),
+        (&[&OCTETS_53, b"\\x"], 3),
         (&[label, b"..a"], 1),
         (&[label, b".\\"], 4),
         (&[label, b"x\\"], 4),
