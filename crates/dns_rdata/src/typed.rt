@@ -18,6 +18,9 @@ use crate::word::Word;
 use dns_name::Name;
 use std::alloc::{AllocError, Global};
 
+// Most data has no more octets, so that its memory never grows. An allocator hands out little less for fewer.
+const USUAL_OCTETS: usize = 24;
+
 /// What a word of a record's data is.
 #[derive(Clone, Copy, Debug)]
 pub(crate) enum WordForm {
@@ -49,7 +52,9 @@ pub(crate) fn typed_octets(
     if forms.len() != words.len() {
         return Err(RdataFault::WordCount);
     }
-    let mut octets = Vec::new(alloc);
+    let Ok(mut octets) = Vec::with_capacity(alloc, USUAL_OCTETS) else {
+        return Err(RdataFault::NoMemory);
+    };
     append_words(forms.as_slice(), words, origin, &mut octets)?;
     Ok(octets)
 }
