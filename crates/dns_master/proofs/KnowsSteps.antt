@@ -1,17 +1,27 @@
 -- What an entry changes of what is known of the entries so far.
-use Rattle.std.proofs.Common.{◌≡◌, ℕ, ◌+◌, ◌≤◌, Bool, true, false, cond, List, [], ◌∷◌, ◌++◌, length, length-append, append-nil, refl, sym, ap, ◌∙◌, subst, arith, inl, inr, ◌⊎◌, codes, Option, Some, None}
+use Rattle.std.proofs.Common.{◌≡◌, ℕ, zero, suc, ◌+◌, ◌≤◌, Bool, true, false, cond, List, [], ◌∷◌, ◌++◌, length, length-append, append-nil, refl, sym, ap, ◌∙◌, subst, arith, inl, inr, ◌⊎◌, codes, Option, Some, None}
 use Rattle.std.specs.Prelude.{MatchOption}
-use Rattle.std.specs.Option.{option_or}
-use Rattle.std.specs.List.{filter}
+use Rattle.std.specs.Option.{option_or, option_map}
+use Rattle.std.specs.List.{filter, slice_get}
 use Rattle.dns_spec.specs.Names.{DomainName, folded}
 use Rattle.dns_spec.specs.NameText.{SpellsName}
 use Rattle.dns_spec.specs.DataText.{Word}
 use Rattle.dns_spec.specs.Records.{ResourceRecord}
 use Rattle.dns_spec.specs.ZoneText.{Entry}
 use Rattle.dns_spec.specs.Meaning.{Nothing, Sort, no_words, directive, owned, unowned, sort_of, sort_by_words, is_directive, Fields, fields, Answer, faulty, gives, OriginIs, NameIs, OneWord, OwnerBefore, TtlSays, nearest, directive_word, owner_word, ttl_word, is_record, IsRecord, RecordGives, SortGives}
-use Rattle.dns_master.specs.RecordForm.{TtlOf, Inherited, SpelledName}
-use Rattle.dns_master.specs.ReaderForm.{Knows, RecordTaken, EntryTaken}
+use Rattle.dns_master.specs.RecordForm.{TtlOf, Inherited, LastOwner, SpelledName}
+use Rattle.dns_master.specs.ReaderForm.{last_owner, Knows, RecordTaken, EntryTaken}
 use Rattle.dns_master.specs.declared.state.Reader.{Reader}
+
+-- the record that was added is the last
+slice_get-last : (rs : List ResourceRecord) (r : ResourceRecord) (n : ℕ) → n ≡ length rs → slice_get (rs ++ r ∷ []) n ≡ Some r
+slice_get-last [] r zero e = refl
+slice_get-last [] r (suc n) e = absurd (omega (arith, e))
+slice_get-last (x ∷ rs) r zero e = absurd (omega (arith, e))
+slice_get-last (x ∷ rs) r (suc n) e = slice_get-last rs r n (omega (arith, e))
+
+last_owner-push : (rs : List ResourceRecord) (r : ResourceRecord) → last_owner (rs ++ r ∷ []) ≡ Some r.owner
+last_owner-push rs r = ap (option_map (λ (r : ResourceRecord). r.owner)) (slice_get-last rs r _ (omega (arith, length-append rs (r ∷ []))))
 
 otherwise : {F N X Y : Type 0} → (X → Y) → F ⊎ (N × X) → F ⊎ (N × Y)
 otherwise f (inl h) = inl h
@@ -92,15 +102,19 @@ module _ (o : DomainName) (earlier : List Entry) where
           records = sym (append-nil old.records.items);
         }
 
+    -- the owner of the last record is that of the record that was taken
+    owner_taken : (owner : DomainName) (f : Fields) (t : RecordTaken o earlier owner f old new) → last_owner new.records.items ≡ Some owner
+    owner_taken owner f t = ap last_owner t.records ∙ last_owner-push old.records.items t.taken ∙ ap Some t.owner_is
+
     -- what behind a record is known, where its owner is the one of its sort
     record_behind : (s : Sort) (owner : DomainName) (f : Fields) → directive_word (codes "$origin") s ≡ None → directive_word (codes "$ttl") s ≡ None → ttl_word s ≡ f.ttl
         → counts_as_record s ≡ true → (n : DomainName) → OwnerAt s n → owner ≡ folded n → (t : RecordTaken o earlier owner f old new)
-        → Behind s new.origin new.owner new.default_ttl new.stated_ttl (length new.records.items)
+        → Behind s new.origin (last_owner new.records.items) new.default_ttl new.stated_ttl (length new.records.items)
     record_behind s owner f no_origin no_ttl ttl counts n is low t =
         record {
           origin_is = rw no_origin (rw t.origin_is known.origin_is);
           no_other = rw no_origin (λ m h. known.no_other m h ∙ sym t.origin_is);
-          owner_is = rw t.owner_is (n, is, low);
+          owner_is = subst (λ x. MatchOption x (Nothing (OwnerAt s)) (λ f. (n : DomainName) × OwnerAt s n × (f ≡ folded n))) (sym (owner_taken owner f t)) (n, is, low);
           default_is = rw no_ttl (rw t.default_is known.default_is);
           stated_is = rw ttl (t.stated_is _ known.stated_is);
           count_is = rw counts (ap length t.records ∙ length-append old.records.items (t.taken ∷ []) ∙ ap (λ k. k + 1) known.count_is);
@@ -129,10 +143,13 @@ module _ (o : DomainName) (earlier : List Entry) where
         }
 
   -- `$ORIGIN`
-  module _ (e : Entry) (old new : Reader) (known : Knows o earlier old) (owner_kept : new.owner ≡ old.owner) (stated_kept : new.stated_ttl ≡ old.stated_ttl)
+  module _ (e : Entry) (old new : Reader) (known : Knows o earlier old) (stated_kept : new.stated_ttl ≡ old.stated_ttl)
       (records_kept : new.records.items ≡ old.records.items) where
     nothing_new : new.records.items ≡ old.records.items ++ []
     nothing_new = records_kept ∙ sym (append-nil old.records.items)
+
+    owner_kept : LastOwner o earlier (last_owner new.records.items)
+    owner_kept = subst (LastOwner o earlier) (sym (ap last_owner records_kept)) known.owner_is
 
     pub origin-taken : (ws : List Word) → sort_of e ≡ directive (codes "$origin") ws → OneWord (λ w. SpelledName old.origin w new.origin) ws
         → ((n : DomainName) → OneWord (λ w. SpelledName old.origin w n) ws → n ≡ new.origin) → new.default_ttl ≡ old.default_ttl → EntryTaken o earlier e old new
@@ -147,7 +164,7 @@ module _ (o : DomainName) (earlier : List Entry) where
               (record {
                 origin_is = (old.origin, known.origin_is, one.1);
                 no_other = λ n h. only n (one.0, subst (λ m. SpellsName m w.raw n) (known.no_other h.0 h.1) h.2);
-                owner_is = rw owner_kept known.owner_is;
+                owner_is = owner_kept;
                 default_is = rw default_kept known.default_is;
                 stated_is = rw stated_kept known.stated_is;
                 count_is = ap length records_kept ∙ known.count_is;
@@ -168,7 +185,7 @@ module _ (o : DomainName) (earlier : List Entry) where
               (record {
                 origin_is = rw origin_kept known.origin_is;
                 no_other = λ m h. known.no_other m h ∙ sym origin_kept;
-                owner_is = rw owner_kept known.owner_is;
+                owner_is = owner_kept;
                 default_is = (n, default_is, one);
                 stated_is = rw stated_kept known.stated_is;
                 count_is = ap length records_kept ∙ known.count_is;

@@ -1,6 +1,7 @@
 -- What a reader learns here: what the reader of a zone file knows of the entries so far, and what an entry changes of that.
-use Rattle.std.specs.Prelude.{◌≡◌, Bool, List, [], ◌∷◌, ◌++◌, length, Option, Some}
-use Rattle.std.specs.Option.{option_or}
+use Rattle.std.specs.Prelude.{◌≡◌, ◌-◌, Bool, List, [], ◌∷◌, ◌++◌, length, Option}
+use Rattle.std.specs.Option.{option_or, option_map}
+use Rattle.std.specs.List.{slice_get}
 use Rattle.dns_spec.specs.Names.{Octets, DomainName}
 use Rattle.dns_spec.specs.DataText.{Word}
 use Rattle.dns_spec.specs.Records.{ResourceRecord}
@@ -10,14 +11,18 @@ use Rattle.dns_master.specs.EntryForm.{TextMeans}
 use Rattle.dns_master.specs.RecordForm.{Inherited, TtlOf}
 use Rattle.dns_master.specs.declared.state.Reader.{Reader}
 
+-- the owner of the last record
+abbrev pub last_owner : List ResourceRecord → Option DomainName
+last_owner rs = option_map (λ (r : ResourceRecord). r.owner) (slice_get rs (length rs - 1))
+
 abbrev pub Knows : DomainName → List Entry → Reader → Type 0
-Knows o earlier r = Inherited o earlier r.origin r.owner r.default_ttl r.stated_ttl (length r.records.items)
+Knows o earlier r = Inherited o earlier r.origin (last_owner r.records.items) r.default_ttl r.stated_ttl (length r.records.items)
 
 -- a record was taken, whose owner in lower case is this
 pub record RecordTaken (o : DomainName) (earlier : List Entry) (owner : DomainName) (f : Fields) (old new : Reader) : Type 0 where
   pub taken : ResourceRecord
   pub given : RecordGives o earlier 8 (λ n. n ≡ owner) f (gives (taken ∷ []))
-  pub owner_is : new.owner ≡ Some owner
+  pub owner_is : taken.owner ≡ owner
   pub origin_is : new.origin ≡ old.origin
   pub default_is : new.default_ttl ≡ old.default_ttl
   pub stated_is : (w : Option Word) → TtlOf w old.stated_ttl → TtlOf (option_or f.ttl w) new.stated_ttl

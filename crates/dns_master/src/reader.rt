@@ -109,7 +109,6 @@ impl Reader {
         Reader {
             alloc,
             origin: origin.copied(),
-            owner: None,
             default_ttl: None,
             stated_ttl: None,
             line: 1,
@@ -222,10 +221,11 @@ impl Reader {
             → SortGives o earlier (owned owner.now words.now) (faulty (code_number code))) }
         ensures source { IfErr result (λ code. code ≢ ReadCode.SourceFailed) }
     {
-        let Some(owner) = read_name(owner, &self.origin) else {
+        let Some(mut owner) = read_name(owner, &self.origin) else {
             return Err(ReadCode::BadOwner);
         };
-        self.take_record(owner.fold(), words)
+        owner.fold_in_place();
+        self.take_record(owner, words)
     }
 
     // Takes a record whose owner is that of the record before.
@@ -237,10 +237,10 @@ impl Reader {
             → SortGives o earlier (unowned words.now) (faulty (code_number code))) }
         ensures source { IfErr result (λ code. code ≢ ReadCode.SourceFailed) }
     {
-        let Some(owner) = &self.owner else {
+        let Some(last) = self.records.last() else {
             return Err(ReadCode::NoOwner);
         };
-        let owner = owner.fold();
+        let owner = last.owner.copied();
         self.take_record(owner, words)
     }
 
@@ -255,7 +255,6 @@ impl Reader {
     {
         let fields = Fields::of(words);
         let record = self.read_record(owner, &fields)?;
-        self.owner = Some(record.owner.copied());
         self.stated_ttl = last_stated(fields.ttl.is_some(), record.ttl, self.stated_ttl);
         push_record(&mut self.records, record)
     }

@@ -13,8 +13,6 @@ pub(crate) struct Reader {
     pub(crate) alloc: Global,
     /// The origin in force.
     pub(crate) origin: Name,
-    /// The owner of the last record, in lower case.
-    pub(crate) owner: Option<Name>,
     /// The TTL of the last `$TTL`.
     pub(crate) default_ttl: Option<u32>,
     /// The TTL that a record stated last.

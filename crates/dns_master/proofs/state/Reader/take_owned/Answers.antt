@@ -12,28 +12,28 @@ use Rattle.dns_master.proofs.KnowsSteps.{owned-taken, given-owner}
 use Rattle.dns_master.proofs.state.Reader.take_owned.Goals as goal
 
 pub take_record-requires : goal.take_record-requires
-take_record-requires c = rw c.fold.ensures (folded-folded c.in-Some.owner)
+take_record-requires c = rw c.fold_in_place.ensures (folded-folded c.in-Some.owner)
 
 pub returns-clause-ok : goal.returns-clause-ok
 returns-clause-ok c =
     let all : ((o : DomainName) (earlier : List Entry) → Knows o earlier c.args.self.now
-    → RecordTaken o earlier c.fold.result (fields c.args.words.now) c.args.self.now c.take_record.new.self)
+    → RecordTaken o earlier c.fold_in_place.new.self (fields c.args.words.now) c.args.self.now c.take_record.new.self)
     → (o : DomainName) (earlier : List Entry) (e : Entry) → Knows o earlier c.args.self.now → sort_of e ≡ owned c.args.owner.now c.args.words.now
     → EntryTaken o earlier e c.args.self.now c.take_record.new.self =
     λ taken o earlier e known is.
     let named = (c.read_name.ensures c.in-Some.owner).0 c.in-Some.is in
-    owned-taken o earlier e _ _ known c.args.owner.now c.args.words.now c.in-Some.owner c.fold.result is
-    (named.0, (c.args.self.now.origin, known.origin_is, named.1)) c.fold.ensures (rw c.fold.ensures (folded-folded c.in-Some.owner)) (taken o earlier known) in
+    owned-taken o earlier e _ _ known c.args.owner.now c.args.words.now c.in-Some.owner c.fold_in_place.new.self is
+    (named.0, (c.args.self.now.origin, known.origin_is, named.1)) c.fold_in_place.ensures (rw c.fold_in_place.ensures (folded-folded c.in-Some.owner)) (taken o earlier known) in
     OnOk-map _ all c.take_record.ensures.ok
 
 pub returns-clause-err : goal.returns-clause-err
 returns-clause-err c =
     let all : (code : ReadCode) → (code ≢ NoMemory → (o : DomainName) (earlier : List Entry) → Knows o earlier c.args.self.now
-    → RecordGives o earlier 8 (λ n. n ≡ c.fold.result) (fields c.args.words.now) (faulty (code_number code)))
+    → RecordGives o earlier 8 (λ n. n ≡ c.fold_in_place.new.self) (fields c.args.words.now) (faulty (code_number code)))
     → code ≢ NoMemory → (o : DomainName) (earlier : List Entry) → Knows o earlier c.args.self.now
     → RecordGives o earlier 7 (NameIs o earlier c.args.owner.now) (fields c.args.words.now) (faulty (code_number code)) =
     λ code told other o earlier known.
     let named = (c.read_name.ensures c.in-Some.owner).0 c.in-Some.is in
-    given-owner o earlier (NameIs o earlier c.args.owner.now) (fields c.args.words.now) c.in-Some.owner c.fold.result
-    (named.0, (c.args.self.now.origin, known.origin_is, named.1)) c.fold.ensures (rw c.fold.ensures (folded-folded c.in-Some.owner)) 7 _ (told other o earlier known) in
+    given-owner o earlier (NameIs o earlier c.args.owner.now) (fields c.args.words.now) c.in-Some.owner c.fold_in_place.new.self
+    (named.0, (c.args.self.now.origin, known.origin_is, named.1)) c.fold_in_place.ensures (rw c.fold_in_place.ensures (folded-folded c.in-Some.owner)) 7 _ (told other o earlier known) in
     IfErr-map _ all c.take_record.ensures.err

@@ -1,4 +1,4 @@
-use Rattle.std.proofs.Common.{rules, arith, List, ◌≡◌, [], ◌∷◌, ◌++◌, subst, sym, ap, ◌∙◌, refl, Some, if◌then◌else◌, IfSome}
+use Rattle.std.proofs.Common.{arith, List, ◌≡◌, [], ◌∷◌, ◌++◌, subst, sym, ap, ◌∙◌, refl, Some, if◌then◌else◌, IfSome}
 use Rattle.std.specs.Option.{is_some}
 use Rattle.dns_spec.specs.Names.{DomainName}
 use Rattle.dns_spec.specs.ZoneText.{Entry}
@@ -30,7 +30,6 @@ returns-clause-ok c =
     (record {
       alloc = c.args.self.now.alloc;
       origin = c.args.self.now.origin;
-      owner = Some c.copied.result;
       default_ttl = c.args.self.now.default_ttl;
       stated_ttl = c.last_stated-self.result;
       line = c.args.self.now.line;
@@ -43,7 +42,7 @@ returns-clause-ok c =
       taken = c.in_ok-record.record;
       given = subst (λ (f : Fields). RecordGives o earlier 8 (λ n. n ≡ c.args.owner) f (gives (c.in_ok-record.record ∷ []))) c.of-fields.ensures
           (c.in_ok-record.ensures.ok o earlier known);
-      owner_is = ap Some (search rules);
+      owner_is = c.in_ok-record.ensures.owner;
       origin_is = refl;
       default_is = refl;
       stated_is = λ w h.
