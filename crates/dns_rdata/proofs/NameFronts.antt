@@ -5,11 +5,10 @@ use Rattle.std.proofs.lemmas.List.{take_at, drop_at, length-take-le}
 use Rattle.std.proofs.lemmas.Option.{none-some, some_pair_parts}
 use Rattle.std.specs.Option.{option_map, option_and_then}
 use Rattle.std.specs.List.{list_all}
-use Rattle.dns_spec.specs.Names.{Octets, DomainName, wire, is_label, is_name, name_if_valid, name_of}
+use Rattle.dns_spec.specs.Names.{Octets, DomainName, wire, is_label, is_name, name_of}
 use Rattle.dns_spec.specs.Data.{Part, octets as run, name, domain, piece_front, are_strings}
 use Rattle.dns_spec.proofs.NameLaws.{IsName-is_name, IsLabel-is_label, is_label-IsLabel, is_name-IsName}
-use Rattle.dns_spec.proofs.WrittenData.{name_read}
-use Rattle.dns_spec.proofs.MadeData.{labels_taken}
+use Rattle.dns_spec.proofs.WireNames.{name_read, name_of-wire, wire_fronts_agree}
 use Rattle.dns_name.specs.WireForm.{labels_of, IsWireForm}
 use Rattle.dns_name.proofs.WireLemmas.{labels_of_spelled, IsWireForm-wire}
 use Rattle.dns_rdata.specs.NameFront.{IsBehindLabels, HasNoLabels}
@@ -81,11 +80,6 @@ label_passed octets rest others k alike e some fits there = record {
           whole = ap (drop k) (sym others_are) ∙ drop_at l (wire n ++ behind) k first;
         })
 
--- the name that labels are, if they are not too long
-pub front_name : (octets : Octets) (n : DomainName) (behind : Octets) → list_all is_label n ≡ true → octets ≡ wire n ++ behind
-    → name_of octets ≡ name_if_valid ([] ∷ n, behind)
-front_name octets n behind ok e = ap name_of e ∙ ap (option_and_then name_if_valid) (labels_taken n behind ok)
-
 pub no_front_name : (octets : Octets) → HasNoLabels octets → name_of octets ≡ None
 no_front_name octets none = go (name_of octets) refl
   where
@@ -105,10 +99,16 @@ wire_taken octets behind n k e f =
 -- labels that are too long for a name
 pub long_name : (octets behind front : Octets) (k : ℕ) → IsBehindLabels octets behind → front ≡ take k octets → k ≡ length octets - length behind
     → 255 < length front → name_of octets ≡ None
-long_name octets behind front k h e f long =
-    let same : front ≡ wire h.labels = e ∙ (wire_taken octets behind h.labels k h.whole f).0 in
-    let no_name : is_name h.labels ≡ false = false_from_ne_true (is_name h.labels) (λ ok. absurd (omega (arith, (IsName-is_name h.labels ok).fits, ap length same))) in
-    front_name octets h.labels behind h.are_labels h.whole ∙ (rw no_name refl)
+long_name octets behind front k h e f long = go (name_of octets) refl
+  where
+    go : (y : Option (DomainName × Octets)) → name_of octets ≡ y → y ≡ None
+    go None _ = refl
+    go (Some (n, rest)) g =
+        let r = name_read octets n rest g in
+        let name = IsName-is_name n r.0 in
+        let same : n ≡ h.labels = (wire_fronts_agree n h.labels rest behind name.labels h.are_labels (sym r.1 ∙ h.whole)).0 in
+        let long_wire : front ≡ wire h.labels = e ∙ (wire_taken octets behind h.labels k h.whole f).0 in
+        absurd (omega (arith, name.fits, ap length long_wire, ap (λ m. length (wire m)) same))
 
 -- labels that are a name
 pub short_name : (octets behind front rest : Octets) (k : ℕ) → IsBehindLabels octets behind → front ≡ take k octets → rest ≡ drop k octets
@@ -118,7 +118,7 @@ short_name octets behind front rest k h e g f short =
     let taken = wire_taken octets behind h.labels k h.whole f in
     let same : front ≡ wire h.labels = e ∙ taken.0 in
     let ok : is_name h.labels ≡ true = is_name-IsName h.labels h.are_labels (omega (arith, ap length same)) in
-    let found : name_of octets ≡ Some (h.labels, behind) = front_name octets h.labels behind h.are_labels h.whole ∙ (rw ok refl) in (
+    let found : name_of octets ≡ Some (h.labels, behind) = ap name_of h.whole ∙ name_of-wire h.labels behind ok in (
       ap (option_map (λ (r : DomainName × Octets). (name r.0, r.1))) found
           ∙ ap (λ x. Some (name x, behind)) (sym (labels_of_spelled front h.labels same ok))
           ∙ ap (λ x. Some (name (labels_of front), x)) (sym (g ∙ taken.1)),

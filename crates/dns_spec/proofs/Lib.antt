@@ -1,5 +1,7 @@
 pub mod NameLaws
 pub mod NameReading
+pub mod WireNames
+mod NameRows
 pub mod WrittenNames
 pub mod Places
 pub mod WrittenData

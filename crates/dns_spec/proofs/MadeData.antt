@@ -1,32 +1,14 @@
 -- Data made of a name, of an address, or of two names and five numbers is data of its type, and its target is its first
 -- name.
-use Rattle.std.proofs.Common.{◌≡◌, ℕ, suc, ◌≤◌, true, List, [], ◌∷◌, ◌++◌, length, take, drop, nat_le, Option, None, Some, refl, sym, ap, ◌∙◌, arith, length-append, append_assoc, append-nil}
-use Rattle.std.proofs.lemmas.Bool.{and_parts, and_from, le-leb}
-use Rattle.std.specs.Option.{option_map, option_and_then, is_some}
-use Rattle.std.specs.List.{list_all}
-use Rattle.dns_spec.specs.Names.{Octets, DomainName, wire, is_label, is_name, labels_from, with_octet, name_if_valid, name_of}
+use Rattle.std.proofs.Common.{◌≡◌, ℕ, ◌≤◌, true, List, [], ◌∷◌, ◌++◌, length, take, drop, nat_le, Option, None, Some, refl, sym, ap, ◌∙◌, arith, length-append, append_assoc, append-nil}
+use Rattle.std.proofs.lemmas.Bool.{and_from, le-leb}
+use Rattle.std.specs.Option.{option_map, is_some}
+use Rattle.dns_spec.specs.Names.{Octets, DomainName, wire, is_name}
 use Rattle.std.proofs.lemmas.List.{take_all, drop_all}
 use Rattle.std.specs.Option.{unwrap_or}
 use Rattle.dns_spec.specs.Data.{type_a, type_ns, type_soa, Fixed, numbers, width, Piece, first_name, Part, octets, name, piece_front, cut, valid, target, fixed, domain, pieces_of}
 use Rattle.dns_spec.proofs.NameLaws.{IsName-is_name}
-
-label_taken : (l os : Octets) (n : DomainName) (rest : Octets) → labels_from 0 os ≡ Some ([] ∷ n, rest) → labels_from (length l) (l ++ os) ≡ Some (l ∷ n, rest)
-unfolding labels_from
-label_taken [] os n rest h = h
-label_taken (x ∷ l) os n rest h = ap (option_map (with_octet x)) (label_taken l os n rest h)
-
-pub labels_taken : (n : DomainName) (rest : Octets) → list_all is_label n ≡ true → labels_from 0 (wire n ++ rest) ≡ Some ([] ∷ n, rest)
-unfolding labels_from
-labels_taken [] rest ok = refl
-labels_taken ([] ∷ n) rest ok = cc
-labels_taken ((x ∷ l) ∷ n) rest ok =
-    let parts = and_parts (is_label (x ∷ l)) (list_all is_label n) ok in
-    ap (λ os. option_map (λ (r : DomainName × Octets). ([] ∷ r.0, r.1)) (labels_from (suc (length l)) (x ∷ os))) (append_assoc l (wire n) rest)
-    ∙ ap (option_map (λ (r : DomainName × Octets). ([] ∷ r.0, r.1))) (label_taken (x ∷ l) (wire n ++ rest) n rest (labels_taken n rest parts.1))
-
--- a name's wire form is that name, and what follows it
-pub name_of-wire : (n : DomainName) (rest : Octets) → is_name n ≡ true → name_of (wire n ++ rest) ≡ Some (n, rest)
-name_of-wire n rest ok = ap (option_and_then name_if_valid) (labels_taken n rest (IsName-is_name n ok).labels) ∙ (rw ok refl)
+use Rattle.dns_spec.proofs.WireNames.{name_of-wire}
 
 -- an address
 pub cut-address : (d : Octets) → length d ≡ 4 → cut (pieces_of type_a) d ≡ Some (octets d ∷ [])

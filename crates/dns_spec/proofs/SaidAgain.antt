@@ -12,7 +12,8 @@ use Rattle.dns_spec.specs.WrittenText.{word_front, form_words, string_count, wor
 use Rattle.dns_spec.specs.ZoneText.{is_word_octet}
 use Rattle.dns_spec.proofs.SortedOnce.{Each}
 use Rattle.dns_spec.proofs.SmallOctets.{Small, small_back}
-use Rattle.dns_spec.proofs.WrittenData.{cut_into, name_read, all_strings}
+use Rattle.dns_spec.proofs.WrittenData.{cut_into, all_strings}
+use Rattle.dns_spec.proofs.WireNames.{name_read}
 use Rattle.dns_spec.proofs.LoweredData.{piece_whole, cut_data}
 use Rattle.dns_spec.proofs.HexAgain.{unknown_said}
 use Rattle.dns_spec.proofs.WordRuns.{runs_escaped}

@@ -1,75 +1,13 @@
 -- Data of a type, written without compression, is read back as data of that type.
-use Rattle.std.proofs.Common.{◌≡◌, ℕ, zero, suc, ◌+◌, ◌<◌, true, ◌&&◌, not, nat_le, ◌==◌, List, [], ◌∷◌, ◌++◌, length, take, drop, Option, None, Some, is_some, option_map, refl, sym, ap, ◌∙◌, subst, arith, append_assoc, append-nil, length-append, take-append-drop, add-zero}
+use Rattle.std.proofs.Common.{◌≡◌, ℕ, zero, suc, ◌+◌, ◌<◌, true, ◌&&◌, not, nat_le, ◌==◌, List, [], ◌∷◌, ◌++◌, length, take, drop, Option, None, Some, is_some, option_map, refl, sym, ap, ◌∙◌, subst, arith, append-nil, length-append, take-append-drop, add-zero}
 use Rattle.std.proofs.lemmas.Bool.{and_parts, leb-true, not-true, eqb-false, false≢true}
-use Rattle.std.proofs.lemmas.Option.{none-some, same_Some, cond_some, option_and_then_some, some_pair_parts}
-use Rattle.std.proofs.lemmas.List.{length-take-le, nil_from_length}
-use Rattle.dns_spec.specs.Names.{Octets, DomainName, wire, is_name, with_octet, labels_from, name_if_valid, name_of}
+use Rattle.std.proofs.lemmas.Option.{none-some, same_Some, cond_some, some_pair_parts}
+use Rattle.std.proofs.lemmas.List.{length-take-le}
+use Rattle.dns_spec.specs.Names.{Octets, DomainName, wire, is_name, name_of}
 use Rattle.dns_spec.specs.Data.{class_in, width, Piece, fixed, domain, string, strings, anything, pieces_of, Part, octets, name, are_strings, octets_front, strings_front, piece_front, cut, valid}
 use Rattle.dns_spec.specs.Reading.{OctetsAt, PiecesAt, DataAt}
+use Rattle.dns_spec.proofs.WireNames.{name_read}
 use Rattle.dns_spec.proofs.Places.{Stands, stands_front, stands_rest, stands_within, stands_get, octets_at, name_written}
-
--- what `labels_from` has read: the label at hand, the labels behind it in wire form, and the octets behind the name
-record Labels (k : ℕ) (os : Octets) (r : DomainName × Octets) : Type 0 where
-  first : Octets
-  others : DomainName
-  names : r.0 ≡ first ∷ others
-  long : length first ≡ k
-  whole : os ≡ first ++ (wire others ++ r.1)
-
-labels_read : (k : ℕ) (os : Octets) (r : DomainName × Octets) → labels_from k os ≡ Some r → Labels k os r
-unfolding labels_from
-labels_read zero [] r h = absurd (none-some r h)
-labels_read (suc k) [] r h = absurd (none-some r h)
-labels_read zero (zero ∷ os) r h =
-    let e = same_Some ([] ∷ [], os) r h in
-    record { first = []; others = []; names = ap (λ x. x.0) (sym e); long = refl; whole = ap (λ x. 0 ∷ x.1) e }
-labels_read zero (suc k ∷ os) r h = go (labels_from (suc k) os) (λ x e. labels_read (suc k) os x e) h
-  where
-    go : (y : Option (DomainName × Octets)) → ((x : DomainName × Octets) → y ≡ Some x → Labels (suc k) os x)
-        → option_map (λ (x : DomainName × Octets). ([] ∷ x.0, x.1)) y ≡ Some r → Labels zero (suc k ∷ os) r
-    go None again e = absurd (none-some r e)
-    go (Some x) again e =
-        let p = same_Some ([] ∷ x.0, x.1) r e in
-        let q = again x refl in
-        record {
-          first = [];
-          others = x.0;
-          names = ap (λ z. z.0) (sym p);
-          long = refl;
-          whole =
-              ap (λ z. suc k ∷ z) q.whole ∙ ap (λ z. suc k ∷ (q.first ++ (wire q.others ++ z))) (ap (λ z. z.1) p)
-              ∙ ap (λ z. z ∷ (q.first ++ (wire q.others ++ r.1))) (sym q.long)
-              ∙ ap (λ z. length q.first ∷ z) (sym (append_assoc q.first (wire q.others) r.1))
-              ∙ ap (λ z. wire z ++ r.1) (sym q.names);
-        }
-labels_read (suc k) (o ∷ os) r h = go (labels_from k os) (λ x e. labels_read k os x e) h
-  where
-    with_first : (x : DomainName × Octets) → Labels k os x → with_octet o x ≡ r → Labels (suc k) (o ∷ os) r
-    with_first x q e =
-        let shape : with_octet o x ≡ ((o ∷ q.first) ∷ q.others, x.1) = ap (λ z. with_octet o (z, x.1)) q.names in
-        let p = sym shape ∙ e in
-        record {
-          first = o ∷ q.first;
-          others = q.others;
-          names = ap (λ z. z.0) (sym p);
-          long = ap suc q.long;
-          whole = ap (λ z. o ∷ z) q.whole ∙ ap (λ z. o ∷ (q.first ++ (wire q.others ++ z))) (ap (λ z. z.1) p);
-        }
-
-    go : (y : Option (DomainName × Octets)) → ((x : DomainName × Octets) → y ≡ Some x → Labels k os x)
-        → option_map (with_octet o) y ≡ Some r → Labels (suc k) (o ∷ os) r
-    go None again e = absurd (none-some r e)
-    go (Some x) again e = with_first x (again x refl) (same_Some (with_octet o x) r e)
-
-pub name_read : (os : Octets) (n : DomainName) (rest : Octets) → name_of os ≡ Some (n, rest) → (is_name n ≡ true) × (os ≡ wire n ++ rest)
-name_read os n rest h = option_and_then_some name_if_valid (labels_from 0 os) (n, rest) h (λ x e v.
-    let q = labels_read 0 os x e in
-    let empty : q.first ≡ [] = nil_from_length q.first q.long in
-    let shape : x ≡ ([] ∷ q.others, x.1) = ap (λ z. (z, x.1)) (q.names ∙ ap (λ z. z ∷ q.others) empty) in
-    let c = cond_some (is_name q.others) (q.others, x.1) (n, rest) (sym (ap name_if_valid shape) ∙ v) in (
-      sym (ap (λ z. is_name z.0) c.1) ∙ c.0,
-      q.whole ∙ ap (λ z. z ++ (wire q.others ++ x.1)) empty ∙ ap (λ z. wire z.0 ++ z.1) c.1,
-    ))
 
 -- data that is cut into parts begins with the part of its first piece
 pub record CutInto (p : Piece) (ps : List Piece) (os : Octets) (xs : List Part) : Type 0 where

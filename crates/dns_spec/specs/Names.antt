@@ -2,7 +2,7 @@
 -- when one is at or below another, and which of two comes first.
 --
 -- An octet is a number below 256. The lists of octets here are those of a program, so this is said nowhere again.
-use Rattle.std.specs.Prelude.{ℕ, zero, suc, ◌-◌, Bool, ◌&&◌, List, [], ◌∷◌, ◌++◌, map, reverse, length, drop, nat_lt, nat_le, ◌==◌, if◌then◌else◌, Option, None, Some}
+use Rattle.std.specs.Prelude.{ℕ, zero, suc, ◌-◌, Bool, true, false, ◌&&◌, List, [], ◌∷◌, ◌++◌, map, reverse, length, take, drop, nat_lt, nat_le, ◌==◌, if◌then◌else◌, Option, None, Some}
 use Rattle.std.specs.Option.{option_map, option_and_then}
 use Rattle.std.specs.List.{list_all}
 use Rattle.std.specs.Cmp.Lexicographic.{pointwise, slice_cmp}
@@ -69,23 +69,21 @@ label_order = slice_cmp nat_cmp
 abbrev pub name_order : DomainName → DomainName → Ordering
 name_order n m = slice_cmp label_order (reverse (folded n)) (reverse (folded m))
 
--- The first octet of the label at hand, of a name that is read with the octets behind it.
-abbrev pub with_octet : ℕ → DomainName × Octets → DomainName × Octets
-with_octet o ([], rest) = ([], rest)
-with_octet o (l ∷ n, rest) = ((o ∷ l) ∷ n, rest)
+-- RFC 1035 3.1: the labels that octets begin with, of which there are fewer than k, and the octets after the root's 0
+abbrev pub with_label : Octets → DomainName × Octets → DomainName × Octets
+with_label l (n, rest) = (l ∷ n, rest)
 
--- The labels that octets spell, where k octets of the label at hand are still to come: what is left of that label, the
--- labels behind it, and the octets behind the name.
 unfoldable pub labels_from : ℕ → Octets → Option (DomainName × Octets)
-labels_from k [] = None
-labels_from zero (zero ∷ os) = Some ([] ∷ [], os)
-labels_from zero (suc k ∷ os) = option_map (λ r. ([] ∷ r.0, r.1)) (labels_from (suc k) os)
-labels_from (suc k) (o ∷ os) = option_map (with_octet o) (labels_from k os)
+labels_from zero os = None
+labels_from (suc k) [] = None
+labels_from (suc k) (zero ∷ os) = Some ([], os)
+labels_from (suc k) (suc i ∷ os) =
+    elim (nat_le (suc i) (length os)) [
+      | true ↦ option_map (with_label (take (suc i) os)) (labels_from k (drop (suc i) os))
+      | false ↦ None
+    ]
 
--- RFC 1035 3.1: the name whose wire form the octets begin with, and the octets behind it
-abbrev pub name_if_valid : DomainName × Octets → Option (DomainName × Octets)
-name_if_valid ([], rest) = None
-name_if_valid (l ∷ n, rest) = if is_name n then Some (n, rest) else None
-
+-- The name whose wire form the octets begin with, and the octets after it. A name has at most 127 labels, since each takes
+-- two octets or more.
 abbrev pub name_of : Octets → Option (DomainName × Octets)
-name_of os = option_and_then name_if_valid (labels_from 0 os)
+name_of os = option_and_then (λ r. if is_name r.0 then Some r else None) (labels_from 128 os)

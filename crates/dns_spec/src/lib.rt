@@ -5,6 +5,7 @@ pub mod checks;
 pub mod data;
 pub mod layout;
 pub mod meaning;
+pub mod names;
 pub mod printed;
 pub mod reading;
 pub mod reply;
