@@ -15,7 +15,7 @@ use Rattle.dns_spec.specs.Names.{Octets, DomainName, folded, same, names_equal, 
 use Rattle.dns_spec.specs.Data.{type_a, type_ns, type_cname, type_soa, type_mx, type_aaaa, type_srv, target}
 use Rattle.dns_spec.specs.Records.{ResourceRecord, ZoneContents, at, owns, distinct}
 use Rattle.dns_spec.specs.Tree.{is_cut, without_first}
-use Rattle.dns_spec.specs.Checks.{Check, count, has_target, at_or_below_cut, below_cut, has_address, is_address_type, no_soa, many_soa, soa_elsewhere, no_ns, outside, cname_and_other, many_cname, ttls_differ, ns_target_alias, lacks_address, ns_target_lost, mx_target_alias, data_at_cut, first_is_asterisk, wildcard_ns, large_set, many_sets, checks, Fault, faults_at, told_names, faults}
+use Rattle.dns_spec.specs.Checks.{Check, count, has_target, at_or_below_cut, below_cut, has_address, is_address_type, no_soa, many_soa, soa_elsewhere, no_ns, outside, cname_and_other, many_cname, ttls_differ, ns_target_alias, lacks_address, ns_target_lost, mx_target_alias, data_at_cut, first_is_asterisk, wildcard_ns, large_set, many_sets, checks, Fault, faults_at, checked_names, faults}
 use Rattle.dns_spec.proofs.NameLaws.{names_equal-decides}
 use Rattle.dns_spec.proofs.SortedOnce.{Each, Among, length-sort_by, same_sorted}
 
@@ -27,7 +27,7 @@ from_permutation : {X : Type 0} (xs ys : List X) → IsPermutation xs ys → Sam
 from_permutation xs ys h p =
     length-filter p xs ∙ sym (sum_by-IsPermutation (λ x. cond (p x) 1 0) xs ys h) ∙ sym (length-filter p ys)
 
-any_counted : {X : Type 0} (p : X → Bool) (xs : List X) → list_any p xs ≡ nat_lt 0 (length (filter p xs))
+pub any_counted : {X : Type 0} (p : X → Bool) (xs : List X) → list_any p xs ≡ nat_lt 0 (length (filter p xs))
 any_counted p [] = refl
 any_counted p (x ∷ xs) = go (p x) (any_counted p xs)
   where
@@ -120,7 +120,7 @@ folded_folded (l ∷ n) = ap₂ (λ x xs. x ∷ xs) (lower_twice l) (folded_fold
 abbrev pub Lower : DomainName → Type 0
 Lower n = folded n ≡ n
 
-each_lower : (xs : List ResourceRecord) → Each Lower (map (λ (r : ResourceRecord). folded r.owner) xs)
+pub each_lower : (xs : List ResourceRecord) → Each Lower (map (λ (r : ResourceRecord). folded r.owner) xs)
 each_lower [] = tt
 each_lower (r ∷ xs) = (folded_folded r.owner, each_lower xs)
 
@@ -209,7 +209,7 @@ module _ (o : DomainName) (xs ys : List ResourceRecord) (c : SameCounts xs ys) w
 
   outside_kept : Kept outside
   unfolding z z'
-  outside_kept n = refl
+  outside_kept n = ap (λ k. nat_lt 0 k && not (at_or_below n o)) (c (λ (r : ResourceRecord). same r.owner n))
 
   cname_and_other_kept : Kept cname_and_other
   cname_and_other_kept n = ap₂ ◌&&◌ (owns_kept n type_cname) (any_at n (λ (r : ResourceRecord). not (r.rtype == type_cname)))
@@ -291,9 +291,9 @@ module _ (o : DomainName) (xs ys : List ResourceRecord) (c : SameCounts xs ys) w
         ),
       ))
 
-  told_names_kept : told_names z ≡ told_names z'
+  checked_names_kept : checked_names z ≡ checked_names z'
   unfolding z z'
-  told_names_kept =
+  checked_names_kept =
       let f : ResourceRecord → DomainName = λ (r : ResourceRecord). folded r.owner in
       let back : SameCounts ys xs = λ p. sym (c p) in
       same_sorted name_order name_order_total same name_tie Lower one_lower (folded o ∷ map f xs) (folded o ∷ map f ys)
@@ -303,7 +303,7 @@ module _ (o : DomainName) (xs ys : List ResourceRecord) (c : SameCounts xs ys) w
 
   faults_kept : faults z ≡ faults z'
   unfolding faults
-  faults_kept = ap (λ (h : DomainName → List Fault). flat_map h (told_names z)) (λ k n. faults_at_kept n k) ∙ ap (flat_map (faults_at z')) told_names_kept
+  faults_kept = ap (λ (h : DomainName → List Fault). flat_map h (checked_names z)) (λ k n. faults_at_kept n k) ∙ ap (flat_map (faults_at z')) checked_names_kept
 
 -- The faults of a list of records do not depend on its order.
 pub faults_in_any_order : (o : DomainName) (xs ys : List ResourceRecord) → IsPermutation xs ys

@@ -69,3 +69,4 @@ pub mod ReadPieces
 pub mod ReadRecords
 pub mod SameRecords
 pub mod PrintedAgain
+pub mod FaultLaws

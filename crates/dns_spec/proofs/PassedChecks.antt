@@ -4,7 +4,7 @@ use Rattle.std.proofs.lemmas.Bool.{ltb-false}
 use Rattle.dns_spec.specs.Names.{folded, same, name_order}
 use Rattle.dns_spec.specs.Data.{type_soa}
 use Rattle.dns_spec.specs.Records.{ResourceRecord, ZoneContents, distinct, sort_by, rrset, at, data_order}
-use Rattle.dns_spec.specs.Checks.{Check, count, checks, faults_at, told_names, faults, Passes}
+use Rattle.dns_spec.specs.Checks.{Check, count, checks, faults_at, checked_names, faults, Passes}
 use Rattle.dns_spec.proofs.NameLaws.{names_equal-decides}
 use Rattle.dns_spec.proofs.SortedOnce.{Each, Among, among_sort}
 
@@ -37,8 +37,8 @@ map_nothing f (x ∷ xs) e = cc
 pub checks_of_origin : (z : ZoneContents) → folded z.origin ≡ z.origin → Passes z → Each (λ (k : ℕ × Check). k.1 z z.origin ≡ false) checks
 unfolding faults
 checks_of_origin z low passes =
-    let told : Among z.origin (told_names z) = among_sort name_order z.origin (distinct same (folded z.origin ∷ map (λ (r : ResourceRecord). folded r.owner) z.records)) (inl (sym low)) in
-    let none : faults_at z z.origin ≡ [] = flat_nothing (faults_at z) (told_names z) z.origin passes told in
+    let told : Among z.origin (checked_names z) = among_sort name_order z.origin (distinct same (folded z.origin ∷ map (λ (r : ResourceRecord). folded r.owner) z.records)) (inl (sym low)) in
+    let none : faults_at z z.origin ≡ [] = flat_nothing (faults_at z) (checked_names z) z.origin passes told in
     filter_nothing (λ (k : ℕ × Check). k.1 z z.origin) checks (map_nothing (λ (k : ℕ × Check). record { owner = z.origin; code = k.0 }) (filter (λ (k : ℕ × Check). k.1 z z.origin) checks) none)
 
 sort_short : {X : Type 0} (cmp : X → X → Ordering) (xs : List X) → length xs ≤ 1 → sort_by cmp xs ≡ xs

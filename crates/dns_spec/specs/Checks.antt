@@ -3,6 +3,8 @@
 use Rattle.std.specs.Prelude.{◌≡◌, ℕ, Bool, false, ◌&&◌, ◌||◌, not, List, [], ◌∷◌, map, length, nat_lt, ◌==◌}
 use Rattle.std.specs.Option.{option_map_or}
 use Rattle.std.specs.List.{list_any, filter, flat_map}
+use Rattle.std.specs.Ordering.{nat_cmp, ordering_then}
+use Rattle.std.specs.declared.cmp.Ordering.{Ordering}
 use Rattle.dns_spec.specs.Names.{DomainName, folded, same, octets_equal, at_or_below, suffixes, name_order}
 use Rattle.dns_spec.specs.Data.{type_a, type_ns, type_cname, type_soa, type_mx, type_aaaa, type_srv, target}
 use Rattle.dns_spec.specs.Records.{ResourceRecord, ZoneContents, at, owns, distinct, sort_by}
@@ -14,6 +16,10 @@ Check = ZoneContents → DomainName → Bool
 
 abbrev pub is_origin : Check
 is_origin z n = same n z.origin
+
+-- the name owns a record
+abbrev pub is_owner : Check
+is_owner z n = nat_lt 0 (length (at z n))
 
 -- how many records of a type a name owns
 abbrev pub count : ZoneContents → DomainName → ℕ → ℕ
@@ -57,7 +63,7 @@ no_ns z n = is_origin z n && not (owns z n type_ns)
 
 -- RFC 1034 4.2: the zone holds names at or below its origin
 abbrev pub outside : Check
-outside z n = not (at_or_below n z.origin)
+outside z n = is_owner z n && not (at_or_below n z.origin)
 
 -- RFC 1034 3.6.2: a name with a CNAME has no other data
 abbrev pub cname_and_other : Check
@@ -116,7 +122,11 @@ checks =
     ∷ (6, cname_and_other) ∷ (7, many_cname) ∷ (8, ttls_differ) ∷ (9, ns_target_alias) ∷ (10, ns_target_lost)
     ∷ (11, mx_target_alias) ∷ (12, data_at_cut) ∷ (13, wildcard_ns) ∷ (14, large_set) ∷ (15, many_sets) ∷ []
 
--- a name that a fault is told of, in lower case, and the code of a check
+-- the name fails the check of this code
+abbrev pub fails : ZoneContents → DomainName → ℕ → Bool
+fails z n code = list_any (λ c. c.0 == code && c.1 z n) checks
+
+-- a name that a fault is reported of, in lower case, and the code of a check
 pub record Fault : Type 0 where
   pub owner : DomainName
   pub code : ℕ
@@ -124,14 +134,18 @@ pub record Fault : Type 0 where
 abbrev pub faults_at : ZoneContents → DomainName → List Fault
 faults_at z n = map (λ c. record { owner = n; code = c.0 }) (filter (λ c. c.1 z n) checks)
 
--- the names that a fault is told of: the origin and all owners, in canonical order
-abbrev pub told_names : ZoneContents → List DomainName
-told_names z =
+-- the names that are checked: the origin and all owners, in canonical order
+abbrev pub checked_names : ZoneContents → List DomainName
+checked_names z =
     sort_by name_order (distinct same (folded z.origin ∷ map (λ (r : ResourceRecord). folded r.owner) z.records))
 
 -- each fault once, by the order of owners, then by code
 unfoldable pub faults : ZoneContents → List Fault
-faults z = flat_map (faults_at z) (told_names z)
+faults z = flat_map (faults_at z) (checked_names z)
+
+-- the order of faults: by owners, then by codes
+abbrev pub fault_order : Fault → Fault → Ordering
+fault_order f g = ordering_then (name_order f.owner g.owner) (nat_cmp f.code g.code)
 
 -- a zone that may be served
 abbrev pub Passes : ZoneContents → Type 0

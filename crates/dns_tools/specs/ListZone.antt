@@ -5,7 +5,7 @@ use Rattle.dns_spec.specs.Names.{DomainName, is_name, folded, same, at_or_below}
 use Rattle.dns_spec.specs.Data.{type_a, type_ns, type_soa, qtype_any, soa_minimum, valid, target}
 use Rattle.std.specs.Option.{option_map_or}
 use Rattle.dns_spec.specs.Records.{ResourceRecord, ZoneContents, at, owns, records_equal, insert_by, sort_by, data_order}
-use Rattle.dns_spec.specs.Checks.{first_is_asterisk, no_soa, many_soa, no_ns, outside, large_set, ttls_differ}
+use Rattle.dns_spec.specs.Checks.{first_is_asterisk, no_soa, many_soa, no_ns, large_set, ttls_differ}
 use Rattle.dns_spec.specs.Reading.{MessageQuestion}
 use Rattle.dns_spec.specs.Layout.{answer, authority, Item, plain_records_size}
 use Rattle.dns_spec.specs.Answer.{item}
@@ -107,7 +107,7 @@ server_lost z n = list_any (λ (r : ResourceRecord). r.rtype == type_ns && lacks
 
 -- the faults that such records can have
 abbrev pub has_fault : ZoneContents → DomainName → Bool
-has_fault z n = lacks_or_repeats z n || outside z n || large_set z n || ttls_differ z n || server_lost z n
+has_fault z n = lacks_or_repeats z n || not (at_or_below n z.origin) || large_set z n || ttls_differ z n || server_lost z n
 
 -- the zone is not served
 abbrev pub is_refused : ZoneContents → Bool

@@ -7,7 +7,7 @@ use Rattle.std.specs.Ordering.{ordering_reverse}
 use Rattle.std.specs.Prelude.{if◌then◌else◌}
 use Rattle.dns_spec.specs.Names.{DomainName, folded, same, name_order}
 use Rattle.dns_spec.specs.Records.{ResourceRecord, ZoneContents, distinct, insert_by, sort_by}
-use Rattle.dns_spec.specs.Checks.{Check, Fault, checks, faults_at, told_names, faults}
+use Rattle.dns_spec.specs.Checks.{Check, Fault, checks, faults_at, checked_names, faults}
 use Rattle.dns_spec.proofs.SortedOnce.{Each, Among, each_filter, filter_each, each_weaker, same_sorted}
 use Rattle.dns_zone.specs.ZoneForm.{AreOrdered}
 use Rattle.dns_zone.specs.ToldForm.{failed_from, begins_with_owner, owners_once, told_at}
@@ -276,7 +276,7 @@ module _ (o : DomainName) (low : folded o ≡ o) (rs : List ResourceRecord) (h :
       by_part (inr (inr k)) =
           inr (kept_among a (λ r. not (is_before o r)) rs (kept_among a (λ r. not (is_at o r)) others (once_among a behind k)))
 
-  pub told-around : told_names (record { origin = o; records = rs }) ≡ around
+  pub told-around : checked_names (record { origin = o; records = rs }) ≡ around
   told-around =
       same_sorted name_order name_order_total same (λ n m e. tied-same n m e) Lower one_lower (folded o ∷ owners rs) around
       (lower_twice o, all_lower rs) (around_lower (owners_once before) (once_lower before)) told_around around_told

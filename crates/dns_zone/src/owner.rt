@@ -95,7 +95,7 @@ impl<'a> Owner<'a> {
     fn is_outside(&self) -> bool
         ensures { result ≡ outside self.now.zone self.now.name }
     {
-        !self.name.at_or_below(self.survey.origin())
+        !self.own.is_empty() && !self.name.at_or_below(self.survey.origin())
     }
 
     fn has_cname_and_other(&self) -> bool
