@@ -134,7 +134,7 @@ lent_joined (x ∷ xs) (p ∷ ps) e =
     ∙ sym (flat_map-cons part_octets p ps)
 
 -- a part that is lent is shown with its octets
-lent_octets : (x : Part) → IsLent x → with_octets (part_for x) ≡ shown_part x
+pub lent_octets : (x : Part) → IsLent x → with_octets (part_for x) ≡ shown_part x
 lent_octets (Run o) h = refl
 lent_octets (Name o) h = ap (λ xs. (part_for (Name o), xs)) h.wire_is
 

@@ -21,10 +21,11 @@ mod write;
 
 pub use fault::RdataFault;
 pub use number::read_number;
-pub use parts::{Part, Parts};
+pub use parts::{Part, Parts, first_part};
 pub use rdata::Rdata;
 pub use rtype::RType;
 pub use set::SetView;
+pub use table::{Fixed, NumberSize, Piece, pieces_of_type};
 pub use word::Word;
 
 #[cfg(test)]

@@ -89,8 +89,8 @@ pub(crate) fn are_cut(pieces: &[Piece], octets: &[u8]) -> bool
     rest.is_empty()
 }
 
-// The part of this piece that octets begin with, and the octets behind it.
-pub(crate) fn first_part(piece: Piece, octets: &[u8]) -> Option<(Part<'_>, &[u8])>
+/// The part of this piece that octets begin with, and the octets after it.
+pub fn first_part(piece: Piece, octets: &[u8]) -> Option<(Part<'_>, &[u8])>
     ensures { Cuts result (piece_front (piece_of piece) octets.now) }
 {
     match piece {

@@ -11,7 +11,7 @@ use crate::rtype::RType;
 
 /// How many octets a number has.
 #[derive(Clone, Copy, Debug)]
-pub(crate) enum NumberSize {
+pub enum NumberSize {
     /// 16 bits.
     Two,
     /// 32 bits.
@@ -20,7 +20,7 @@ pub(crate) enum NumberSize {
 
 /// A piece of so many octets.
 #[derive(Clone, Copy, Debug)]
-pub(crate) enum Fixed {
+pub enum Fixed {
     /// So many numbers.
     Numbers { count: u8, size: NumberSize },
     /// An IPv4 address (RFC 1035 3.4.1).
@@ -31,7 +31,7 @@ pub(crate) enum Fixed {
 
 /// A piece of data.
 #[derive(Clone, Copy, Debug)]
-pub(crate) enum Piece {
+pub enum Piece {
     /// Numbers or an address.
     Fixed(Fixed),
     /// A domain name.
@@ -150,7 +150,7 @@ impl NumberSize {
 
 impl Fixed {
     /// How many octets it has.
-    pub(crate) fn width(self) -> usize
+    pub fn width(self) -> usize
         ensures { result ≡ width (fixed_of self) }
     {
         match self {
@@ -182,7 +182,7 @@ fn numbered_row(rows: &[TypeRow], number: u16) -> Option<&TypeRow>
 }
 
 /// The pieces of the data of a type: any octets, where it has no name (RFC 3597 3).
-pub(crate) fn pieces_of_type(rtype: RType) -> &'static [Piece]
+pub fn pieces_of_type(rtype: RType) -> &'static [Piece]
     ensures { pieces_in result.now ≡ pieces_of rtype.0 }
 {
     match row_of_type(rtype) {

@@ -36,13 +36,13 @@ module _ (b : Octets) where
       let next = g.5 ∙ q ∙ sym h.5 in
       g.4 ∙ ap₂ ◌++◌ (same_octets p next g.3 h.3) (same_pieces ps g.2 h.2 e f g.1 h.1 next q g.6 h.6) ∙ sym h.4
 
-  same_data : (t u c d i j e f : ℕ) (x y : Octets) → t ≡ u → c ≡ d → i ≡ j → e ≡ f → DataAt b t c i e x → DataAt b u d j f y → x ≡ y
+  pub same_data : (t u c d i j e f : ℕ) (x y : Octets) → t ≡ u → c ≡ d → i ≡ j → e ≡ f → DataAt b t c i e x → DataAt b u d j f y → x ≡ y
   same_data t u c d i j e f x y p q r s g h =
       let pieces = λ (k n : ℕ). if n == class_in then pieces_of k else anything ∷ [] in
       same_pieces (pieces u d) i j e f x y r s (subst (λ z. PiecesAt b z i e x) (ap₂ pieces p q) g.2) h.2
 
   -- questions and records, as many of them
-  same_questions : (qs rs : List MessageQuestion) (i j e f : ℕ) → length qs ≡ length rs → i ≡ j
+  pub same_questions : (qs rs : List MessageQuestion) (i j e f : ℕ) → length qs ≡ length rs → i ≡ j
       → QuestionsAt b i qs e → QuestionsAt b j rs f → (qs ≡ rs) × (e ≡ f)
   same_questions [] [] i j e f n p g h = (refl, sym g ∙ p ∙ h)
   same_questions [] (r ∷ rs) i j e f n p g h = absurd (omega arith)
@@ -55,7 +55,7 @@ module _ (b : Octets) where
       let first : q ≡ r = λ k. record { qname = s.0 k; qtype = t k; qclass = c k } in
       (ap₂ (λ x xs. x ∷ xs) first rest.0, rest.1)
 
-  same_record : (q r : MessageRecord) (i j m n k l : ℕ) → i ≡ j → RecordAt b i q m k → RecordAt b j r n l
+  pub same_record : (q r : MessageRecord) (i j m n k l : ℕ) → i ≡ j → RecordAt b i q m k → RecordAt b j r n l
       → (q ≡ r) × (m ≡ n) × (k ≡ l)
   same_record q r i j m n k l p g h =
       let s = same_names p g.owner h.owner in
@@ -67,7 +67,7 @@ module _ (b : Octets) where
       t c (ap (λ z. z + 10) s.1) (ap₂ (λ y z. y + 10 + z) s.1 len) g.rdata h.rdata in
       (λ x. record { owner = s.0 x; rtype = t x; rclass = c x; ttl = w x; rdata = d x }, s.1, len)
 
-  same_records : (qs rs : List MessageRecord) (i j e f : ℕ) → length qs ≡ length rs → i ≡ j
+  pub same_records : (qs rs : List MessageRecord) (i j e f : ℕ) → length qs ≡ length rs → i ≡ j
       → RecordsAt b i qs e → RecordsAt b j rs f → (qs ≡ rs) × (e ≡ f)
   same_records [] [] i j e f n p g h = (refl, sym g ∙ p ∙ h)
   same_records [] (r ∷ rs) i j e f n p g h = absurd (omega arith)

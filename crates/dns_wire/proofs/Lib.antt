@@ -1,0 +1,4 @@
+mod Runs
+mod PieceLemmas
+mod ReadLemmas
+mod Anyway

@@ -1,0 +1,227 @@
+-- A piece of data stands at a place, at most one, and what it is decides of the data.
+use Rattle.std.proofs.Common.{◌≡◌, ◌≢◌, ℕ, zero, suc, ◌+◌, ◌-◌, ◌<◌, ◌≤◌, true, ◌&&◌, not, nat_le, ◌==◌, List, [], ◌∷◌, ◌++◌, length, take, drop, get_or, slice_get, None, Some, refl, sym, ap, ◌∙◌, subst, arith, append_assoc, append-nil, add-zero}
+use Rattle.std.proofs.lemmas.Bool.{and_parts, and_from, leb-true, le-leb, ne_eqb, false≢true}
+use Rattle.std.proofs.lemmas.Option.{none-some, same_Some, cond_some, slice_get-get_or}
+use Rattle.std.proofs.lemmas.List.{length-take-le, length-drop, take-take, get_or-take, get_or-drop}
+use Rattle.dns_spec.specs.Names.{Octets, DomainName, wire}
+use Rattle.dns_spec.specs.Data.{width, Piece, fixed, domain, string, strings, anything, Part, octets, part_octets, are_strings, octets_front, string_front, piece_front}
+use Rattle.dns_spec.specs.Reading.{RunAt, NameAt, OctetsAt, PiecesAt}
+use Rattle.dns_spec.specs.Reading.RunAt.{ends, goes_on, jumps}
+use Rattle.dns_spec.proofs.OneMessage.{same_octets, same_names}
+use Rattle.dns_wire.specs.Labels.{NoNameAt}
+use Rattle.dns_wire.specs.Pieces.{PieceAt, IsPieceRead, NoPieceAt, NoPiecesAt, ArePiecesRead}
+
+-- the first of some pieces, and the others
+pub record FirstAndOthers (b : Octets) (p : Piece) (ps : List Piece) (i e : ℕ) (d : Octets) : Type 0 where
+  pub place : ℕ
+  pub front : Octets
+  pub rest : Octets
+  pub first : PieceAt b p i e place front
+  pub whole : d ≡ front ++ rest
+  pub others : PiecesAt b ps place e rest
+
+pub first_of : (b : Octets) (p : Piece) (ps : List Piece) (i e : ℕ) (d : Octets) → PiecesAt b (p ∷ ps) i e d → FirstAndOthers b p ps i e d
+first_of b (fixed f) ps i e d h = record { place = i + width f; front = h.0; rest = h.1; first = (h.2, refl); whole = h.3; others = h.4 }
+first_of b domain ps i e d h = record { place = h.1; front = wire h.0; rest = h.2; first = (h.0, h.3, refl); whole = h.4; others = h.5 }
+first_of b string ps i e d h = record { place = i + 1 + h.0; front = h.1; rest = h.2; first = (h.0, h.3, h.4, refl); whole = h.5; others = h.6 }
+first_of b strings ps i e d h = record { place = h.2; front = h.0; rest = h.1; first = (h.3, h.4, h.5, h.7); whole = h.6; others = h.8 }
+first_of b anything ps i e d h = record { place = h.2; front = h.0; rest = h.1; first = (h.3, h.5); whole = h.4; others = h.6 }
+
+pub from_first : (b : Octets) (p : Piece) (ps : List Piece) (i e j : ℕ) (front rest : Octets) → PieceAt b p i e j front → PiecesAt b ps j e rest
+    → PiecesAt b (p ∷ ps) i e (front ++ rest)
+from_first b (fixed f) ps i e j front rest h more = (front, rest, h.0, refl, subst (λ k. PiecesAt b ps k e rest) h.1 more)
+from_first b domain ps i e j front rest h more = (h.0, j, rest, h.1, ap (λ o. o ++ rest) h.2, more)
+from_first b string ps i e j front rest h more = (h.0, front, rest, h.1, h.2, refl, subst (λ k. PiecesAt b ps k e rest) h.3 more)
+from_first b strings ps i e j front rest h more = (front, rest, j, h.0, h.1, h.2, refl, h.3, more)
+from_first b anything ps i e j front rest h more = (front, rest, j, h.0, refl, h.1, more)
+
+-- a place has one such piece
+pub one_piece : (b : Octets) (p : Piece) (i e j k : ℕ) (o o' : Octets) → PieceAt b p i e j o → PieceAt b p i e k o' → (j ≡ k) × (o ≡ o')
+one_piece b (fixed f) i e j k o o' g h = (g.1 ∙ sym h.1, same_octets refl refl g.0 h.0)
+one_piece b domain i e j k o o' g h = let s = same_names refl g.1 h.1 in (s.1, g.2 ∙ ap wire s.0 ∙ sym h.2)
+one_piece b string i e j k o o' g h =
+    let s = same_Some g.0 h.0 (sym g.1 ∙ h.1) in
+    (g.3 ∙ ap (λ z. i + 1 + z) s ∙ sym h.3, same_octets refl (ap (λ z. i + 1 + z) s) g.2 h.2)
+one_piece b strings i e j k o o' g h = let s = g.3 ∙ sym h.3 in (s, same_octets refl s g.0 h.0)
+one_piece b anything i e j k o o' g h = let s = g.1 ∙ sym h.1 in (s, same_octets refl s g.0 h.0)
+
+-- pieces end no earlier than they begin
+run_forward : {b : Octets} {s i e : ℕ} {n : DomainName} → RunAt b s i n e → i ≤ e
+run_forward (ends i at) = omega arith
+run_forward (goes_on i k l n e at some short within is rest) = let later = run_forward rest in omega arith
+run_forward (jumps i o o' p n e at high at' is from before rest) = omega arith
+
+forward : (b : Octets) (p : Piece) (i e j : ℕ) (o : Octets) → PieceAt b p i e j o → i ≤ j
+forward b (fixed f) i e j o h = omega (arith, h.1)
+forward b domain i e j o h = run_forward h.1.0
+forward b string i e j o h = omega (arith, h.3)
+forward b strings i e j o h = h.0.ordered
+forward b anything i e j o h = h.0.ordered
+
+pub all_forward : (b : Octets) (ps : List Piece) (i e : ℕ) (d : Octets) → PiecesAt b ps i e d → i ≤ e
+all_forward b [] i e d h = omega (arith, h.0)
+all_forward b (p ∷ ps) i e d h =
+    let c = first_of b p ps i e d h in
+    let here = forward b p i e c.place c.front c.first in
+    let later = all_forward b ps c.place e c.rest c.others in
+    omega arith
+
+-- no such piece, and so no such pieces
+pub none_of : (b : Octets) (p : Piece) (ps : List Piece) (i e : ℕ) → NoPieceAt b p i e → NoPiecesAt b (p ∷ ps) i e
+none_of b p ps i e none d h =
+    let c = first_of b p ps i e d h in
+    none c.place c.front c.first (all_forward b ps c.place e c.rest c.others)
+
+-- Reading begins with all pieces, takes one after another, and ends with none.
+pub pieces_begin : (b : Octets) (ps : List Piece) (i e : ℕ) → i ≤ e → ArePiecesRead b ps i e ps i []
+pieces_begin b ps i e inside = record { inside = inside; forth = λ rest h. h; back = λ d h. (d, refl, h) }
+
+pub piece_more : {b : Octets} {ps : List Piece} {i e j k : ℕ} {p : Piece} {left : List Piece} {so_far now : Octets}
+    → ArePiecesRead b ps i e (p ∷ left) j so_far → IsPieceRead b p j e so_far now k → ArePiecesRead b ps i e left k now
+piece_more {b} {ps} {i} {e} {j} {k} {p} {left} {so_far} {now} reading read = record {
+  inside = read.inside;
+  forth = λ rest h. subst (PiecesAt b ps i e) (sym (append_assoc so_far read.octets rest) ∙ ap (λ x. x ++ rest) (sym read.appended))
+      (reading.forth (read.octets ++ rest) (from_first b p left j e k read.octets rest read.there h));
+  back = λ d h.
+      let r = reading.back d h in
+      let c = first_of b p left j e r.0 r.2 in
+      let same = one_piece b p j e c.place k c.front read.octets c.first read.there in (
+        c.rest,
+        r.1 ∙ ap (λ x. so_far ++ x) (c.whole ∙ ap (λ x. x ++ c.rest) same.1) ∙ sym (append_assoc so_far read.octets c.rest)
+            ∙ ap (λ x. x ++ c.rest) (sym read.appended),
+        subst (λ z. PiecesAt b left z e c.rest) same.0 c.others,
+      );
+}
+
+pub pieces_none : {b : Octets} {ps : List Piece} {i e j : ℕ} {p : Piece} {left : List Piece} {so_far : Octets}
+    → ArePiecesRead b ps i e (p ∷ left) j so_far → NoPieceAt b p j e → NoPiecesAt b ps i e
+pieces_none {b} {ps} {i} {e} {j} {p} {left} reading none d h = let r = reading.back d h in none_of b p left j e none r.0 r.2
+
+pub pieces_end : {b : Octets} {ps : List Piece} {i e j : ℕ} {so_far : Octets} → ArePiecesRead b ps i e [] j so_far → j ≡ e → PiecesAt b ps i e so_far
+pieces_end {b} {ps} {i} {e} {j} {so_far} reading end = subst (PiecesAt b ps i e) (append-nil so_far) (reading.forth [] (end, refl))
+
+pub pieces_too_short : {b : Octets} {ps : List Piece} {i e j : ℕ} {so_far : Octets} → ArePiecesRead b ps i e [] j so_far → j ≢ e → NoPiecesAt b ps i e
+pieces_too_short reading other d h = let r = reading.back d h in other r.2.0
+
+-- The octets of the data, from place i to place e, begin with a piece that is no name exactly where it stands there.
+abbrev pub own_of : Octets → ℕ → ℕ → Octets
+own_of b i e = take (e - i) (drop i b)
+
+module _ (b : Octets) (i e : ℕ) (ordered : i ≤ e) (within : e ≤ length b) where
+  abbrev own : Octets
+  own = own_of b i e
+
+  length-own : length own ≡ e - i
+  length-own = length-take-le (e - i) (drop i b) (omega (arith, length-drop i b))
+
+  -- its first k octets stand in the message
+  front_there : (k : ℕ) → k ≤ e - i → OctetsAt b i (i + k) (take k own)
+  front_there k fits =
+      let same : i + k - i ≡ k = omega arith in
+      record {
+        ordered = omega arith;
+        within = omega arith;
+        are = ap (λ m. take m (drop i b)) same ∙ sym (take-take k (e - i) (drop i b) fits);
+      }
+
+  all_there : OctetsAt b i e own
+  all_there = record { ordered = ordered; within = within; are = refl }
+
+  abbrev pub RunStands : Piece → Part → Octets → Type 0
+  RunStands p part rest = (o : Octets) × (part ≡ octets o) × PieceAt b p i e (e - length rest) o × (length rest ≤ e - i)
+
+  -- k octets in front, and the place after them
+  front_stands : (k : ℕ) (part : Part) (rest : Octets) → octets_front k own ≡ Some (part, rest)
+      → (o : Octets) × (part ≡ octets o) × OctetsAt b i (i + k) o × (e - length rest ≡ i + k) × (length rest ≤ e - i)
+  front_stands k part rest h =
+      let c = cond_some (nat_le k (length own)) (octets (take k own), drop k own) (part, rest) h in
+      let fits : k ≤ e - i = omega (arith, leb-true _ _ c.0, length-own) in
+      let left : length rest ≡ e - i - k = ap (λ x. length x.1) (sym c.1) ∙ length-drop k own ∙ ap (λ n. n - k) length-own in (
+        take k own,
+        ap (λ x. x.0) (sym c.1),
+        front_there k fits,
+        omega arith,
+        omega arith,
+      )
+
+  first_octet : (k : ℕ) (os : Octets) → own ≡ k ∷ os → slice_get b i ≡ Some k
+  first_octet k os h =
+      let some : 0 < e - i = omega (arith, length-own, ap length h) in
+      slice_get-get_or b i 0 (omega arith)
+      ∙ ap Some (ap (λ j. get_or b j 0) (sym (add-zero i)) ∙ sym (get_or-drop i b 0 0) ∙ sym (get_or-take (e - i) (drop i b) 0 0 some) ∙ ap (λ xs. get_or xs 0 0) h)
+
+  pub run_stands : (p : Piece) (part : Part) (rest : Octets) → p ≢ domain → piece_front p (own_of b i e) ≡ Some (part, rest) → RunStands p part rest
+  run_stands (fixed f) part rest other h =
+      let r = front_stands (width f) part rest h in
+      (r.0, r.1, (r.2, r.3), r.4)
+  run_stands domain part rest other h = absurd (other refl)
+  run_stands string part rest other h = go own refl h
+    where
+      go : (xs : Octets) → own ≡ xs → string_front xs ≡ Some (part, rest) → RunStands string part rest
+      go [] e g = absurd (none-some (part, rest) g)
+      go (k ∷ os) is g =
+          let r = front_stands (suc k) part rest (ap (octets_front (suc k)) is ∙ g) in
+          let next : i + suc k ≡ i + 1 + k = omega arith in
+          (r.0, r.1, (k, first_octet k os is, subst (λ j. OctetsAt b i j r.0) next r.2, r.3 ∙ next), r.4)
+  run_stands strings part rest other h =
+      let c = cond_some (not (length own == 0) && are_strings 0 own) (octets own, []) (part, rest) h in
+      let both = and_parts (not (length own == 0)) (are_strings 0 own) c.0 in
+      let none : length rest ≡ 0 = ap (λ x. length x.1) (sym c.1) in
+      let end : e - length rest ≡ e = omega arith in (
+        own,
+        ap (λ x. x.0) (sym c.1),
+        (subst (λ j. OctetsAt b i j own) (sym end) all_there, positive (length own) both.0, both.1, end),
+        omega arith,
+      )
+    where
+      positive : (n : ℕ) → not (n == 0) ≡ true → 0 < n
+      positive zero f = absurd (false≢true f)
+      positive (suc n) f = omega arith
+  run_stands anything part rest other h =
+      let c = same_Some (octets own, []) (part, rest) h in
+      let none : length rest ≡ 0 = ap (λ x. length x.1) (sym c) in
+      let end : e - length rest ≡ e = omega arith in
+      (own, ap (λ x. x.0) (sym c), (subst (λ j. OctetsAt b i j own) (sym end) all_there, end), omega arith)
+
+  -- where the piece stands, the octets begin with it
+  abbrev Begins : Piece → Type 0
+  Begins p = (x : Part × Octets) × (piece_front p own ≡ Some x)
+
+  front_begins : (k : ℕ) → i + k ≤ e → octets_front k own ≡ Some (octets (take k own), drop k own)
+  front_begins k fits = rw (le-leb k (length own) (omega (arith, length-own))) refl
+
+  begins : (p : Piece) (j : ℕ) (o : Octets) → p ≢ domain → PieceAt b p i e j o → j ≤ e → Begins p
+  begins (fixed f) j o other h inside = (_, front_begins (width f) (omega (arith, h.1)))
+  begins domain j o other h inside = absurd (other refl)
+  begins string j o other h inside = go own refl
+    where
+      go : (xs : Octets) → own ≡ xs → (x : Part × Octets) × (string_front xs ≡ Some x)
+      go [] is = absurd (omega (arith, length-own, ap length is, h.3))
+      go (k ∷ os) is =
+          let same : k ≡ h.0 = same_Some k h.0 (sym (first_octet k os is) ∙ h.1) in
+          (_, ap (octets_front (suc k)) (sym is) ∙ front_begins (suc k) (omega (arith, h.3)))
+  begins strings j o other h inside =
+      let same : o ≡ own = sym h.0.are ∙ ap (λ k. take (k - i) (drop i b)) h.3 in
+      let some : 0 < length own = subst (λ x. 0 < length x) same h.1 in
+      let tests : (not (length own == 0) && are_strings 0 own) ≡ true =
+      and_from _ _ (ap not (ne_eqb (length own) 0 (λ z. omega arith))) (subst (λ x. are_strings 0 x ≡ true) same h.2) in
+      ((octets own, []), rw tests refl)
+  begins anything j o other h inside = ((octets own, []), refl)
+
+  pub run_missing : (p : Piece) → p ≢ domain → piece_front p (own_of b i e) ≡ None → NoPieceAt b p i e
+  run_missing p other none j o h inside = let r = begins p j o other h inside in none-some r.0 (sym none ∙ r.1)
+
+-- a name that ends past the data
+pub long_name_none : (b : Octets) (i e j : ℕ) (n : DomainName) → NameAt b i n j → e < j → NoPieceAt b domain i e
+long_name_none b i e j n there past k o h inside = let s = same_names refl there h.1 in omega (arith, s.1)
+
+pub no_name_none : (b : Octets) (i e : ℕ) → NoNameAt b i → NoPieceAt b domain i e
+no_name_none b i e none j o h inside = none h.0 j h.1
+
+-- the piece that octets begin with, appended
+pub piece_read : (b : Octets) (p : Piece) (i e : ℕ) (part : Part) (rest lent old now : Octets) → i ≤ e → e ≤ length b → p ≢ domain
+    → piece_front p (own_of b i e) ≡ Some (part, rest) → part_octets part ≡ lent → now ≡ old ++ lent → IsPieceRead b p i e old now (e - length rest)
+piece_read b p i e part rest lent old now ordered within other front lends appended =
+    let r = run_stands b i e ordered within p part rest other front in
+    let same : lent ≡ r.0 = sym lends ∙ ap part_octets r.1 in
+    record { octets = r.0; there = r.2; appended = appended ∙ ap (λ x. old ++ x) same; inside = omega arith }

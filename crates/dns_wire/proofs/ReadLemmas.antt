@@ -1,0 +1,187 @@
+-- Questions and records stand one after another, at each place at most one.
+use Rattle.std.proofs.Common.{◌≡◌, ℕ, ◌+◌, ◌<◌, ◌≤◌, List, [], ◌∷◌, ◌++◌, length, refl, sym, ap, ap₂, ◌∙◌, subst, arith, append_assoc, append-nil, length-append}
+use Rattle.dns_spec.specs.Names.{Octets, DomainName}
+use Rattle.dns_spec.specs.Reading.{Header, MessageQuestion, MessageRecord, DnsMessage, NameAt, NumberAt, DataAt, QuestionsAt, RecordsAt, Spells}
+use Rattle.dns_spec.proofs.OneMessage.{one_number, same_names, same_record, same_questions, same_records}
+use Rattle.dns_wire.specs.Pieces.{NoDataAt}
+use Rattle.dns_wire.specs.declared.reader.Counts.{Counts}
+use Rattle.dns_wire.specs.Read.{HeaderAt, AreQuestions, AreRecords, NoMessage, QuestionAt, WholeRecordAt, NoQuestion, NoRecord, NoQuestions, NoRecords, QuestionsRead, RecordsRead}
+
+-- numbers that are missing
+pub no_qtype : (b : Octets) (i j : ℕ) (n : DomainName) → NameAt b i n j → length b < j + 2 → NoQuestion b i
+no_qtype b i j n name short r e at = let s = same_names refl name at.name in omega (arith, s.1, at.qtype.within)
+
+pub no_qclass : (b : Octets) (i j : ℕ) (n : DomainName) → NameAt b i n j → length b < j + 2 + 2 → NoQuestion b i
+no_qclass b i j n name short r e at = let s = same_names refl name at.name in omega (arith, s.1, at.qclass.within)
+
+-- of a record with this owner, what isn't there
+module _ (b : Octets) (i j : ℕ) (n : DomainName) (owner : NameAt b i n j) where
+  pub too_short : length b < j + 10 → NoRecord b i
+  too_short short r e at =
+      let s = same_names refl owner at.there.owner in
+      omega (arith, s.1, at.there.length.within)
+
+  -- its data is past the end
+  pub no_room : (len : ℕ) → NumberAt b (j + 8) 2 len → length b < j + 10 + len → NoRecord b i
+  no_room len there short r e at =
+      let s = same_names refl owner at.there.owner in
+      let k = one_number (ap (λ z. z + 8) s.1) there at.there.length in
+      omega (arith, s.1, k, at.there.rdata.1)
+
+  -- its data is none
+  pub no_data : (t c len : ℕ) → NumberAt b j 2 t → NumberAt b (j + 2) 2 c → NumberAt b (j + 8) 2 len
+      → NoDataAt b t c (j + 10) (j + 10 + len) → NoRecord b i
+  no_data t c len rtype class there none r e at =
+      let s = same_names refl owner at.there.owner in
+      let k = one_number (ap (λ z. z + 8) s.1) there at.there.length in
+      let u = one_number s.1 rtype at.there.rtype in
+      let v = one_number (ap (λ z. z + 2) s.1) class at.there.rclass in
+      none r.rdata (moved t r.rtype c r.rclass (j + 10) (at.after_owner + 10) (j + 10 + len) (at.after_owner + 10 + at.data_length) r.rdata
+      u v (ap (λ z. z + 10) s.1) (ap₂ (λ y z. y + 10 + z) s.1 k) at.there.rdata)
+    where
+      moved : (t u c v i k e f : ℕ) (d : Octets) → t ≡ u → c ≡ v → i ≡ k → e ≡ f → DataAt b u v k f d → DataAt b t c i e d
+      moved t u c v i k e f d p q x y h =
+          subst (λ z. DataAt b z c i e d) (sym p) (subst (λ z. DataAt b u z i e d) (sym q)
+          (subst (λ z. DataAt b u v z e d) (sym x) (subst (λ z. DataAt b u v k z d) (sym y) h)))
+
+-- one question, and one record, at a place
+one_question : (b : Octets) (i : ℕ) (q r : MessageQuestion) (e f : ℕ) → QuestionAt b i q e → QuestionAt b i r f → (q ≡ r) × (e ≡ f)
+one_question b i q r e f g h =
+    let s = same_names refl g.name h.name in
+    let t = one_number s.1 g.qtype h.qtype in
+    let c = one_number (ap (λ z. z + 2) s.1) g.qclass h.qclass in
+    let same : q ≡ r = λ k. record { qname = s.0 k; qtype = t k; qclass = c k } in
+    (same, g.end ∙ ap (λ z. z + 4) s.1 ∙ sym h.end)
+
+one_record : (b : Octets) (i : ℕ) (q r : MessageRecord) (e f : ℕ) → WholeRecordAt b i q e → WholeRecordAt b i r f → (q ≡ r) × (e ≡ f)
+one_record b i q r e f g h =
+    let s = same_record b q r i i g.after_owner h.after_owner g.data_length h.data_length refl g.there h.there in
+    (s.0, g.end ∙ ap₂ (λ y z. y + 10 + z) s.1 s.2 ∙ sym h.end)
+
+-- Reading begins with none, and takes one after another.
+pub questions_begin : (b : Octets) (i : ℕ) → i ≤ length b → QuestionsRead b i [] i
+questions_begin b i within = record { within = within; forth = λ qs e h. h; back = λ ws e h few. (ws, refl, h) }
+
+first_question : (b : Octets) (i : ℕ) (q : MessageQuestion) (qs : List MessageQuestion) (e : ℕ) → QuestionsAt b i (q ∷ qs) e
+    → (k : ℕ) × QuestionAt b i q k × QuestionsAt b k qs e
+first_question b i q qs e h = (h.0 + 4, record { after_name = h.0; name = h.1; qtype = h.2; qclass = h.3; end = refl }, h.4)
+
+from_question : (b : Octets) (i k : ℕ) (q : MessageQuestion) (qs : List MessageQuestion) (e : ℕ) → QuestionAt b i q k → QuestionsAt b k qs e → QuestionsAt b i (q ∷ qs) e
+from_question b i k q qs e at more = (at.after_name, at.name, at.qtype, at.qclass, subst (λ z. QuestionsAt b z qs e) at.end more)
+
+module _ {b : Octets} {i j : ℕ} {so_far : List MessageQuestion} (read : QuestionsRead b i so_far j) where
+  pub question_more : (q : MessageQuestion) (k : ℕ) → QuestionAt b j q k → k ≤ length b → QuestionsRead b i (so_far ++ q ∷ []) k
+  question_more q k at within = record {
+    within = within;
+    forth = λ qs e h. subst (λ ws. QuestionsAt b i ws e) (sym (append_assoc so_far (q ∷ []) qs)) (read.forth (q ∷ qs) e (from_question b j k q qs e at h));
+    back = λ ws e h few.
+        let r = read.back ws e h (omega (arith, length-append so_far (q ∷ []))) in
+        go ws e r.0 r.1 r.2 (omega (arith, length-append so_far (q ∷ []), length-append so_far r.0, ap length r.1));
+  }
+    where
+      go : (ws : List MessageQuestion) (e : ℕ) (rest : List MessageQuestion) → ws ≡ so_far ++ rest → QuestionsAt b j rest e → 0 < length rest
+          → (qs : List MessageQuestion) × (ws ≡ (so_far ++ q ∷ []) ++ qs) × QuestionsAt b k qs e
+      go ws e [] p h some = absurd (omega arith)
+      go ws e (r ∷ rest) p h some =
+          let c = first_question b j r rest e h in
+          let same = one_question b j r q c.0 k c.1 at in
+          (rest, p ∙ ap (λ x. so_far ++ x ∷ rest) same.0 ∙ sym (append_assoc so_far (q ∷ []) rest), subst (λ z. QuestionsAt b z rest e) same.1 c.2)
+
+  pub question_none : (count : ℕ) → length so_far < count → NoQuestion b j → NoQuestions b i count
+  question_none count more none ws e h long =
+      let r = read.back ws e h (omega arith) in
+      go r.0 r.2 (omega (arith, length-append so_far r.0, ap length r.1))
+    where
+      go : (rest : List MessageQuestion) → QuestionsAt b j rest e → 0 < length rest → ⊥
+      go [] h some = omega arith
+      go (q ∷ rest) h some = let c = first_question b j q rest e h in none q c.0 c.1
+
+  pub questions_end : QuestionsAt b i so_far j
+  questions_end = subst (λ ws. QuestionsAt b i ws j) (append-nil so_far) (read.forth [] j refl)
+
+pub records_begin : (b : Octets) (i : ℕ) → i ≤ length b → RecordsRead b i [] i
+records_begin b i within = record { within = within; forth = λ qs e h. h; back = λ ws e h few. (ws, refl, h) }
+
+first_record : (b : Octets) (i : ℕ) (r : MessageRecord) (rs : List MessageRecord) (e : ℕ) → RecordsAt b i (r ∷ rs) e
+    → (k : ℕ) × WholeRecordAt b i r k × RecordsAt b k rs e
+first_record b i r rs e h = (h.0 + 10 + h.1, record { after_owner = h.0; data_length = h.1; there = h.2; end = refl }, h.3)
+
+from_record : (b : Octets) (i k : ℕ) (r : MessageRecord) (rs : List MessageRecord) (e : ℕ) → WholeRecordAt b i r k → RecordsAt b k rs e → RecordsAt b i (r ∷ rs) e
+from_record b i k r rs e at more = (at.after_owner, at.data_length, at.there, subst (λ z. RecordsAt b z rs e) at.end more)
+
+module _ {b : Octets} {i j : ℕ} {so_far : List MessageRecord} (read : RecordsRead b i so_far j) where
+  pub record_more : (r : MessageRecord) (k : ℕ) → WholeRecordAt b j r k → k ≤ length b → RecordsRead b i (so_far ++ r ∷ []) k
+  record_more r k at within = record {
+    within = within;
+    forth = λ rs e h. subst (λ ws. RecordsAt b i ws e) (sym (append_assoc so_far (r ∷ []) rs)) (read.forth (r ∷ rs) e (from_record b j k r rs e at h));
+    back = λ ws e h few.
+        let x = read.back ws e h (omega (arith, length-append so_far (r ∷ []))) in
+        go ws e x.0 x.1 x.2 (omega (arith, length-append so_far (r ∷ []), length-append so_far x.0, ap length x.1));
+  }
+    where
+      go : (ws : List MessageRecord) (e : ℕ) (rest : List MessageRecord) → ws ≡ so_far ++ rest → RecordsAt b j rest e → 0 < length rest
+          → (rs : List MessageRecord) × (ws ≡ (so_far ++ r ∷ []) ++ rs) × RecordsAt b k rs e
+      go ws e [] p h some = absurd (omega arith)
+      go ws e (s ∷ rest) p h some =
+          let c = first_record b j s rest e h in
+          let same = one_record b j s r c.0 k c.1 at in
+          (rest, p ∙ ap (λ x. so_far ++ x ∷ rest) same.0 ∙ sym (append_assoc so_far (r ∷ []) rest), subst (λ z. RecordsAt b z rest e) same.1 c.2)
+
+  pub record_none : (count : ℕ) → length so_far < count → NoRecord b j → NoRecords b i count
+  record_none count more none ws e h long =
+      let r = read.back ws e h (omega arith) in
+      go r.0 r.2 (omega (arith, length-append so_far r.0, ap length r.1))
+    where
+      go : (rest : List MessageRecord) → RecordsAt b j rest e → 0 < length rest → ⊥
+      go [] h some = omega arith
+      go (q ∷ rest) h some = let c = first_record b j q rest e h in none q c.0 c.1
+
+  pub records_end : RecordsAt b i so_far j
+  records_end = subst (λ ws. RecordsAt b i ws j) (append-nil so_far) (read.forth [] j refl)
+
+-- What a message has in its sections follows from its header, section by section.
+module _ (b : Octets) (head : Header) (counts : Counts) (there : HeaderAt b head counts) where
+  questions_end_at : (m : DnsMessage) (spells : Spells b m) (qs : List MessageQuestion) (e : ℕ) → AreQuestions b 12 counts.questions qs e
+      → spells.behind_questions ≡ e
+  questions_end_at m spells qs e are =
+      let long = one_number refl spells.qdcount there.questions ∙ sym are.as_many in
+      (same_questions b m.questions qs 12 12 spells.behind_questions e long refl spells.questions are.there).1
+
+  section_ends_at : (rs ws : List MessageRecord) (i j e f count k : ℕ) → i ≡ j → RecordsAt b i ws e → AreRecords b j count rs f
+      → NumberAt b k 2 (length ws) → NumberAt b k 2 count → e ≡ f
+  section_ends_at rs ws i j e f count k begin at are told counted =
+      (same_records b ws rs i j e f (one_number refl told counted ∙ sym are.as_many) begin at are.there).1
+
+  module _ (qs : List MessageQuestion) (e : ℕ) (asked : AreQuestions b 12 counts.questions qs e) where
+    pub no_answers : NoRecords b e counts.answers → NoMessage b
+    no_answers none m spells =
+        none m.answers spells.behind_answers (subst (λ i. RecordsAt b i m.answers spells.behind_answers) (questions_end_at m spells qs e asked) spells.answers)
+        (one_number refl spells.ancount there.answers)
+
+    module _ (rs : List MessageRecord) (f : ℕ) (answers : AreRecords b e counts.answers rs f) where
+      answers_end_at : (m : DnsMessage) (spells : Spells b m) → spells.behind_answers ≡ f
+      answers_end_at m spells =
+          section_ends_at rs m.answers spells.behind_questions e spells.behind_answers f counts.answers 6 (questions_end_at m spells qs e asked)
+          spells.answers answers spells.ancount there.answers
+
+      pub no_authorities : NoRecords b f counts.authorities → NoMessage b
+      no_authorities none m spells =
+          none m.authorities spells.behind_authorities
+          (subst (λ i. RecordsAt b i m.authorities spells.behind_authorities) (answers_end_at m spells) spells.authorities)
+          (one_number refl spells.nscount there.authorities)
+
+      module _ (ws : List MessageRecord) (g : ℕ) (authorities : AreRecords b f counts.authorities ws g) where
+        authorities_end_at : (m : DnsMessage) (spells : Spells b m) → spells.behind_authorities ≡ g
+        authorities_end_at m spells =
+            section_ends_at ws m.authorities spells.behind_answers f spells.behind_authorities g counts.authorities 8 (answers_end_at m spells)
+            spells.authorities authorities spells.nscount there.authorities
+
+        pub no_additionals : NoRecords b g counts.additionals → NoMessage b
+        no_additionals none m spells =
+            none m.additionals (length b) (subst (λ i. RecordsAt b i m.additionals (length b)) (authorities_end_at m spells) spells.additionals)
+            (one_number refl spells.arcount there.additionals)
+
+        pub not_to_the_end : (xs : List MessageRecord) (k : ℕ) → AreRecords b g counts.additionals xs k → (k ≡ length b → ⊥) → NoMessage b
+        not_to_the_end xs k additionals other m spells =
+            other (sym (section_ends_at xs m.additionals spells.behind_authorities g (length b) k counts.additionals 10 (authorities_end_at m spells)
+            spells.additionals additionals spells.arcount there.additionals))

@@ -1,0 +1,171 @@
+-- What a run of labels has at a place decides how it goes on.
+use Rattle.std.proofs.Common.{◌≡◌, ℕ, ◌+◌, ◌-◌, ◌*◌, ◌<◌, ◌≤◌, true, IfSome, [], ◌∷◌, ◌++◌, length, take, drop, get_or, slice_get, Option, None, Some, refl, sym, ap, ap₂, ◌∙◌, subst, arith, append_assoc, append-nil, length-append}
+use Rattle.std.proofs.lemmas.Nat.{mul-add-lt}
+use Rattle.std.proofs.lemmas.Option.{same_Some, slice_get_within, slice_get-get_or}
+use Rattle.std.proofs.lemmas.List.{length-take-le, length-drop}
+use Rattle.dns_spec.specs.Names.{Octets, DomainName, wire, is_name}
+use Rattle.dns_spec.specs.Reading.{pointer_place, RunAt, NameAt}
+use Rattle.dns_spec.specs.Reading.RunAt.{ends, goes_on, jumps}
+use Rattle.dns_spec.proofs.NameLaws.{IsName-is_name}
+use Rattle.dns_wire.specs.Labels.{LabelAt, PointerAt, NoRunAt, NoNameAt, IsReading, end_or}
+
+-- how a run goes on from place i: it ends, has a label, or a pointer
+pub data GoesOn (b : Octets) (s i : ℕ) (n : DomainName) (e : ℕ) : Type 0 where
+  at_end : slice_get b i ≡ Some 0 → n ≡ [] → e ≡ i + 1 → GoesOn b s i n e
+  at_label : (l : Octets) (m : DomainName) → LabelAt b i l → n ≡ l ∷ m → RunAt b s (i + 1 + length l) m e → GoesOn b s i n e
+  at_pointer : (p d : ℕ) → PointerAt b s i p → e ≡ i + 2 → RunAt b p p n d → GoesOn b s i n e
+
+pub goes_on_at : {b : Octets} {s i e : ℕ} {n : DomainName} → RunAt b s i n e → GoesOn b s i n e
+goes_on_at (ends i at) = at_end at refl refl
+goes_on_at {b} {s} (goes_on i k l n e at some short within is rest) = at_label l n there refl (subst (λ j. RunAt b s (i + 1 + j) n e) (sym long) rest)
+  where
+    long : length l ≡ k
+    long = ap length is ∙ length-take-le k (drop (i + 1) b) (omega (arith, length-drop (i + 1) b))
+
+    there : LabelAt b i l
+    there = record {
+      length_there = at ∙ ap Some (sym long);
+      some = subst (λ j. 0 < j) (sym long) some;
+      short = subst (λ j. j < 64) (sym long) short;
+      within = subst (λ j. i + 1 + j ≤ length b) (sym long) within;
+      label = is ∙ ap (λ j. take j (drop (i + 1) b)) (sym long);
+    }
+goes_on_at (jumps i o o' p n e at high at' is from before rest) =
+    at_pointer p e (record { first = o; second = o'; first_there = at; high = high; second_there = at'; place = is; after_header = from; before_run = before }) refl rest
+
+there_is : (b : Octets) (i k : ℕ) → i < length b → get_or b i 0 ≡ k → slice_get b i ≡ Some k
+there_is b i k inside e = slice_get-get_or b i 0 inside ∙ ap Some e
+
+-- a label stands after its length
+pub label_stands : (b l : Octets) (i k : ℕ) → i < length b → get_or b i 0 ≡ k → 0 < k → k < 64 → k ≤ length (drop (i + 1) b)
+    → l ≡ take k (drop (i + 1) b) → LabelAt b i l
+label_stands b l i k inside e some short within is =
+    let long : length l ≡ k = ap length is ∙ length-take-le k (drop (i + 1) b) within in
+    record {
+      length_there = there_is b i k inside e ∙ ap Some (sym long);
+      some = omega arith;
+      short = omega arith;
+      within = omega (arith, length-drop (i + 1) b);
+      label = is ∙ ap (λ j. take j (drop (i + 1) b)) (sym long);
+    }
+
+-- what the octet at a place says of how a run goes on
+module _ (b : Octets) (s i k : ℕ) (inside : i < length b) (is : get_or b i 0 ≡ k) where
+  first_is : (o : ℕ) → slice_get b i ≡ Some o → o ≡ k
+  first_is o at = same_Some o k (sym at ∙ there_is b i k inside is)
+
+  pub no_label : 0 < k → k < 64 → length (drop (i + 1) b) < k → NoRunAt b s i
+  no_label some short past n e run = go (goes_on_at run)
+    where
+      go : GoesOn b s i n e → ⊥
+      go (at_end at none end) = absurd (omega (arith, first_is 0 at))
+      go (at_label l m there shape rest) = absurd (omega (arith, first_is (length l) there.length_there, there.within, length-drop (i + 1) b))
+      go (at_pointer p d there end rest) = absurd (omega (arith, first_is there.first there.first_there, there.high))
+
+-- a beginning of a name is no longer than the name
+length-wire-front : (n m : DomainName) → length (wire n) ≤ length (wire (n ++ m))
+length-wire-front [] [] = omega arith
+length-wire-front [] (l ∷ m) = omega arith
+length-wire-front (l ∷ n) m =
+    let shorter = length-wire-front n m in
+    omega (arith, length-append l (wire n), length-append l (wire (n ++ m)))
+
+-- A name is read from its place on.
+pub reading_begins : (b : Octets) (at : ℕ) → at ≤ length b → IsReading b at [] at at None
+reading_begins b at within = record {
+  is_name = refl;
+  within = within;
+  end_within = tt;
+  forth = λ m e run. run;
+  back = λ w f run. (w, f, run, refl, refl);
+}
+
+-- no name goes on, so that none is there
+pub nothing_read : {b : Octets} {at s i : ℕ} {n : DomainName} {end : Option ℕ} → IsReading b at n s i end → NoRunAt b s i → NoNameAt b at
+nothing_read reading none w f name = let r = reading.back w f name.0 in none r.0 r.1 r.2
+
+-- the end
+pub reading_ends : {b : Octets} {at s i : ℕ} {n : DomainName} {end : Option ℕ} → IsReading b at n s i end → slice_get b i ≡ Some 0
+    → NameAt b at n (end_or end (i + 1))
+reading_ends {b} {at} {s} {i} {n} {end} reading root =
+    (subst (λ m. RunAt b at at m (end_or end (i + 1))) (append-nil n) (reading.forth [] (i + 1) (ends i root)), reading.is_name)
+
+-- a label more
+pub reading_label : {b : Octets} {at s i : ℕ} {n : DomainName} {end : Option ℕ} (l : Octets) → IsReading b at n s i end → LabelAt b i l
+    → is_name (n ++ l ∷ []) ≡ true → IsReading b at (n ++ l ∷ []) s (i + (1 + length l)) end
+reading_label {b} {at} {s} {i} {n} {end} l reading there ok = record {
+  is_name = ok;
+  within = omega (arith, there.within);
+  end_within = reading.end_within;
+  forth = λ m e run. subst (λ w. RunAt b at at w (end_or end e)) (sym (append_assoc n (l ∷ []) m))
+      (reading.forth (l ∷ m) e (goes_on i (length l) l m e there.length_there there.some there.short there.within there.label
+      (subst (λ j. RunAt b s j m e) next run)));
+  back = λ w f run. let r = reading.back w f run in go w f r.0 r.1 r.3 r.4 (goes_on_at r.2);
+}
+  where
+    next : i + (1 + length l) ≡ i + 1 + length l
+    next = omega arith
+
+    go : (w : DomainName) (f : ℕ) (m : DomainName) (e : ℕ) → w ≡ n ++ m → f ≡ end_or end e → GoesOn b s i m e
+        → (m : DomainName) × (e : ℕ) × RunAt b s (i + (1 + length l)) m e × (w ≡ (n ++ l ∷ []) ++ m) × (f ≡ end_or end e)
+    go w f m e p q (at_end root none end) = absurd (omega (arith, same_Some (length l) 0 (sym there.length_there ∙ root), there.some))
+    go w f m e p q (at_label k rest label shape run) =
+        let long : length l ≡ length k = same_Some (length l) (length k) (sym there.length_there ∙ label.length_there) in
+        let same : k ≡ l = label.label ∙ ap (λ j. take j (drop (i + 1) b)) (sym long) ∙ sym there.label in (
+          rest,
+          e,
+          subst (λ j. RunAt b s j rest e) (ap (λ j. i + 1 + j) (sym long) ∙ sym next) run,
+          p ∙ ap (λ x. n ++ x) (shape ∙ ap (λ x. x ∷ rest) same) ∙ sym (append_assoc n (l ∷ []) rest),
+          q,
+        )
+    go w f m e p q (at_pointer place d pointer end run) =
+        absurd (omega (arith, same_Some (length l) pointer.first (sym there.length_there ∙ pointer.first_there), there.short, pointer.high))
+
+-- the name with the label is too long
+pub label_too_long : {b : Octets} {at s i : ℕ} {n : DomainName} {end : Option ℕ} (l : Octets) → IsReading b at n s i end → LabelAt b i l
+    → 255 < length (wire (n ++ l ∷ [])) → NoNameAt b at
+label_too_long {b} {at} {s} {i} {n} {end} l reading there long w f name =
+    let r = reading.back w f name.0 in go r.0 r.1 r.3 (goes_on_at r.2)
+  where
+    go : (m : DomainName) (e : ℕ) → w ≡ n ++ m → GoesOn b s i m e → ⊥
+    go m e p (at_end root none end) = omega (arith, same_Some (length l) 0 (sym there.length_there ∙ root), there.some)
+    go m e p (at_label k rest label shape run) =
+        let as_long : length l ≡ length k = same_Some (length l) (length k) (sym there.length_there ∙ label.length_there) in
+        let same : k ≡ l = label.label ∙ ap (λ j. take j (drop (i + 1) b)) (sym as_long) ∙ sym there.label in
+        let whole : w ≡ (n ++ l ∷ []) ++ rest = p ∙ ap (λ x. n ++ x) (shape ∙ ap (λ x. x ∷ rest) same) ∙ sym (append_assoc n (l ∷ []) rest) in
+        omega (arith, (IsName-is_name w name.1).fits, ap (λ x. length (wire x)) whole, length-wire-front (n ++ l ∷ []) rest)
+    go m e p (at_pointer place d pointer end run) =
+        omega (arith, same_Some (length l) pointer.first (sym there.length_there ∙ pointer.first_there), there.short, pointer.high)
+
+pub end_fits : (b : Octets) (x : Option ℕ) (e : ℕ) → IfSome x (λ y. y ≤ length b) → e ≤ length b → end_or x e ≤ length b
+end_fits b None e h l = l
+end_fits b (Some y) e h l = h
+
+-- a pointer is followed
+pub reading_jumps : {b : Octets} {at s i p : ℕ} {n : DomainName} {end : Option ℕ} → IsReading b at n s i end → PointerAt b s i p → s ≤ length b
+    → IsReading b at n p p (Some (end_or end (i + 2)))
+reading_jumps {b} {at} {s} {i} {p} {n} {end} reading there inside = record {
+  is_name = reading.is_name;
+  within = omega (arith, there.before_run);
+  end_within = end_fits b end (i + 2) reading.end_within (omega (arith, slice_get_within b (i + 1) there.second there.second_there));
+  forth = λ m e run. reading.forth m (i + 2) (jumps i there.first there.second p m e there.first_there there.high there.second_there there.place there.after_header there.before_run run);
+  back = λ w f run. let r = reading.back w f run in go w f r.0 r.1 r.3 r.4 (goes_on_at r.2);
+}
+  where
+    go : (w : DomainName) (f : ℕ) (m : DomainName) (e : ℕ) → w ≡ n ++ m → f ≡ end_or end e → GoesOn b s i m e
+        → (m : DomainName) × (e : ℕ) × RunAt b p p m e × (w ≡ n ++ m) × (f ≡ end_or end (i + 2))
+    go w f m e q r (at_end root none is) = absurd (omega (arith, same_Some there.first 0 (sym there.first_there ∙ root), there.high))
+    go w f m e q r (at_label k rest label shape run) =
+        absurd (omega (arith, same_Some there.first (length k) (sym there.first_there ∙ label.length_there), there.high, label.short))
+    go w f m e q r (at_pointer place d pointer is run) =
+        let one : there.first ≡ pointer.first = same_Some there.first pointer.first (sym there.first_there ∙ pointer.first_there) in
+        let two : there.second ≡ pointer.second = same_Some there.second pointer.second (sym there.second_there ∙ pointer.second_there) in
+        let same : place ≡ p = pointer.place ∙ ap₂ pointer_place (sym one) (sym two) ∙ sym there.place in
+        (m, d, subst (λ x. RunAt b x x m d) same run, q, r ∙ ap (end_or end) is)
+
+-- the measure falls: fewer octets are left, or the run began earlier
+pub falls_by_label : (s i j k : ℕ) → i < j → j ≤ k → s * (k + 1) + (k - j) < s * (k + 1) + (k - i)
+falls_by_label s i j k h l = omega arith
+
+pub falls_by_jump : (s p i k : ℕ) → p < s → p ≤ k → i ≤ k → p * (k + 1) + (k - p) < s * (k + 1) + (k - i)
+falls_by_jump s p i k h l m = omega (arith, mul-add-lt p (k + 1) (k - p) s h (omega arith))

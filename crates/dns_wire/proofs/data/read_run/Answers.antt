@@ -1,0 +1,14 @@
+use Rattle.std.proofs.Common.{sym, ap, ◌∙◌, take, ◌-◌}
+use Rattle.dns_spec.specs.Data.{Part, piece_front}
+use Rattle.dns_spec.specs.Names.{Octets}
+use Rattle.dns_rdata.specs.TypeRows.{piece_of}
+use Rattle.dns_rdata.proofs.PartLemmas.{lent_octets}
+use Rattle.dns_wire.proofs.PieceLemmas.{piece_read}
+use Rattle.dns_wire.proofs.data.read_run.Goals as goal
+
+pub returns-clause-ok : goal.returns-clause-ok
+returns-clause-ok c =
+    let own_is = c.split_at-2.ensures.front ∙ ap (take (c.args.end - c.args.at)) c.split_at.ensures.back in
+    piece_read c.args.message.now (piece_of c.args.piece) c.args.at c.args.end _ _ _ _ _ c.requires.ordered c.requires.within c.requires.no_name
+    (ap (piece_front (piece_of c.args.piece)) (sym own_is) ∙ c.in-Some.ensures.0)
+    (ap (λ (x : Part × Octets). x.1) (lent_octets c.in-Some.part c.in-Some.ensures.1) ∙ sym c.octets_of.ensures) c.in_ok-extend_from_slice.ensures.items

@@ -1,0 +1,13 @@
+use Rattle.std.proofs.Common.{◌≤◌, length, ◌+◌, ◌-◌, ◌*◌}
+use Rattle.dns_wire.specs.Labels.{IsReading}
+use Rattle.dns_wire.proofs.name.read_name.Given as goal
+
+abbrev pub invariant-steps : goal.invariant-steps
+invariant-steps l = record {
+  reading : IsReading l.message l.at l.name l.run l.place l.end;
+  begun : l.run ≤ length l.message;
+}
+
+-- a label leaves fewer octets, and a pointer goes to a run that began earlier
+abbrev pub decreases-steps : goal.decreases-steps
+decreases-steps l = l.run * (length l.message + 1) + (length l.message - l.place)

@@ -1,0 +1,53 @@
+-- What a reader learns here: what one step of reading a name finds at a place of a message.
+use Rattle.std.specs.Prelude.{◌≡◌, ℕ, ◌+◌, ◌<◌, ◌≤◌, ◌++◌, length, take, drop, slice_get, Option, Some, IfSome, IsTrue}
+use Rattle.std.specs.Option.{unwrap_or}
+use Rattle.dns_spec.specs.Names.{Octets, DomainName, is_name}
+use Rattle.dns_spec.specs.Reading.{pointer_place, RunAt, NameAt}
+use Rattle.dns_wire.specs.declared.name.Step.{Step}
+use Rattle.dns_wire.specs.declared.name.Step.TheVariants.{End, Label, Jump}
+
+-- the octets k and l at place i are a label and its length
+pub record LabelAt (b : Octets) (i : ℕ) (l : Octets) : Type 0 where
+  pub length_there : slice_get b i ≡ Some (length l)
+  pub some : 0 < length l
+  pub short : length l < 64
+  pub within : i + 1 + length l ≤ length b
+  pub label : l ≡ take (length l) (drop (i + 1) b)
+
+-- a pointer at place i, in a run of labels that began at place s, gives place p
+pub record PointerAt (b : Octets) (s i p : ℕ) : Type 0 where
+  pub first : ℕ
+  pub second : ℕ
+  pub first_there : slice_get b i ≡ Some first
+  pub high : 192 ≤ first
+  pub second_there : slice_get b (i + 1) ≡ Some second
+  pub place : p ≡ pointer_place first second
+  pub after_header : 12 ≤ p
+  pub before_run : p < s
+
+-- the root's length 0, a label, or a pointer
+abbrev pub StepAt : Octets → ℕ → ℕ → Step → Type 0
+StepAt b s i End = slice_get b i ≡ Some 0
+StepAt b s i (Label l) = LabelAt b i l
+StepAt b s i (Jump p) = PointerAt b s i p
+
+-- no name goes on at place i, in a run of labels that began at place s
+abbrev pub NoRunAt : Octets → ℕ → ℕ → Type 0
+NoRunAt b s i = (n : DomainName) (e : ℕ) → RunAt b s i n e → ⊥
+
+abbrev pub NoNameAt : Octets → ℕ → Type 0
+NoNameAt b i = (n : DomainName) (e : ℕ) → NameAt b i n e → ⊥
+
+-- the place after a name's own octets, where a pointer was followed already or is not yet
+abbrev pub end_or : Option ℕ → ℕ → ℕ
+end_or end e = unwrap_or end e
+
+-- What reading a name from place `at` keeps: with the labels so far in front, what the run at hand spells from place i on is
+-- what place `at` spells, and nothing else is.
+pub record IsReading (b : Octets) (at : ℕ) (n : DomainName) (s i : ℕ) (end : Option ℕ) : Type 0 where
+  pub is_name : IsTrue (is_name n)
+  pub within : i ≤ length b
+  pub end_within : IfSome end (λ e. e ≤ length b)
+  pub forth : (m : DomainName) (e : ℕ) → RunAt b s i m e → RunAt b at at (n ++ m) (end_or end e)
+  pub back : (w : DomainName) (f : ℕ) → RunAt b at at w f
+      → (m : DomainName) × (e : ℕ) × RunAt b s i m e × (w ≡ n ++ m) × (f ≡ end_or end e)

@@ -1,0 +1,4 @@
+pub mod WireFault
+pub mod Labels
+pub mod Pieces
+pub mod Read

@@ -1,0 +1,67 @@
+-- What a reader learns here: which question, which record and which header stand at a place of a message.
+use Rattle.std.specs.Prelude.{◌≡◌, ℕ, ◌+◌, ◌≤◌, List, ◌++◌, length}
+use Rattle.dns_spec.specs.Names.{Octets}
+use Rattle.dns_spec.specs.Reading.{Header, MessageQuestion, MessageRecord, DnsMessage, NameAt, NumberAt, QuestionsAt, RecordAt, RecordsAt, Spells}
+use Rattle.dns_wire.specs.declared.reader.Counts.{Counts}
+
+-- from place i to place e
+pub record QuestionAt (b : Octets) (i : ℕ) (q : MessageQuestion) (e : ℕ) : Type 0 where
+  pub after_name : ℕ
+  pub name : NameAt b i q.qname after_name
+  pub qtype : NumberAt b after_name 2 q.qtype
+  pub qclass : NumberAt b (after_name + 2) 2 q.qclass
+  pub end : e ≡ after_name + 4
+
+pub record WholeRecordAt (b : Octets) (i : ℕ) (r : MessageRecord) (e : ℕ) : Type 0 where
+  pub after_owner : ℕ
+  pub data_length : ℕ
+  pub there : RecordAt b i r after_owner data_length
+  pub end : e ≡ after_owner + 10 + data_length
+
+-- the numbers of a header
+pub record HeaderAt (b : Octets) (h : Header) (counts : Counts) : Type 0 where
+  pub id : NumberAt b 0 2 h.id
+  pub flags : NumberAt b 2 2 h.flags
+  pub questions : NumberAt b 4 2 counts.questions
+  pub answers : NumberAt b 6 2 counts.answers
+  pub authorities : NumberAt b 8 2 counts.authorities
+  pub additionals : NumberAt b 10 2 counts.additionals
+
+-- so many questions from place i to place e, inside the octets; and so many records
+pub record AreQuestions (b : Octets) (i count : ℕ) (qs : List MessageQuestion) (e : ℕ) : Type 0 where
+  pub there : QuestionsAt b i qs e
+  pub as_many : length qs ≡ count
+  pub within : e ≤ length b
+
+pub record AreRecords (b : Octets) (i count : ℕ) (rs : List MessageRecord) (e : ℕ) : Type 0 where
+  pub there : RecordsAt b i rs e
+  pub as_many : length rs ≡ count
+  pub within : e ≤ length b
+
+abbrev pub NoQuestion : Octets → ℕ → Type 0
+NoQuestion b i = (q : MessageQuestion) (e : ℕ) → QuestionAt b i q e → ⊥
+
+abbrev pub NoRecord : Octets → ℕ → Type 0
+NoRecord b i = (r : MessageRecord) (e : ℕ) → WholeRecordAt b i r e → ⊥
+
+abbrev pub NoQuestions : Octets → ℕ → ℕ → Type 0
+NoQuestions b i count = (qs : List MessageQuestion) (e : ℕ) → QuestionsAt b i qs e → length qs ≡ count → ⊥
+
+abbrev pub NoRecords : Octets → ℕ → ℕ → Type 0
+NoRecords b i count = (rs : List MessageRecord) (e : ℕ) → RecordsAt b i rs e → length rs ≡ count → ⊥
+
+abbrev pub NoMessage : Octets → Type 0
+NoMessage b = (m : DnsMessage) → Spells b m → ⊥
+
+-- What reading one after another keeps: those so far stand from place i to place j, and what follows them, all of them are.
+pub record QuestionsRead (b : Octets) (i : ℕ) (so_far : List MessageQuestion) (j : ℕ) : Type 0 where
+  pub within : j ≤ length b
+  pub forth : (qs : List MessageQuestion) (e : ℕ) → QuestionsAt b j qs e → QuestionsAt b i (so_far ++ qs) e
+  pub back : (ws : List MessageQuestion) (e : ℕ) → QuestionsAt b i ws e → length so_far ≤ length ws
+      → (qs : List MessageQuestion) × (ws ≡ so_far ++ qs) × QuestionsAt b j qs e
+
+pub record RecordsRead (b : Octets) (i : ℕ) (so_far : List MessageRecord) (j : ℕ) : Type 0 where
+  pub within : j ≤ length b
+  pub forth : (rs : List MessageRecord) (e : ℕ) → RecordsAt b j rs e → RecordsAt b i (so_far ++ rs) e
+  pub back : (ws : List MessageRecord) (e : ℕ) → RecordsAt b i ws e → length so_far ≤ length ws
+      → (rs : List MessageRecord) × (ws ≡ so_far ++ rs) × RecordsAt b j rs e

@@ -1,0 +1,53 @@
+//! Why octets are no message.
+ghost use Rattle.std.specs.Prelude.{◌≡◌};
+ghost use Rattle.dns_wire.specs.WireFault.{fault_code};
+
+use std::alloc::{AllocError, AllocFailed};
+
+/// Why octets are no message (RFC 1035 4.1).
+#[derive(Clone, Copy, Debug, PartialEq, Eq)]
+pub enum WireFault {
+    /// The octets end where more are needed.
+    Short = 1,
+    /// A label begins with the bits 01 or 10, which are reserved (RFC 1035 4.1.4).
+    ReservedLabel = 2,
+    /// A pointer goes into the header, or not before the place where the labels at hand began (RFC 1035 4.1.4).
+    BadPointer = 3,
+    /// A name has more than 255 octets (RFC 1035 2.3.4).
+    LongName = 4,
+    /// Data does not fill its length, or is none of its type (RFC 1035 3.3).
+    BadData = 5,
+    /// Octets follow the last record.
+    Trailing = 6,
+    /// No memory was found.
+    NoMemory = 7,
+}
+
+impl WireFault {
+    /// The number of the fault, 1 to 7 in the order of the variants.
+    pub fn code(self) -> u8
+        ensures { result ≡ fault_code self }
+    {
+        self as u8
+    }
+}
+
+impl From<AllocError> for WireFault {
+    ghost use Rattle.dns_wire.specs.declared.fault.WireFault.{WireFault};
+
+    ghost from_gives = { λ _ fault. fault ≡ WireFault.NoMemory };
+
+    fn from(_refused: AllocError) -> WireFault {
+        WireFault::NoMemory
+    }
+}
+
+impl<T: Drop> From<AllocFailed<T>> for WireFault {
+    ghost use Rattle.dns_wire.specs.declared.fault.WireFault.{WireFault};
+
+    ghost from_gives = { λ _ fault. fault ≡ WireFault.NoMemory };
+
+    fn from(_refused: AllocFailed<T>) -> WireFault {
+        WireFault::NoMemory
+    }
+}

@@ -1,0 +1,13 @@
+//! Messages on the wire (RFC 1035 4.1), read.
+#![tactic(auto)]
+
+mod data;
+mod fault;
+mod message;
+mod name;
+mod number;
+mod reader;
+
+pub use fault::WireFault;
+pub use message::{Head, Message, Question, WireRecord};
+pub use reader::read_message;

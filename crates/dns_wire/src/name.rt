@@ -1,0 +1,106 @@
+//! Names in a message, which may go on elsewhere by a pointer (RFC 1035 4.1.4).
+ghost use Rattle.std.specs.Prelude.{◌≡◌, ◌≤◌, ◌<◌, length, get_or, IfOk, IsErr};
+ghost use Rattle.dns_spec.specs.Reading.{NameAt};
+ghost use Rattle.dns_wire.specs.Labels.{StepAt, NoRunAt, NoNameAt};
+
+use crate::fault::WireFault;
+use dns_name::{Label, Name};
+
+// The octets of a header (RFC 1035 4.1.1), which no name stands in.
+const HEADER_OCTETS: usize = 12;
+
+// What stands where a name goes on.
+#[derive(Drop)]
+enum Step<'a> {
+    // The root's length, which ends the name.
+    End,
+    Label(Label<'a>),
+    // A pointer to the place where the rest of the name begins.
+    Jump(usize),
+}
+
+/// The name at a place of a message, as it is spelled, and the place after its own octets.
+///
+/// A pointer goes to a place after the header and before the place where the labels at hand began, so that reading ends.
+/// Faults are judged from the left: a missing octet, the reserved bits, a pointer's second octet and its place, a
+/// label's octets, and the length of the name with the label.
+pub(crate) fn read_name(message: &[u8], at: usize) -> Result<(Name, usize), WireFault>
+    requires { at ≤ length message.now }
+    ensures name { IfOk result (λ read. NameAt message.now at read.0 read.1) }
+    ensures within { IfOk result (λ read. read.1 ≤ length message.now) }
+    ensures none { IsErr result → NoNameAt message.now at }
+{
+    let mut name = Name::root();
+    let mut run = at;
+    let mut place = at;
+    let mut end = None;
+    'steps: loop {
+        match step_at(message, run, place)? {
+            Step::End => return Ok((name, end.unwrap_or(place + 1))),
+            Step::Label(label) => {
+                let length = label.octets().len();
+                if !name.push(label) {
+                    return Err(WireFault::LongName);
+                }
+                place += 1 + length;
+            }
+            Step::Jump(target) => {
+                end = Some(end.unwrap_or(place + 2));
+                run = target;
+                place = target;
+            }
+        }
+    }
+}
+
+// What stands at a place of a run of labels that began at `run`.
+fn step_at(message: &[u8], run: usize, place: usize) -> Result<Step<'_>, WireFault>
+    ensures step { IfOk result (λ step. StepAt message.now run place step) }
+    ensures none { IsErr result → NoRunAt message.now run place }
+{
+    let Some(octet) = message.get(place) else {
+        return Err(WireFault::Short);
+    };
+    match *octet {
+        0 => Ok(Step::End),
+        1..=63 => label_at(message, run, place),
+        64..=191 => Err(WireFault::ReservedLabel),
+        192..=255 => pointer_at(message, run, place),
+    }
+}
+
+// A label, after its length of 1 to 63 octets.
+fn label_at(message: &[u8], run: usize, place: usize) -> Result<Step<'_>, WireFault>
+    requires inside { place < length message.now }
+    requires some { 0 < get_or message.now place 0 }
+    requires short { get_or message.now place 0 < 64 }
+    ensures step { IfOk result (λ step. StepAt message.now run place step) }
+    ensures none { IsErr result → NoRunAt message.now run place }
+{
+    let length = usize::from(message[place]);
+    let (_, rest) = message.split_at(place + 1);
+    let Some((octets, _)) = rest.split_at_checked(length) else {
+        return Err(WireFault::Short);
+    };
+    match Label::new(octets) {
+        Some(label) => Ok(Step::Label(label)),
+        None => unreachable!(),
+    }
+}
+
+// A pointer of two octets, the first from 192 on.
+fn pointer_at(message: &[u8], run: usize, place: usize) -> Result<Step<'_>, WireFault>
+    requires inside { place < length message.now }
+    requires high { 192 ≤ get_or message.now place 0 }
+    ensures step { IfOk result (λ step. StepAt message.now run place step) }
+    ensures none { IsErr result → NoRunAt message.now run place }
+{
+    let Some(second) = message.get(place + 1) else {
+        return Err(WireFault::Short);
+    };
+    let target = (usize::from(message[place]) - 192) * 256 + usize::from(*second);
+    if target < HEADER_OCTETS || target >= run {
+        return Err(WireFault::BadPointer);
+    }
+    Ok(Step::Jump(target))
+}

@@ -1,0 +1,32 @@
+//! Numbers in a message, the most significant octet first (RFC 1035 2.3.2).
+ghost use Rattle.std.specs.Prelude.{◌≡◌, ◌+◌, ◌<◌, ◌≤◌, length, IfOk, IsErr};
+ghost use Rattle.dns_spec.specs.Reading.{NumberAt};
+
+use crate::fault::WireFault;
+use byteorder::{BigEndian, ByteOrder};
+
+/// The 16 bits at a place. `Short` where the octets end before.
+pub(crate) fn read_u16(message: &[u8], at: usize) -> Result<u16, WireFault>
+    requires { at ≤ length message.now }
+    ensures ok { IfOk result (λ number. NumberAt message.now at 2 number) }
+    ensures err { IsErr result → length message.now < at + 2 }
+{
+    let (_, rest) = message.split_at(at);
+    if rest.len() < 2 {
+        return Err(WireFault::Short);
+    }
+    Ok(BigEndian::read_u16(rest))
+}
+
+/// The 32 bits at a place. `Short` where the octets end before.
+pub(crate) fn read_u32(message: &[u8], at: usize) -> Result<u32, WireFault>
+    requires { at ≤ length message.now }
+    ensures ok { IfOk result (λ number. NumberAt message.now at 4 number) }
+    ensures err { IsErr result → length message.now < at + 4 }
+{
+    let (_, rest) = message.split_at(at);
+    if rest.len() < 4 {
+        return Err(WireFault::Short);
+    }
+    Ok(BigEndian::read_u32(rest))
+}

@@ -1,0 +1,154 @@
+//! Messages read from octets (RFC 1035 4.1).
+ghost use Rattle.std.specs.Prelude.{◌≡◌, ◌≤◌, ◌<◌, length, IfOk, IfErr, IsErr};
+ghost use Rattle.dns_spec.specs.Reading.{Spells};
+ghost use Rattle.dns_wire.specs.Read.{QuestionAt, WholeRecordAt, HeaderAt, AreQuestions, AreRecords, NoQuestion, NoRecord, NoQuestions, NoRecords, NoMessage};
+ghost use Rattle.dns_wire.specs.WireFault.{UnlessNoMemory};
+
+use crate::data::read_data;
+use crate::fault::WireFault;
+use crate::message::{Head, Message, Question, WireRecord};
+use crate::name::read_name;
+use crate::number::{read_u16, read_u32};
+use dns_rdata::RType;
+use std::alloc::Global;
+
+// The octets of a header (RFC 1035 4.1.1).
+const HEADER_OCTETS: usize = 12;
+
+/// The message that octets are, to their end.
+///
+/// A fault tells why they are none: the first from the left, by the header, the questions and the records. `NoMemory` comes only
+/// where a growth was refused.
+pub fn read_message(alloc: Global, octets: &[u8]) -> Result<Message, WireFault>
+    ensures ok { IfOk result (λ message. Spells octets.now message) }
+    ensures err { IfErr result (λ fault. UnlessNoMemory fault (NoMessage octets.now)) }
+{
+    let (head, counts) = read_header(octets)?;
+    let (questions, at) = read_questions(alloc, octets, counts.questions, HEADER_OCTETS)?;
+    let (answers, at) = read_records(alloc, octets, counts.answers, at)?;
+    let (authorities, at) = read_records(alloc, octets, counts.authorities, at)?;
+    let (additionals, at) = read_records(alloc, octets, counts.additionals, at)?;
+    if at != octets.len() {
+        return Err(WireFault::Trailing);
+    }
+    Ok(Message {
+        head,
+        questions,
+        answers,
+        authorities,
+        additionals,
+    })
+}
+
+// How many questions and records a header tells, by section.
+#[derive(Clone, Copy)]
+struct Counts {
+    questions: u16,
+    answers: u16,
+    authorities: u16,
+    additionals: u16,
+}
+
+fn read_header(octets: &[u8]) -> Result<(Head, Counts), WireFault>
+    ensures ok { IfOk result (λ read. HeaderAt octets.now read.0 read.1 × (12 ≤ length octets.now)) }
+    ensures err { IfErr result (λ fault. length octets.now < 12) }
+{
+    if octets.len() < HEADER_OCTETS {
+        return Err(WireFault::Short);
+    }
+    let head = Head {
+        id: read_u16(octets, 0)?,
+        flags: read_u16(octets, 2)?,
+    };
+    let counts = Counts {
+        questions: read_u16(octets, 4)?,
+        answers: read_u16(octets, 6)?,
+        authorities: read_u16(octets, 8)?,
+        additionals: read_u16(octets, 10)?,
+    };
+    Ok((head, counts))
+}
+
+// So many questions from a place on, and the place after them.
+fn read_questions(
+    alloc: Global,
+    message: &[u8],
+    count: u16,
+    at: usize,
+) -> Result<(Vec<Question>, usize), WireFault>
+    requires { at ≤ length message.now }
+    ensures ok { IfOk result (λ read. AreQuestions message.now at count read.0.items read.1) }
+    ensures err { IfErr result (λ fault. UnlessNoMemory fault (NoQuestions message.now at count)) }
+{
+    let mut questions = Vec::new(alloc);
+    let mut place = at;
+    'questions: for _ in 0..count {
+        let (question, after) = read_question(message, place)?;
+        questions.push(question)?;
+        place = after;
+    }
+    Ok((questions, place))
+}
+
+fn read_question(message: &[u8], at: usize) -> Result<(Question, usize), WireFault>
+    requires { at ≤ length message.now }
+    ensures ok { IfOk result (λ read. QuestionAt message.now at read.0 read.1 × (read.1 ≤ length message.now)) }
+    ensures err { IsErr result → NoQuestion message.now at }
+{
+    let (name, at) = read_name(message, at)?;
+    let qtype = read_u16(message, at)?;
+    let qclass = read_u16(message, at + 2)?;
+    let question = Question {
+        name,
+        qtype,
+        qclass,
+    };
+    Ok((question, at + 4))
+}
+
+// So many records from a place on, and the place after them.
+fn read_records(
+    alloc: Global,
+    message: &[u8],
+    count: u16,
+    at: usize,
+) -> Result<(Vec<WireRecord>, usize), WireFault>
+    requires { at ≤ length message.now }
+    ensures ok { IfOk result (λ read. AreRecords message.now at count read.0.items read.1) }
+    ensures err { IfErr result (λ fault. UnlessNoMemory fault (NoRecords message.now at count)) }
+{
+    let mut records = Vec::new(alloc);
+    let mut place = at;
+    'records: for _ in 0..count {
+        let (record, after) = read_record(alloc, message, place)?;
+        records.push(record)?;
+        place = after;
+    }
+    Ok((records, place))
+}
+
+fn read_record(alloc: Global, message: &[u8], at: usize) -> Result<(WireRecord, usize), WireFault>
+    requires { at ≤ length message.now }
+    ensures ok { IfOk result (λ read. WholeRecordAt message.now at read.0 read.1 × (read.1 ≤ length message.now)) }
+    ensures err { IfErr result (λ fault. UnlessNoMemory fault (NoRecord message.now at)) }
+{
+    let (owner, at) = read_name(message, at)?;
+    let rtype = RType(read_u16(message, at)?);
+    let rclass = read_u16(message, at + 2)?;
+    let ttl = read_u32(message, at + 4)?;
+    let length = usize::from(read_u16(message, at + 8)?);
+    let at = at + 10;
+    if length > message.len() - at {
+        return Err(WireFault::Short);
+    }
+    let end = at + length;
+    let rdata = read_data(alloc, message, rtype, rclass, at, end)?;
+    let record = WireRecord {
+        owner,
+        rtype,
+        rclass,
+        ttl,
+        rdata,
+    };
+    Ok((record, end))
+}
