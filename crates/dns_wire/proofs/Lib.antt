@@ -1,4 +1,5 @@
 mod Runs
 mod PieceLemmas
 mod ReadLemmas
+mod ValidData
 mod Anyway

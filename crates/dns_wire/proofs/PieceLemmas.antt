@@ -46,12 +46,18 @@ one_piece b strings i e j k o o' g h = let s = g.3 ∙ sym h.3 in (s, same_octet
 one_piece b anything i e j k o o' g h = let s = g.1 ∙ sym h.1 in (s, same_octets refl s g.0 h.0)
 
 -- pieces end no earlier than they begin
-run_forward : {b : Octets} {s i e : ℕ} {n : DomainName} → RunAt b s i n e → i ≤ e
+pub run_forward : {b : Octets} {s i e : ℕ} {n : DomainName} → RunAt b s i n e → i ≤ e
 run_forward (ends i at) = omega arith
 run_forward (goes_on i k l n e at some short within is rest) = let later = run_forward rest in omega arith
 run_forward (jumps i o o' p n e at high at' is from before rest) = omega arith
 
-forward : (b : Octets) (p : Piece) (i e j : ℕ) (o : Octets) → PieceAt b p i e j o → i ≤ j
+-- a name has an octet
+pub run_past : {b : Octets} {s i e : ℕ} {n : DomainName} → RunAt b s i n e → i < e
+run_past (ends i at) = omega arith
+run_past (goes_on i k l n e at some short within is rest) = let later = run_past rest in omega arith
+run_past (jumps i o o' p n e at high at' is from before rest) = omega arith
+
+pub forward : (b : Octets) (p : Piece) (i e j : ℕ) (o : Octets) → PieceAt b p i e j o → i ≤ j
 forward b (fixed f) i e j o h = omega (arith, h.1)
 forward b domain i e j o h = run_forward h.1.0
 forward b string i e j o h = omega (arith, h.3)

@@ -1,8 +1,17 @@
 -- What a reader learns here: which question, which record and which header stand at a place of a message.
-use Rattle.std.specs.Prelude.{◌≡◌, ℕ, ◌+◌, ◌≤◌, List, ◌++◌, length}
+use Rattle.std.specs.Prelude.{◌≡◌, ℕ, ◌+◌, ◌≤◌, List, ◌++◌, length, ◌==◌, if◌then◌else◌}
+use Rattle.dns_spec.specs.Data.{class_in, Valid}
 use Rattle.dns_spec.specs.Names.{Octets}
 use Rattle.dns_spec.specs.Reading.{Header, MessageQuestion, MessageRecord, DnsMessage, NameAt, NumberAt, QuestionsAt, RecordAt, RecordsAt, Spells}
 use Rattle.dns_wire.specs.declared.reader.Counts.{Counts}
+
+-- The type whose form data has: in another class than IN none, as type 0, of which the data is any octets (RFC 3597 3).
+abbrev pub data_type : ℕ → ℕ → ℕ
+data_type rtype rclass = if rclass == class_in then rtype else 0
+
+-- data is of that type
+abbrev pub IsWireData : ℕ → ℕ → Octets → Type 0
+IsWireData rtype rclass d = Valid (data_type rtype rclass) d
 
 -- from place i to place e
 pub record QuestionAt (b : Octets) (i : ℕ) (q : MessageQuestion) (e : ℕ) : Type 0 where

@@ -1,18 +1,18 @@
 //! Data of records, in which names may go on elsewhere by a pointer (RFC 1035 3.3 and 4.1.4).
-ghost use Rattle.std.specs.Prelude.{◌≡◌, ◌≢◌, ◌≤◌, ◌==◌, [], ◌∷◌, length, if◌then◌else◌, IfOk, IfErr};
+ghost use Rattle.std.specs.Prelude.{◌≡◌, ◌≢◌, ◌+◌, ◌≤◌, ◌==◌, [], ◌∷◌, length, if◌then◌else◌, IfOk, IfErr};
 ghost use Rattle.dns_rdata.specs.TypeRows.{piece_of, pieces_in};
 ghost use Rattle.dns_rdata.specs.Parts.{part_lends};
 ghost use Rattle.dns_spec.specs.Data.{class_in, domain, anything, pieces_of};
 ghost use Rattle.dns_spec.specs.Reading.{DataAt, PiecesAt};
 ghost use Rattle.dns_wire.specs.Pieces.{IsPieceRead, NoPieceAt, NoDataAt, NoPiecesAt};
+ghost use Rattle.dns_wire.specs.Read.{IsWireData};
 ghost use Rattle.dns_wire.specs.WireFault.{UnlessNoMemory};
 
 use crate::fault::WireFault;
+use crate::message::CLASS_IN;
 use crate::name::read_name;
 use dns_rdata::{Part, Piece, RType, first_part, pieces_of_type};
 use std::alloc::Global;
-
-const CLASS_IN: u16 = 1;
 
 /// The data of a record that stands from one place up to another, without compression.
 ///
@@ -28,7 +28,9 @@ pub(crate) fn read_data(
 ) -> Result<Vec<u8>, WireFault>
     requires ordered { at ≤ end }
     requires within { end ≤ length message.now }
+    requires short { end ≤ at + 65535 }
     ensures ok { IfOk result (λ read. DataAt message.now rtype.0 rclass at end read.items) }
+    ensures valid { IfOk result (λ read. IsWireData rtype.0 rclass read.items) }
     ensures err { IfErr result (λ fault. UnlessNoMemory fault (NoDataAt message.now rtype.0 rclass at end)) }
 {
     read_pieces(alloc, message, pieces_of_data(rtype, rclass), at, end)

@@ -9,5 +9,5 @@ mod number;
 mod reader;
 
 pub use fault::WireFault;
-pub use message::{Head, Message, Question, WireRecord};
+pub use message::{CLASS_IN, Head, Message, Question, WireRecord};
 pub use reader::read_message;

@@ -1,8 +1,14 @@
 //! Messages, their questions and their records.
+ghost use Rattle.std.specs.Prelude.{◌≡◌};
+ghost use Rattle.dns_spec.specs.Data.{Valid};
+ghost use Rattle.dns_wire.specs.Read.{data_type};
 
 use dns_name::Name;
 use dns_rdata::RType;
 use std::marker::Model;
+
+/// The class of the Internet (RFC 1035 3.2.4).
+pub const CLASS_IN: u16 = 1;
 
 /// ID, and QR, opcode, AA, TC, RD, RA, three zero bits and RCODE as 16 bits (RFC 1035 4.1.1).
 #[derive(Drop)]
@@ -57,10 +63,28 @@ pub struct WireRecord {
 
 impl Model for WireRecord {
     ghost use Rattle.dns_spec.specs.Reading.{MessageRecord};
+    ghost use Rattle.dns_wire.specs.Read.{IsWireData};
 
     ghost Value = { MessageRecord };
 
     ghost view = { λ r. record { owner = r.owner; rtype = r.rtype.0; rclass = r.rclass; ttl = r.ttl; rdata = r.rdata.items } };
+
+    ghost invariant = { λ r. IsWireData r.rtype.0 r.rclass r.rdata.items };
+}
+
+impl WireRecord {
+    /// The type whose form the data has, for which it is valid: in another class than IN none, as type 0, of which the data is any
+    /// octets (RFC 3597 3).
+    pub fn data_type(&self) -> RType
+        ensures value { result.0 ≡ data_type self.now.rtype self.now.rclass }
+        ensures valid { Valid result.0 self.now.rdata }
+    {
+        if self.rclass == CLASS_IN {
+            self.rtype
+        } else {
+            RType(0)
+        }
+    }
 }
 
 /// A message (RFC 1035 4.1). Its counts are the lengths of its lists.

@@ -1,0 +1,189 @@
+-- Data that is read is data of its type, of at most 65,535 octets.
+use Rattle.std.proofs.Common.{◌≡◌, ℕ, zero, suc, ◌+◌, ◌-◌, ◌*◌, ◌<◌, ◌≤◌, ◌⊎◌, inl, inr, Bool, true, false, ◌&&◌, ◌||◌, not, nat_le, ◌==◌, List, [], ◌∷◌, ◌++◌, length, take, drop, slice_get, get_or, Option, None, Some, option_map, is_some, unwrap_or, refl, sym, ap, ap₂, ◌∙◌, subst, arith, append_assoc, append-nil, add-zero, length-append, if◌then◌else◌}
+use Rattle.std.proofs.lemmas.Bool.{and_parts, and_from, le-leb, leb-true, ne_eqb, eqb-true, false≢true}
+use Rattle.std.proofs.lemmas.Option.{none-some, same_Some, slice_get_within, slice_get-get_or}
+use Rattle.std.proofs.lemmas.List.{length-take-le, length-drop, take_at, drop_at, nil_from_length, get_or-take, get_or-drop}
+use Rattle.std.specs.List.{find}
+use Rattle.dns_spec.specs.Names.{Octets, DomainName, wire, name_of}
+use Rattle.dns_spec.specs.Data.{class_in, Fixed, numbers, ipv4, ipv6, width, Piece, fixed, domain, string, strings, anything, TypeRow, type_table, other_type, row_of, pieces_of, Part, octets, name, octets_front, string_front, strings_front, piece_front, are_strings, cut, valid}
+use Rattle.dns_spec.specs.Reading.{OctetsAt, NameAt, PiecesAt, DataAt}
+use Rattle.dns_spec.proofs.NameLaws.{IsName-is_name}
+use Rattle.dns_spec.proofs.WireNames.{name_of-wire}
+use Rattle.dns_wire.specs.Pieces.{PieceAt}
+use Rattle.dns_wire.proofs.PieceLemmas.{all_forward, run_past}
+
+-- the octets between two places are as many as there are places
+octets_length : {b : Octets} {i e : ℕ} {o : Octets} → OctetsAt b i e o → length o ≡ e - i
+octets_length {b} {i} {e} at = ap length (sym at.are) ∙ length-take-le (e - i) (drop i b) (omega (arith, length-drop i b, at.ordered, at.within))
+
+-- how many domain names are among pieces, and how many octets the other pieces have at most, where they are numbers
+names_among : List Piece → ℕ
+names_among [] = 0
+names_among (domain ∷ ps) = 1 + names_among ps
+names_among (fixed f ∷ ps) = names_among ps
+names_among (string ∷ ps) = names_among ps
+names_among (strings ∷ ps) = names_among ps
+names_among (anything ∷ ps) = names_among ps
+
+-- Data without names is as long as it is in the message.
+unnamed_length : (b : Octets) (ps : List Piece) (i e : ℕ) (d : Octets) → names_among ps ≡ 0 → PiecesAt b ps i e d → length d ≡ e - i
+unfolding names_among
+unnamed_length b [] i e d none h = omega (arith, h.0, ap length h.1)
+unnamed_length b (fixed f ∷ ps) i e d none h =
+    let later = all_forward b ps (i + width f) e h.1 h.4 in
+    omega (arith, ap length h.3, length-append h.0 h.1, octets_length h.2, unnamed_length b ps (i + width f) e h.1 none h.4)
+unnamed_length b (domain ∷ ps) i e d none h = absurd (omega arith)
+unnamed_length b (string ∷ ps) i e d none h =
+    let later = all_forward b ps (i + 1 + h.0) e h.2 h.6 in
+    omega (arith, ap length h.5, length-append h.1 h.2, octets_length h.4, unnamed_length b ps (i + 1 + h.0) e h.2 none h.6)
+unnamed_length b (strings ∷ ps) i e d none h =
+    let later = all_forward b ps h.2 e h.1 h.8 in
+    omega (arith, ap length h.6, length-append h.0 h.1, octets_length h.3, h.3.ordered, unnamed_length b ps h.2 e h.1 none h.8)
+unnamed_length b (anything ∷ ps) i e d none h =
+    let later = all_forward b ps h.2 e h.1 h.6 in
+    omega (arith, ap length h.4, length-append h.0 h.1, octets_length h.3, h.3.ordered, unnamed_length b ps h.2 e h.1 none h.6)
+
+-- the octets of names and numbers, at most; of other pieces nothing is said
+most : List Piece → ℕ
+most [] = 0
+most (fixed f ∷ ps) = width f + most ps
+most (domain ∷ ps) = 255 + most ps
+most (string ∷ ps) = 65536
+most (strings ∷ ps) = 65536
+most (anything ∷ ps) = 65536
+
+named_length : (b : Octets) (ps : List Piece) (i e : ℕ) (d : Octets) → most ps ≤ 65535 → PiecesAt b ps i e d → length d ≤ most ps
+unfolding most
+named_length b [] i e d fits h = omega (arith, ap length h.1)
+named_length b (fixed f ∷ ps) i e d fits h =
+    omega (arith, ap length h.3, length-append h.0 h.1, octets_length h.2, named_length b ps (i + width f) e h.1 (omega arith) h.4)
+named_length b (domain ∷ ps) i e d fits h =
+    omega (arith, ap length h.4, length-append (wire h.0) h.2, (IsName-is_name h.0 h.3.1).fits, named_length b ps h.1 e h.2 (omega arith) h.5)
+named_length b (string ∷ ps) i e d fits h = absurd (omega arith)
+named_length b (strings ∷ ps) i e d fits h = absurd (omega arith)
+named_length b (anything ∷ ps) i e d fits h = absurd (omega arith)
+
+-- Each type has data of one or the other kind.
+bounded : List Piece → Bool
+bounded ps = (names_among ps == 0) || nat_le (most ps) 65535
+
+EachBounded : List TypeRow → Type 0
+EachBounded [] = Unit {0}
+EachBounded (row ∷ rows) = (bounded row.pieces ≡ true) × EachBounded rows
+
+table_bounded : EachBounded type_table
+unfolding EachBounded bounded names_among most
+table_bounded = (refl, (refl, (refl, (refl, (refl, (refl, (refl, (refl, (refl, (refl, tt))))))))))
+
+row_bounded : (t : ℕ) (rows : List TypeRow) → EachBounded rows → bounded (unwrap_or (find (λ (row : TypeRow). row.number == t) rows) other_type).pieces ≡ true
+unfolding EachBounded bounded names_among
+row_bounded t [] e = refl
+row_bounded t (row ∷ rows) e = go (row.number == t) (row_bounded t rows e.1)
+  where
+    go : (x : Bool) → bounded (unwrap_or (find (λ (r : TypeRow). r.number == t) rows) other_type).pieces ≡ true
+        → bounded (unwrap_or (if x then Some row else find (λ (r : TypeRow). r.number == t) rows) other_type).pieces ≡ true
+    go true f = e.0
+    go false f = f
+
+short_data : (b : Octets) (ps : List Piece) (i e : ℕ) (d : Octets) → bounded ps ≡ true → e - i ≤ 65535 → PiecesAt b ps i e d → length d ≤ 65535
+unfolding bounded
+short_data b ps i e d ok fits h = go (names_among ps == 0) refl ok
+  where
+    go : (x : Bool) → (names_among ps == 0) ≡ x → (x || nat_le (most ps) 65535) ≡ true → length d ≤ 65535
+    go true p q = omega (arith, unnamed_length b ps i e d (eqb-true (names_among ps) 0 p) h)
+    go false p q =
+        let few : most ps ≤ 65535 = leb-true (most ps) 65535 q in
+        let long : length d ≤ most ps = named_length b ps i e d few h in
+        omega arith
+
+-- nothing stands between a place and itself
+nothing_between : (b : Octets) (ps : List Piece) (i : ℕ) (d : Octets) → PiecesAt b ps i i d → d ≡ []
+nothing_between b [] i d h = h.1
+nothing_between b (fixed f ∷ ps) i d h =
+    let later = all_forward b ps (i + width f) i h.1 h.4 in
+    let none : i + width f ≡ i = omega arith in
+    let front : h.0 ≡ [] = nil_from_length h.0 (omega (arith, octets_length h.2)) in
+    h.3 ∙ ap (λ o. o ++ h.1) front ∙ nothing_between b ps i h.1 (subst (λ j. PiecesAt b ps j i h.1) none h.4)
+nothing_between b (domain ∷ ps) i d h =
+    let later = all_forward b ps h.1 i h.2 h.5 in
+    absurd (omega (arith, run_past h.3.0))
+nothing_between b (string ∷ ps) i d h =
+    let later = all_forward b ps (i + 1 + h.0) i h.2 h.6 in
+    absurd (omega arith)
+nothing_between b (strings ∷ ps) i d h = absurd (omega (arith, octets_length h.3, h.4, h.7))
+nothing_between b (anything ∷ ps) i d h =
+    let front : h.0 ≡ [] = nil_from_length h.0 (omega (arith, octets_length h.3, h.5)) in
+    h.4 ∙ ap (λ o. o ++ h.1) front ∙ nothing_between b ps i h.1 (subst (λ j. PiecesAt b ps j i h.1) h.5 h.6)
+
+-- the first of some octets stands where they begin
+first_octet : (b : Octets) (i k : ℕ) (o : Octets) → slice_get b i ≡ Some k → OctetsAt b i (i + 1 + k) o → get_or o 0 0 ≡ k
+first_octet b i k o there at =
+    let inside = slice_get_within b i k there in
+    let some : 0 < i + 1 + k - i = omega arith in
+    ap (λ xs. get_or xs 0 0) (sym at.are) ∙ get_or-take (i + 1 + k - i) (drop i b) 0 0 some ∙ get_or-drop i b 0 0 ∙ ap (λ j. get_or b j 0) (add-zero i)
+    ∙ same_Some (get_or b i 0) k (sym (slice_get-get_or b i 0 inside) ∙ there)
+
+-- What is read in pieces is cut into them.
+abbrev IsCut : List Piece → Octets → Type 0
+IsCut ps d = is_some (cut ps d) ≡ true
+
+cut_more : (p : Piece) (ps : List Piece) (d rest : Octets) (part : Part) → piece_front p d ≡ Some (part, rest) → IsCut ps rest → IsCut (p ∷ ps) d
+unfolding cut
+cut_more p ps d rest part front more =
+    ap (λ (x : Option (Part × Octets)). is_some (elim x [ None ↦ None | Some r ↦ option_map (λ xs. r.0 ∷ xs) (cut ps r.1) ])) front
+    ∙ mapped (cut ps rest) more
+  where
+    mapped : (x : Option (List Part)) → is_some x ≡ true → is_some (option_map (λ (xs : List Part). part ∷ xs) x) ≡ true
+    mapped None h = absurd (false≢true h)
+    mapped (Some xs) h = refl
+
+front_cut : (k : ℕ) (o rest : Octets) → length o ≡ k → octets_front k (o ++ rest) ≡ Some (octets o, rest)
+front_cut k o rest long =
+    rw (le-leb k (length (o ++ rest)) (omega (arith, length-append o rest)), take_at o rest k long, drop_at o rest k long) refl
+
+nothing_cut : IsCut [] []
+unfolding cut
+nothing_cut = refl
+
+pieces_cut : (b : Octets) (ps : List Piece) (i e : ℕ) (d : Octets) → PiecesAt b ps i e d → IsCut ps d
+pieces_cut b [] i e d h = subst (IsCut []) (sym h.1) nothing_cut
+pieces_cut b (fixed f ∷ ps) i e d h =
+    let long : length h.0 ≡ width f = octets_length h.2 ∙ (omega arith) in
+    cut_more (fixed f) ps d h.1 (octets h.0) (ap (octets_front (width f)) h.3 ∙ front_cut (width f) h.0 h.1 long) (pieces_cut b ps (i + width f) e h.1 h.4)
+pieces_cut b (domain ∷ ps) i e d h =
+    cut_more domain ps d h.2 (name h.0) (ap (piece_front domain) h.4 ∙ ap (option_map (λ (r : DomainName × Octets). (name r.0, r.1))) (name_of-wire h.0 h.2 h.3.1))
+    (pieces_cut b ps h.1 e h.2 h.5)
+pieces_cut b (string ∷ ps) i e d h = cut_more string ps d h.2 (octets h.1) (ap string_front h.5 ∙ by_first h.1 refl) (pieces_cut b ps (i + 1 + h.0) e h.2 h.6)
+  where
+    by_first : (o : Octets) → h.1 ≡ o → string_front (h.1 ++ h.2) ≡ Some (octets h.1, h.2)
+    by_first [] p = absurd (omega (arith, octets_length h.4, ap length p))
+    by_first (k ∷ os) p =
+        let long : length (k ∷ os) ≡ suc h.0 = ap length (sym p) ∙ octets_length h.4 ∙ (omega arith) in
+        let first : k ≡ h.0 = ap (λ (xs : Octets). get_or xs 0 0) (sym p) ∙ first_octet b i h.0 h.1 h.3 h.4 in
+        ap (λ o. string_front (o ++ h.2)) p
+        ∙ front_cut (suc k) (k ∷ os) h.2 (long ∙ ap suc (sym first))
+        ∙ ap (λ o. Some (octets o, h.2)) (sym p)
+pieces_cut b (strings ∷ ps) i e d h =
+    let none : h.1 ≡ [] = nothing_between b ps e h.1 (subst (λ j. PiecesAt b ps j e h.1) h.7 h.8) in
+    let whole : d ≡ h.0 = h.6 ∙ ap (λ o. h.0 ++ o) none ∙ append-nil h.0 in
+    let tests : (not (length h.0 == 0) && are_strings 0 h.0) ≡ true = and_from _ _ (ap not (ne_eqb (length h.0) 0 (λ z. omega (arith, h.4)))) h.5 in
+    let front : strings_front h.0 ≡ Some (octets h.0, []) = rw tests refl in
+    cut_more strings ps d [] (octets h.0) (ap strings_front whole ∙ front)
+    (subst (IsCut ps) none (pieces_cut b ps h.2 e h.1 h.8))
+pieces_cut b (anything ∷ ps) i e d h =
+    let none : h.1 ≡ [] = nothing_between b ps e h.1 (subst (λ j. PiecesAt b ps j e h.1) h.5 h.6) in
+    cut_more anything ps d [] (octets d) refl (subst (IsCut ps) none (pieces_cut b ps h.2 e h.1 h.6))
+
+alone : names_among (anything ∷ []) ≡ 0
+unfolding names_among
+alone = refl
+
+-- The data of a record is valid for its type, or, in another class than IN, for a type of which the data is octets.
+pub data_valid : (b : Octets) (t c i e : ℕ) (d : Octets) → DataAt b t c i e d → e - i ≤ 65535 → valid (if c == class_in then t else 0) d ≡ true
+data_valid b t c i e d h fits = go (c == class_in) h.2
+  where
+    go : (x : Bool) → PiecesAt b (if x then pieces_of t else anything ∷ []) i e d → valid (if x then t else 0) d ≡ true
+    go true g =
+        and_from _ _ (le-leb (length d) 65535 (short_data b (pieces_of t) i e d (row_bounded t type_table table_bounded) fits g)) (pieces_cut b (pieces_of t) i e d g)
+    go false g =
+        and_from _ _ (le-leb (length d) 65535 (omega (arith, unnamed_length b (anything ∷ []) i e d alone g))) (pieces_cut b (anything ∷ []) i e d g)
