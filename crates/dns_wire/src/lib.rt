@@ -11,3 +11,6 @@ mod reader;
 pub use fault::WireFault;
 pub use message::{CLASS_IN, Head, Message, Question, WireRecord};
 pub use reader::read_message;
+
+#[cfg(test)]
+mod tests;
