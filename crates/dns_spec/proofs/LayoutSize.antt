@@ -6,7 +6,7 @@ use Rattle.dns_spec.specs.Names.{Octets, DomainName}
 use Rattle.dns_spec.specs.Data.{class_in, Part, octets, name}
 use Rattle.dns_spec.specs.Records.{ResourceRecord}
 use Rattle.dns_spec.specs.Reading.{Header, MessageQuestion}
-use Rattle.dns_spec.specs.Layout.{octets16, octets32, Item, records_of, pointer, Placed, has_suffix, suffix_place, place_of, shared_octets, cost, data_octets, data_names, parts_of, record_tail, records_octets, question_octets, reply_header, layout, data_size, names_in, records_size, size, plain_owner, plain_record, plain_layout, plain_records_size, plain_size}
+use Rattle.dns_spec.specs.Layout.{octets16, octets32, Item, records_of, pointer, Placed, has_suffix, suffix_place, place_of, shared_octets, cost, data_octets, data_names, parts_of, record_tail, records_octets, asked_octets, asked_placed, asked_names, asked_name, reply_header, layout, data_size, names_in, records_size, size, plain_owner, plain_record, plain_layout, plain_records_size, plain_size}
 
 length-record_tail : (r : ResourceRecord) (d : Octets) → length (record_tail r d) ≡ 10 + length d
 length-record_tail r d = length-append (octets16 r.rtype ++ octets16 class_in ++ octets32 r.ttl ++ octets16 (length d)) d
@@ -18,12 +18,12 @@ plain_records asked (r ∷ rs) =
     length-append (plain_record asked r) (flat_map (plain_record asked) rs)
     ∙ omega (arith, length-append (plain_owner asked r.owner) (record_tail r r.rdata), length-record_tail r r.rdata, plain_records asked rs)
 
-pub length-plain_layout : (h : Header) (q : MessageQuestion) (items : List Item) → length (plain_layout h q items) ≡ plain_size q items
+pub length-plain_layout : (h : Header) (q : Option MessageQuestion) (items : List Item) → length (plain_layout h q items) ≡ plain_size q items
 unfolding plain_layout plain_size
 length-plain_layout h q items =
-    let w = flat_map (plain_record q.qname) (records_of items) in
-    length-append (reply_header h items ++ question_octets q) w
-    ∙ ap₂ ◌+◌ (length-append (reply_header h items) (question_octets q)) (plain_records q.qname (records_of items))
+    let w = flat_map (plain_record (asked_name q)) (records_of items) in
+    length-append (reply_header h q items ++ asked_octets q) w
+    ∙ ap₂ ◌+◌ (length-append (reply_header h q items) (asked_octets q)) (plain_records (asked_name q) (records_of items))
 
 -- a name has a place exactly where an earlier name has it as a suffix
 abbrev pub names_of : List Placed → List DomainName
@@ -89,9 +89,15 @@ length-records_octets ms p (r ∷ rs) =
     length-append (owner ++ record_tail r d) rest
     ∙ omega (arith, length-append owner (record_tail r d), length-record_tail r d, length-shared_octets ms r.owner, d-len, rest-len)
 
-pub length-layout : (h : Header) (q : MessageQuestion) (items : List Item) → length (layout h q items) ≡ size q items
+names_of-asked : (q : Option MessageQuestion) → names_of (asked_placed q) ≡ asked_names q
+names_of-asked None = refl
+names_of-asked (Some q) = refl
+
+pub length-layout : (h : Header) (q : Option MessageQuestion) (items : List Item) → length (layout h q items) ≡ size q items
 unfolding layout size
 length-layout h q items =
-    let w = records_octets ((q.qname, 12) ∷ []) (12 + length (question_octets q)) (records_of items) in
-    length-append (reply_header h items ++ question_octets q) w
-    ∙ ap₂ ◌+◌ (length-append (reply_header h items) (question_octets q)) (length-records_octets ((q.qname, 12) ∷ []) (12 + length (question_octets q)) (records_of items))
+    let from = 12 + length (asked_octets q) in
+    let rs = records_of items in
+    length-append (reply_header h q items ++ asked_octets q) (records_octets (asked_placed q) from rs)
+    ∙ ap₂ ◌+◌ (length-append (reply_header h q items) (asked_octets q))
+    (length-records_octets (asked_placed q) from rs ∙ ap (λ ms. records_size ms rs) (names_of-asked q))

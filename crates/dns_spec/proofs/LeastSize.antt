@@ -1,11 +1,11 @@
 -- The size of the layout is the least that sharing allows.
-use Rattle.std.proofs.Common.{◌≡◌, ℕ, ◌+◌, ◌<◌, ◌≤◌, Bool, true, false, List, [], ◌∷◌, ◌++◌, length, refl, sym, ap, subst, arith, length-append}
+use Rattle.std.proofs.Common.{◌≡◌, ℕ, ◌+◌, ◌<◌, ◌≤◌, Bool, true, false, List, [], ◌∷◌, ◌++◌, length, refl, sym, ap, subst, arith, length-append, Option}
 use Rattle.std.specs.List.{list_any}
 use Rattle.dns_spec.specs.Names.{Octets, DomainName, wire}
 use Rattle.dns_spec.specs.Data.{Part, octets, name}
 use Rattle.dns_spec.specs.Records.{ResourceRecord}
 use Rattle.dns_spec.specs.Reading.{MessageQuestion}
-use Rattle.dns_spec.specs.Layout.{Item, records_of, has_suffix, cost, data_size, records_size, size, parts_of, names_in}
+use Rattle.dns_spec.specs.Layout.{Item, records_of, has_suffix, asked_names, cost, data_size, records_size, size, parts_of, names_in}
 use Rattle.dns_spec.specs.Sharing.{labels_size, NameSize, DataSize, RecordsSize, Sharing}
 use Rattle.dns_spec.specs.Sharing.NameSize.{whole, shared}
 use Rattle.dns_spec.specs.Sharing.DataSize.{no_parts, behind_octets, behind_name}
@@ -91,10 +91,10 @@ records_least no_records = omega arith
 records_least (behind_record r rs i j k c d e) =
     let f = cost_least c in let g = data_least d in let h = records_least e in omega (arith, f, g, h)
 
-pub size_possible : (q : MessageQuestion) (items : List Item) → Sharing q items (size q items)
+pub size_possible : (q : Option MessageQuestion) (items : List Item) → Sharing q items (size q items)
 unfolding size
-size_possible q items = record { records = records_size (q.qname ∷ []) (records_of items); sized = records_possible (q.qname ∷ []) (records_of items); whole = refl }
+size_possible q items = record { records = records_size (asked_names q) (records_of items); sized = records_possible (asked_names q) (records_of items); whole = refl }
 
-pub size_least : (q : MessageQuestion) (items : List Item) (z : ℕ) → Sharing q items z → size q items ≤ z
+pub size_least : (q : Option MessageQuestion) (items : List Item) (z : ℕ) → Sharing q items z → size q items ≤ z
 unfolding size
 size_least q items z s = let h = records_least s.sized in omega (arith, h, s.whole)

@@ -37,6 +37,7 @@ pub mod SharedLayout
 pub mod FirstOctets
 pub mod Examples
 mod Rows
+mod LayoutRows
 mod PlainRows
 mod CheckRows
 mod ReportRows

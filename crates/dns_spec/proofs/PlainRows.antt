@@ -26,7 +26,7 @@ main_sets = plain_reply keep_plain
 
 unfoldable all_sets : ZoneContents → Octets → Option Octets
 unfolding plain_reply labels_from cut run runs_before name_at data_size records_size size plain_layout plain_size cost chain_from chain outcome_at outcome extra items required reply_with question_at decide
-all_sets = plain_reply (λ z limit q. kept (plain_size q) limit (items z q.qname q.qtype))
+all_sets = plain_reply (λ z limit q. kept (plain_size (Some q)) limit (items z q.qname q.qtype))
 
 abbrev outline : Option Octets → ℕ → ℕ → Option (Octets × ℕ × Octets)
 outline o i k = option_map (λ b. (take 12 b, length b, take k (drop i b))) o
@@ -37,7 +37,7 @@ asked cs t = record { qname = dotted cs; qtype = t; qclass = 1 }
 
 unfoldable reply_size : ZoneContents → ℕ → MessageQuestion → ℕ
 unfolding labels_from cut run runs_before name_at data_size records_size size plain_layout plain_size cost chain_from chain outcome_at outcome extra items required reply_with question_at decide
-reply_size z limit q = size q (keep_longest z limit q)
+reply_size z limit q = size (Some q) (keep_longest z limit q)
 
 -- the faults that the zone has, each told of a name by its text
 abbrev told : Octets → ℕ → Fault

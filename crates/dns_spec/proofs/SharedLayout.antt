@@ -1,19 +1,20 @@
 -- The layout, in which names share suffixes, spells its message.
-use Rattle.std.proofs.Common.{◌≡◌, ℕ, zero, suc, ◌+◌, ◌≤◌, Bool, true, false, cond, nat_le, List, [], ◌∷◌, ◌++◌, map, length, take, drop, Option, None, Some, All, is_some, unwrap_or, refl, sym, ap, ◌∙◌, subst, arith, append_assoc, append-nil, length-append, add-zero, zero-add}
+use Rattle.std.proofs.Common.{◌≡◌, ℕ, zero, suc, ◌+◌, ◌^◌, ◌<◌, ◌≤◌, Bool, true, false, cond, nat_le, List, [], ◌∷◌, ◌++◌, map, length, take, drop, Option, None, Some, All, IfSome, is_some, unwrap_or, refl, sym, ap, ◌∙◌, subst, arith, append_assoc, append-nil, length-append, add-zero, zero-add}
 use Rattle.std.proofs.lemmas.Bool.{and_parts, false≢true}
 use Rattle.std.proofs.lemmas.Option.{none-some, same_Some, cond_some}
 use Rattle.std.proofs.lemmas.List.{length-map, map-append}
 use Rattle.std.specs.List.{list_all}
-use Rattle.dns_spec.specs.Names.{Octets, wire, is_label, labels_from}
+use Rattle.std.specs.Option.{option_to_list}
+use Rattle.dns_spec.specs.Names.{Octets, DomainName, wire, is_label, labels_from}
 use Rattle.dns_spec.specs.Data.{class_in, Fixed, width, Piece, fixed, domain, string, strings, anything, pieces_of, compresses, Part, octets, octets_front, piece_front, cut, valid, parts, laid_parts}
 use Rattle.dns_spec.specs.Records.{ResourceRecord}
 use Rattle.dns_spec.specs.Reading.{Header, MessageQuestion, MessageRecord, OctetsAt, NumberAt, PiecesAt, DataAt, RecordsAt, Spells}
-use Rattle.dns_spec.specs.Layout.{octets16, octets32, answer, authority, additional, Item, records_of, in_section, Placed, shared_octets, data_octets, data_names, parts_of, record_tail, records_octets, question_octets, reply_header, layout, size, message_record, message_of}
-use Rattle.dns_spec.specs.Laws.{IsWritable, HasRoom}
+use Rattle.dns_spec.specs.Layout.{octets16, octets32, answer, authority, additional, Item, records_of, in_section, Placed, shared_octets, data_octets, data_names, parts_of, record_tail, records_octets, question_octets, asked_octets, asked_placed, asked_names, reply_header, layout, records_size, size, names_in, is_section, Section, message_record, message_of}
+use Rattle.dns_spec.specs.Laws.{IsWritable, IsAskable, HasRoom, HasCounts}
 use Rattle.dns_spec.proofs.SortedOnce.{Each}
 use Rattle.dns_spec.proofs.Places.{Stands, stands_front, stands_rest, stands_behind, stands_all, stands_within, stands_get, number_at, octets_at}
 use Rattle.dns_spec.proofs.WrittenData.{cut_into, name_part, octets_part, all_strings, front_taken, data_written}
-use Rattle.dns_spec.proofs.PlainLayout.{records_by_section, header_at, question_at_12, length-question_octets}
+use Rattle.dns_spec.proofs.PlainLayout.{records_by_section, section_with, header_at, one_question, asked_at_12, length-question_octets}
 use Rattle.dns_spec.proofs.LayoutSize.{length-layout}
 use Rattle.dns_spec.proofs.WritableItems.{each_from_all}
 use Rattle.dns_spec.proofs.SharedNames.{Known, known_later, known_more, name_shared, nothing_known, shared_alone}
@@ -282,33 +283,41 @@ records_split : (b : Octets) (qs rs : List MessageRecord) (i e : ℕ) → Record
 records_split b [] rs i e h = (i, refl, h)
 records_split b (q ∷ qs) rs i e h = let s = records_split b qs rs (h.0 + 10 + h.1) e h.3 in (s.0, (h.0, h.1, h.2, s.1), s.2)
 
-spells_where : (b : Octets) (h : Header) (q : MessageQuestion) (items : List Item) → length b ≤ 16384 → HasRoom h q items → Each IsWritable (records_of items)
-    → b ≡ reply_header h items ++ question_octets q ++ records_octets ((q.qname, 12) ∷ []) (12 + length (question_octets q)) (records_of items) → Spells b (message_of h q items)
-spells_where b h q items room ok writable whole =
-    let A = in_section answer items in
-    let B = in_section authority items in
-    let C = in_section additional items in
-    let rh = reply_header h items in
-    let qo = question_octets q in
-    let from : ℕ = 12 + length qo in
-    let rest = records_octets ((q.qname, 12) ∷ []) from (records_of items) in
-    let all : Stands b 0 (rh ++ qo ++ rest) = subst (Stands b 0) whole (stands_all b) in
-    let front : Stands b 0 (rh ++ qo) = stands_front (rh ++ qo) rest all in
-    let at = header_at h 1 (length A) (length B) (length C) ok.id ok.flags (omega arith) ok.answers ok.authorities ok.additionals (stands_front rh qo front) in
-    let question : Stands b 12 qo = stands_behind 12 rh qo refl front in
-    let asked = question_at_12 q ok.qname ok.qtype ok.qclass question in
-    let spelled : Stands b 12 (wire q.qname) = stands_front (wire q.qname) (octets16 q.qtype) (stands_front (wire q.qname ++ octets16 q.qtype) (octets16 q.qclass) question) in
+-- the name of the question is an earlier name of the records
+asked_known : (b : Octets) → length b ≤ 16384 → (q : Option MessageQuestion) → IfSome q IsAskable → Stands b 12 (asked_octets q)
+    → Known b (12 + length (asked_octets q)) (asked_placed q)
+asked_known b room None ok at = nothing_known b 12
+asked_known b room (Some q) ok at =
+    let from : ℕ = 12 + length (question_octets q) in
+    let spelled : Stands b 12 (wire q.qname) = stands_front (wire q.qname) (octets16 q.qtype) (stands_front (wire q.qname ++ octets16 q.qtype) (octets16 q.qclass) at) in
     let alone : Stands b 12 (shared_octets [] q.qname) = subst (Stands b 12) (sym (shared_alone q.qname)) spelled in
     let labels = (and_parts (list_all is_label q.qname) (nat_le (length (wire q.qname)) 255) ok.qname).0 in
     let first : Known b (12 + length (shared_octets [] q.qname)) ((q.qname, 12) ∷ []) =
     known_more b 12 [] (nothing_known b 12) q.qname 12 (omega arith) (omega arith) room labels alone in
-    let known : Known b from ((q.qname, 12) ∷ []) =
-    known_later b (12 + length (shared_octets [] q.qname)) from ((q.qname, 12) ∷ []) (omega (arith, ap length (shared_alone q.qname), length-question_octets q)) first in
+    known_later b (12 + length (shared_octets [] q.qname)) from ((q.qname, 12) ∷ []) (omega (arith, ap length (shared_alone q.qname), length-question_octets q)) first
+
+spells_where : (b : Octets) (h : Header) (q : Option MessageQuestion) (items : List Item) → length b ≤ 16384 → HasRoom h q items → HasCounts items
+    → Each IsWritable (records_of items)
+    → b ≡ reply_header h q items ++ asked_octets q ++ records_octets (asked_placed q) (12 + length (asked_octets q)) (records_of items) → Spells b (message_of h q items)
+spells_where b h q items room ok counts writable whole =
+    let A = in_section answer items in
+    let B = in_section authority items in
+    let C = in_section additional items in
+    let rh = reply_header h q items in
+    let qo = asked_octets q in
+    let from : ℕ = 12 + length qo in
+    let rest = records_octets (asked_placed q) from (records_of items) in
+    let all : Stands b 0 (rh ++ qo ++ rest) = subst (Stands b 0) whole (stands_all b) in
+    let front : Stands b 0 (rh ++ qo) = stands_front (rh ++ qo) rest all in
+    let at = header_at h (length (option_to_list q)) (length A) (length B) (length C) ok.id ok.flags (one_question q) counts.answers counts.authorities counts.additionals (stands_front rh qo front) in
+    let question : Stands b 12 qo = stands_behind 12 rh qo refl front in
+    let asked = asked_at_12 q ok.question question in
+    let known = asked_known b room q ok.question question in
     let head_len : length (rh ++ qo) ≡ from = length-append rh qo in
     let behind : Stands b from rest = subst (λ x. Stands b x rest) (zero-add from) (stands_behind from (rh ++ qo) rest head_len all) in
     let end : from + length rest ≡ length b = omega (arith, ap length whole, length-append (rh ++ qo) rest, head_len) in
     let read : RecordsAt b from (map message_record (records_of items)) (length b) =
-    subst (RecordsAt b from (map message_record (records_of items))) end (records_laid b room (records_of items) ((q.qname, 12) ∷ []) from known (omega arith) writable behind) in
+    subst (RecordsAt b from (map message_record (records_of items))) end (records_laid b room (records_of items) (asked_placed q) from known (omega arith) writable behind) in
     let split : map message_record (records_of items) ≡ map message_record A ++ (map message_record B ++ map message_record C) =
     ap (map message_record) (records_by_section items ok.in_order) ∙ map-append message_record A (B ++ C) ∙ ap (λ x. map message_record A ++ x) (map-append message_record B C) in
     let s = records_split b (map message_record A) (map message_record B ++ map message_record C) from (length b) (subst (λ x. RecordsAt b from x (length b)) split read) in
@@ -329,10 +338,35 @@ spells_where b h q items room ok writable whole =
       additionals = t.2;
     }
 
+-- there are no more records than octets
+section_bound : (s : Section) (is : List Item) → length (in_section s is) ≤ length (records_of is)
+section_bound s [] = omega arith
+section_bound s (i ∷ is) = go (is_section s i.section) refl (section_bound s is)
+  where
+    go : (t : Bool) → is_section s i.section ≡ t → length (in_section s is) ≤ length (records_of is) → length (in_section s (i ∷ is)) ≤ length (i.records ++ records_of is)
+    go true e h = let q = ap length (section_with s i is true e) in omega (arith, h, q, length-append i.records (in_section s is), length-append i.records (records_of is))
+    go false e h = let q = ap length (section_with s i is false e) in omega (arith, h, q, length-append i.records (records_of is))
+
+pub counted : (is : List Item) → length (records_of is) < 2 ^ 16 → HasCounts is
+counted is few = record {
+  answers = omega (arith, section_bound answer is);
+  authorities = omega (arith, section_bound authority is);
+  additionals = omega (arith, section_bound additional is);
+}
+
+shared_bound : (ms : List DomainName) (rs : List ResourceRecord) → length rs ≤ records_size ms rs
+unfolding records_size
+shared_bound ms [] = omega arith
+shared_bound ms (r ∷ rs) = let b = shared_bound (ms ++ r.owner ∷ [] ++ names_in (parts_of r)) rs in omega (arith, b)
+
+few_counts : (q : Option MessageQuestion) (is : List Item) → size q is < 2 ^ 16 → HasCounts is
+unfolding size
+few_counts q is short = let b = shared_bound (asked_names q) (records_of is) in counted is (omega (arith, b))
+
 -- The layout spells its message.
-pub layout_spells : (h : Header) (q : MessageQuestion) (items : List Item) → HasRoom h q items → All IsWritable (records_of items) → size q items ≤ 16384
+pub layout_spells : (h : Header) (q : Option MessageQuestion) (items : List Item) → HasRoom h q items → All IsWritable (records_of items) → size q items ≤ 16384
     → Spells (layout h q items) (message_of h q items)
 unfolding layout
 layout_spells h q items ok writable short =
     let b = layout h q items in
-    spells_where b h q items (omega (arith, length-layout h q items, short)) ok (each_from_all IsWritable (records_of items) writable) refl
+    spells_where b h q items (omega (arith, length-layout h q items, short)) ok (few_counts q items (omega arith)) (each_from_all IsWritable (records_of items) writable) refl

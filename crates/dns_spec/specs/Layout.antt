@@ -2,6 +2,7 @@
 -- and by which place, and the size of a layout, added up without writing it.
 use Rattle.std.specs.Prelude.{ℕ, zero, suc, ◌+◌, ◌-◌, ◌*◌, Bool, true, false, ◌&&◌, List, [], ◌∷◌, ◌++◌, map, length, nat_le, if◌then◌else◌}
 use Rattle.std.specs.Prelude.{Option, None, Some}
+use Rattle.std.specs.Option.{option_to_list}
 use Rattle.std.specs.List.{list_any, filter, flat_map}
 use Rattle.std.specs.Int.{bytes_high_first}
 use Rattle.dns_spec.specs.Names.{Octets, DomainName, wire, names_equal, last_labels}
@@ -108,19 +109,36 @@ records_octets ms p (r ∷ rs) =
 abbrev pub question_octets : MessageQuestion → Octets
 question_octets q = wire q.qname ++ octets16 q.qtype ++ octets16 q.qclass
 
+-- the question section of a message that has one question or none
+abbrev pub asked_octets : Option MessageQuestion → Octets
+asked_octets None = []
+asked_octets (Some q) = question_octets q
+
+-- the earlier names that it gives to the records: the question's, which begins at place 12
+abbrev pub asked_placed : Option MessageQuestion → List Placed
+asked_placed None = []
+asked_placed (Some q) = (q.qname, 12) ∷ []
+
+abbrev pub asked_names : Option MessageQuestion → List DomainName
+asked_names None = []
+asked_names (Some q) = q.qname ∷ []
+
+-- RFC 1035 4.1.1: ID and flags, and how many questions, answers, authority and additional records there are
 abbrev pub header_octets : Header → ℕ → ℕ → ℕ → ℕ → Octets
 header_octets h qd an ns ar = octets16 h.id ++ octets16 h.flags ++ octets16 qd ++ octets16 an ++ octets16 ns ++ octets16 ar
 
--- the header of a reply with its counts
-abbrev pub reply_header : Header → List Item → Octets
-reply_header h items =
-    header_octets h 1 (length (in_section answer items)) (length (in_section authority items)) (length (in_section additional items))
+-- the header of a message with its counts
+abbrev pub reply_header : Header → Option MessageQuestion → List Item → Octets
+reply_header h q items =
+    header_octets h (length (option_to_list q)) (length (in_section answer items))
+    (length (in_section authority items)) (length (in_section additional items))
 
--- The layout: header, question and records. The question's name is the first of the earlier names.
-unfoldable pub layout : Header → MessageQuestion → List Item → Octets
+-- The layout: header, question and records. The question's name is the first of the earlier names. Without a question
+-- the records begin at place 12, and no name is earlier than theirs.
+unfoldable pub layout : Header → Option MessageQuestion → List Item → Octets
 layout h q items =
-    reply_header h items ++ question_octets q
-    ++ records_octets ((q.qname, 12) ∷ []) (12 + length (question_octets q)) (records_of items)
+    reply_header h q items ++ asked_octets q
+    ++ records_octets (asked_placed q) (12 + length (asked_octets q)) (records_of items)
 
 -- the size of data, and the earlier names behind it
 unfoldable pub data_size : List DomainName → List Part → ℕ
@@ -140,8 +158,8 @@ records_size ms (r ∷ rs) =
     cost ms r.owner + 10 + data_size earlier (parts_of r) + records_size (earlier ++ names_in (parts_of r)) rs
 
 -- the length of the layout, added up without writing
-unfoldable pub size : MessageQuestion → List Item → ℕ
-size q items = 12 + length (question_octets q) + records_size (q.qname ∷ []) (records_of items)
+unfoldable pub size : Option MessageQuestion → List Item → ℕ
+size q items = 12 + length (asked_octets q) + records_size (asked_names q) (records_of items)
 
 -- The plain layout: an owner that is spelled as the question's name is a pointer to it, unless it is the root. All other
 -- names are written whole.
@@ -152,9 +170,14 @@ plain_owner asked (l ∷ n) = if names_equal (l ∷ n) asked then pointer 12 els
 abbrev pub plain_record : DomainName → ResourceRecord → Octets
 plain_record asked r = plain_owner asked r.owner ++ record_tail r r.rdata
 
-unfoldable pub plain_layout : Header → MessageQuestion → List Item → Octets
+-- the name that owners are pointers to. The root is never pointed to, so it stands for no question.
+abbrev pub asked_name : Option MessageQuestion → DomainName
+asked_name None = []
+asked_name (Some q) = q.qname
+
+unfoldable pub plain_layout : Header → Option MessageQuestion → List Item → Octets
 plain_layout h q items =
-    reply_header h items ++ question_octets q ++ flat_map (plain_record q.qname) (records_of items)
+    reply_header h q items ++ asked_octets q ++ flat_map (plain_record (asked_name q)) (records_of items)
 
 -- the length of the plain layout, added up
 abbrev pub plain_record_size : DomainName → ResourceRecord → ℕ
@@ -164,8 +187,8 @@ abbrev pub plain_records_size : DomainName → List ResourceRecord → ℕ
 plain_records_size asked [] = 0
 plain_records_size asked (r ∷ rs) = plain_record_size asked r + plain_records_size asked rs
 
-unfoldable pub plain_size : MessageQuestion → List Item → ℕ
-plain_size q items = 12 + length (question_octets q) + plain_records_size q.qname (records_of items)
+unfoldable pub plain_size : Option MessageQuestion → List Item → ℕ
+plain_size q items = 12 + length (asked_octets q) + plain_records_size (asked_name q) (records_of items)
 
 -- the greatest k up to n that passes the test, or 0
 abbrev pub greatest : (ℕ → Bool) → ℕ → ℕ
@@ -176,10 +199,10 @@ greatest test (suc k) = if test (suc k) then suc k else greatest test k
 abbrev pub message_record : ResourceRecord → MessageRecord
 message_record r = record { owner = r.owner; rtype = r.rtype; rclass = class_in; ttl = r.ttl; rdata = r.rdata }
 
-abbrev pub message_of : Header → MessageQuestion → List Item → DnsMessage
+abbrev pub message_of : Header → Option MessageQuestion → List Item → DnsMessage
 message_of h q items = record {
   header = h;
-  questions = q ∷ [];
+  questions = option_to_list q;
   answers = map message_record (in_section answer items);
   authorities = map message_record (in_section authority items);
   additionals = map message_record (in_section additional items);

@@ -7,7 +7,7 @@ use Rattle.dns_spec.specs.Names.{Octets, DomainName, at_or_below}
 use Rattle.dns_spec.specs.Data.{class_in, number_of}
 use Rattle.dns_spec.specs.Records.{ZoneContents}
 use Rattle.dns_spec.specs.Reading.{Header, MessageQuestion, DnsMessage, name_at}
-use Rattle.dns_spec.specs.Layout.{Item, layout, size, plain_size, header_octets, message_of, greatest}
+use Rattle.dns_spec.specs.Layout.{Item, layout, size, plain_size, message_of, greatest}
 use Rattle.dns_spec.specs.Answer.{format_error, not_implemented, refused, outcome, items, main_items, required, is_authoritative}
 
 -- What is kept of a list of sets: the longest beginning whose size is at most the limit.
@@ -114,22 +114,18 @@ reply_with keep z d = reply_of keep z d (decide z d)
 
 -- the longest beginning of all sets that fits the limit
 abbrev pub keep_longest : ZoneContents → ℕ → MessageQuestion → List Item
-keep_longest z limit q = kept (size q) limit (items z q.qname q.qtype)
+keep_longest z limit q = kept (size (Some q)) limit (items z q.qname q.qtype)
 
 unfoldable pub reply : ZoneContents → Octets → ℕ → Option Reply
 reply z d limit = reply_with (keep_longest z limit) z d
 
--- the octets of a reply, by a layout of its question and sets; a header sent alone has counts of 0
-abbrev pub octets_by : (Header → MessageQuestion → List Item → Octets) → Reply → Octets
-octets_by lay r = elim r.question [ None ↦ header_octets r.header 0 0 0 0 | Some q ↦ lay r.header q r.sets ]
+-- the octets of a reply, by a layout of its question and sets
+abbrev pub octets_by : (Header → Option MessageQuestion → List Item → Octets) → Reply → Octets
+octets_by lay r = lay r.header r.question r.sets
 
 -- the message that a reply is
 abbrev pub reply_message : Reply → DnsMessage
-reply_message r =
-    elim r.question [
-      | None ↦ record { header = r.header; questions = []; answers = []; authorities = []; additionals = [] }
-      | Some q ↦ message_of r.header q r.sets
-    ]
+reply_message r = message_of r.header r.question r.sets
 
 -- The octets of the reply to a datagram, of at most so many octets, or none.
 unfoldable pub octets_of : ZoneContents → Octets → ℕ → Option Octets
@@ -137,4 +133,4 @@ octets_of z d limit = option_map (octets_by layout) (reply z d limit)
 
 -- What a server that lays names out plainly keeps of the answer and authority sets.
 abbrev pub keep_plain : ZoneContents → ℕ → MessageQuestion → List Item
-keep_plain z limit q = kept (plain_size q) limit (main_items (outcome z q.qname q.qtype))
+keep_plain z limit q = kept (plain_size (Some q)) limit (main_items (outcome z q.qname q.qtype))

@@ -1,12 +1,13 @@
 -- What a reader learns here: the sizes that a reply may have by RFC 1035 4.1.4, where each name is written whole or
 -- shares any of its suffixes. The layout has the least of them.
 use Rattle.std.specs.Prelude.{◌≡◌, ℕ, ◌+◌, List, [], ◌∷◌, ◌++◌, length, IsTrue}
+use Rattle.std.specs.Prelude.{Option}
 use Rattle.std.specs.List.{list_any}
 use Rattle.dns_spec.specs.Names.{Octets, DomainName, wire}
 use Rattle.dns_spec.specs.Data.{Part, octets, name}
 use Rattle.dns_spec.specs.Records.{ResourceRecord}
 use Rattle.dns_spec.specs.Reading.{MessageQuestion}
-use Rattle.dns_spec.specs.Layout.{Item, records_of, has_suffix, question_octets, parts_of, names_in}
+use Rattle.dns_spec.specs.Layout.{Item, records_of, has_suffix, asked_octets, asked_names, parts_of, names_in}
 
 -- the octets of labels, each behind its length
 abbrev pub labels_size : DomainName → ℕ
@@ -33,7 +34,7 @@ pub data RecordsSize : List DomainName → List ResourceRecord → ℕ → Type 
       → RecordsSize ms (r ∷ rs) (i + 10 + j + k)
 
 -- a size that a reply with these sets may have
-pub record Sharing (q : MessageQuestion) (items : List Item) (z : ℕ) : Type 0 where
+pub record Sharing (q : Option MessageQuestion) (items : List Item) (z : ℕ) : Type 0 where
   pub records : ℕ
-  pub sized : RecordsSize (q.qname ∷ []) (records_of items) records
-  pub whole : z ≡ 12 + length (question_octets q) + records
+  pub sized : RecordsSize (asked_names q) (records_of items) records
+  pub whole : z ≡ 12 + length (asked_octets q) + records

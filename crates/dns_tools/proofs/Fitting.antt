@@ -1,5 +1,5 @@
 -- The longest beginning of sets that fits is what a writer keeps that puts set after set, up to the first that does not fit.
-use Rattle.std.proofs.Common.{Bool, true, false, cond, ◌≡◌, ℕ, zero, suc, ◌+◌, ◌<◌, ◌≤◌, List, [], ◌∷◌, ◌++◌, length, take, refl, sym, ◌∙◌, ap, arith, nat_le}
+use Rattle.std.proofs.Common.{Bool, true, false, cond, ◌≡◌, ℕ, zero, suc, ◌+◌, ◌<◌, ◌≤◌, List, [], ◌∷◌, ◌++◌, length, take, refl, sym, ◌∙◌, ap, arith, nat_le, Some}
 use Rattle.std.proofs.lemmas.Bool.{leb-true, le-leb, lt-leb}
 use Rattle.std.proofs.lemmas.List.{append-nil}
 use Rattle.std.specs.Prelude.{if◌then◌else◌}
@@ -101,7 +101,7 @@ module _ (q : DomainName) where
     large-some s [] is place inside large = absurd (omega arith)
     large-some s (r ∷ rs) is place inside large = omega arith
 
-pub kept-fitting : (q : MessageQuestion) (limit : ℕ) (is : List Item) → kept (plain_size q) limit is ≡ fitting q.qname (12 + length (question_octets q)) limit is
+pub kept-fitting : (q : MessageQuestion) (limit : ℕ) (is : List Item) → kept (plain_size (Some q)) limit is ≡ fitting q.qname (12 + length (question_octets q)) limit is
 unfolding plain_size
 kept-fitting q limit is = kept_from q.qname limit (12 + length (question_octets q)) is
 

@@ -1,5 +1,5 @@
 -- What is kept of the answer over a list zone, and the reply with it.
-use Rattle.std.proofs.Common.{Bool, true, ◌≡◌, ℕ, ◌+◌, ◌≤◌, List, [], ◌∷◌, ◌++◌, length, take, drop, refl, sym, ◌∙◌, ap, None, nat_lt}
+use Rattle.std.proofs.Common.{Bool, true, ◌≡◌, ℕ, ◌+◌, ◌≤◌, List, [], ◌∷◌, ◌++◌, length, take, drop, refl, sym, ◌∙◌, ap, None, Some, nat_lt}
 use Rattle.std.proofs.lemmas.List.{append-nil, append_assoc}
 use Rattle.std.specs.List.{flat_map}
 use Rattle.dns_spec.specs.Names.{Octets, DomainName}
@@ -47,7 +47,7 @@ module _ (z : ZoneContents) (ok : IsListZone z) (q : MessageQuestion) where
       (rw (no_targets (outcome z q.qname q.qtype) direct.no_referral) (ap length (append-nil (main_items (outcome z q.qname q.qtype))))) ∙ ap length (main-is z ok q)
 
   pub keep-is : keep_plain z 512 q ≡ kept_sets z q
-  keep-is = ap (kept (plain_size q) 512) (main-is z ok q) ∙ kept-fitting q 512 (due_items z q)
+  keep-is = ap (kept (plain_size (Some q)) 512) (main-is z ok q) ∙ kept-fitting q 512 (due_items z q)
 
   pub truncated-is : truncated z q (keep_plain z 512 q) ≡ nat_lt (length (kept_sets z q)) (length (due_items z q))
   truncated-is = λ i. nat_lt (length (keep-is i)) (required-is i)
@@ -58,7 +58,7 @@ module _ (z : ZoneContents) (ok : IsListZone z) (q : MessageQuestion) where
       (item-in authority (picked (soa_set z.origin) z.records)) (asked_in q.qname z.records (asked_types q.qtype)))
 
   -- the layout of a question with the sets kept
-  laid-is : (h : Header) → plain_layout h q (kept_sets z q)
+  laid-is : (h : Header) → plain_layout h (Some q) (kept_sets z q)
       ≡ header_octets h 1 (length (in_section answer (kept_sets z q))) (length (in_section authority (kept_sets z q))) 0 ++ (question_octets q ++ flat_map (plain_record q.qname) (records_of (kept_sets z q)))
   unfolding plain_layout
   laid-is h =
@@ -82,9 +82,14 @@ module _ (z : ZoneContents) (ok : IsListZone z) (q : MessageQuestion) (d out : O
       ∙ ap (λ x. header_octets (record { id = id; flags = flags }) questions answers authorities 0 ++ x) is_body
       ∙ (λ i. header_octets (record { id = is_id i; flags = is_flags i }) (one i) (count i) (others i) 0 ++ (question_octets q ++ flat_map (plain_record q.qname) (records_of (kept_sets z q))))
       ∙ sym (laid-is z ok q h)
-      ∙ (λ i. plain_layout (answer_head t r i) q (sym (keep-is z ok q) i))
+      ∙ (λ i. plain_layout (answer_head t r i) (Some q) (sym (keep-is z ok q) i))
 
 -- the layout of a question alone
-pub alone-is : (h : Header) (q : MessageQuestion) → plain_layout h q [] ≡ header_octets h 1 0 0 0 ++ question_octets q
+pub alone-is : (h : Header) (q : MessageQuestion) → plain_layout h (Some q) [] ≡ header_octets h 1 0 0 0 ++ question_octets q
 unfolding plain_layout
 alone-is h q = append-nil (header_octets h 1 0 0 0 ++ question_octets q)
+
+-- a layout without question and records is the header
+pub bare-is : (h : Header) → plain_layout h None [] ≡ header_octets h 0 0 0 0
+unfolding plain_layout
+bare-is h = refl

@@ -20,7 +20,7 @@ use Rattle.dns_tools.specs.declared.reply.Limit.TheVariants.{Udp}
 use Rattle.dns_tools.proofs.AllSets.{IsListedType}
 use Rattle.dns_tools.proofs.BodyLaws.{take-header}
 use Rattle.dns_tools.proofs.ListAnswer.{listed_type}
-use Rattle.dns_tools.proofs.ListReply.{alone-is}
+use Rattle.dns_tools.proofs.ListReply.{alone-is, bare-is}
 use Rattle.dns_tools.proofs.Decisions.{Sound, decide-sound}
 
 -- the reply as it is sent
@@ -90,12 +90,12 @@ module _ (z : ZoneContents) (d out : Octets) where
   pub header_sent : (rcode : ℕ) → decide z d ≡ header_alone rcode → take 12 out ≡ header_octets (reply_head d false false rcode) 0 0 0 0 → IsReply z d out (Some 12)
   header_sent rcode e is = record {
     absent = loud 12 (sym (sound (header_alone rcode) e).silent);
-    octets = subst (told (Some 12)) (sym (sent-is (header_alone rcode) e)) (ap (λ b. Some b) is);
+    octets = subst (told (Some 12)) (sym (sent-is (header_alone rcode) e)) (ap (λ b. Some b) (is ∙ sym (bare-is (reply_head d false false rcode))));
   }
 
   -- the question is sent alone
   pub question_sent : (q : MessageQuestion) (rcode end : ℕ) → decide z d ≡ question_alone q rcode
-      → take end out ≡ plain_layout (reply_head d false false rcode) q [] → IsReply z d out (Some end)
+      → take end out ≡ plain_layout (reply_head d false false rcode) (Some q) [] → IsReply z d out (Some end)
   question_sent q rcode end e is = record {
     absent = loud end (sym (sound (question_alone q rcode) e).silent);
     octets = subst (told (Some end)) (sym (sent-is (question_alone q rcode) e)) (ap (λ b. Some b) is);
@@ -118,7 +118,7 @@ module _ (d out : Octets) (rcode id flags questions answers authorities : ℕ)
 
   -- the header in front of the question
   pub question_laid : (q : MessageQuestion) (end : ℕ) → questions ≡ 1 → 12 ≤ end → body out end ≡ question_octets q
-      → take end (header_octets (record { id = id; flags = flags }) questions answers authorities 0 ++ drop 12 out) ≡ plain_layout (reply_head d false false rcode) q []
+      → take end (header_octets (record { id = id; flags = flags }) questions answers authorities 0 ++ drop 12 out) ≡ plain_layout (reply_head d false false rcode) (Some q) []
   question_laid q end one behind is_body =
       take-header (header_octets (record { id = id; flags = flags }) questions answers authorities 0) out end refl behind
       ∙ (λ i. header_octets (record { id = is_id i; flags = is_flags i }) (one i) (none i) (nothing i) 0 ++ is_body i)
