@@ -5,7 +5,7 @@ use Rattle.dns_spec.specs.Names.{Octets, DomainName, wire}
 use Rattle.dns_spec.specs.Data.{Part, octets, name}
 use Rattle.dns_spec.specs.Records.{ResourceRecord}
 use Rattle.dns_spec.specs.Reading.{MessageQuestion}
-use Rattle.dns_spec.specs.Layout.{Item, records_of, has_suffix, asked_names, cost, data_size, records_size, size, parts_of, names_in}
+use Rattle.dns_spec.specs.Layout.{Item, records_of, has_suffix, asked_names, cost, data_size, records_size, size, parts_of, names_of}
 use Rattle.dns_spec.specs.Sharing.{labels_size, NameSize, DataSize, RecordsSize, Sharing}
 use Rattle.dns_spec.specs.Sharing.NameSize.{whole, shared}
 use Rattle.dns_spec.specs.Sharing.DataSize.{no_parts, behind_octets, behind_name}
@@ -82,7 +82,7 @@ unfolding records_size
 records_possible ms [] = no_records
 records_possible ms (r ∷ rs) =
     let earlier = ms ++ r.owner ∷ [] in
-    let later = earlier ++ names_in (parts_of r) in
+    let later = ms ++ names_of r in
     behind_record r rs (cost ms r.owner) (data_size earlier (parts_of r)) (records_size later rs) (cost_possible ms r.owner) (data_possible earlier (parts_of r)) (records_possible later rs)
 
 records_least : {ms : List DomainName} {rs : List ResourceRecord} {k : ℕ} → RecordsSize ms rs k → records_size ms rs ≤ k

@@ -9,7 +9,7 @@ use Rattle.dns_spec.specs.Names.{Octets, DomainName, wire, is_label, labels_from
 use Rattle.dns_spec.specs.Data.{class_in, Fixed, width, Piece, fixed, domain, string, strings, anything, pieces_of, compresses, Part, octets, octets_front, piece_front, cut, valid, parts, laid_parts}
 use Rattle.dns_spec.specs.Records.{ResourceRecord}
 use Rattle.dns_spec.specs.Reading.{Header, MessageQuestion, MessageRecord, OctetsAt, NumberAt, PiecesAt, DataAt, RecordsAt, Spells}
-use Rattle.dns_spec.specs.Layout.{octets16, octets32, answer, authority, additional, Item, records_of, in_section, Placed, shared_octets, data_octets, data_names, parts_of, record_tail, records_octets, question_octets, asked_octets, asked_placed, asked_names, reply_header, layout, records_size, size, names_in, is_section, Section, message_record, message_of}
+use Rattle.dns_spec.specs.Layout.{octets16, octets32, answer, authority, additional, Item, records_of, in_section, Placed, shared_octets, data_laid, parts_of, record_tail, records_octets, question_octets, asked_octets, asked_placed, asked_names, reply_header, layout, records_size, size, names_of, is_section, Section, message_record, message_of}
 use Rattle.dns_spec.specs.Laws.{IsWritable, IsAskable, HasRoom, HasCounts}
 use Rattle.dns_spec.proofs.SortedOnce.{Each}
 use Rattle.dns_spec.proofs.Places.{Stands, stands_front, stands_rest, stands_behind, stands_all, stands_within, stands_get, number_at, octets_at}
@@ -18,6 +18,13 @@ use Rattle.dns_spec.proofs.PlainLayout.{records_by_section, section_with, header
 use Rattle.dns_spec.proofs.LayoutSize.{length-layout}
 use Rattle.dns_spec.proofs.WritableItems.{each_from_all}
 use Rattle.dns_spec.proofs.SharedNames.{Known, known_later, known_more, name_shared, nothing_known, shared_alone}
+
+-- what is laid out of data
+abbrev data_octets : List Placed → ℕ → List Part → Octets
+data_octets ms p ps = (data_laid ms p ps).written
+
+abbrev data_names : List Placed → ℕ → List Part → List Placed
+data_names ms p ps = (data_laid ms p ps).names
 
 -- behind the last octet there are only parts without octets
 take_none : (k : ℕ) → take {A = ℕ} k [] ≡ []
@@ -29,7 +36,7 @@ drop_none zero = refl
 drop_none (suc k) = refl
 
 no_octets : (ps : List Piece) (ys : List Part) → cut ps [] ≡ Some ys → (ms : List Placed) (i : ℕ) → length (data_octets ms i ys) ≡ 0
-unfolding cut data_octets labels_from
+unfolding cut data_laid labels_from
 no_octets [] ys h ms i = ap (λ z. length (data_octets ms i z)) (sym (same_Some [] ys h))
 no_octets (fixed f ∷ ps) ys h ms i =
     let k = width f in
@@ -59,25 +66,25 @@ module _ (b : Octets) (room : length b ≤ 16384) where
   -- behind octets, and behind a name
   module _ (ms : List Placed) (i : ℕ) (o : Octets) (ys : List Part) (known : Known b i ms) (header : 12 ≤ i) (at : Stands b i (data_octets ms i (octets o ∷ ys))) where
     at_octets : Stands b i o
-    unfolding data_octets
+    unfolding data_laid
     at_octets = stands_front o (data_octets ms (i + length o) ys) at
 
     behind_octets : (ps : List Piece) (rest : Octets) → Lays ps rest ys → Laid ps rest ms (i + length o) ys
-    unfolding data_octets
+    unfolding data_laid
     behind_octets ps rest lays =
         lays ms (i + length o) (known_later b i (i + length o) ms (omega arith) known) (omega arith) (stands_rest o (data_octets ms (i + length o) ys) at)
 
     end_of_octets : i + length o + length (data_octets ms (i + length o) ys) ≡ i + length (data_octets ms i (octets o ∷ ys))
-    unfolding data_octets
+    unfolding data_laid
     end_of_octets = omega (arith, length-append o (data_octets ms (i + length o) ys))
 
     known_behind : Known b (i + length o + length (data_octets ms (i + length o) ys)) (ms ++ data_names ms (i + length o) ys)
         → Known b (i + length (data_octets ms i (octets o ∷ ys))) (ms ++ data_names ms i (octets o ∷ ys))
-    unfolding data_names
+    unfolding data_laid
     known_behind k = subst (λ e. Known b e (ms ++ data_names ms (i + length o) ys)) end_of_octets k
 
   nil_lays : (os : Octets) (xs : List Part) → cut [] os ≡ Some xs → Lays [] os xs
-  unfolding cut data_octets data_names
+  unfolding cut data_laid
   nil_lays [] xs e ms i known header at =
       subst (Laid [] [] ms i) (same_Some [] xs e)
       (record { pieces = (sym (add-zero i), refl); known = subst (λ z. Known b z (ms ++ [])) (sym (add-zero i)) (subst (Known b i) (sym (append-nil ms)) known) })
@@ -164,7 +171,7 @@ module _ (b : Octets) (room : length b ≤ 16384) where
       record { pieces = (os, [], i + length os, r.0, sym (append-nil os), r.1, r.2); known = r.3 })
 
   domain_lays : (ps : List Piece) (os rest : Octets) (part : Part) (ys : List Part) → piece_front domain os ≡ Some (part, rest) → Lays ps rest ys → Lays (domain ∷ ps) os (part ∷ ys)
-  unfolding data_octets data_names
+  unfolding data_laid
   domain_lays ps os rest part ys front lays ms i known header =
       let m = name_part os rest part front in
       let n = m.0 in
@@ -208,7 +215,7 @@ module _ (b : Octets) (room : length b ≤ 16384) where
     known : Known b (i + length (data_octets ms i xs)) (ms ++ data_names ms i xs)
 
   whole_laid : (t : ℕ) (d : Octets) (ms : List Placed) (i : ℕ) → valid t d ≡ true → Known b i ms → Stands b i (data_octets ms i (octets d ∷ [])) → DataLaid t d ms i (octets d ∷ [])
-  unfolding data_octets data_names
+  unfolding data_laid
   whole_laid t d ms i ok known at =
       let none = append-nil d in
       record {
@@ -216,8 +223,8 @@ module _ (b : Octets) (room : length b ≤ 16384) where
         known = subst (Known b (i + length (d ++ []))) (sym (append-nil ms)) (known_later b i (i + length (d ++ [])) ms (omega arith) known);
       }
 
-  data_laid : (t : ℕ) (d : Octets) (ms : List Placed) (i : ℕ) → valid t d ≡ true → Known b i ms → 12 ≤ i → Stands b i (data_octets ms i (laid_parts t d)) → DataLaid t d ms i (laid_parts t d)
-  data_laid t d ms i ok known header = by_type (compresses t) (by_cut (cut (pieces_of t) d) refl some)
+  data_laid_at : (t : ℕ) (d : Octets) (ms : List Placed) (i : ℕ) → valid t d ≡ true → Known b i ms → 12 ≤ i → Stands b i (data_octets ms i (laid_parts t d)) → DataLaid t d ms i (laid_parts t d)
+  data_laid_at t d ms i ok known header = by_type (compresses t) (by_cut (cut (pieces_of t) d) refl some)
     where
       some : is_some (cut (pieces_of t) d) ≡ true
       some = (and_parts (nat_le (length d) 65535) (is_some (cut (pieces_of t) d)) ok).1
@@ -239,19 +246,20 @@ module _ (b : Octets) (room : length b ≤ 16384) where
       → RecordsAt b i (map message_record rs) (i + length (records_octets ms i rs))
   unfolding records_octets
   records_laid [] ms i known header w at = sym (add-zero i)
-  records_laid (r ∷ rs) ms i known header w at =
+  records_laid (r ∷ rs) ms i known header w_ok at =
       let n = shared_octets ms r.owner in
       let j : ℕ = i + length n in
       let behind : ℕ = i + length n + 10 in
       let earlier = ms ++ (r.owner, i) ∷ [] in
       let d = data_octets earlier behind (parts_of r) in
-      let later = earlier ++ data_names earlier behind (parts_of r) in
-      let rest = records_octets later (behind + length d) rs in
+      let w = n ++ record_tail r d in
+      let later = ms ++ (r.owner, i) ∷ data_names earlier behind (parts_of r) in
+      let rest = records_octets later (i + length w) rs in
       let t = octets16 r.rtype in
       let c = octets16 class_in in
       let l = octets32 r.ttl in
       let k = octets16 (length d) in
-      let front : Stands b i (n ++ record_tail r d) = stands_front (n ++ record_tail r d) rest at in
+      let front : Stands b i (n ++ record_tail r d) = stands_front w rest at in
       let own : Stands b i n = stands_front n (record_tail r d) front in
       let tail : Stands b j (t ++ c ++ l ++ k ++ d) = stands_rest n (record_tail r d) front in
       let upto_length : Stands b j (t ++ c ++ l ++ k) = stands_front (t ++ c ++ l ++ k) d tail in
@@ -259,24 +267,27 @@ module _ (b : Octets) (room : length b ≤ 16384) where
       let upto_class : Stands b j (t ++ c) = stands_front (t ++ c) l upto_ttl in
       let data_stands : Stands b behind d = stands_behind 10 (t ++ c ++ l ++ k) d refl tail in
       let short = stands_within d data_stands in
-      let labels = (and_parts (list_all is_label r.owner) (nat_le (length (wire r.owner)) 255) w.0.owner).0 in
+      let labels = (and_parts (list_all is_label r.owner) (nat_le (length (wire r.owner)) 255) w_ok.0.owner).0 in
       let known' : Known b behind earlier = known_later b j behind earlier (omega arith) (known_more b i ms known r.owner i (omega arith) header room labels own) in
-      let laid = data_laid r.rtype r.rdata earlier behind w.0.rdata known' (omega arith) data_stands in
+      let laid = data_laid_at r.rtype r.rdata earlier behind w_ok.0.rdata known' (omega arith) data_stands in
       let tail_len : length (record_tail r d) ≡ 10 + length d = length-append (t ++ c ++ l ++ k) d in
-      let next : i + length (n ++ record_tail r d) ≡ behind + length d = omega (arith, length-append n (record_tail r d), tail_len) in
-      let end : behind + length d + length rest ≡ i + length (n ++ record_tail r d ++ rest) = omega (arith, next, length-append (n ++ record_tail r d) rest) in (
+      let next : i + length w ≡ behind + length d = omega (arith, length-append n (record_tail r d), tail_len) in
+      let known_next : Known b (i + length w) later =
+      subst (λ e. Known b e later) (sym next) (subst (Known b (behind + length d)) (append_assoc ms ((r.owner, i) ∷ []) (data_names earlier behind (parts_of r))) laid.known) in
+      let end : i + length w + length rest ≡ i + length (w ++ rest) = omega (arith, length-append w rest) in
+      let others = records_laid rs later (i + length w) known_next (omega (arith, next)) w_ok.1 (stands_rest w rest at) in (
         j,
         length d,
         record {
-          owner = name_shared b i ms known r.owner i (omega arith) w.0.owner own;
-          rtype = number_at 2 r.rtype w.0.rtype (stands_front t c upto_class);
+          owner = name_shared b i ms known r.owner i (omega arith) w_ok.0.owner own;
+          rtype = number_at 2 r.rtype w_ok.0.rtype (stands_front t c upto_class);
           rclass = number_at 2 class_in (omega arith) (stands_behind 2 t c refl upto_class);
-          ttl = number_at 4 r.ttl w.0.ttl (stands_behind 4 (t ++ c) l refl upto_ttl);
+          ttl = number_at 4 r.ttl w_ok.0.ttl (stands_behind 4 (t ++ c) l refl upto_ttl);
           length = number_at 2 (length d) (omega (arith, short, room)) (stands_behind 8 (t ++ c ++ l) k refl upto_length);
           rdata = laid.data_at;
         },
-        subst (λ e. RecordsAt b (behind + length d) (map message_record rs) e) end
-            (records_laid rs later (behind + length d) laid.known (omega arith) w.1 (subst (λ x. Stands b x rest) next (stands_rest (n ++ record_tail r d) rest at))),
+        subst (λ p. RecordsAt b p (map message_record rs) (i + length (w ++ rest))) next
+            (subst (RecordsAt b (i + length w) (map message_record rs)) end others),
       )
 
 records_split : (b : Octets) (qs rs : List MessageRecord) (i e : ℕ) → RecordsAt b i (qs ++ rs) e → (j : ℕ) × RecordsAt b i qs j × RecordsAt b j rs e
@@ -357,7 +368,7 @@ counted is few = record {
 shared_bound : (ms : List DomainName) (rs : List ResourceRecord) → length rs ≤ records_size ms rs
 unfolding records_size
 shared_bound ms [] = omega arith
-shared_bound ms (r ∷ rs) = let b = shared_bound (ms ++ r.owner ∷ [] ++ names_in (parts_of r)) rs in omega (arith, b)
+shared_bound ms (r ∷ rs) = let b = shared_bound (ms ++ names_of r) rs in omega (arith, b)
 
 few_counts : (q : Option MessageQuestion) (is : List Item) → size q is < 2 ^ 16 → HasCounts is
 unfolding size

@@ -74,19 +74,22 @@ unfoldable pub cost : List DomainName → DomainName → ℕ
 cost ms [] = 1
 cost ms (l ∷ n) = elim (list_any (λ m. has_suffix m (l ∷ n)) ms) [ true ↦ 2 | false ↦ 1 + length l + cost ms n ]
 
--- data laid out from place p on: what is no name, or is none to a writer, stands as it is
-unfoldable pub data_octets : List Placed → ℕ → List Part → Octets
-data_octets ms p [] = []
-data_octets ms p (octets o ∷ ps) = o ++ data_octets ms (p + length o) ps
-data_octets ms p (name n ∷ ps) =
-    let w = shared_octets ms n in
-    w ++ data_octets (ms ++ (n, p) ∷ []) (p + length w) ps
+-- What is laid out: its octets, and the names in it with their places.
+pub record Laid : Type 0 where
+  pub written : Octets
+  pub names : List Placed
 
--- the names in it, with their places
-unfoldable pub data_names : List Placed → ℕ → List Part → List Placed
-data_names ms p [] = []
-data_names ms p (octets o ∷ ps) = data_names ms (p + length o) ps
-data_names ms p (name n ∷ ps) = (n, p) ∷ data_names (ms ++ (n, p) ∷ []) (p + length (shared_octets ms n)) ps
+-- octets, and names in them, in front of what is laid out after them
+abbrev pub laid_front : Octets → List Placed → Laid → Laid
+laid_front o ms l = record { written = o ++ l.written; names = ms ++ l.names }
+
+-- data laid out from place p on: what is no name, or is none to a writer, stands as it is
+unfoldable pub data_laid : List Placed → ℕ → List Part → Laid
+data_laid ms p [] = record { written = []; names = [] }
+data_laid ms p (octets o ∷ ps) = laid_front o [] (data_laid ms (p + length o) ps)
+data_laid ms p (name n ∷ ps) =
+    let w = shared_octets ms n in
+    laid_front w ((n, p) ∷ []) (data_laid (ms ++ (n, p) ∷ []) (p + length w) ps)
 
 abbrev pub parts_of : ResourceRecord → List Part
 parts_of r = laid_parts r.rtype r.rdata
@@ -95,15 +98,19 @@ parts_of r = laid_parts r.rtype r.rdata
 abbrev pub record_tail : ResourceRecord → Octets → Octets
 record_tail r d = octets16 r.rtype ++ octets16 class_in ++ octets32 r.ttl ++ octets16 (length d) ++ d
 
--- the records laid out from place p on
+-- a record laid out from place p on: its owner is an earlier name of its data
+abbrev pub record_laid : List Placed → ℕ → ResourceRecord → Laid
+record_laid ms p r =
+    let owner = shared_octets ms r.owner in
+    let d = data_laid (ms ++ (r.owner, p) ∷ []) (p + length owner + 10) (parts_of r) in
+    record { written = owner ++ record_tail r d.written; names = (r.owner, p) ∷ d.names }
+
+-- the records laid out from place p on: the names of each are earlier names of those after it
 unfoldable pub records_octets : List Placed → ℕ → List ResourceRecord → Octets
 records_octets ms p [] = []
 records_octets ms p (r ∷ rs) =
-    let owner = shared_octets ms r.owner in
-    let behind = p + length owner + 10 in
-    let earlier = ms ++ (r.owner, p) ∷ [] in
-    let d = data_octets earlier behind (parts_of r) in
-    owner ++ record_tail r d ++ records_octets (earlier ++ data_names earlier behind (parts_of r)) (behind + length d) rs
+    let l = record_laid ms p r in
+    l.written ++ records_octets (ms ++ l.names) (p + length l.written) rs
 
 -- RFC 1035 4.1.2: the question, spelled as it was asked
 abbrev pub question_octets : MessageQuestion → Octets
@@ -140,22 +147,28 @@ layout h q items =
     reply_header h q items ++ asked_octets q
     ++ records_octets (asked_placed q) (12 + length (asked_octets q)) (records_of items)
 
--- the size of data, and the earlier names behind it
-unfoldable pub data_size : List DomainName → List Part → ℕ
-data_size ms [] = 0
-data_size ms (octets o ∷ ps) = length o + data_size ms ps
-data_size ms (name n ∷ ps) = cost ms n + data_size (ms ++ n ∷ []) ps
-
+-- the names in data that take part in sharing
 abbrev pub names_in : List Part → List DomainName
 names_in [] = []
 names_in (octets o ∷ ps) = names_in ps
 names_in (name n ∷ ps) = n ∷ names_in ps
 
+-- the names of a record that later names may share: its owner, and those in its data
+abbrev pub names_of : ResourceRecord → List DomainName
+names_of r = r.owner ∷ names_in (parts_of r)
+
+-- the size of data after earlier names, of a record, and of records
+unfoldable pub data_size : List DomainName → List Part → ℕ
+data_size ms [] = 0
+data_size ms (octets o ∷ ps) = length o + data_size ms ps
+data_size ms (name n ∷ ps) = cost ms n + data_size (ms ++ n ∷ []) ps
+
+abbrev pub record_size : List DomainName → ResourceRecord → ℕ
+record_size ms r = cost ms r.owner + 10 + data_size (ms ++ r.owner ∷ []) (parts_of r)
+
 unfoldable pub records_size : List DomainName → List ResourceRecord → ℕ
 records_size ms [] = 0
-records_size ms (r ∷ rs) =
-    let earlier = ms ++ r.owner ∷ [] in
-    cost ms r.owner + 10 + data_size earlier (parts_of r) + records_size (earlier ++ names_in (parts_of r)) rs
+records_size ms (r ∷ rs) = record_size ms r + records_size (ms ++ names_of r) rs
 
 -- the length of the layout, added up without writing
 unfoldable pub size : Option MessageQuestion → List Item → ℕ

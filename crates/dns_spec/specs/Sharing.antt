@@ -7,7 +7,7 @@ use Rattle.dns_spec.specs.Names.{Octets, DomainName, wire}
 use Rattle.dns_spec.specs.Data.{Part, octets, name}
 use Rattle.dns_spec.specs.Records.{ResourceRecord}
 use Rattle.dns_spec.specs.Reading.{MessageQuestion}
-use Rattle.dns_spec.specs.Layout.{Item, records_of, has_suffix, asked_octets, asked_names, parts_of, names_in}
+use Rattle.dns_spec.specs.Layout.{Item, records_of, has_suffix, asked_octets, asked_names, parts_of, names_of}
 
 -- the octets of labels, each behind its length
 abbrev pub labels_size : DomainName → ℕ
@@ -30,7 +30,7 @@ pub data DataSize : List DomainName → List Part → ℕ → Type 0 where
 pub data RecordsSize : List DomainName → List ResourceRecord → ℕ → Type 0 where
   no_records : {ms : List DomainName} → RecordsSize ms [] 0
   behind_record : {ms : List DomainName} (r : ResourceRecord) (rs : List ResourceRecord) (i j k : ℕ) → NameSize ms r.owner i
-      → DataSize (ms ++ r.owner ∷ []) (parts_of r) j → RecordsSize (ms ++ r.owner ∷ [] ++ names_in (parts_of r)) rs k
+      → DataSize (ms ++ r.owner ∷ []) (parts_of r) j → RecordsSize (ms ++ names_of r) rs k
       → RecordsSize ms (r ∷ rs) (i + 10 + j + k)
 
 -- a size that a reply with these sets may have
