@@ -38,6 +38,7 @@ pub mod FirstOctets
 pub mod Examples
 mod Rows
 mod LayoutRows
+mod QueryRows
 mod PlainRows
 mod CheckRows
 mod ReportRows

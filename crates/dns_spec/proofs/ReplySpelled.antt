@@ -8,10 +8,11 @@ use Rattle.std.specs.List.{list_all}
 use Rattle.dns_spec.specs.Names.{Octets, DomainName, wire, is_label, is_name, at_or_below}
 use Rattle.dns_spec.specs.Data.{class_in, number_of}
 use Rattle.dns_spec.specs.Records.{ResourceRecord, ZoneContents}
-use Rattle.dns_spec.specs.Reading.{Header, MessageQuestion, name_at, Spells}
+use Rattle.dns_spec.specs.Reading.{Header, MessageQuestion, format_error, not_implemented, refused, name_at, Spells}
+use Rattle.dns_spec.specs.Query.{field16, opcode, recursion_desired, bit, head_of, reply_head, refusal_head, question_of, question_at, counts_are_one_question, is_ignored, QueryRead, absent, refused_with, query, query_or_error, query_read}
 use Rattle.dns_spec.specs.Layout.{Item, greatest, records_of, asked_name, plain_records_size, plain_size, plain_layout, records_size, size, layout, message_of}
-use Rattle.dns_spec.specs.Answer.{format_error, not_implemented, refused, outcome, main_items, extra, targets, items, is_authoritative}
-use Rattle.dns_spec.specs.Reply.{kept, field16, opcode, recursion_desired, bit, truncated, reply_head, question_of, question_at, Decision, silence, header_alone, question_alone, answered, is_meta_type, decide_question, decide_asked, counts_are_one_question, is_ignored, decide, Reply, answer_with, reply_with, octets_by, reply_message, keep_plain, keep_longest, reply}
+use Rattle.dns_spec.specs.Answer.{outcome, main_items, extra, targets, items, is_authoritative}
+use Rattle.dns_spec.specs.Reply.{kept, truncated, Decision, silence, header_alone, question_alone, answered, is_meta_type, refusal, decide_question, decide_query, decide, Reply, answer_with, reply_of, reply_with, octets_by, reply_message, keep_plain, keep_longest, reply}
 use Rattle.dns_spec.specs.Laws.{sections_in_order, IsWritable, IsAskable, HasRoom, HasCounts, KeepsBeginning}
 use Rattle.dns_spec.proofs.SortedOnce.{Each}
 use Rattle.dns_spec.proofs.NameReading.{name_at_computes}
@@ -47,10 +48,10 @@ bit_bound : (b : Bool) → bit b ≤ 1
 bit_bound true = omega arith
 bit_bound false = omega arith
 
-flags_bound : (d : Octets) (aa tc : Bool) (rcode : ℕ) → rcode < 16 → (reply_head d aa tc rcode).flags < 2 ^ 16
-flags_bound d aa tc rcode low =
-    let o : opcode (field16 d 2) < 16 = mod-lt (field16 d 2 / 2 ^ 11) (omega arith) in
-    let r : recursion_desired (field16 d 2) < 2 = mod-lt (field16 d 2 / 2 ^ 8) (omega arith) in
+flags_bound : (h : Header) (aa tc : Bool) (rcode : ℕ) → rcode < 16 → (reply_head h aa tc rcode).flags < 2 ^ 16
+flags_bound h aa tc rcode low =
+    let o : opcode h.flags < 16 = mod-lt (h.flags / 2 ^ 11) (omega arith) in
+    let r : recursion_desired h.flags < 2 = mod-lt (h.flags / 2 ^ 8) (omega arith) in
     let a = bit_bound aa in
     let t = bit_bound tc in
     omega (arith, o, r, a, t)
@@ -67,35 +68,64 @@ askable d q low h = go (name_at d 12) refl h
         let c = cond_some (length d == e + 4) (record { qname = n; qtype = field16 d e; qclass = field16 d (e + 2) }) q f in
         subst IsAskable c.1 (record { qname = ((name_at_computes d 12 n e).0 is).1; qtype = field_bound d e low; qclass = field_bound d (e + 2) low })
 
--- what a decision says of its question and RCODE
+-- a header of a refusal, with the RCODE that it has
+record Refuses (d : Octets) (h : Header) : Type 0 where
+  rcode : ℕ
+  low : rcode < 16
+  head : refusal_head (head_of d) rcode ≡ h
+
+-- what a query that was read says of its header and question
+abbrev IsReadAs : Octets → QueryRead → Type 0
+IsReadAs d absent = Unit {0}
+IsReadAs d (refused_with h) = Refuses d h
+IsReadAs d (query h q) = (question_at d ≡ Some q) × (head_of d ≡ h)
+
+read_or_error : (d : Octets) (y : Option MessageQuestion) → question_at d ≡ y → IsReadAs d (query_or_error (head_of d) y)
+read_or_error d None e = record { rcode = format_error; low = omega arith; head = refl }
+read_or_error d (Some q) e = (e, refl)
+
+read_as : (d : Octets) → IsReadAs d (query_read d)
+unfolding query_read
+read_as d =
+    let h = head_of d in
+    let asked = query_or_error h (question_at d) in
+    let other = refused_with (refusal_head h not_implemented) in
+    let many = refused_with (refusal_head h format_error) in
+    cond_both (is_ignored d) absent (cond (not (opcode (field16 d 2) == 0)) other (cond (not (counts_are_one_question d)) many asked))
+    (IsReadAs d) (λ _. tt) (λ _.
+    cond_both (not (opcode (field16 d 2) == 0)) other (cond (not (counts_are_one_question d)) many asked)
+    (IsReadAs d) (λ _. record { rcode = not_implemented; low = omega arith; head = refl }) (λ _.
+    cond_both (not (counts_are_one_question d)) many asked (IsReadAs d)
+    (λ _. record { rcode = format_error; low = omega arith; head = refl }) (λ _. read_or_error d (question_at d) refl)))
+
+-- and what a decision says
 abbrev Decided : Octets → Decision → Type 0
 Decided d silence = Unit {0}
-Decided d (header_alone rcode) = rcode < 16
-Decided d (question_alone q rcode) = (question_at d ≡ Some q) × (rcode < 16)
-Decided d (answered q) = question_at d ≡ Some q
+Decided d (header_alone h) = Refuses d h
+Decided d (question_alone h q) = (question_at d ≡ Some q) × Refuses d h
+Decided d (answered h q) = (question_at d ≡ Some q) × (head_of d ≡ h)
 
-decided_question : (z : ZoneContents) (d : Octets) (q : MessageQuestion) → question_at d ≡ Some q → Decided d (decide_question z q)
-decided_question z d q e =
-    cond_both (not (q.qclass == class_in)) (question_alone q refused)
-    (cond (is_meta_type q.qtype) (question_alone q not_implemented) (cond (not (at_or_below q.qname z.origin)) (question_alone q refused) (answered q)))
-    (Decided d) (λ _. (e, omega arith)) (λ _.
-    cond_both (is_meta_type q.qtype) (question_alone q not_implemented) (cond (not (at_or_below q.qname z.origin)) (question_alone q refused) (answered q))
-    (Decided d) (λ _. (e, omega arith)) (λ _.
-    cond_both (not (at_or_below q.qname z.origin)) (question_alone q refused) (answered q) (Decided d) (λ _. (e, omega arith)) (λ _. e)))
+refusal_low : (z : ZoneContents) (q : MessageQuestion) (rcode : ℕ) → refusal z q ≡ Some rcode → rcode < 16
+refusal_low z q rcode = go (not (q.qclass == class_in)) (is_meta_type q.qtype) (not (at_or_below q.qname z.origin))
+  where
+    go : (a b c : Bool) → cond a (Some refused) (cond b (Some not_implemented) (cond c (Some refused) None)) ≡ Some rcode → rcode < 16
+    go true b c e = let is = same_Some refused rcode e in omega (arith, is)
+    go false true c e = let is = same_Some not_implemented rcode e in omega (arith, is)
+    go false false true e = let is = same_Some refused rcode e in omega (arith, is)
+    go false false false e = absurd (none-some rcode e)
 
-decided_asked : (z : ZoneContents) (d : Octets) (y : Option MessageQuestion) → question_at d ≡ y → Decided d (decide_asked z y)
-decided_asked z d None e = omega arith
-decided_asked z d (Some q) e = decided_question z d q e
+decided_query : (z : ZoneContents) (d : Octets) (x : QueryRead) → IsReadAs d x → Decided d (decide_query z x)
+decided_query z d absent ok = tt
+decided_query z d (refused_with h) ok = ok
+decided_query z d (query h q) ok = go (refusal z q) refl
+  where
+    go : (y : Option ℕ) → refusal z q ≡ y → Decided d (decide_question h q y)
+    go None e = ok
+    go (Some rcode) e = (ok.0, record { rcode = rcode; low = refusal_low z q rcode e; head = ap (λ x. refusal_head x rcode) ok.1 })
 
 decided : (z : ZoneContents) (d : Octets) → Decided d (decide z d)
 unfolding decide
-decided z d =
-    let asked = decide_asked z (question_at d) in
-    cond_both (is_ignored d) silence (cond (not (opcode (field16 d 2) == 0)) (header_alone not_implemented) (cond (not (counts_are_one_question d)) (header_alone format_error) asked))
-    (Decided d) (λ _. tt) (λ _.
-    cond_both (not (opcode (field16 d 2) == 0)) (header_alone not_implemented) (cond (not (counts_are_one_question d)) (header_alone format_error) asked)
-    (Decided d) (λ _. omega arith) (λ _.
-    cond_both (not (counts_are_one_question d)) (header_alone format_error) asked (Decided d) (λ _. omega arith) (λ _. decided_asked z d (question_at d) refl)))
+decided z d = decided_query z d (query_read d) (read_as d)
 
 -- a question with sets that a message has room for
 roomy : (h : Header) (q : Option MessageQuestion) (is : List Item) → h.id < 2 ^ 16 → h.flags < 2 ^ 16 → IfSome q IsAskable → sections_in_order is ≡ true → HasRoom h q is
@@ -138,27 +168,22 @@ reply_laid lay z d keep r writable low bare lays e = go (decide z d) (decided z 
     told : (x : Reply) → Spells (octets_by lay x) (reply_message x) → ◌≡◌ {A = Option Reply} (Some x) (Some r) → Spells (octets_by lay r) (reply_message r)
     told x s e = subst (λ y. Spells (octets_by lay y) (reply_message y)) (same_Some x r e) s
 
-    go : (x : Decision) → Decided d x
-        → ◌≡◌ {A = Option Reply} (elim x [
-          | silence ↦ None
-          | header_alone rcode ↦ Some (record { header = reply_head d false false rcode; question = None; sets = [] })
-          | question_alone q rcode ↦ Some (record { header = reply_head d false false rcode; question = Some q; sets = [] })
-          | answered q ↦ Some (answer_with z d q (keep q))
-        ]) (Some r)
-        → Spells (octets_by lay r) (reply_message r)
-    go silence h e = absurd (none-some r e)
-    go (header_alone rcode) h e =
-        let head = reply_head d false false rcode in
-        told (record { header = head; question = None; sets = [] }) (bare head id (flags_bound d false false rcode h)) e
-    go (question_alone q rcode) h e =
-        let head = reply_head d false false rcode in
-        told (record { header = head; question = Some q; sets = [] }) ((lays q (askable d q low h.0)).0 head id (flags_bound d false false rcode h.1)) e
-    go (answered q) h e =
-        let ok = askable d q low h in
+    refusing : (h : Header) (q : Option MessageQuestion) → Refuses d h → Laid lay q [] → Spells (lay h q []) (message_of h q [])
+    refusing h q ok laid =
+        subst (λ x. Spells (lay x q []) (message_of x q [])) ok.head
+        (laid (refusal_head (head_of d) ok.rcode) id (flags_bound (head_of d) false false ok.rcode ok.low))
+
+    go : (x : Decision) → Decided d x → reply_of keep z x ≡ Some r → Spells (octets_by lay r) (reply_message r)
+    go silence ok e = absurd (none-some r e)
+    go (header_alone h) ok e = told (record { header = h; question = None; sets = [] }) (refusing h None ok bare) e
+    go (question_alone h q) ok e =
+        told (record { header = h; question = Some q; sets = [] }) (refusing h (Some q) ok.1 (lays q (askable d q low ok.0)).0) e
+    go (answered h q) ok e =
+        let may = askable d q low ok.0 in
         let o = outcome z q.qname q.qtype in
-        let head = reply_head d (is_authoritative o) (truncated z q (keep q)) o.rcode in
-        let flags = flags_bound d (is_authoritative o) (truncated z q (keep q)) o.rcode (outcome_rcode z writable q.qname q.qtype ok.qname) in
-        told (answer_with z d q (keep q)) ((lays q ok).1 head id flags) e
+        let head = reply_head h (is_authoritative o) (truncated z q (keep q)) o.rcode in
+        let flags = flags_bound h (is_authoritative o) (truncated z q (keep q)) o.rcode (outcome_rcode z writable q.qname q.qtype may.qname) in
+        told (answer_with z h q (keep q)) ((lays q may).1 head (subst (λ (x : Header). x.id < 2 ^ 16) ok.1 id) flags) e
 
 -- The octets of a reply, laid out plainly, spell the message that it is.
 pub reply_spells : (z : ZoneContents) (d : Octets) (keep : MessageQuestion → List Item) (r : Reply) → All IsWritable z.records → All (λ o. o < 256) d → KeepsBeginning z keep
@@ -242,21 +267,13 @@ reply_sized lay z d keep limit r room fits e = go (decide z d) (decided z d) e
     told : (x : Reply) → length (octets_by lay x) ≤ limit → ◌≡◌ {A = Option Reply} (Some x) (Some r) → length (octets_by lay r) ≤ limit
     told x s e = subst (λ y. length (octets_by lay y) ≤ limit) (same_Some x r e) s
 
-    go : (x : Decision) → Decided d x
-        → ◌≡◌ {A = Option Reply} (elim x [
-          | silence ↦ None
-          | header_alone rcode ↦ Some (record { header = reply_head d false false rcode; question = None; sets = [] })
-          | question_alone q rcode ↦ Some (record { header = reply_head d false false rcode; question = Some q; sets = [] })
-          | answered q ↦ Some (answer_with z d q (keep q))
-        ]) (Some r)
-        → length (octets_by lay r) ≤ limit
-    go silence h e = absurd (none-some r e)
-    go (header_alone rcode) h e = told (record { header = reply_head d false false rcode; question = None; sets = [] }) (room (reply_head d false false rcode)) e
-    go (question_alone q rcode) h e =
-        told (record { header = reply_head d false false rcode; question = Some q; sets = [] }) (fits (reply_head d false false rcode) q (named_question d q h.0)).0 e
-    go (answered q) h e =
+    go : (x : Decision) → Decided d x → reply_of keep z x ≡ Some r → length (octets_by lay r) ≤ limit
+    go silence ok e = absurd (none-some r e)
+    go (header_alone h) ok e = told (record { header = h; question = None; sets = [] }) (room h) e
+    go (question_alone h q) ok e = told (record { header = h; question = Some q; sets = [] }) (fits h q (named_question d q ok.0)).0 e
+    go (answered h q) ok e =
         let o = outcome z q.qname q.qtype in
-        told (answer_with z d q (keep q)) (fits (reply_head d (is_authoritative o) (truncated z q (keep q)) o.rcode) q (named_question d q h)).1 e
+        told (answer_with z h q (keep q)) (fits (reply_head h (is_authoritative o) (truncated z q (keep q)) o.rcode) q (named_question d q ok.0)).1 e
 
 pub shared_reply_fits : (z : ZoneContents) (d : Octets) (limit : ℕ) (r : Reply) → 271 ≤ limit → reply z d limit ≡ Some r → length (octets_by layout r) ≤ limit
 unfolding reply

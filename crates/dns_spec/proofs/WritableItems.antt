@@ -10,7 +10,8 @@ use Rattle.dns_spec.specs.Data.{type_a, type_ns, type_cname, type_soa, type_aaaa
 use Rattle.dns_spec.specs.Records.{ResourceRecord, ZoneContents, data_order, at, of_type, rrset, with_owner, distinct, sort_by}
 use Rattle.dns_spec.specs.Tree.{exists, is_cut, cut_of, source_of_synthesis, found}
 use Rattle.dns_spec.specs.Layout.{Section, answer, authority, additional, Item, records_of}
-use Rattle.dns_spec.specs.Answer.{name_error, no_error, item, follows_alias, alias_set, first_target, next_sought, chain_from, chain, last_of, last_sought, alias_items, Outcome, all_sets, asked_sets, referral_to, negative, positive, or_empty, answer_from, outcome_at, outcome, targets, stands, address_set, address_sets, extra, main_items, items}
+use Rattle.dns_spec.specs.Reading.{name_error, no_error}
+use Rattle.dns_spec.specs.Answer.{item, follows_alias, alias_set, first_target, next_sought, chain_from, chain, last_of, last_sought, alias_items, Outcome, all_sets, asked_sets, referral_to, negative, positive, or_empty, answer_from, outcome_at, outcome, targets, stands, address_set, address_sets, extra, main_items, items}
 use Rattle.dns_spec.specs.Laws.{section_rank, sections_in_order, IsWritable}
 use Rattle.dns_spec.proofs.NameLaws.{is_name-tail, is_name-folded}
 use Rattle.dns_spec.proofs.SortedOnce.{Each, each_filter, each_sort}

@@ -9,23 +9,8 @@ use Rattle.dns_spec.specs.Names.{DomainName, same, at_or_below}
 use Rattle.dns_spec.specs.Data.{type_a, type_ns, type_cname, type_soa, type_mx, type_aaaa, type_srv, qtype_any, target, soa_minimum}
 use Rattle.dns_spec.specs.Records.{ResourceRecord, ZoneContents, rrset, of_type, distinct, sort_by, with_owner}
 use Rattle.dns_spec.specs.Tree.{cut_of, found}
+use Rattle.dns_spec.specs.Reading.{no_error, name_error}
 use Rattle.dns_spec.specs.Layout.{Section, answer, authority, additional, Item, records_of}
-
--- RFC 1035 4.1.1: the RCODEs that a reply has
-abbrev pub no_error : ℕ
-no_error = 0
-
-abbrev pub format_error : ℕ
-format_error = 1
-
-abbrev pub name_error : ℕ
-name_error = 3
-
-abbrev pub not_implemented : ℕ
-not_implemented = 4
-
-abbrev pub refused : ℕ
-refused = 5
 
 -- an RRset of a section, where it has a record
 abbrev pub item : Section → List ResourceRecord → List Item

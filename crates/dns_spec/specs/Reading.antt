@@ -66,6 +66,22 @@ pub record Header : Type 0 where
   pub id : ℕ
   pub flags : ℕ
 
+-- RFC 1035 4.1.1: the RCODEs of this product's replies
+abbrev pub no_error : ℕ
+no_error = 0
+
+abbrev pub format_error : ℕ
+format_error = 1
+
+abbrev pub name_error : ℕ
+name_error = 3
+
+abbrev pub not_implemented : ℕ
+not_implemented = 4
+
+abbrev pub refused : ℕ
+refused = 5
+
 -- RFC 1035 4.1.2
 pub record MessageQuestion : Type 0 where
   pub qname : DomainName

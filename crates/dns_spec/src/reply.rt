@@ -6,6 +6,7 @@ ghost use Rattle.dns_spec.specs.Records.{ZoneContents};
 ghost use Rattle.dns_spec.specs.Reading.{MessageQuestion, Spells};
 ghost use Rattle.dns_spec.specs.Layout.{Item, layout, plain_layout};
 ghost use Rattle.dns_spec.specs.Reply.{Reply, kept, reply, reply_with, octets_by, reply_message};
+ghost use Rattle.dns_spec.specs.Query.{query_read};
 ghost use Rattle.dns_spec.specs.Laws.{IsWritable, KeepsBeginning};
 
 /// The octets of a reply in the plain layout spell the message that the reply is, over every zone whose records fit a
@@ -41,7 +42,12 @@ pub fn kept_sets_are_the_most()
         → k ≤ length (kept size_of limit sets) }
 {}
 
-/// A reply depends on the first 512 octets of a datagram alone: a question ends before them.
+/// What a datagram is as a query depends on its first 512 octets alone: a question ends before them.
+pub fn first_512_octets_are_read()
+    ensures { (d : Octets) → query_read d ≡ query_read (take 512 d) }
+{}
+
+/// So does the reply.
 pub fn first_512_octets_decide()
     ensures { (z : ZoneContents) (keep : MessageQuestion → List Item) (d : Octets) → reply_with keep z d ≡ reply_with keep z (take 512 d) }
 {}

@@ -13,7 +13,8 @@ use Rattle.dns_spec.specs.Data.{type_a, type_ns, type_soa, type_cname, qtype_any
 use Rattle.dns_spec.specs.Records.{ResourceRecord, ZoneContents, at, of_type, rrset, with_owner, sort_by, data_order}
 use Rattle.dns_spec.specs.Tree.{exists, cut_of, found, asterisk, closest_encloser}
 use Rattle.dns_spec.specs.Layout.{answer, authority, Item}
-use Rattle.dns_spec.specs.Answer.{item, follows_alias, alias_set, next_sought, chain_from, chain, alias_items, Outcome, negative, negative_soa, positive, or_empty, answer_from, asked_sets, all_sets, outcome_at, outcome, main_items, no_error, name_error, referral_to}
+use Rattle.dns_spec.specs.Answer.{item, follows_alias, alias_set, next_sought, chain_from, chain, alias_items, Outcome, negative, negative_soa, positive, or_empty, answer_from, asked_sets, all_sets, outcome_at, outcome, main_items, referral_to}
+use Rattle.dns_spec.specs.Reading.{no_error, name_error}
 use Rattle.dns_tools.specs.ListZone.{IsListZone, WantedSet, shown, asked_set, soa_set, picked, listed_types, asked_types, asked_items, soa_items, or_else, due_items, is_listed}
 use Rattle.dns_spec.specs.Reading.{MessageQuestion}
 use Rattle.dns_spec.proofs.SortedOnce.{Each}

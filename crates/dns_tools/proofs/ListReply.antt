@@ -8,7 +8,8 @@ use Rattle.dns_spec.specs.Tree.{found}
 use Rattle.dns_spec.specs.Reading.{Header, MessageQuestion}
 use Rattle.dns_spec.specs.Layout.{answer, authority, additional, Item, records_of, in_section, question_octets, plain_size, header_octets, plain_layout, plain_record}
 use Rattle.dns_spec.specs.Answer.{item, Outcome, outcome, main_items, extra, targets_inside, required, is_authoritative}
-use Rattle.dns_spec.specs.Reply.{kept, truncated, keep_plain, reply_head, answer_with, octets_by}
+use Rattle.dns_spec.specs.Query.{head_of, reply_head}
+use Rattle.dns_spec.specs.Reply.{kept, truncated, keep_plain, answer_with, octets_by}
 use Rattle.dns_tools.specs.Body.{body}
 use Rattle.dns_tools.specs.ListZone.{IsListZone, asked_set, soa_set, picked, asked_items, asked_types, soa_items, or_else, due_items, fitting}
 use Rattle.dns_tools.proofs.BodyLaws.{take-header}
@@ -68,16 +69,16 @@ module _ (z : ZoneContents) (ok : IsListZone z) (q : MessageQuestion) where
 -- what stands in the buffer is the reply
 module _ (z : ZoneContents) (ok : IsListZone z) (q : MessageQuestion) (d out : Octets) (end id flags questions answers authorities rcode : ℕ) (tc : Bool) where
   answer_head : tc ≡ nat_lt (length (kept_sets z q)) (length (due_items z q)) → rcode ≡ rcode_of (found z q.qname)
-      → reply_head d true tc rcode ≡ reply_head d (is_authoritative (outcome z q.qname q.qtype)) (truncated z q (keep_plain z 512 q)) (outcome z q.qname q.qtype).rcode
+      → reply_head (head_of d) true tc rcode ≡ reply_head (head_of d) (is_authoritative (outcome z q.qname q.qtype)) (truncated z q (keep_plain z 512 q)) (outcome z q.qname q.qtype).rcode
   answer_head t r = rw (authoritative z ok q, truncated-is z ok q, rcode-is z ok q, t, r) refl
 
   pub answer-octets : 12 ≤ end → body out end ≡ question_octets q ++ flat_map (plain_record q.qname) (records_of (kept_sets z q))
-      → id ≡ (reply_head d true tc rcode).id → flags ≡ (reply_head d true tc rcode).flags
+      → id ≡ (reply_head (head_of d) true tc rcode).id → flags ≡ (reply_head (head_of d) true tc rcode).flags
       → questions ≡ 1 → answers ≡ length (in_section answer (kept_sets z q)) → authorities ≡ length (in_section authority (kept_sets z q))
       → tc ≡ nat_lt (length (kept_sets z q)) (length (due_items z q)) → rcode ≡ rcode_of (found z q.qname)
-      → take end (header_octets (record { id = id; flags = flags }) questions answers authorities 0 ++ drop 12 out) ≡ octets_by plain_layout (answer_with z d q (keep_plain z 512 q))
+      → take end (header_octets (record { id = id; flags = flags }) questions answers authorities 0 ++ drop 12 out) ≡ octets_by plain_layout (answer_with z (head_of d) q (keep_plain z 512 q))
   answer-octets behind is_body is_id is_flags one count others t r =
-      let h : Header = reply_head d true tc rcode in
+      let h : Header = reply_head (head_of d) true tc rcode in
       take-header (header_octets (record { id = id; flags = flags }) questions answers authorities 0) out end refl behind
       ∙ ap (λ x. header_octets (record { id = id; flags = flags }) questions answers authorities 0 ++ x) is_body
       ∙ (λ i. header_octets (record { id = is_id i; flags = is_flags i }) (one i) (count i) (others i) 0 ++ (question_octets q ++ flat_map (plain_record q.qname) (records_of (kept_sets z q))))
