@@ -30,6 +30,7 @@ pub mod OneMessage
 pub mod SortedOnce
 pub mod FaultOrder
 pub mod WritableItems
+pub mod RequiredItems
 pub mod Kept
 pub mod ReplySpelled
 pub mod SharedNames

@@ -1,13 +1,13 @@
 -- What a reader learns here: which RRsets answer a question: the names sought one after the other, the five cases of
 -- the last of them, the additional addresses, and which of all these a reply may not leave out.
-use Rattle.std.specs.Prelude.{ℕ, zero, suc, min, Bool, ◌&&◌, ◌||◌, not, List, [], ◌∷◌, ◌++◌, map, length, ◌==◌, if◌then◌else◌}
+use Rattle.std.specs.Prelude.{ℕ, zero, suc, min, Bool, true, false, ◌&&◌, ◌||◌, not, List, [], ◌∷◌, ◌++◌, map, length, ◌==◌, if◌then◌else◌}
 use Rattle.std.specs.Prelude.{Option, None, Some}
 use Rattle.std.specs.Option.{option_map, option_and_then, is_some, unwrap_or, option_to_list}
 use Rattle.std.specs.List.{list_any, filter, filter_map, flat_map}
-use Rattle.std.specs.Ordering.{nat_cmp}
 use Rattle.dns_spec.specs.Names.{DomainName, same, at_or_below}
 use Rattle.dns_spec.specs.Data.{type_a, type_ns, type_cname, type_soa, type_mx, type_aaaa, type_srv, qtype_any, target, soa_minimum}
-use Rattle.dns_spec.specs.Records.{ResourceRecord, ZoneContents, rrset, of_type, distinct, sort_by, with_owner}
+use Rattle.dns_spec.specs.Records.{ResourceRecord, ZoneContents, rrset, of_type, with_owner}
+use Rattle.dns_spec.specs.Sets.{rising_types}
 use Rattle.dns_spec.specs.Tree.{cut_of, found}
 use Rattle.dns_spec.specs.Reading.{no_error, name_error}
 use Rattle.dns_spec.specs.Layout.{Section, answer, authority, additional, Item, records_of}
@@ -72,43 +72,43 @@ negative_soa z =
 
 -- all RRsets of the records, by rising type
 abbrev pub all_sets : List ResourceRecord → List Item
-all_sets rs =
-    flat_map (λ t. item answer (of_type t rs)) (sort_by nat_cmp (distinct ◌==◌ (map (λ (r : ResourceRecord). r.rtype) rs)))
+all_sets rs = flat_map (λ t. item answer (of_type t rs)) (rising_types rs)
 
 -- the sets that the records hold of what was asked for
 abbrev pub asked_sets : ℕ → List ResourceRecord → List Item
 asked_sets t rs = if t == qtype_any then all_sets rs else item answer (of_type t rs)
 
--- the cut that refers the asker elsewhere, with its NS set
+-- a referral: the cut that refers the asker elsewhere, with its NS set (RFC 1034 4.3.2 step 3b)
 abbrev pub referral_to : ZoneContents → DomainName → Outcome
-referral_to z c = record { rcode = no_error; referral = Some c; answers = []; authorities = item authority (with_owner c (rrset z c type_ns)) }
+referral_to z c =
+    record { rcode = no_error; referral = Some c; answers = []; authorities = item authority (with_owner c (rrset z c type_ns)) }
 
+-- a negative answer, with the SOA (RFC 2308 sections 2 and 3)
 abbrev pub negative : ZoneContents → ℕ → Outcome
 negative z rcode = record { rcode = rcode; referral = None; answers = []; authorities = negative_soa z }
 
 abbrev pub positive : List Item → Outcome
 positive sets = record { rcode = no_error; referral = None; answers = sets; authorities = [] }
 
--- what is answered of the records found: an alias ends here without more, else the sets asked for, and none is an
--- empty answer (RFC 2308 section 2.2)
-abbrev pub or_empty : ZoneContents → List Item → Outcome
-or_empty z [] = negative z no_error
-or_empty z (i ∷ is) = positive (i ∷ is)
+abbrev pub has_any : {X : Type 0} → List X → Bool
+has_any [] = false
+has_any (x ∷ xs) = true
 
-abbrev pub answer_from : ZoneContents → ℕ → List ResourceRecord → Outcome
-answer_from z t rs =
-    if follows_alias t && not (length (of_type type_cname rs) == 0) then positive []
-    else or_empty z (asked_sets t rs)
+-- RFC 1034 4.3.2 step 3, by the cut at or above a name and the records found for it. The first of five cases that holds:
+-- a cut; nothing found; the alias ends here; the sets asked for; nothing of the type.
+abbrev pub outcome_by : ZoneContents → ℕ → Option DomainName → Option (List ResourceRecord) → Outcome
+outcome_by z t (Some c) found = referral_to z c
+outcome_by z t None None = negative z name_error
+outcome_by z t None (Some rs) =
+    if follows_alias t && has_any (of_type type_cname rs) then positive []
+    else if has_any (asked_sets t rs) then positive (asked_sets t rs)
+    else negative z no_error
 
--- RFC 1034 4.3.2 steps 3 and 4, RFC 2308 section 2: the five cases of the last name sought
 unfoldable pub outcome_at : ZoneContents → ℕ → DomainName → Outcome
-outcome_at z t s =
-    elim (cut_of z s) [
-      | Some c ↦ referral_to z c
-      | None ↦ elim (found z s) [ None ↦ negative z name_error | Some rs ↦ answer_from z t rs ]
-    ]
+outcome_at z t s = outcome_by z t (cut_of z s) (found z s)
 
--- the outcome, with the aliases in front of its answer
+-- The outcome: that of the last name sought, with its RCODE (RFC 2308 section 2.1), and the aliases in front of its
+-- answer.
 unfoldable pub outcome : ZoneContents → DomainName → ℕ → Outcome
 outcome z q t =
     let o = outcome_at z t (last_sought z q t) in
@@ -168,9 +168,9 @@ items z q t =
     let o = outcome z q t in
     main_items o ++ extra z (main_items o) (targets o)
 
--- How many of them, from the first on, a reply may not leave out: answer, authority, and the glue of a referral. A
--- referral's answer has no targets, so its glue comes first.
-unfoldable pub required : ZoneContents → DomainName → ℕ → ℕ
-required z q t =
+-- The sets that a reply may not leave out: answer, authority, and the glue of a referral. All sets begin with them, since
+-- the aliases before a referral have no targets.
+unfoldable pub required_items : ZoneContents → DomainName → ℕ → List Item
+required_items z q t =
     let o = outcome z q t in
-    length (main_items o ++ extra z (main_items o) (targets_inside o))
+    main_items o ++ extra z (main_items o) (targets_inside o)

@@ -9,7 +9,7 @@ use Rattle.dns_spec.specs.Records.{ZoneContents}
 use Rattle.dns_spec.specs.Reading.{Header, MessageQuestion, DnsMessage, not_implemented, refused}
 use Rattle.dns_spec.specs.Query.{reply_head, refusal_head, QueryRead, absent, refused_with, query, query_read}
 use Rattle.dns_spec.specs.Layout.{Item, layout, size, plain_size, message_of, greatest}
-use Rattle.dns_spec.specs.Answer.{outcome, items, main_items, required, is_authoritative}
+use Rattle.dns_spec.specs.Answer.{outcome, items, main_items, required_items, is_authoritative}
 
 -- What is kept of a list of sets: the longest beginning whose size is at most the limit.
 abbrev pub kept : (List Item → ℕ) → ℕ → List Item → List Item
@@ -17,7 +17,7 @@ kept size_of limit sets = take (greatest (λ k. nat_le (size_of (take k sets)) l
 
 -- RFC 1035 4.1.1, 4.2.1: a set that may not be left out is missing
 abbrev pub truncated : ZoneContents → MessageQuestion → List Item → Bool
-truncated z q sets = nat_lt (length sets) (required z q.qname q.qtype)
+truncated z q sets = nat_lt (length sets) (length (required_items z q.qname q.qtype))
 
 -- What is made of a datagram: nothing is sent, the header of a reply alone, the header of a reply and the question, or
 -- an answer to the header and the question of a query.

@@ -1,9 +1,10 @@
 //! Laws of replies: their octets are the message that they are, and what is kept is the longest beginning that fits.
 
 ghost use Rattle.std.specs.Prelude.{◌≡◌, ℕ, List, [], ◌<◌, ◌≤◌, All, Some, length, take};
-ghost use Rattle.dns_spec.specs.Names.{Octets};
+ghost use Rattle.dns_spec.specs.Names.{Octets, DomainName};
 ghost use Rattle.dns_spec.specs.Records.{ZoneContents};
 ghost use Rattle.dns_spec.specs.Reading.{MessageQuestion, Spells};
+ghost use Rattle.dns_spec.specs.Answer.{items, required_items};
 ghost use Rattle.dns_spec.specs.Layout.{Item, layout, plain_layout};
 ghost use Rattle.dns_spec.specs.Reply.{Reply, kept, reply, reply_with, octets_by, reply_message};
 ghost use Rattle.dns_spec.specs.Query.{query_read};
@@ -29,6 +30,12 @@ pub fn reply_is_spelled()
 pub fn reply_is_within_its_limit()
     ensures { (z : ZoneContents) (d : Octets) (limit : ℕ) (r : Reply) → 271 ≤ limit
         → reply z d limit ≡ Some r → length (octets_by layout r) ≤ limit }
+{}
+
+/// The sets of a reply begin with those that it may not leave out (RFC 1035 4.1.1).
+pub fn items_begin_with_the_required()
+    ensures { (z : ZoneContents) (q : DomainName) (t : ℕ)
+        → take (length (required_items z q t)) (items z q t) ≡ required_items z q t }
 {}
 
 /// What is kept of a list of sets fits where nothing does.

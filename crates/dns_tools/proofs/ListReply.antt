@@ -7,7 +7,7 @@ use Rattle.dns_spec.specs.Records.{ResourceRecord, ZoneContents}
 use Rattle.dns_spec.specs.Tree.{found}
 use Rattle.dns_spec.specs.Reading.{Header, MessageQuestion}
 use Rattle.dns_spec.specs.Layout.{answer, authority, additional, Item, records_of, in_section, question_octets, plain_size, header_octets, plain_layout, plain_record}
-use Rattle.dns_spec.specs.Answer.{item, Outcome, outcome, main_items, extra, targets_inside, required, is_authoritative}
+use Rattle.dns_spec.specs.Answer.{item, Outcome, outcome, main_items, extra, targets_inside, required_items, is_authoritative}
 use Rattle.dns_spec.specs.Query.{head_of, reply_head}
 use Rattle.dns_spec.specs.Reply.{kept, truncated, keep_plain, answer_with, octets_by}
 use Rattle.dns_tools.specs.Body.{body}
@@ -42,8 +42,8 @@ module _ (z : ZoneContents) (ok : IsListZone z) (q : MessageQuestion) where
   pub rcode-is : (outcome z q.qname q.qtype).rcode ≡ rcode_of (found z q.qname)
   rcode-is = direct.rcode_is
 
-  required-is : required z q.qname q.qtype ≡ length (due_items z q)
-  unfolding required extra
+  required-is : length (required_items z q.qname q.qtype) ≡ length (due_items z q)
+  unfolding required_items extra
   required-is =
       (rw (no_targets (outcome z q.qname q.qtype) direct.no_referral) (ap length (append-nil (main_items (outcome z q.qname q.qtype))))) ∙ ap length (main-is z ok q)
 
