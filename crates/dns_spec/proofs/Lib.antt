@@ -32,6 +32,7 @@ pub mod FaultOrder
 pub mod WritableItems
 pub mod RequiredItems
 pub mod Kept
+pub mod GrowingSize
 pub mod ReplySpelled
 pub mod SharedNames
 pub mod SharedLayout

@@ -1,6 +1,6 @@
 -- What a reader learns here: what is made of a datagram, step by step, and the reply: its header, its question, and the
 -- longest beginning of RRsets that fits.
-use Rattle.std.specs.Prelude.{ℕ, Bool, ◌&&◌, ◌||◌, not, List, [], length, take, nat_lt, nat_le, ◌==◌, if◌then◌else◌}
+use Rattle.std.specs.Prelude.{ℕ, Bool, ◌&&◌, ◌||◌, not, List, [], ◌∷◌, ◌++◌, length, take, nat_lt, nat_le, ◌==◌, if◌then◌else◌}
 use Rattle.std.specs.Prelude.{Option, None, Some}
 use Rattle.std.specs.Option.{option_map}
 use Rattle.dns_spec.specs.Names.{Octets, at_or_below}
@@ -14,6 +14,12 @@ use Rattle.dns_spec.specs.Answer.{outcome, items, main_items, required_items, is
 -- What is kept of a list of sets: the longest beginning whose size is at most the limit.
 abbrev pub kept : (List Item → ℕ) → ℕ → List Item → List Item
 kept size_of limit sets = take (greatest (λ k. nat_le (size_of (take k sets)) limit) (length sets)) sets
+
+-- The same by putting set after set behind a front: it stops at the first set with which the size is past the limit.
+abbrev pub fitting : (List Item → ℕ) → ℕ → List Item → List Item → List Item
+fitting size_of limit front [] = front
+fitting size_of limit front (i ∷ is) =
+    if nat_le (size_of (front ++ i ∷ [])) limit then fitting size_of limit (front ++ i ∷ []) is else front
 
 -- RFC 1035 4.1.1, 4.2.1: a set that may not be left out is missing
 abbrev pub truncated : ZoneContents → MessageQuestion → List Item → Bool

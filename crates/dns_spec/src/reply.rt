@@ -1,12 +1,12 @@
 //! Laws of replies: their octets are the message that they are, and what is kept is the longest beginning that fits.
 
-ghost use Rattle.std.specs.Prelude.{◌≡◌, ℕ, List, [], ◌<◌, ◌≤◌, All, Some, length, take};
+ghost use Rattle.std.specs.Prelude.{◌≡◌, ℕ, List, [], ◌++◌, ◌<◌, ◌≤◌, All, Option, Some, length, take};
 ghost use Rattle.dns_spec.specs.Names.{Octets, DomainName};
 ghost use Rattle.dns_spec.specs.Records.{ZoneContents};
 ghost use Rattle.dns_spec.specs.Reading.{MessageQuestion, Spells};
 ghost use Rattle.dns_spec.specs.Answer.{items, required_items};
-ghost use Rattle.dns_spec.specs.Layout.{Item, layout, plain_layout};
-ghost use Rattle.dns_spec.specs.Reply.{Reply, kept, reply, reply_with, octets_by, reply_message};
+ghost use Rattle.dns_spec.specs.Layout.{Item, layout, size, plain_layout, plain_size};
+ghost use Rattle.dns_spec.specs.Reply.{Reply, kept, fitting, reply, reply_with, octets_by, reply_message};
 ghost use Rattle.dns_spec.specs.Query.{query_read};
 ghost use Rattle.dns_spec.specs.Laws.{IsWritable, KeepsBeginning};
 
@@ -47,6 +47,28 @@ pub fn kept_sets_fit()
 pub fn kept_sets_are_the_most()
     ensures { (size_of : List Item → ℕ) (limit : ℕ) (sets : List Item) (k : ℕ) → k ≤ length sets → size_of (take k sets) ≤ limit
         → k ≤ length (kept size_of limit sets) }
+{}
+
+/// The size of the layout grows with each set.
+pub fn size_grows_with_each_set()
+    ensures { (q : Option MessageQuestion) (front more : List Item) → size q front ≤ size q (front ++ more) }
+{}
+
+/// So does the size of the plain layout.
+pub fn plain_size_grows_with_each_set()
+    ensures { (q : Option MessageQuestion) (front more : List Item) → plain_size q front ≤ plain_size q (front ++ more) }
+{}
+
+/// So the longest beginning of sets that fits is reached by stopping at the first set that does not fit.
+pub fn kept_sets_stop_at_the_first_that_does_not_fit()
+    ensures { (q : Option MessageQuestion) (limit : ℕ) (sets : List Item)
+        → kept (size q) limit sets ≡ fitting (size q) limit [] sets }
+{}
+
+/// And so in the plain layout.
+pub fn plain_kept_sets_stop_at_the_first_that_does_not_fit()
+    ensures { (q : Option MessageQuestion) (limit : ℕ) (sets : List Item)
+        → kept (plain_size q) limit sets ≡ fitting (plain_size q) limit [] sets }
 {}
 
 /// What a datagram is as a query depends on its first 512 octets alone: a question ends before them.

@@ -1,12 +1,11 @@
 -- What a decision says of the datagram.
-use Rattle.std.proofs.Common.{Bool, true, false, not, ◌≡◌, ℕ, ◌+◌, ◌^◌, ◌<◌, ◌≤◌, [], ◌∷◌, length, take, drop, get_or, subst, get_or-drop, refl, sym, ◌∙◌, arith, Option, None, Some}
+use Rattle.std.proofs.Common.{Bool, true, false, not, ◌≡◌, ℕ, refl, ◌∙◌, Option, None, Some}
 use Rattle.std.specs.Prelude.{◌==◌, if◌then◌else◌}
-use Rattle.dns_spec.specs.Names.{Octets, DomainName, is_name, at_or_below}
-use Rattle.dns_spec.specs.Data.{class_in, number_of}
+use Rattle.dns_spec.specs.Names.{Octets}
 use Rattle.dns_spec.specs.Records.{ZoneContents}
-use Rattle.dns_spec.specs.Reading.{MessageQuestion, name_at}
-use Rattle.dns_spec.specs.Reading.{Header, format_error, not_implemented, refused}
-use Rattle.dns_spec.specs.Query.{is_ignored, opcode, field16, head_of, refusal_head, counts_are_one_question, question_at, QueryRead, absent, refused_with, query_or_error, query_read}
+use Rattle.dns_spec.specs.Reading.{MessageQuestion}
+use Rattle.dns_spec.specs.Reading.{format_error, not_implemented}
+use Rattle.dns_spec.specs.Query.{is_ignored, opcode, field16, head_of, refusal_head, counts_are_one_question, question_at, absent, refused_with, query_or_error, query_read}
 use Rattle.dns_spec.specs.Reply.{Decision, silence, header_alone, question_alone, answered, refusal, decide_question, decide_query, decide}
 
 -- the question that a decision has
