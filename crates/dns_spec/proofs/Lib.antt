@@ -37,10 +37,12 @@ pub mod ReplySpelled
 pub mod SharedNames
 pub mod SharedLayout
 pub mod FirstOctets
+pub mod StreamFrames
 pub mod Examples
 mod Rows
 mod LayoutRows
 mod QueryRows
+mod StreamRows
 mod PlainRows
 mod CheckRows
 mod ReportRows

@@ -20,4 +20,5 @@ pub mod Layout
 pub mod Sharing
 pub mod Answer
 pub mod Reply
+pub mod Stream
 pub mod Laws

@@ -8,4 +8,5 @@ pub mod meaning;
 pub mod printed;
 pub mod reading;
 pub mod reply;
+pub mod stream;
 pub mod text;
