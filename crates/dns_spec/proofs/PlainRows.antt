@@ -8,7 +8,8 @@ use Rattle.dns_spec.specs.Names.{Octets, labels_from}
 use Rattle.dns_spec.specs.Data.{cut, type_txt}
 use Rattle.dns_spec.specs.Records.{ZoneContents, zone_of}
 use Rattle.dns_spec.specs.Checks.{Fault, faults}
-use Rattle.dns_spec.specs.Reading.{MessageQuestion, run, runs_before, name_at}
+use Rattle.dns_spec.specs.Reading.{MessageQuestion}
+use Rattle.dns_spec.specs.ComputedReading.{run, runs_before, name_at}
 use Rattle.dns_spec.specs.Layout.{Item, cost, data_size, records_size, size, plain_layout, plain_size}
 use Rattle.dns_spec.specs.Answer.{chain_from, chain, outcome_at, outcome, extra, items, required_items}
 use Rattle.dns_spec.specs.Reply.{kept, keep_plain, keep_longest, octets_by, reply_with, decide}

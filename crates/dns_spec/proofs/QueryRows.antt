@@ -1,7 +1,8 @@
 -- Datagrams read as queries, computed from the definitions.
 use Rattle.std.specs.Prelude.{◌≡◌, ℕ, [], ◌∷◌, ◌++◌, replicate, codes}
 use mathlib.Core.Path.{refl}
-use Rattle.dns_spec.specs.Reading.{Header, run, runs_before, name_at}
+use Rattle.dns_spec.specs.Reading.{Header}
+use Rattle.dns_spec.specs.ComputedReading.{run, runs_before, name_at}
 use Rattle.dns_spec.specs.Query.{absent, refused_with, query, question_at, query_read}
 use Rattle.dns_spec.proofs.Examples.{hex, dotted, www_query}
 

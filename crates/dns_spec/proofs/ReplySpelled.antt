@@ -8,7 +8,8 @@ use Rattle.std.specs.List.{list_all}
 use Rattle.dns_spec.specs.Names.{Octets, DomainName, wire, is_label, is_name, at_or_below}
 use Rattle.dns_spec.specs.Data.{class_in, number_of}
 use Rattle.dns_spec.specs.Records.{ResourceRecord, ZoneContents}
-use Rattle.dns_spec.specs.Reading.{Header, MessageQuestion, format_error, not_implemented, refused, name_at, Spells}
+use Rattle.dns_spec.specs.Reading.{Header, MessageQuestion, format_error, not_implemented, refused, Spells}
+use Rattle.dns_spec.specs.ComputedReading.{name_at}
 use Rattle.dns_spec.specs.Query.{field16, opcode, recursion_desired, bit, head_of, reply_head, refusal_head, question_of, question_at, counts_are_one_question, is_ignored, QueryRead, absent, refused_with, query, query_or_error, query_read}
 use Rattle.dns_spec.specs.Layout.{Item, greatest, records_of, asked_name, plain_records_size, plain_size, plain_layout, records_size, size, layout, message_of}
 use Rattle.dns_spec.specs.Answer.{outcome, main_items, extra, targets, items, is_authoritative}

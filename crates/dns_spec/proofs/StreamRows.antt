@@ -3,7 +3,7 @@ use Rattle.std.specs.Prelude.{◌≡◌, ℕ, [], ◌∷◌, ◌++◌, length, t
 use mathlib.Core.Path.{refl}
 use Rattle.dns_spec.specs.Names.{Octets, labels_from}
 use Rattle.dns_spec.specs.Data.{cut}
-use Rattle.dns_spec.specs.Reading.{run, runs_before, name_at}
+use Rattle.dns_spec.specs.ComputedReading.{run, runs_before, name_at}
 use Rattle.dns_spec.specs.Query.{question_at, query_read}
 use Rattle.dns_spec.specs.Layout.{shared_octets, cost, data_laid, records_octets, layout, data_size, records_size, size}
 use Rattle.dns_spec.specs.Answer.{chain_from, chain, outcome_at, outcome, extra, items, required_items}

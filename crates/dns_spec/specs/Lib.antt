@@ -15,6 +15,7 @@ pub mod Checks
 pub mod ZonePrinted
 pub mod Report
 pub mod Reading
+pub mod ComputedReading
 pub mod Query
 pub mod Layout
 pub mod Sharing

@@ -4,7 +4,8 @@ use Rattle.std.specs.Prelude.{ℕ, ◌+◌, ◌*◌, ◌/◌, ◌%◌, ◌^◌, 
 use Rattle.std.specs.Prelude.{Option, None, Some}
 use Rattle.dns_spec.specs.Names.{Octets, DomainName}
 use Rattle.dns_spec.specs.Data.{number_of}
-use Rattle.dns_spec.specs.Reading.{Header, MessageQuestion, format_error, not_implemented, name_at}
+use Rattle.dns_spec.specs.Reading.{Header, MessageQuestion, format_error, not_implemented}
+use Rattle.dns_spec.specs.ComputedReading.{name_at}
 
 -- the 16 bits at a place
 abbrev pub field16 : Octets → ℕ → ℕ

@@ -2,7 +2,8 @@
 
 ghost use Rattle.std.specs.Prelude.{◌≡◌, ℕ, ◌≤◌, Some, ◌↔◌, length};
 ghost use Rattle.dns_spec.specs.Names.{Octets, DomainName};
-ghost use Rattle.dns_spec.specs.Reading.{MessageQuestion, DnsMessage, NameAt, name_at, Spells};
+ghost use Rattle.dns_spec.specs.Reading.{MessageQuestion, DnsMessage, NameAt, Spells};
+ghost use Rattle.dns_spec.specs.ComputedReading.{name_at};
 ghost use Rattle.dns_spec.specs.Query.{question_at};
 
 /// The computed reader of names gives a name and the place behind it exactly where they are spelled (RFC 1035 4.1.4).

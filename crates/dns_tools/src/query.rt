@@ -1,7 +1,7 @@
 //! What is made of a datagram: taken apart, and judged (RFC 1035 4.1).
 ghost use Rattle.std.specs.Prelude.{◌≡◌, ℕ, ◌+◌, ◌≤◌, length, IsTrue, IfSome};
 ghost use Rattle.dns_spec.specs.Names.{Octets};
-ghost use Rattle.dns_spec.specs.Reading.{name_at};
+ghost use Rattle.dns_spec.specs.ComputedReading.{name_at};
 ghost use Rattle.dns_tools.specs.Decided.{code_of, decision_of, HasHeader};
 ghost use Rattle.dns_spec.specs.Query.{field16, head_of, is_ignored, counts_are_one_question, question_at};
 ghost use Rattle.dns_spec.specs.Reply.{is_meta_type, refusal, decide, decide_question};
