@@ -1,5 +1,6 @@
 pub mod NameLaws
 pub mod NameReading
+pub mod MessageReading
 pub mod WrittenNames
 pub mod Places
 pub mod WrittenData
@@ -48,6 +49,7 @@ mod CheckRows
 mod ReportRows
 mod AnswerRows
 mod ReadingRows
+mod MessageRows
 mod TextRows
 mod TypeRows
 mod DataRows

@@ -3,7 +3,7 @@
 ghost use Rattle.std.specs.Prelude.{◌≡◌, ℕ, ◌≤◌, Some, ◌↔◌, length};
 ghost use Rattle.dns_spec.specs.Names.{Octets, DomainName};
 ghost use Rattle.dns_spec.specs.Reading.{MessageQuestion, DnsMessage, NameAt, Spells};
-ghost use Rattle.dns_spec.specs.ComputedReading.{name_at};
+ghost use Rattle.dns_spec.specs.ComputedReading.{name_at, message_at};
 ghost use Rattle.dns_spec.specs.Query.{question_at};
 
 /// The computed reader of names gives a name and the place behind it exactly where they are spelled (RFC 1035 4.1.4).
@@ -25,4 +25,9 @@ pub fn question_ends_by_octet_271()
 /// Octets spell at most one message (RFC 1035 4.1).
 pub fn octets_spell_one_message()
     ensures { (b : Octets) (m n : DnsMessage) → Spells b m → Spells b n → m ≡ n }
+{}
+
+/// The computed message is the one that the octets spell, and there is one exactly where they spell one (RFC 1035 4.1).
+pub fn message_at_computes_the_relation()
+    ensures { (b : Octets) (m : DnsMessage) → (message_at b ≡ Some m) ↔ Spells b m }
 {}
