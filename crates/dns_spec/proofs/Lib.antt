@@ -69,6 +69,7 @@ mod ZoneRows
 mod PrintedRows
 pub mod RecordOrder
 pub mod PassedChecks
+pub mod ItemSets
 pub mod OrderedReport
 pub mod ReadOctets
 pub mod ReadPieces

@@ -2,9 +2,10 @@
 use Rattle.std.specs.Prelude.{◌≡◌, ℕ, ◌<◌, ◌^◌, Bool, true, ◌&&◌, List, [], ◌∷◌, length, take, nat_le, IsTrue, IfSome}
 use Rattle.std.specs.Prelude.{Option, Some}
 use Rattle.std.specs.List.{list_all}
-use Rattle.dns_spec.specs.Names.{is_name}
+use Rattle.dns_spec.specs.Names.{DomainName, is_name}
 use Rattle.dns_spec.specs.Data.{Valid}
 use Rattle.dns_spec.specs.Records.{ResourceRecord, ZoneContents}
+use Rattle.dns_spec.specs.Sets.{RecordSet, records_at}
 use Rattle.dns_spec.specs.Reading.{Header, MessageQuestion}
 use Rattle.dns_spec.specs.Layout.{Section, answer, authority, additional, Item, in_section, plain_size}
 use Rattle.dns_spec.specs.Answer.{items}
@@ -27,6 +28,13 @@ pub record IsWritable (r : ResourceRecord) : Type 0 where
   pub rtype : r.rtype < 2 ^ 16
   pub ttl : r.ttl < 2 ^ 32
   pub rdata : Valid r.rtype r.rdata
+
+-- RFC 2181 5: the records are those of a set at an owner, with one TTL
+pub record IsSetAt (rs : List ResourceRecord) : Type 0 where
+  pub owner : DomainName
+  pub ttl : ℕ
+  pub set : RecordSet
+  pub records : rs ≡ records_at owner ttl set
 
 -- RFC 1035 4.1.2: the question fits its fields
 pub record IsAskable (q : MessageQuestion) : Type 0 where

@@ -1,14 +1,15 @@
 //! Laws of replies: their octets are the message that they are, and what is kept is the longest beginning that fits.
 
 ghost use Rattle.std.specs.Prelude.{◌≡◌, ℕ, List, [], ◌++◌, ◌<◌, ◌≤◌, All, Option, Some, length, take};
-ghost use Rattle.dns_spec.specs.Names.{Octets, DomainName};
-ghost use Rattle.dns_spec.specs.Records.{ZoneContents};
+ghost use Rattle.dns_spec.specs.Names.{Octets, DomainName, folded};
+ghost use Rattle.dns_spec.specs.Records.{ResourceRecord, ZoneContents};
+ghost use Rattle.dns_spec.specs.Checks.{Passes};
 ghost use Rattle.dns_spec.specs.Reading.{MessageQuestion, Spells};
 ghost use Rattle.dns_spec.specs.Answer.{items, required_items};
 ghost use Rattle.dns_spec.specs.Layout.{Item, layout, size, plain_layout, plain_size};
 ghost use Rattle.dns_spec.specs.Reply.{Reply, kept, fitting, reply, reply_with, octets_by, reply_message};
 ghost use Rattle.dns_spec.specs.Query.{query_read};
-ghost use Rattle.dns_spec.specs.Laws.{IsWritable, KeepsBeginning};
+ghost use Rattle.dns_spec.specs.Laws.{IsWritable, IsSetAt, KeepsBeginning};
 
 /// The octets of a reply in the plain layout spell the message that the reply is, over every zone whose records fit a
 /// message, for every datagram, whatever beginning of the sets is kept (RFC 1035 4.1).
@@ -36,6 +37,14 @@ pub fn reply_is_within_its_limit()
 pub fn items_begin_with_the_required()
     ensures { (z : ZoneContents) (q : DomainName) (t : ℕ)
         → take (length (required_items z q t)) (items z q t) ≡ required_items z q t }
+{}
+
+/// Each set of a reply is the records of a set at an owner, with one TTL, over every zone that passes and whose names are
+/// in lower case, as those that are read (RFC 2181 section 5).
+pub fn items_are_record_sets()
+    ensures { (z : ZoneContents) → folded z.origin ≡ z.origin
+        → All (λ (r : ResourceRecord). folded r.owner ≡ r.owner) z.records → Passes z
+        → (q : DomainName) (t : ℕ) → All (λ (i : Item). IsSetAt i.records) (items z q t) }
 {}
 
 /// What is kept of a list of sets fits where nothing does.
