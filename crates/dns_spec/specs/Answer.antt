@@ -23,7 +23,8 @@ follows_alias t = not (t == type_cname || t == qtype_any)
 
 -- the CNAME set found for a name, where no cut is at or above it
 abbrev pub alias_set : ZoneContents → DomainName → List ResourceRecord
-alias_set z s = if is_some (cut_of z s) then [] else unwrap_or (option_map (of_type type_cname) (found z s)) []
+alias_set z s =
+    if is_some (cut_of z s) then [] else unwrap_or (option_map (of_type type_cname) (found z s)) []
 
 -- where it leads
 abbrev pub first_target : List ResourceRecord → Option DomainName
@@ -34,7 +35,9 @@ first_target (r ∷ rs) = target r.rtype r.rdata
 -- that is at or below the origin and was not sought yet
 abbrev pub next_sought : ZoneContents → List DomainName → DomainName → Option DomainName
 next_sought z sought s =
-    option_and_then (λ m. if at_or_below m z.origin && not (list_any (same m) sought) then Some m else None) (first_target (alias_set z s))
+    option_and_then
+    (λ m. if at_or_below m z.origin && not (list_any (same m) sought) then Some m else None)
+    (first_target (alias_set z s))
 
 -- the names sought from s on, of which at most k are targets
 unfoldable pub chain_from : ZoneContents → ℕ → List DomainName → DomainName → List DomainName
@@ -56,7 +59,8 @@ last_sought z q t = last_of q (chain z q t)
 
 -- the CNAME sets of the names sought
 abbrev pub alias_items : ZoneContents → DomainName → ℕ → List Item
-alias_items z q t = if follows_alias t then flat_map (λ s. item answer (alias_set z s)) (chain z q t) else []
+alias_items z q t =
+    if follows_alias t then flat_map (λ s. item answer (alias_set z s)) (chain z q t) else []
 
 -- How a question is answered.
 pub record Outcome : Type 0 where
@@ -68,7 +72,9 @@ pub record Outcome : Type 0 where
 -- RFC 2308 sections 3 and 5: the SOA of a negative answer has the lesser of its TTL and its MINIMUM
 abbrev pub negative_soa : ZoneContents → List Item
 negative_soa z =
-    item authority (map (λ (r : ResourceRecord). record r { ttl = min r.ttl (soa_minimum r.rdata) }) (rrset z z.origin type_soa))
+    item authority
+    (map (λ (r : ResourceRecord). record r { ttl = min r.ttl (soa_minimum r.rdata) })
+    (rrset z z.origin type_soa))
 
 -- all RRsets of the records, by rising type
 abbrev pub all_sets : List ResourceRecord → List Item
@@ -81,11 +87,17 @@ asked_sets t rs = if t == qtype_any then all_sets rs else item answer (of_type t
 -- a referral: the cut that refers the asker elsewhere, with its NS set (RFC 1034 4.3.2 step 3b)
 abbrev pub referral_to : ZoneContents → DomainName → Outcome
 referral_to z c =
-    record { rcode = no_error; referral = Some c; answers = []; authorities = item authority (with_owner c (rrset z c type_ns)) }
+    record {
+      rcode = no_error;
+      referral = Some c;
+      answers = [];
+      authorities = item authority (with_owner c (rrset z c type_ns));
+    }
 
 -- a negative answer, with the SOA (RFC 2308 sections 2 and 3)
 abbrev pub negative : ZoneContents → ℕ → Outcome
-negative z rcode = record { rcode = rcode; referral = None; answers = []; authorities = negative_soa z }
+negative z rcode =
+    record { rcode = rcode; referral = None; answers = []; authorities = negative_soa z }
 
 abbrev pub positive : List Item → Outcome
 positive sets = record { rcode = no_error; referral = None; answers = sets; authorities = [] }
@@ -96,7 +108,8 @@ has_any (x ∷ xs) = true
 
 -- RFC 1034 4.3.2 step 3, by the cut at or above a name and the records found for it. The first of five cases that holds:
 -- a cut; nothing found; the alias ends here; the sets asked for; nothing of the type.
-abbrev pub outcome_by : ZoneContents → ℕ → Option DomainName → Option (List ResourceRecord) → Outcome
+abbrev pub outcome_by : ZoneContents → ℕ → Option DomainName → Option (List ResourceRecord)
+    → Outcome
 outcome_by z t (Some c) found = referral_to z c
 outcome_by z t None None = negative z name_error
 outcome_by z t None (Some rs) =
@@ -124,16 +137,19 @@ has_target_type r = r.rtype == type_ns || r.rtype == type_mx || r.rtype == type_
 
 abbrev pub targets_of : List Item → List DomainName
 targets_of items =
-    filter_map (λ (r : ResourceRecord). if has_target_type r then target r.rtype r.rdata else None) (records_of items)
+    filter_map (λ (r : ResourceRecord). if has_target_type r then target r.rtype r.rdata else None)
+    (records_of items)
 
 -- the targets of a referral's NS set, at or below the cut and not
 abbrev pub targets_inside : Outcome → List DomainName
 targets_inside o =
-    flat_map (λ c. filter (λ m. at_or_below m c) (targets_of o.authorities)) (option_to_list o.referral)
+    flat_map (λ c. filter (λ m. at_or_below m c) (targets_of o.authorities))
+    (option_to_list o.referral)
 
 abbrev pub targets_outside : Outcome → List DomainName
 targets_outside o =
-    flat_map (λ c. filter (λ m. not (at_or_below m c)) (targets_of o.authorities)) (option_to_list o.referral)
+    flat_map (λ c. filter (λ m. not (at_or_below m c)) (targets_of o.authorities))
+    (option_to_list o.referral)
 
 -- The targets, in order. Of a referral those at or below the cut come first: without their addresses the asker gets
 -- no further (RFC 1034 4.3.2 step 3b).
@@ -142,7 +158,8 @@ targets o = targets_of o.answers ++ targets_inside o ++ targets_outside o
 
 -- the same owner and type stand in a set of the list
 abbrev pub stands : DomainName → ℕ → List Item → Bool
-stands n t items = list_any (λ (r : ResourceRecord). same r.owner n && r.rtype == t) (records_of items)
+stands n t items =
+    list_any (λ (r : ResourceRecord). same r.owner n && r.rtype == t) (records_of items)
 
 -- the addresses of a name that do not stand in the reply yet, A and then AAAA
 abbrev pub address_set : ZoneContents → List Item → DomainName → ℕ → List Item

@@ -37,7 +37,10 @@ with_label l (n, e) = (l ∷ n, e)
 -- A pointer is lawful to a place after the header and before its run. `earlier` has what the runs begun before that spell.
 abbrev pub jump : (ℕ → Option Placed) → ℕ → ℕ → ℕ → Option Placed
 jump earlier s i p =
-    elim (nat_le 12 p && nat_lt p s) [ true ↦ option_map (λ r. (r.0, i + 2)) (earlier p) | false ↦ None ]
+    elim (nat_le 12 p && nat_lt p s) [
+      | true ↦ option_map (λ r. (r.0, i + 2)) (earlier p)
+      | false ↦ None
+    ]
 
 -- What a run begun at place s spells from place i on. It has no more steps than there are octets, since each takes one
 -- or more.
@@ -46,7 +49,8 @@ run earlier b s zero i = None
 run earlier b s (suc r) i =
     elim (step_of b i (slice_get b i)) [
       | run_end ↦ Some ([], i + 1)
-      | run_label k ↦ option_map (with_label (take k (drop (i + 1) b))) (run earlier b s r (i + 1 + k))
+      | run_label k ↦ option_map (with_label (take k (drop (i + 1) b)))
+          (run earlier b s r (i + 1 + k))
       | run_pointer p ↦ jump earlier s i p
       | unlawful ↦ None
     ]
@@ -69,7 +73,8 @@ value_at b i k = number_of (take k (drop i b))
 
 -- the octets from place i up to place e, and that place
 abbrev pub octets_upto : Octets → ℕ → ℕ → Option (Octets × ℕ)
-octets_upto b i e = if nat_le i e && nat_le e (length b) then Some (take (e - i) (drop i b), e) else None
+octets_upto b i e =
+    if nat_le i e && nat_le e (length b) then Some (take (e - i) (drop i b), e) else None
 
 -- one piece at place i of data that ends before place e: its octets, not compressed, and the place after it
 abbrev pub strings_only : Octets × ℕ → Option (Octets × ℕ)
@@ -84,24 +89,33 @@ piece_at b anything i e = octets_upto b i e
 
 unfoldable pub pieces_at : Octets → List Piece → ℕ → ℕ → Option Octets
 pieces_at b [] i e = if i == e then Some [] else None
-pieces_at b (p ∷ ps) i e = option_and_then (λ r. option_map (λ d. r.0 ++ d) (pieces_at b ps r.1 e)) (piece_at b p i e)
+pieces_at b (p ∷ ps) i e =
+    option_and_then (λ r. option_map (λ d. r.0 ++ d) (pieces_at b ps r.1 e)) (piece_at b p i e)
 
 abbrev pub data_at : Octets → ℕ → ℕ → ℕ → ℕ → Option Octets
 data_at b t c i e =
-    if nat_le i e && nat_le e (length b) then pieces_at b (if c == class_in then pieces_of t else anything ∷ []) i e else None
+    if nat_le i e && nat_le e (length b)
+    then pieces_at b (if c == class_in then pieces_of t else anything ∷ []) i e else None
 
 -- the question, and the record, at a place, and the place after it
 abbrev pub question_after : Octets → Placed → Option (MessageQuestion × ℕ)
 question_after b (n, j) =
     if nat_le (j + 4) (length b)
-    then Some (record { qname = n; qtype = value_at b j 2; qclass = value_at b (j + 2) 2 }, j + 4) else None
+    then Some (record { qname = n; qtype = value_at b j 2; qclass = value_at b (j + 2) 2 }, j + 4)
+    else None
 
 abbrev pub message_question_at : Octets → ℕ → Option (MessageQuestion × ℕ)
 message_question_at b i = option_and_then (question_after b) (name_at b i)
 
 abbrev pub record_with : Octets → Placed → Octets → MessageRecord × ℕ
 record_with b (n, j) d = (
-  record { owner = n; rtype = value_at b j 2; rclass = value_at b (j + 2) 2; ttl = value_at b (j + 4) 4; rdata = d },
+  record {
+    owner = n;
+    rtype = value_at b j 2;
+    rclass = value_at b (j + 2) 2;
+    ttl = value_at b (j + 4) 4;
+    rdata = d;
+  },
   j + 10 + value_at b (j + 8) 2,
 )
 
@@ -122,7 +136,8 @@ several read (suc k) i =
     option_and_then (λ r. option_map (λ s. (r.0 ∷ s.0, s.1)) (several read k r.1)) (read i)
 
 -- RFC 1035 4.1: the sections after a place, one after the other, up to the end
-abbrev pub last_section : Octets → List MessageQuestion → List MessageRecord → List MessageRecord → List MessageRecord × ℕ → Option DnsMessage
+abbrev pub last_section : Octets → List MessageQuestion → List MessageRecord → List MessageRecord
+    → List MessageRecord × ℕ → Option DnsMessage
 last_section b qs ans ns r =
     if r.1 == length b
     then Some (record {
@@ -134,19 +149,24 @@ last_section b qs ans ns r =
     })
     else None
 
-abbrev pub from_additionals : Octets → List MessageQuestion → List MessageRecord → List MessageRecord × ℕ → Option DnsMessage
+abbrev pub from_additionals : Octets → List MessageQuestion → List MessageRecord
+    → List MessageRecord × ℕ → Option DnsMessage
 from_additionals b qs ans r =
-    option_and_then (last_section b qs ans r.0) (several (message_record_at b) (value_at b 10 2) r.1)
+    option_and_then (last_section b qs ans r.0)
+    (several (message_record_at b) (value_at b 10 2) r.1)
 
-abbrev pub from_authorities : Octets → List MessageQuestion → List MessageRecord × ℕ → Option DnsMessage
+abbrev pub from_authorities : Octets → List MessageQuestion → List MessageRecord × ℕ
+    → Option DnsMessage
 from_authorities b qs r =
     option_and_then (from_additionals b qs r.0) (several (message_record_at b) (value_at b 8 2) r.1)
 
 abbrev pub from_answers : Octets → List MessageQuestion × ℕ → Option DnsMessage
-from_answers b r = option_and_then (from_authorities b r.0) (several (message_record_at b) (value_at b 6 2) r.1)
+from_answers b r =
+    option_and_then (from_authorities b r.0) (several (message_record_at b) (value_at b 6 2) r.1)
 
 -- the message that octets spell
 unfoldable pub message_at : Octets → Option DnsMessage
 message_at b =
-    if nat_le 12 (length b) then option_and_then (from_answers b) (several (message_question_at b) (value_at b 4 2) 12)
+    if nat_le 12 (length b)
+    then option_and_then (from_answers b) (several (message_question_at b) (value_at b 4 2) 12)
     else None

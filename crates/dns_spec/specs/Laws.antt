@@ -16,11 +16,12 @@ section_rank answer = 0
 section_rank authority = 1
 section_rank additional = 2
 
--- no set stands behind one of a later section
+-- no set stands after one of a later section
 abbrev pub sections_in_order : List Item → Bool
 sections_in_order [] = true
 sections_in_order (i ∷ is) =
-    list_all (λ (j : Item). nat_le (section_rank i.section) (section_rank j.section)) is && sections_in_order is
+    list_all (λ (j : Item). nat_le (section_rank i.section) (section_rank j.section)) is
+    && sections_in_order is
 
 -- RFC 1035 3.2.1: the record fits the fields of a message, and its data is of its type
 pub record IsWritable (r : ResourceRecord) : Type 0 where
@@ -58,4 +59,5 @@ pub record HasCounts (items : List Item) : Type 0 where
 -- `keep` keeps a beginning of the sets of each question, of which a message has room for the plain layout
 abbrev pub KeepsBeginning : ZoneContents → (MessageQuestion → List Item) → Type 0
 KeepsBeginning z keep =
-    (q : MessageQuestion) → IsTrue (is_name q.qname) → (k : ℕ) × (keep q ≡ take k (items z q.qname q.qtype)) × (plain_size (Some q) (keep q) < 2 ^ 16)
+    (q : MessageQuestion) → IsTrue (is_name q.qname)
+    → (k : ℕ) × (keep q ≡ take k (items z q.qname q.qtype)) × (plain_size (Some q) (keep q) < 2 ^ 16)

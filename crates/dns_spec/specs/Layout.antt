@@ -17,7 +17,7 @@ octets16 = bytes_high_first 2
 abbrev pub octets32 : ℕ → Octets
 octets32 = bytes_high_first 4
 
--- RFC 1035 4.1: the sections of a reply behind its question
+-- RFC 1035 4.1: the sections of a reply after its question
 pub data Section : Type 0 where
   answer : Section
   authority : Section
@@ -67,12 +67,14 @@ place_of (m ∷ ms) s = if has_suffix m.0 s then Some (suffix_place m s) else pl
 -- it; without such a suffix it is written whole. The root is never shared.
 unfoldable pub shared_octets : List Placed → DomainName → Octets
 shared_octets ms [] = 0 ∷ []
-shared_octets ms (l ∷ n) = elim (place_of ms (l ∷ n)) [ None ↦ length l ∷ (l ++ shared_octets ms n) | Some p ↦ pointer p ]
+shared_octets ms (l ∷ n) =
+    elim (place_of ms (l ∷ n)) [ None ↦ length l ∷ (l ++ shared_octets ms n) | Some p ↦ pointer p ]
 
 -- its length: the octets of the labels before that suffix and 2, or all of them
 unfoldable pub cost : List DomainName → DomainName → ℕ
 cost ms [] = 1
-cost ms (l ∷ n) = elim (list_any (λ m. has_suffix m (l ∷ n)) ms) [ true ↦ 2 | false ↦ 1 + length l + cost ms n ]
+cost ms (l ∷ n) =
+    elim (list_any (λ m. has_suffix m (l ∷ n)) ms) [ true ↦ 2 | false ↦ 1 + length l + cost ms n ]
 
 -- What is laid out: its octets, and the names in it with their places.
 pub record Laid : Type 0 where
@@ -94,9 +96,10 @@ data_laid ms p (name n ∷ ps) =
 abbrev pub parts_of : ResourceRecord → List Part
 parts_of r = laid_parts r.rtype r.rdata
 
--- RFC 1035 4.1.3: type, class, TTL, data length and data behind an owner
+-- RFC 1035 4.1.3: type, class, TTL, data length and data after an owner
 abbrev pub record_tail : ResourceRecord → Octets → Octets
-record_tail r d = octets16 r.rtype ++ octets16 class_in ++ octets32 r.ttl ++ octets16 (length d) ++ d
+record_tail r d =
+    octets16 r.rtype ++ octets16 class_in ++ octets32 r.ttl ++ octets16 (length d) ++ d
 
 -- a record laid out from place p on: its owner is an earlier name of its data
 abbrev pub record_laid : List Placed → ℕ → ResourceRecord → Laid
@@ -132,7 +135,8 @@ asked_names (Some q) = q.qname ∷ []
 
 -- RFC 1035 4.1.1: ID and flags, and how many questions, answers, authority and additional records there are
 abbrev pub header_octets : Header → ℕ → ℕ → ℕ → ℕ → Octets
-header_octets h qd an ns ar = octets16 h.id ++ octets16 h.flags ++ octets16 qd ++ octets16 an ++ octets16 ns ++ octets16 ar
+header_octets h qd an ns ar =
+    octets16 h.id ++ octets16 h.flags ++ octets16 qd ++ octets16 an ++ octets16 ns ++ octets16 ar
 
 -- the header of a message with its counts
 abbrev pub reply_header : Header → Option MessageQuestion → List Item → Octets
@@ -190,7 +194,8 @@ asked_name (Some q) = q.qname
 
 unfoldable pub plain_layout : Header → Option MessageQuestion → List Item → Octets
 plain_layout h q items =
-    reply_header h q items ++ asked_octets q ++ flat_map (plain_record (asked_name q)) (records_of items)
+    reply_header h q items ++ asked_octets q
+    ++ flat_map (plain_record (asked_name q)) (records_of items)
 
 -- the length of the plain layout, added up
 abbrev pub plain_record_size : DomainName → ResourceRecord → ℕ
@@ -201,7 +206,8 @@ plain_records_size asked [] = 0
 plain_records_size asked (r ∷ rs) = plain_record_size asked r + plain_records_size asked rs
 
 unfoldable pub plain_size : Option MessageQuestion → List Item → ℕ
-plain_size q items = 12 + length (asked_octets q) + plain_records_size (asked_name q) (records_of items)
+plain_size q items =
+    12 + length (asked_octets q) + plain_records_size (asked_name q) (records_of items)
 
 -- the greatest k up to n that passes the test, or 0
 abbrev pub greatest : (ℕ → Bool) → ℕ → ℕ
@@ -210,7 +216,8 @@ greatest test (suc k) = if test (suc k) then suc k else greatest test k
 
 -- The message that a layout spells.
 abbrev pub message_record : ResourceRecord → MessageRecord
-message_record r = record { owner = r.owner; rtype = r.rtype; rclass = class_in; ttl = r.ttl; rdata = r.rdata }
+message_record r =
+    record { owner = r.owner; rtype = r.rtype; rclass = class_in; ttl = r.ttl; rdata = r.rdata }
 
 abbrev pub message_of : Header → Option MessageQuestion → List Item → DnsMessage
 message_of h q items = record {

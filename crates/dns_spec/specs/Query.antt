@@ -33,24 +33,27 @@ abbrev pub reply_head : Header → Bool → Bool → ℕ → Header
 reply_head h aa tc rcode = record {
   id = h.id;
   flags =
-      2 ^ 15 + opcode h.flags * 2 ^ 11 + bit aa * 2 ^ 10 + bit tc * 2 ^ 9 + recursion_desired h.flags * 2 ^ 8 + rcode;
+      2 ^ 15 + opcode h.flags * 2 ^ 11 + bit aa * 2 ^ 10 + bit tc * 2 ^ 9
+      + recursion_desired h.flags * 2 ^ 8 + rcode;
 }
 
 -- the header of a reply that has no records, with an RCODE
 abbrev pub refusal_head : Header → ℕ → Header
 refusal_head h = reply_head h false false
 
--- RFC 1035 4.1.2: the octets behind the header are exactly one question
+-- RFC 1035 4.1.2: the octets after the header are exactly one question
 abbrev pub question_of : Octets → DomainName × ℕ → Option MessageQuestion
 question_of d (n, e) =
-    if length d == e + 4 then Some (record { qname = n; qtype = field16 d e; qclass = field16 d (e + 2) }) else None
+    if length d == e + 4
+    then Some (record { qname = n; qtype = field16 d e; qclass = field16 d (e + 2) }) else None
 
 unfoldable pub question_at : Octets → Option MessageQuestion
 question_at d = elim (name_at d 12) [ None ↦ None | Some r ↦ question_of d r ]
 
 -- one question and no record
 abbrev pub counts_are_one_question : Octets → Bool
-counts_are_one_question d = field16 d 4 == 1 && field16 d 6 == 0 && field16 d 8 == 0 && field16 d 10 == 0
+counts_are_one_question d =
+    field16 d 4 == 1 && field16 d 6 == 0 && field16 d 8 == 0 && field16 d 10 == 0
 
 -- no reply is owed to what is shorter than a header, or is a reply itself
 abbrev pub is_ignored : Octets → Bool
@@ -71,6 +74,8 @@ query_or_error h (Some q) = query h q
 unfoldable pub query_read : Octets → QueryRead
 query_read d =
     if is_ignored d then absent
-    else if not (opcode (field16 d 2) == 0) then refused_with (refusal_head (head_of d) not_implemented)
-    else if not (counts_are_one_question d) then refused_with (refusal_head (head_of d) format_error)
+    else if not (opcode (field16 d 2) == 0)
+    then refused_with (refusal_head (head_of d) not_implemented)
+    else if not (counts_are_one_question d)
+    then refused_with (refusal_head (head_of d) format_error)
     else query_or_error (head_of d) (question_at d)

@@ -18,7 +18,8 @@ pub data RunAt (b : Octets) : ℕ → ℕ → DomainName → ℕ → Type 0 wher
       → slice_get b i ≡ Some k → 0 < k → k < 64 → i + 1 + k ≤ length b → l ≡ take k (drop (i + 1) b)
       → RunAt b s (i + 1 + k) n e → RunAt b s i (l ∷ n) e
   jumps : {s : ℕ} (i o o' p : ℕ) (n : DomainName) (e : ℕ)
-      → slice_get b i ≡ Some o → 192 ≤ o → slice_get b (i + 1) ≡ Some o' → p ≡ pointer_place o o' → 12 ≤ p → p < s
+      → slice_get b i ≡ Some o → 192 ≤ o → slice_get b (i + 1) ≡ Some o' → p ≡ pointer_place o o'
+      → 12 ≤ p → p < s
       → RunAt b p p n e → RunAt b s i n (i + 2)
 
 -- The name n is spelled at place i, by octets that end before place e. RFC 1035 2.3.4: it has at most 255 octets,
@@ -85,25 +86,33 @@ pub record NumberAt (b : Octets) (i k v : ℕ) : Type 0 where
 abbrev pub PiecesAt : Octets → List Piece → ℕ → ℕ → Octets → Type 0
 PiecesAt b [] i e d = (i ≡ e) × (d ≡ [])
 PiecesAt b (fixed f ∷ ps) i e d =
-    (o rest : Octets) × OctetsAt b i (i + width f) o × (d ≡ o ++ rest) × PiecesAt b ps (i + width f) e rest
+    (o rest : Octets) × OctetsAt b i (i + width f) o × (d ≡ o ++ rest)
+    × PiecesAt b ps (i + width f) e rest
 PiecesAt b (domain ∷ ps) i e d =
-    (n : DomainName) × (j : ℕ) × (rest : Octets) × NameAt b i n j × (d ≡ wire n ++ rest) × PiecesAt b ps j e rest
+    (n : DomainName) × (j : ℕ) × (rest : Octets) × NameAt b i n j × (d ≡ wire n ++ rest)
+    × PiecesAt b ps j e rest
 PiecesAt b (string ∷ ps) i e d =
-    (k : ℕ) × (o rest : Octets) × (slice_get b i ≡ Some k) × OctetsAt b i (i + 1 + k) o × (d ≡ o ++ rest) × PiecesAt b ps (i + 1 + k) e rest
+    (k : ℕ) × (o rest : Octets) × (slice_get b i ≡ Some k) × OctetsAt b i (i + 1 + k) o
+    × (d ≡ o ++ rest) × PiecesAt b ps (i + 1 + k) e rest
 PiecesAt b (strings ∷ ps) i e d =
-    (o rest : Octets) × (j : ℕ) × OctetsAt b i j o × (0 < length o) × IsTrue (are_strings 0 o) × (d ≡ o ++ rest) × (j ≡ e) × PiecesAt b ps j e rest
+    (o rest : Octets) × (j : ℕ) × OctetsAt b i j o × (0 < length o) × IsTrue (are_strings 0 o)
+    × (d ≡ o ++ rest) × (j ≡ e) × PiecesAt b ps j e rest
 PiecesAt b (anything ∷ ps) i e d =
-    (o rest : Octets) × (j : ℕ) × OctetsAt b i j o × (d ≡ o ++ rest) × (j ≡ e) × PiecesAt b ps j e rest
+    (o rest : Octets) × (j : ℕ) × OctetsAt b i j o × (d ≡ o ++ rest) × (j ≡ e)
+    × PiecesAt b ps j e rest
 
 -- Data of another class than IN is octets.
 abbrev pub DataAt : Octets → ℕ → ℕ → ℕ → ℕ → Octets → Type 0
-DataAt b t c i e d = (i ≤ e) × (e ≤ length b) × PiecesAt b (if c == class_in then pieces_of t else anything ∷ []) i e d
+DataAt b t c i e d =
+    (i ≤ e) × (e ≤ length b)
+    × PiecesAt b (if c == class_in then pieces_of t else anything ∷ []) i e d
 
 -- RFC 1035 4.1.2: questions one after the other from place i up to place e
 abbrev pub QuestionsAt : Octets → ℕ → List MessageQuestion → ℕ → Type 0
 QuestionsAt b i [] e = i ≡ e
 QuestionsAt b i (q ∷ qs) e =
-    (j : ℕ) × NameAt b i q.qname j × NumberAt b j 2 q.qtype × NumberAt b (j + 2) 2 q.qclass × QuestionsAt b (j + 4) qs e
+    (j : ℕ) × NameAt b i q.qname j × NumberAt b j 2 q.qtype × NumberAt b (j + 2) 2 q.qclass
+    × QuestionsAt b (j + 4) qs e
 
 -- RFC 1035 4.1.3: records one after the other from place i up to place e
 pub record RecordAt (b : Octets) (i : ℕ) (r : MessageRecord) (j len : ℕ) : Type 0 where

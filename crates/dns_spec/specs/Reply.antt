@@ -13,13 +13,15 @@ use Rattle.dns_spec.specs.Answer.{outcome, items, main_items, required_items, is
 
 -- What is kept of a list of sets: the longest beginning whose size is at most the limit.
 abbrev pub kept : (List Item → ℕ) → ℕ → List Item → List Item
-kept size_of limit sets = take (greatest (λ k. nat_le (size_of (take k sets)) limit) (length sets)) sets
+kept size_of limit sets =
+    take (greatest (λ k. nat_le (size_of (take k sets)) limit) (length sets)) sets
 
--- The same by putting set after set behind a front: it stops at the first set with which the size is past the limit.
+-- The same by putting set after set after a front: it stops at the first set with which the size is past the limit.
 abbrev pub fitting : (List Item → ℕ) → ℕ → List Item → List Item → List Item
 fitting size_of limit front [] = front
 fitting size_of limit front (i ∷ is) =
-    if nat_le (size_of (front ++ i ∷ [])) limit then fitting size_of limit (front ++ i ∷ []) is else front
+    let next = front ++ i ∷ [] in
+    if nat_le (size_of next) limit then fitting size_of limit next is else front
 
 -- RFC 1035 4.1.1, 4.2.1: a set that may not be left out is missing
 abbrev pub truncated : ZoneContents → MessageQuestion → List Item → Bool
@@ -68,7 +70,11 @@ pub record Reply : Type 0 where
 abbrev pub answer_with : ZoneContents → Header → MessageQuestion → List Item → Reply
 answer_with z h q sets =
     let o = outcome z q.qname q.qtype in
-    record { header = reply_head h (is_authoritative o) (truncated z q sets) o.rcode; question = Some q; sets = sets }
+    record {
+      header = reply_head h (is_authoritative o) (truncated z q sets) o.rcode;
+      question = Some q;
+      sets = sets;
+    }
 
 -- The reply that a decision makes, where `keep` says which beginning of the sets of a question is kept.
 abbrev pub reply_of : (MessageQuestion → List Item) → ZoneContents → Decision → Option Reply

@@ -26,4 +26,5 @@ HasValidData set = All (Valid set.rtype) set.rdata
 -- the records of the set at an owner, with a TTL that may differ from the set's (RFC 2308 5)
 abbrev pub records_at : DomainName → ℕ → RecordSet → List ResourceRecord
 records_at owner ttl set =
-    map (λ (d : Octets). record { owner = owner; ttl = ttl; rtype = set.rtype; rdata = d }) set.rdata
+    map (λ (d : Octets). record { owner = owner; ttl = ttl; rtype = set.rtype; rdata = d })
+    set.rdata

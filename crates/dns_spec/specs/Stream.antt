@@ -16,7 +16,9 @@ has_frame x = nat_le (2 + field16 x 0) (length x)
 
 -- the message of the first frame, and the octets after that frame
 unfoldable pub first_frame : Octets → Option (Octets × Octets)
-first_frame x = if has_frame x then Some (take (field16 x 0) (drop 2 x), drop (field16 x 0) (drop 2 x)) else None
+first_frame x =
+    let n = field16 x 0 in
+    if has_frame x then Some (take n (drop 2 x), drop n (drop 2 x)) else None
 
 -- the messages of the frames that the octets begin with, at most so many, and the octets after these frames
 unfoldable pub frames : ℕ → Octets → List Octets

@@ -8,12 +8,14 @@ ghost use Rattle.dns_spec.specs.Query.{question_at};
 
 /// The computed reader of names gives a name and the place behind it exactly where they are spelled (RFC 1035 4.1.4).
 pub fn name_at_computes_the_relation()
-    ensures { (b : Octets) (i : ℕ) (n : DomainName) (e : ℕ) → (name_at b i ≡ Some (n, e)) ↔ NameAt b i n e }
+    ensures { (b : Octets) (i : ℕ) (n : DomainName) (e : ℕ)
+        → (name_at b i ≡ Some (n, e)) ↔ NameAt b i n e }
 {}
 
 /// A place of a message spells at most one name, with one end.
 pub fn place_spells_one_name()
-    ensures { (b : Octets) (i : ℕ) (n m : DomainName) (e f : ℕ) → NameAt b i n e → NameAt b i m f → (n ≡ m) × (e ≡ f) }
+    ensures { (b : Octets) (i : ℕ) (n m : DomainName) (e f : ℕ) → NameAt b i n e → NameAt b i m f
+        → (n ≡ m) × (e ≡ f) }
 {}
 
 /// A question ends at most 271 octets from the beginning of its message: 12 of the header, 255 of its name, 4 of its

@@ -14,7 +14,8 @@ ghost use Rattle.dns_spec.specs.Laws.{IsWritable, IsSetAt, KeepsBeginning};
 /// The octets of a reply in the plain layout spell the message that the reply is, over every zone whose records fit a
 /// message, for every datagram, whatever beginning of the sets is kept (RFC 1035 4.1).
 pub fn plain_reply_is_spelled()
-    ensures { (z : ZoneContents) (d : Octets) (keep : MessageQuestion → List Item) (r : Reply) → All IsWritable z.records
+    ensures { (z : ZoneContents) (d : Octets) (keep : MessageQuestion → List Item) (r : Reply)
+        → All IsWritable z.records
         → All (λ o. o < 256) d → KeepsBeginning z keep
         → reply_with keep z d ≡ Some r → Spells (octets_by plain_layout r) (reply_message r) }
 {}
@@ -22,7 +23,8 @@ pub fn plain_reply_is_spelled()
 /// The octets of a reply spell the message that the reply is, over every zone whose records fit a message, for every
 /// datagram and every limit from 271 to 16,384 octets (RFC 1035 4.1).
 pub fn reply_is_spelled()
-    ensures { (z : ZoneContents) (d : Octets) (limit : ℕ) (r : Reply) → All IsWritable z.records → All (λ o. o < 256) d
+    ensures { (z : ZoneContents) (d : Octets) (limit : ℕ) (r : Reply) → All IsWritable z.records
+        → All (λ o. o < 256) d
         → 271 ≤ limit → limit ≤ 16384
         → reply z d limit ≡ Some r → Spells (octets_by layout r) (reply_message r) }
 {}
@@ -49,23 +51,27 @@ pub fn items_are_record_sets()
 
 /// What is kept of a list of sets fits where nothing does.
 pub fn kept_sets_fit()
-    ensures { (size_of : List Item → ℕ) (limit : ℕ) (sets : List Item) → size_of [] ≤ limit → size_of (kept size_of limit sets) ≤ limit }
+    ensures { (size_of : List Item → ℕ) (limit : ℕ) (sets : List Item) → size_of [] ≤ limit
+        → size_of (kept size_of limit sets) ≤ limit }
 {}
 
 /// No longer beginning of a list of sets fits than what is kept of it.
 pub fn kept_sets_are_the_most()
-    ensures { (size_of : List Item → ℕ) (limit : ℕ) (sets : List Item) (k : ℕ) → k ≤ length sets → size_of (take k sets) ≤ limit
+    ensures { (size_of : List Item → ℕ) (limit : ℕ) (sets : List Item) (k : ℕ) → k ≤ length sets
+        → size_of (take k sets) ≤ limit
         → k ≤ length (kept size_of limit sets) }
 {}
 
 /// The size of the layout grows with each set.
 pub fn size_grows_with_each_set()
-    ensures { (q : Option MessageQuestion) (front more : List Item) → size q front ≤ size q (front ++ more) }
+    ensures { (q : Option MessageQuestion) (front more : List Item)
+        → size q front ≤ size q (front ++ more) }
 {}
 
 /// So does the size of the plain layout.
 pub fn plain_size_grows_with_each_set()
-    ensures { (q : Option MessageQuestion) (front more : List Item) → plain_size q front ≤ plain_size q (front ++ more) }
+    ensures { (q : Option MessageQuestion) (front more : List Item)
+        → plain_size q front ≤ plain_size q (front ++ more) }
 {}
 
 /// So the longest beginning of sets that fits is reached by stopping at the first set that does not fit.
@@ -87,5 +93,6 @@ pub fn first_512_octets_are_read()
 
 /// So does the reply.
 pub fn first_512_octets_decide()
-    ensures { (z : ZoneContents) (keep : MessageQuestion → List Item) (d : Octets) → reply_with keep z d ≡ reply_with keep z (take 512 d) }
+    ensures { (z : ZoneContents) (keep : MessageQuestion → List Item) (d : Octets)
+        → reply_with keep z d ≡ reply_with keep z (take 512 d) }
 {}

@@ -7,7 +7,8 @@ ghost use Rattle.dns_spec.specs.Stream.{frame, frames, after_frames, IsCutFrame}
 
 /// A stream is the frames of its messages, and the octets after them.
 pub fn stream_is_its_frames_and_the_rest()
-    ensures { (k : ℕ) (x : Octets) → All (λ o. o < 256) x → flat_map frame (frames k x) ++ after_frames k x ≡ x }
+    ensures { (k : ℕ) (x : Octets) → All (λ o. o < 256) x
+        → flat_map frame (frames k x) ++ after_frames k x ≡ x }
 {}
 
 /// Where a stream has fewer messages than are asked for, what is left of it is empty, or a frame that was cut.
