@@ -7,7 +7,7 @@ use Rattle.dns_spec.specs.Data.{type_cname, type_mx, cut}
 use Rattle.dns_spec.specs.Records.{ResourceRecord, ZoneContents}
 use Rattle.dns_spec.specs.Checks.{faults}
 use Rattle.dns_spec.specs.Layout.{Section, answer, authority, additional, Item}
-use Rattle.dns_spec.specs.Answer.{chain_from, chain, outcome_at, outcome, extra, items, required, is_authoritative}
+use Rattle.dns_spec.specs.Answer.{chain_from, chain, outcome_at, outcome, extra, items, required_items, is_authoritative}
 use Rattle.dns_spec.proofs.Examples.{dotted, under, entry, in_zone, address, alias, server, net_192, small_zone_with}
 
 abbrev exchange : ℕ → Octets → Octets
@@ -59,105 +59,105 @@ record Told : Type 0 where
   sets : List Row
 
 unfoldable told : Octets → ℕ → Told
-unfolding labels_from cut chain_from chain outcome_at outcome extra items required
+unfolding labels_from cut chain_from chain outcome_at outcome extra items required_items
 told cs t = record {
   rcode = (outcome zone (dotted cs) t).rcode;
   authoritative = is_authoritative (outcome zone (dotted cs) t);
-  needed = required zone (dotted cs) t;
+  needed = length (required_items zone (dotted cs) t);
   sets = map (λ (i : Item). row_of i.section i.records) (items zone (dotted cs) t);
 }
 
 -- an alias of a name below a cut ends in a referral, which the server still speaks for
 alias_below_cut : told (codes "far.example") 1 ≡ record { rcode = 0; authoritative = true; needed = 3; sets = set answer (codes "far.example") 5 1 ∷ set authority (codes "sub.example") 2 1 ∷ set additional (codes "ns.sub.example") 1 1 ∷ [] }
-unfolding told labels_from cut chain_from chain outcome_at outcome extra items required
+unfolding told labels_from cut chain_from chain outcome_at outcome extra items required_items
 alias_below_cut = refl
 
 -- an alias of a name that does not exist is a name error
 alias_of_nothing : told (codes "gone.example") 1 ≡ record { rcode = 3; authoritative = true; needed = 2; sets = set answer (codes "gone.example") 5 1 ∷ set authority (codes "example") 6 1 ∷ [] }
-unfolding told labels_from cut chain_from chain outcome_at outcome extra items required
+unfolding told labels_from cut chain_from chain outcome_at outcome extra items required_items
 alias_of_nothing = refl
 
 -- an alias of a name of another zone ends there
 alias_to_outside : told (codes "out.example") 1 ≡ record { rcode = 0; authoritative = true; needed = 1; sets = set answer (codes "out.example") 5 1 ∷ [] }
-unfolding told labels_from cut chain_from chain outcome_at outcome extra items required
+unfolding told labels_from cut chain_from chain outcome_at outcome extra items required_items
 alias_to_outside = refl
 
 -- a wildcard that only has names below it answers that there is nothing
 wildcard_without_records : told (codes "q.v.example") 1 ≡ record { rcode = 0; authoritative = true; needed = 1; sets = set authority (codes "example") 6 1 ∷ [] }
-unfolding told labels_from cut chain_from chain outcome_at outcome extra items required
+unfolding told labels_from cut chain_from chain outcome_at outcome extra items required_items
 wildcard_without_records = refl
 
 -- a wildcard does not answer below a name that exists
 closer_encloser : told (codes "z.c.e.example") 1 ≡ record { rcode = 3; authoritative = true; needed = 1; sets = set authority (codes "example") 6 1 ∷ [] }
-unfolding told labels_from cut chain_from chain outcome_at outcome extra items required
+unfolding told labels_from cut chain_from chain outcome_at outcome extra items required_items
 closer_encloser = refl
 
 -- and does elsewhere
 wildcard_address : told (codes "z.e.example") 1 ≡ record { rcode = 0; authoritative = true; needed = 1; sets = set answer (codes "z.e.example") 1 1 ∷ [] }
-unfolding told labels_from cut chain_from chain outcome_at outcome extra items required
+unfolding told labels_from cut chain_from chain outcome_at outcome extra items required_items
 wildcard_address = refl
 
 -- also for a name of several labels
 wildcard_deeper : told (codes "y.z.e.example") 1 ≡ record { rcode = 0; authoritative = true; needed = 1; sets = set answer (codes "y.z.e.example") 1 1 ∷ [] }
-unfolding told labels_from cut chain_from chain outcome_at outcome extra items required
+unfolding told labels_from cut chain_from chain outcome_at outcome extra items required_items
 wildcard_deeper = refl
 
 -- an alias by a wildcard
 wildcard_alias : told (codes "q.k.example") 1 ≡ record { rcode = 0; authoritative = true; needed = 2; sets = set answer (codes "q.k.example") 5 1 ∷ set answer (codes "www.example") 1 1 ∷ [] }
-unfolding told labels_from cut chain_from chain outcome_at outcome extra items required
+unfolding told labels_from cut chain_from chain outcome_at outcome extra items required_items
 wildcard_alias = refl
 
 -- a wildcard asked for by its own name
 wildcard_itself : told (codes "*.k.example") 1 ≡ record { rcode = 0; authoritative = true; needed = 2; sets = set answer (codes "*.k.example") 5 1 ∷ set answer (codes "www.example") 1 1 ∷ [] }
-unfolding told labels_from cut chain_from chain outcome_at outcome extra items required
+unfolding told labels_from cut chain_from chain outcome_at outcome extra items required_items
 wildcard_itself = refl
 
 -- an alias that is asked for is not followed
 alias_asked : told (codes "alias.example") 5 ≡ record { rcode = 0; authoritative = true; needed = 1; sets = set answer (codes "alias.example") 5 1 ∷ [] }
-unfolding told labels_from cut chain_from chain outcome_at outcome extra items required
+unfolding told labels_from cut chain_from chain outcome_at outcome extra items required_items
 alias_asked = refl
 
 -- nor where all is asked for
 alias_any : told (codes "alias.example") 255 ≡ record { rcode = 0; authoritative = true; needed = 1; sets = set answer (codes "alias.example") 5 1 ∷ [] }
-unfolding told labels_from cut chain_from chain outcome_at outcome extra items required
+unfolding told labels_from cut chain_from chain outcome_at outcome extra items required_items
 alias_any = refl
 
 -- glue is no answer
 glue_asked : told (codes "ns.sub.example") 1 ≡ record { rcode = 0; authoritative = false; needed = 2; sets = set authority (codes "sub.example") 2 1 ∷ set additional (codes "ns.sub.example") 1 1 ∷ [] }
-unfolding told labels_from cut chain_from chain outcome_at outcome extra items required
+unfolding told labels_from cut chain_from chain outcome_at outcome extra items required_items
 glue_asked = refl
 
 -- nor are the servers at a cut
 cut_asked : told (codes "sub.example") 2 ≡ record { rcode = 0; authoritative = false; needed = 2; sets = set authority (codes "sub.example") 2 1 ∷ set additional (codes "ns.sub.example") 1 1 ∷ [] }
-unfolding told labels_from cut chain_from chain outcome_at outcome extra items required
+unfolding told labels_from cut chain_from chain outcome_at outcome extra items required_items
 cut_asked = refl
 
 -- also where all is asked for
 cut_any : told (codes "sub.example") 255 ≡ record { rcode = 0; authoritative = false; needed = 2; sets = set authority (codes "sub.example") 2 1 ∷ set additional (codes "ns.sub.example") 1 1 ∷ [] }
-unfolding told labels_from cut chain_from chain outcome_at outcome extra items required
+unfolding told labels_from cut chain_from chain outcome_at outcome extra items required_items
 cut_any = refl
 
 -- an address that stands in the answer is not added
 stands_already : told (codes "self.example") 255 ≡ record { rcode = 0; authoritative = true; needed = 2; sets = set answer (codes "self.example") 1 1 ∷ set answer (codes "self.example") 15 1 ∷ [] }
-unfolding told labels_from cut chain_from chain outcome_at outcome extra items required
+unfolding told labels_from cut chain_from chain outcome_at outcome extra items required_items
 stands_already = refl
 
 -- a name without the type asked for
 other_type : told (codes "www.example") 16 ≡ record { rcode = 0; authoritative = true; needed = 1; sets = set authority (codes "example") 6 1 ∷ [] }
-unfolding told labels_from cut chain_from chain outcome_at outcome extra items required
+unfolding told labels_from cut chain_from chain outcome_at outcome extra items required_items
 other_type = refl
 
 -- all sets by rising type
 origin_any : told (codes "example") 255 ≡ record { rcode = 0; authoritative = true; needed = 2; sets = set answer (codes "example") 2 1 ∷ set answer (codes "example") 6 1 ∷ set additional (codes "ns.example") 1 1 ∷ [] }
-unfolding told labels_from cut chain_from chain outcome_at outcome extra items required
+unfolding told labels_from cut chain_from chain outcome_at outcome extra items required_items
 origin_any = refl
 
 -- additional addresses in the order of their targets
 targets_in_order : told (codes "mm.example") 15 ≡ record { rcode = 0; authoritative = true; needed = 1; sets = set answer (codes "mm.example") 15 2 ∷ set additional (codes "www.example") 1 1 ∷ set additional (codes "ns.example") 1 1 ∷ [] }
-unfolding told labels_from cut chain_from chain outcome_at outcome extra items required
+unfolding told labels_from cut chain_from chain outcome_at outcome extra items required_items
 targets_in_order = refl
 
 -- the glue of a referral comes first, and alone may not be left out
 glue_first : told (codes "x.two.example") 1 ≡ record { rcode = 0; authoritative = false; needed = 2; sets = set authority (codes "two.example") 2 2 ∷ set additional (codes "z.two.example") 1 1 ∷ set additional (codes "ns.example") 1 1 ∷ [] }
-unfolding told labels_from cut chain_from chain outcome_at outcome extra items required
+unfolding told labels_from cut chain_from chain outcome_at outcome extra items required_items
 glue_first = refl

@@ -1,15 +1,15 @@
 -- The size of the layout is the least that sharing allows.
-use Rattle.std.proofs.Common.{◌≡◌, ℕ, ◌+◌, ◌<◌, ◌≤◌, Bool, true, false, List, [], ◌∷◌, ◌++◌, length, refl, sym, ap, subst, arith, length-append}
+use Rattle.std.proofs.Common.{◌≡◌, ℕ, ◌+◌, ◌<◌, ◌≤◌, Bool, true, false, List, [], ◌∷◌, ◌++◌, length, refl, sym, ap, subst, arith, length-append, Option}
 use Rattle.std.specs.List.{list_any}
 use Rattle.dns_spec.specs.Names.{Octets, DomainName, wire}
 use Rattle.dns_spec.specs.Data.{Part, octets, name}
 use Rattle.dns_spec.specs.Records.{ResourceRecord}
 use Rattle.dns_spec.specs.Reading.{MessageQuestion}
-use Rattle.dns_spec.specs.Layout.{Item, records_of, has_suffix, cost, data_size, records_size, size, parts_of, names_in}
+use Rattle.dns_spec.specs.Layout.{Item, records_of, has_suffix, asked_names, cost, data_size, records_size, size, parts_of, names_of}
 use Rattle.dns_spec.specs.Sharing.{labels_size, NameSize, DataSize, RecordsSize, Sharing}
 use Rattle.dns_spec.specs.Sharing.NameSize.{whole, shared}
-use Rattle.dns_spec.specs.Sharing.DataSize.{no_parts, behind_octets, behind_name}
-use Rattle.dns_spec.specs.Sharing.RecordsSize.{no_records, behind_record}
+use Rattle.dns_spec.specs.Sharing.DataSize.{no_parts, after_octets, after_name}
+use Rattle.dns_spec.specs.Sharing.RecordsSize.{no_records, after_record}
 
 abbrev any_has : List DomainName → DomainName → Bool
 any_has ms s = list_any (λ m. has_suffix m s) ms
@@ -68,33 +68,33 @@ cost_least {ms} (shared front l n h) = cost_before ms front l n h
 data_possible : (ms : List DomainName) (ps : List Part) → DataSize ms ps (data_size ms ps)
 unfolding data_size
 data_possible ms [] = no_parts
-data_possible ms (octets o ∷ ps) = behind_octets o ps (data_size ms ps) (data_possible ms ps)
-data_possible ms (name n ∷ ps) = behind_name n ps (cost ms n) (data_size (ms ++ n ∷ []) ps) (cost_possible ms n) (data_possible (ms ++ n ∷ []) ps)
+data_possible ms (octets o ∷ ps) = after_octets o ps (data_size ms ps) (data_possible ms ps)
+data_possible ms (name n ∷ ps) = after_name n ps (cost ms n) (data_size (ms ++ n ∷ []) ps) (cost_possible ms n) (data_possible (ms ++ n ∷ []) ps)
 
 data_least : {ms : List DomainName} {ps : List Part} {k : ℕ} → DataSize ms ps k → data_size ms ps ≤ k
 unfolding data_size
 data_least no_parts = omega arith
-data_least (behind_octets o ps k d) = let h = data_least d in omega (arith, h)
-data_least (behind_name n ps j k c d) = let g = cost_least c in let h = data_least d in omega (arith, g, h)
+data_least (after_octets o ps k d) = let h = data_least d in omega (arith, h)
+data_least (after_name n ps j k c d) = let g = cost_least c in let h = data_least d in omega (arith, g, h)
 
 records_possible : (ms : List DomainName) (rs : List ResourceRecord) → RecordsSize ms rs (records_size ms rs)
 unfolding records_size
 records_possible ms [] = no_records
 records_possible ms (r ∷ rs) =
     let earlier = ms ++ r.owner ∷ [] in
-    let later = earlier ++ names_in (parts_of r) in
-    behind_record r rs (cost ms r.owner) (data_size earlier (parts_of r)) (records_size later rs) (cost_possible ms r.owner) (data_possible earlier (parts_of r)) (records_possible later rs)
+    let later = ms ++ names_of r in
+    after_record r rs (cost ms r.owner) (data_size earlier (parts_of r)) (records_size later rs) (cost_possible ms r.owner) (data_possible earlier (parts_of r)) (records_possible later rs)
 
 records_least : {ms : List DomainName} {rs : List ResourceRecord} {k : ℕ} → RecordsSize ms rs k → records_size ms rs ≤ k
 unfolding records_size
 records_least no_records = omega arith
-records_least (behind_record r rs i j k c d e) =
+records_least (after_record r rs i j k c d e) =
     let f = cost_least c in let g = data_least d in let h = records_least e in omega (arith, f, g, h)
 
-pub size_possible : (q : MessageQuestion) (items : List Item) → Sharing q items (size q items)
+pub size_possible : (q : Option MessageQuestion) (items : List Item) → Sharing q items (size q items)
 unfolding size
-size_possible q items = record { records = records_size (q.qname ∷ []) (records_of items); sized = records_possible (q.qname ∷ []) (records_of items); whole = refl }
+size_possible q items = record { records = records_size (asked_names q) (records_of items); sized = records_possible (asked_names q) (records_of items); whole = refl }
 
-pub size_least : (q : MessageQuestion) (items : List Item) (z : ℕ) → Sharing q items z → size q items ≤ z
+pub size_least : (q : Option MessageQuestion) (items : List Item) (z : ℕ) → Sharing q items z → size q items ≤ z
 unfolding size
 size_least q items z s = let h = records_least s.sized in omega (arith, h, s.whole)

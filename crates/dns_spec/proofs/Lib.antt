@@ -2,6 +2,7 @@ pub mod NameLaws
 pub mod NameReading
 pub mod WireNames
 mod NameRows
+pub mod MessageReading
 pub mod WrittenNames
 pub mod Places
 pub mod WrittenData
@@ -32,18 +33,25 @@ pub mod OneMessage
 pub mod SortedOnce
 pub mod FaultOrder
 pub mod WritableItems
+pub mod RequiredItems
 pub mod Kept
+pub mod GrowingSize
 pub mod ReplySpelled
 pub mod SharedNames
 pub mod SharedLayout
 pub mod FirstOctets
+pub mod StreamFrames
 pub mod Examples
 mod Rows
+mod LayoutRows
+mod QueryRows
+mod StreamRows
 mod PlainRows
 mod CheckRows
 mod ReportRows
 mod AnswerRows
 mod ReadingRows
+mod MessageRows
 mod TextRows
 mod TypeRows
 mod DataRows
@@ -63,6 +71,7 @@ mod ZoneRows
 mod PrintedRows
 pub mod RecordOrder
 pub mod PassedChecks
+pub mod ItemSets
 pub mod OrderedReport
 pub mod ReadOctets
 pub mod ReadPieces

@@ -1,9 +1,10 @@
 -- The computed reader of names spells what the relation spells, and a place spells at most one name.
-use Rattle.std.proofs.Common.{◌≡◌, ℕ, zero, suc, ◌+◌, ◌-◌, ◌<◌, ◌≤◌, Bool, true, false, ◌&&◌, ◌↔◌, inl, inr, [], ◌∷◌, length, take, drop, nat_lt, nat_le, ◌==◌, Option, None, Some, slice_get, option_map, option_and_then, refl, sym, ap, ◌∙◌, subst, subst₂, arith, lt-ltb, le-ltb, le-leb, ne_eqb}
+use Rattle.std.proofs.Common.{◌≡◌, ℕ, zero, suc, ◌+◌, ◌-◌, ◌<◌, ◌≤◌, Bool, true, false, cond, ◌&&◌, ◌↔◌, inl, inr, [], ◌∷◌, length, take, drop, nat_lt, nat_le, Option, None, Some, slice_get, option_map, option_and_then, refl, sym, ap, ◌∙◌, subst, subst₂, arith, lt-ltb, le-ltb, le-leb, ne_eqb}
 use Rattle.std.proofs.lemmas.Bool.{cases_lt, lt-leb, and_from, and_left, and_right, cond-true}
 use Rattle.std.proofs.lemmas.Option.{none-some, same_Some, slice_get_past, slice_get_within, cond_some, option_and_then_some, some_pair_parts}
 use Rattle.dns_spec.specs.Names.{Octets, DomainName, is_name}
-use Rattle.dns_spec.specs.Reading.{pointer_place, RunAt, NameAt, with_label, jump, run, runs_before, name_if_short, name_at}
+use Rattle.dns_spec.specs.Reading.{pointer_place, RunAt, NameAt}
+use Rattle.dns_spec.specs.ComputedReading.{RunStep, run_end, run_label, run_pointer, unlawful, pointer_step, step_of, with_label, jump, run, runs_before, name_if_short, name_at}
 use Rattle.dns_spec.specs.Reading.RunAt.{ends, goes_on, jumps}
 
 -- What stands at a place: the seven ways in which a reader of names can go on.
@@ -39,65 +40,58 @@ octet_at b i = first_octet b i (slice_get b i) refl
 
 -- One step of the computed reader, test by test.
 module _ (told : ℕ → Option (DomainName × ℕ)) (b : Octets) (s r i : ℕ) where
-  abbrev at_pointer : ℕ → Bool → Option (DomainName × ℕ)
-  at_pointer o true = None
-  at_pointer o false = option_and_then (λ o'. jump told s i (pointer_place o o')) (slice_get b (i + 1))
+  abbrev at_step : RunStep → Option (DomainName × ℕ)
+  at_step run_end = Some ([], i + 1)
+  at_step (run_label k) = option_map (with_label (take k (drop (i + 1) b))) (run told b s r (i + 1 + k))
+  at_step (run_pointer p) = jump told s i p
+  at_step unlawful = None
 
-  abbrev at_label : ℕ → Bool → Option (DomainName × ℕ)
-  at_label o true = option_map (with_label (take o (drop (i + 1) b))) (run told b s r (i + 1 + o))
-  at_label o false = None
-
-  abbrev at_low : ℕ → Bool → Option (DomainName × ℕ)
-  at_low o true = at_label o (nat_le (i + 1 + o) (length b))
-  at_low o false = at_pointer o (nat_lt o 192)
-
-  abbrev at_zero : ℕ → Bool → Option (DomainName × ℕ)
-  at_zero o true = Some ([], i + 1)
-  at_zero o false = at_low o (nat_lt o 64)
-
-  abbrev at_octet : Option ℕ → Option (DomainName × ℕ)
-  at_octet None = None
-  at_octet (Some o) = at_zero o (o == 0)
-
-  run_suc : run told b s (suc r) i ≡ at_octet (slice_get b i)
+  run_suc : run told b s (suc r) i ≡ at_step (step_of b i (slice_get b i))
   unfolding run
   run_suc = refl
 
+  abbrev high_step : ℕ → Bool → RunStep
+  high_step o t = cond t unlawful (pointer_step o (slice_get b (i + 1)))
+
+  abbrev low_step : ℕ → Bool → RunStep
+  low_step o t = cond t (cond (nat_le (i + 1 + o) (length b)) (run_label o) unlawful) (high_step o (nat_lt o 192))
+
+  step_is : (x : Option ℕ) → slice_get b i ≡ x → run told b s (suc r) i ≡ at_step (step_of b i x)
+  step_is x e = run_suc ∙ ap (λ z. at_step (step_of b i z)) e
+
   step_missing : slice_get b i ≡ None → run told b s (suc r) i ≡ None
-  step_missing e = run_suc ∙ ap at_octet e
+  step_missing e = step_is None e
 
   step_root : slice_get b i ≡ Some 0 → run told b s (suc r) i ≡ Some ([], i + 1)
-  step_root e = run_suc ∙ ap at_octet e
+  step_root e = step_is (Some 0) e
 
-  at_some : (o : ℕ) → slice_get b i ≡ Some o → 0 < o → run told b s (suc r) i ≡ at_low o (nat_lt o 64)
-  at_some o e h = run_suc ∙ ap at_octet e ∙ ap (at_zero o) (ne_eqb o 0 (λ z. omega arith))
+  at_some : (o : ℕ) → slice_get b i ≡ Some o → 0 < o → run told b s (suc r) i ≡ at_step (low_step o (nat_lt o 64))
+  at_some o e h = step_is (Some o) e ∙ ap (λ t. at_step (cond t run_end (low_step o (nat_lt o 64)))) (ne_eqb o 0 (λ z. omega arith))
 
   step_label : (k : ℕ) → slice_get b i ≡ Some k → 0 < k → k < 64 → i + 1 + k ≤ length b
       → run told b s (suc r) i ≡ option_map (with_label (take k (drop (i + 1) b))) (run told b s r (i + 1 + k))
-  step_label k e h l w = at_some k e h ∙ ap (at_low k) (lt-ltb k 64 l) ∙ ap (at_label k) (le-leb (i + 1 + k) (length b) w)
+  step_label k e h l w =
+      at_some k e h ∙ ap (λ t. at_step (low_step k t)) (lt-ltb k 64 l)
+      ∙ ap (λ t. at_step (cond t (run_label k) unlawful)) (le-leb (i + 1 + k) (length b) w)
 
   step_label_past : (k : ℕ) → slice_get b i ≡ Some k → 0 < k → k < 64 → length b < i + 1 + k → run told b s (suc r) i ≡ None
-  step_label_past k e h l w = at_some k e h ∙ ap (at_low k) (lt-ltb k 64 l) ∙ ap (at_label k) (lt-leb (i + 1 + k) (length b) w)
+  step_label_past k e h l w =
+      at_some k e h ∙ ap (λ t. at_step (low_step k t)) (lt-ltb k 64 l)
+      ∙ ap (λ t. at_step (cond t (run_label k) unlawful)) (lt-leb (i + 1 + k) (length b) w)
 
-  at_high : (o : ℕ) → slice_get b i ≡ Some o → 64 ≤ o → run told b s (suc r) i ≡ at_pointer o (nat_lt o 192)
-  at_high o e h = at_some o e (omega arith) ∙ ap (at_low o) (le-ltb o 64 h)
+  at_high : (o : ℕ) → slice_get b i ≡ Some o → 64 ≤ o → run told b s (suc r) i ≡ at_step (high_step o (nat_lt o 192))
+  at_high o e h = at_some o e (omega arith) ∙ ap (λ t. at_step (low_step o t)) (le-ltb o 64 h)
 
   step_reserved : (o : ℕ) → slice_get b i ≡ Some o → 64 ≤ o → o < 192 → run told b s (suc r) i ≡ None
-  step_reserved o e h l = at_high o e h ∙ ap (at_pointer o) (lt-ltb o 192 l)
+  step_reserved o e h l = at_high o e h ∙ ap (λ t. at_step (high_step o t)) (lt-ltb o 192 l)
 
-  second : ℕ → Option ℕ → Option (DomainName × ℕ)
-  second o x = option_and_then (λ o'. jump told s i (pointer_place o o')) x
-
-  at_second : (o : ℕ) (x : Option ℕ) → slice_get b i ≡ Some o → 192 ≤ o → slice_get b (i + 1) ≡ x → run told b s (suc r) i ≡ second o x
-  unfolding second
-  at_second o x e h f = at_high o e (omega arith) ∙ ap (at_pointer o) (le-ltb o 192 h) ∙ ap (second o) f
+  at_second : (o : ℕ) (x : Option ℕ) → slice_get b i ≡ Some o → 192 ≤ o → slice_get b (i + 1) ≡ x → run told b s (suc r) i ≡ at_step (pointer_step o x)
+  at_second o x e h f = at_high o e (omega arith) ∙ ap (λ t. at_step (high_step o t)) (le-ltb o 192 h) ∙ ap (λ z. at_step (pointer_step o z)) f
 
   step_pointer : (o o' : ℕ) → slice_get b i ≡ Some o → 192 ≤ o → slice_get b (i + 1) ≡ Some o' → run told b s (suc r) i ≡ jump told s i (pointer_place o o')
-  unfolding second
   step_pointer o o' e h f = at_second o (Some o') e h f
 
   step_half_pointer : (o : ℕ) → slice_get b i ≡ Some o → 192 ≤ o → slice_get b (i + 1) ≡ None → run told b s (suc r) i ≡ None
-  unfolding second
   step_half_pointer o e h f = at_second o None e h f
 
 -- a jump to a place in the range, and to another

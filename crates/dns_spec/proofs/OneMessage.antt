@@ -81,10 +81,10 @@ pub one_message : (b : Octets) (m n : DnsMessage) → Spells b m → Spells b n 
 one_message b m n g h =
     let id = one_number refl g.id h.id in
     let flags = one_number refl g.flags h.flags in
-    let qs = same_questions b m.questions n.questions 12 12 g.behind_questions h.behind_questions (one_number refl g.qdcount h.qdcount) refl g.questions h.questions in
-    let ans = same_records b m.answers n.answers g.behind_questions h.behind_questions g.behind_answers h.behind_answers (one_number refl g.ancount h.ancount) qs.1 g.answers h.answers in
-    let auth = same_records b m.authorities n.authorities g.behind_answers h.behind_answers g.behind_authorities h.behind_authorities (one_number refl g.nscount h.nscount) ans.1 g.authorities h.authorities in
-    let add = same_records b m.additionals n.additionals g.behind_authorities h.behind_authorities (length b) (length b) (one_number refl g.arcount h.arcount) auth.1 g.additionals h.additionals in
+    let qs = same_questions b m.questions n.questions 12 12 g.after_questions h.after_questions (one_number refl g.qdcount h.qdcount) refl g.questions h.questions in
+    let ans = same_records b m.answers n.answers g.after_questions h.after_questions g.after_answers h.after_answers (one_number refl g.ancount h.ancount) qs.1 g.answers h.answers in
+    let auth = same_records b m.authorities n.authorities g.after_answers h.after_answers g.after_authorities h.after_authorities (one_number refl g.nscount h.nscount) ans.1 g.authorities h.authorities in
+    let add = same_records b m.additionals n.additionals g.after_authorities h.after_authorities (length b) (length b) (one_number refl g.arcount h.arcount) auth.1 g.additionals h.additionals in
     λ k. record {
       header = record { id = id k; flags = flags k };
       questions = qs.0 k;

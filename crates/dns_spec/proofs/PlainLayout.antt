@@ -1,16 +1,17 @@
 -- The plain layout spells its message.
-use Rattle.std.proofs.Common.{◌≡◌, ℕ, ◌+◌, ◌^◌, ◌<◌, Bool, true, false, cond, nat_le, List, [], ◌∷◌, ◌++◌, map, length, take, drop, is_some, All, filter, flat_map, refl, sym, ap, ◌∙◌, subst, arith, append_assoc, length-append, zero-add}
+use Rattle.std.proofs.Common.{◌≡◌, ℕ, ◌+◌, ◌^◌, ◌<◌, ◌≤◌, Bool, true, false, cond, nat_le, List, [], ◌∷◌, ◌++◌, map, length, take, drop, Option, None, Some, is_some, IfSome, All, filter, flat_map, refl, sym, ap, ◌∙◌, subst, arith, append_assoc, length-append, zero-add}
 use Rattle.std.proofs.lemmas.Bool.{and_parts, leb-true}
 use Rattle.std.proofs.lemmas.List.{length-map, take_at, drop_at}
 use Rattle.std.proofs.lemmas.List.Elements.{All-head, All-tail, All-same, All-take, All-drop, All-weaker}
 use Rattle.std.proofs.lemmas.List.Concat.{flat_map-append}
 use Rattle.std.specs.List.{list_all}
+use Rattle.std.specs.Option.{option_to_list}
 use Rattle.dns_spec.specs.Names.{Octets, DomainName, wire, is_name, names_equal}
 use Rattle.dns_spec.specs.Data.{class_in, pieces_of, cut}
 use Rattle.dns_spec.specs.Records.{ResourceRecord}
 use Rattle.dns_spec.specs.Reading.{Header, MessageQuestion, NameAt, NumberAt, DataAt, QuestionsAt, RecordAt, RecordsAt, Spells}
-use Rattle.dns_spec.specs.Layout.{octets16, octets32, pointer, Section, answer, authority, additional, Item, is_section, records_of, in_section, record_tail, question_octets, header_octets, reply_header, plain_owner, plain_record, plain_layout, message_record, message_of}
-use Rattle.dns_spec.specs.Laws.{section_rank, sections_in_order, IsWritable, HasRoom}
+use Rattle.dns_spec.specs.Layout.{octets16, octets32, pointer, Section, answer, authority, additional, Item, is_section, records_of, in_section, record_tail, question_octets, asked_octets, header_octets, reply_header, asked_name, plain_owner, plain_record, plain_layout, message_record, message_of}
+use Rattle.dns_spec.specs.Laws.{section_rank, sections_in_order, IsWritable, IsAskable, HasRoom, HasCounts}
 use Rattle.dns_spec.proofs.NameLaws.{names_equal-decides}
 use Rattle.dns_spec.proofs.Places.{Stands, stands_front, stands_rest, stands_behind, stands_all, number_at, name_written, name_pointed}
 use Rattle.dns_spec.proofs.WrittenData.{data_written}
@@ -23,17 +24,29 @@ record IsReadable (b : Octets) (r : ResourceRecord) : Type 0 where
   rdata : length r.rdata < 2 ^ 16
   data_at : (i : ℕ) → Stands b i r.rdata → DataAt b r.rtype class_in i (i + length r.rdata) r.rdata
 
-module _ (b : Octets) (asked : DomainName) (e : ℕ) (there : NameAt b 12 asked e) where
-  owner_as : (i : ℕ) (n : DomainName) (t : Bool) → names_equal n asked ≡ t → 12 < i → is_name n ≡ true
+-- An owner from place i on may be a pointer to place 12: the name asked stands there, unless it is the root.
+abbrev MayPoint : Octets → DomainName → ℕ → Type 0
+MayPoint b [] i = Unit {0}
+MayPoint b (l ∷ n) i = (12 < i) × (e : ℕ) × NameAt b 12 (l ∷ n) e
+
+may_point_later : (b : Octets) (asked : DomainName) (i j : ℕ) → i ≤ j → MayPoint b asked i → MayPoint b asked j
+may_point_later b [] i j h there = tt
+may_point_later b (l ∷ n) i j h there = (let after = there.0 in omega (arith, after), there.1, there.2)
+
+module _ (b : Octets) (asked : DomainName) where
+  owner_as : (e : ℕ) → NameAt b 12 asked e → (i : ℕ) (n : DomainName) (t : Bool) → names_equal n asked ≡ t → 12 < i → is_name n ≡ true
       → Stands b i (cond t (pointer 12) (wire n)) → NameAt b i n (i + length (cond t (pointer 12) (wire n)))
-  owner_as i n true is h name at = name_pointed n h (subst (λ x. NameAt b 12 x e) (sym ((names_equal-decides n asked).0 is)) there) at
-  owner_as i n false is h name at = name_written n name at
+  owner_as e there i n true is h name at = name_pointed n h (subst (λ x. NameAt b 12 x e) (sym ((names_equal-decides n asked).0 is)) there) at
+  owner_as e there i n false is h name at = name_written n name at
 
-  owner_at : (i : ℕ) (n : DomainName) → 12 < i → is_name n ≡ true → Stands b i (plain_owner asked n) → NameAt b i n (i + length (plain_owner asked n))
-  owner_at i [] h name at = name_written [] name at
-  owner_at i (l ∷ n) h name at = owner_as i (l ∷ n) (names_equal (l ∷ n) asked) refl h name at
+owner_at : (b : Octets) (asked : DomainName) (i : ℕ) (n : DomainName) → MayPoint b asked i → is_name n ≡ true → Stands b i (plain_owner asked n)
+    → NameAt b i n (i + length (plain_owner asked n))
+owner_at b asked i [] there name at = name_written [] name at
+owner_at b [] i (l ∷ n) there name at = name_written (l ∷ n) name at
+owner_at b (k ∷ m) i (l ∷ n) there name at = owner_as b (k ∷ m) there.1 there.2 i (l ∷ n) (names_equal (l ∷ n) (k ∷ m)) refl there.0 name at
 
-  record_at : (i : ℕ) (r : ResourceRecord) → 12 < i → IsReadable b r → Stands b i (plain_record asked r)
+module _ (b : Octets) (asked : DomainName) where
+  record_at : (i : ℕ) (r : ResourceRecord) → MayPoint b asked i → IsReadable b r → Stands b i (plain_record asked r)
       → RecordAt b i (message_record r) (i + length (plain_owner asked r.owner)) (length r.rdata)
   record_at i r h ok at =
       let n = plain_owner asked r.owner in
@@ -47,7 +60,7 @@ module _ (b : Octets) (asked : DomainName) (e : ℕ) (there : NameAt b 12 asked 
       let upto_ttl : Stands b j (t ++ c ++ l) = stands_front (t ++ c ++ l) k upto_length in
       let upto_class : Stands b j (t ++ c) = stands_front (t ++ c) l upto_ttl in
       record {
-        owner = owner_at i r.owner h ok.owner (stands_front n (record_tail r r.rdata) at);
+        owner = owner_at b asked i r.owner h ok.owner (stands_front n (record_tail r r.rdata) at);
         rtype = number_at 2 r.rtype ok.rtype (stands_front t c upto_class);
         rclass = number_at 2 class_in (omega arith) (stands_behind 2 t c refl upto_class);
         ttl = number_at 4 r.ttl ok.ttl (stands_behind 4 (t ++ c) l refl upto_ttl);
@@ -60,7 +73,7 @@ module _ (b : Octets) (asked : DomainName) (e : ℕ) (there : NameAt b 12 asked 
       length-append (plain_owner asked r.owner) (record_tail r r.rdata)
       ∙ omega (arith, length-append (octets16 r.rtype ++ octets16 class_in ++ octets32 r.ttl ++ octets16 (length r.rdata)) r.rdata)
 
-  records_at : (rs : List ResourceRecord) (i : ℕ) → 12 < i → All (IsReadable b) rs → Stands b i (flat_map (plain_record asked) rs)
+  records_at : (rs : List ResourceRecord) (i : ℕ) → MayPoint b asked i → All (IsReadable b) rs → Stands b i (flat_map (plain_record asked) rs)
       → RecordsAt b i (map message_record rs) (i + length (flat_map (plain_record asked) rs))
   records_at [] i h ok at = omega arith
   records_at (r ∷ rs) i h ok at =
@@ -73,7 +86,7 @@ module _ (b : Octets) (asked : DomainName) (e : ℕ) (there : NameAt b 12 asked 
         length r.rdata,
         record_at i r h (All-head (IsReadable b) r rs ok) (stands_front w ws at),
         subst (λ x. RecordsAt b (j + 10 + length r.rdata) (map message_record rs) x) end
-            (records_at rs (j + 10 + length r.rdata) (omega (arith, next)) (All-tail (IsReadable b) r rs ok) (subst (λ x. Stands b x ws) next (stands_rest w ws at))),
+            (records_at rs (j + 10 + length r.rdata) (may_point_later b asked i (j + 10 + length r.rdata) (omega arith) h) (All-tail (IsReadable b) r rs ok) (subst (λ x. Stands b x ws) next (stands_rest w ws at))),
       )
 
 -- sets in the order of their sections are those of the answer, of authority, and additional
@@ -157,27 +170,6 @@ header_at {b} h qd an ns ar id flags qd-low an-low ns-low ar-low at =
       number_at 2 ar ar-low (stands_behind 10 (o ++ f ++ q ++ a ++ n) r refl at),
     )
 
--- A header alone is a message without questions and records.
-pub header_spells : (h : Header) → h.id < 2 ^ 16 → h.flags < 2 ^ 16
-    → Spells (header_octets h 0 0 0 0) (record { header = h; questions = []; answers = []; authorities = []; additionals = [] })
-header_spells h id flags =
-    let at = header_at h 0 0 0 0 id flags (omega arith) (omega arith) (omega arith) (omega arith) (stands_all (header_octets h 0 0 0 0)) in
-    record {
-      id = at.0;
-      flags = at.1;
-      qdcount = at.2;
-      ancount = at.3;
-      nscount = at.4;
-      arcount = at.5;
-      behind_questions = 12;
-      behind_answers = 12;
-      behind_authorities = 12;
-      questions = refl;
-      answers = refl;
-      authorities = refl;
-      additionals = refl;
-    }
-
 pub length-question_octets : (q : MessageQuestion) → length (question_octets q) ≡ length (wire q.qname) + 4
 length-question_octets q =
     length-append (wire q.qname ++ octets16 q.qtype) (octets16 q.qclass) ∙ omega (arith, length-append (wire q.qname) (octets16 q.qtype))
@@ -199,31 +191,52 @@ question_at_12 {b} q name qtype qclass at =
       omega (arith, len),
     )
 
+-- the question section, and the name that owners may be pointers to after it
+pub one_question : (q : Option MessageQuestion) → length (option_to_list q) < 2 ^ 16
+one_question None = omega arith
+one_question (Some q) = omega arith
+
+pub asked_at_12 : {b : Octets} (q : Option MessageQuestion) → IfSome q IsAskable → Stands b 12 (asked_octets q)
+    → QuestionsAt b 12 (option_to_list q) (12 + length (asked_octets q))
+asked_at_12 None ok at = refl
+asked_at_12 (Some q) ok at = question_at_12 q ok.qname ok.qtype ok.qclass at
+
+pointed_after : {b : Octets} (q : MessageQuestion) (asked : DomainName) → q.qname ≡ asked → QuestionsAt b 12 (q ∷ []) (12 + length (question_octets q))
+    → MayPoint b asked (12 + length (question_octets q))
+pointed_after q [] e at = tt
+pointed_after {b} q (l ∷ n) e at = (omega (arith, length-question_octets q), at.0, subst (λ x. NameAt b 12 x at.0) e at.1)
+
+asked_pointed : (b : Octets) (q : Option MessageQuestion) → QuestionsAt b 12 (option_to_list q) (12 + length (asked_octets q))
+    → MayPoint b (asked_name q) (12 + length (asked_octets q))
+asked_pointed b None at = tt
+asked_pointed b (Some q) at = pointed_after q q.qname refl at
+
 All-front : {X : Type 0} (P : X → Type 0) (xs ys : List X) → All P (xs ++ ys) → All P xs
 All-front P xs ys h = All-same P xs (take (length xs) (xs ++ ys)) (sym (take_at xs ys (length xs) refl)) (All-take P (length xs) (xs ++ ys) h)
 
 All-back : {X : Type 0} (P : X → Type 0) (xs ys : List X) → All P (xs ++ ys) → All P ys
 All-back P xs ys h = All-same P ys (drop (length xs) (xs ++ ys)) (sym (drop_at xs ys (length xs) refl)) (All-drop P (length xs) (xs ++ ys) h)
 
-spells_where : (b : Octets) (h : Header) (q : MessageQuestion) (items : List Item) → HasRoom h q items → All (IsReadable b) (records_of items)
-    → b ≡ reply_header h items ++ question_octets q ++ flat_map (plain_record q.qname) (records_of items) → Spells b (message_of h q items)
-spells_where b h q items ok readable whole =
+spells_where : (b : Octets) (h : Header) (q : Option MessageQuestion) (items : List Item) → HasRoom h q items → HasCounts items → All (IsReadable b) (records_of items)
+    → b ≡ reply_header h q items ++ asked_octets q ++ flat_map (plain_record (asked_name q)) (records_of items) → Spells b (message_of h q items)
+spells_where b h q items ok counts readable whole =
     let A = in_section answer items in
     let B = in_section authority items in
     let C = in_section additional items in
-    let w = λ (rs : List ResourceRecord). flat_map (plain_record q.qname) rs in
-    let rh = reply_header h items in
-    let qo = question_octets q in
+    let w = λ (rs : List ResourceRecord). flat_map (plain_record (asked_name q)) rs in
+    let rh = reply_header h q items in
+    let qo = asked_octets q in
     let split : records_of items ≡ A ++ (B ++ C) = records_by_section items ok.in_order in
     let parts : w (records_of items) ≡ w A ++ (w B ++ w C) =
-    ap w split ∙ flat_map-append (plain_record q.qname) A (B ++ C) ∙ ap (λ x. w A ++ x) (flat_map-append (plain_record q.qname) B C) in
+    ap w split ∙ flat_map-append (plain_record (asked_name q)) A (B ++ C) ∙ ap (λ x. w A ++ x) (flat_map-append (plain_record (asked_name q)) B C) in
     let all : Stands b 0 (rh ++ qo ++ (w A ++ (w B ++ w C))) = subst (Stands b 0) (whole ∙ ap (λ x. rh ++ qo ++ x) parts) (stands_all b) in
     let front : Stands b 0 (rh ++ qo) = stands_front (rh ++ qo) (w A ++ (w B ++ w C)) all in
-    let at = header_at h 1 (length A) (length B) (length C) ok.id ok.flags (omega arith) ok.answers ok.authorities ok.additionals (stands_front rh qo front) in
-    let asked = question_at_12 q ok.qname ok.qtype ok.qclass (stands_behind 12 rh qo refl front) in
+    let at = header_at h (length (option_to_list q)) (length A) (length B) (length C) ok.id ok.flags (one_question q) counts.answers counts.authorities counts.additionals (stands_front rh qo front) in
+    let asked = asked_at_12 q ok.question (stands_behind 12 rh qo refl front) in
     let head_len : length (rh ++ qo) ≡ 12 + length qo = length-append rh qo in
     let from : ℕ = 12 + length qo in
-    let beyond : 12 < from = omega (arith, length-question_octets q) in
+    let beyond = asked_pointed b q asked in
+    let later_too = λ (j : ℕ) (h : from ≤ j). may_point_later b (asked_name q) from j h beyond in
     let behind_a : ℕ = from + length (w A) in
     let behind_b : ℕ = behind_a + length (w B) in
     let records : Stands b from (w A ++ (w B ++ w C)) = subst (λ x. Stands b x (w A ++ (w B ++ w C))) (zero-add from) (stands_behind from (rh ++ qo) (w A ++ (w B ++ w C)) head_len all) in
@@ -231,7 +244,7 @@ spells_where b h q items ok readable whole =
     let last : Stands b behind_b (w C) = stands_rest (w B) (w C) later in
     let read : All (IsReadable b) (A ++ (B ++ C)) = subst (All (IsReadable b)) split readable in
     let read_later : All (IsReadable b) (B ++ C) = All-back (IsReadable b) A (B ++ C) read in
-    let records_read = λ (rs : List ResourceRecord) (i : ℕ). records_at b q.qname asked.0 asked.1 rs i in
+    let records_read = λ (rs : List ResourceRecord) (i : ℕ). records_at b (asked_name q) rs i in
     let end : behind_b + length (w C) ≡ length b =
     omega (arith, ap length whole, ap length parts, length-append (rh ++ qo) (w (records_of items)), head_len, length-append (w A) (w B ++ w C), length-append (w B) (w C)) in
     record {
@@ -241,13 +254,13 @@ spells_where b h q items ok readable whole =
       ancount = subst (NumberAt b 6 2) (sym (length-map A message_record)) at.3;
       nscount = subst (NumberAt b 8 2) (sym (length-map B message_record)) at.4;
       arcount = subst (NumberAt b 10 2) (sym (length-map C message_record)) at.5;
-      behind_questions = from;
-      behind_answers = behind_a;
-      behind_authorities = behind_b;
+      after_questions = from;
+      after_answers = behind_a;
+      after_authorities = behind_b;
       questions = asked;
       answers = records_read A from beyond (All-front (IsReadable b) A (B ++ C) read) (stands_front (w A) (w B ++ w C) records);
-      authorities = records_read B behind_a (omega (arith, beyond)) (All-front (IsReadable b) B C read_later) (stands_front (w B) (w C) later);
-      additionals = subst (RecordsAt b behind_b (map message_record C)) end (records_read C behind_b (omega (arith, beyond)) (All-back (IsReadable b) B C read_later) last);
+      authorities = records_read B behind_a (later_too behind_a (omega arith)) (All-front (IsReadable b) B C read_later) (stands_front (w B) (w C) later);
+      additionals = subst (RecordsAt b behind_b (map message_record C)) end (records_read C behind_b (later_too behind_b (omega arith)) (All-back (IsReadable b) B C read_later) last);
     }
 
 writable_readable : (b : Octets) (r : ResourceRecord) → IsWritable r → IsReadable b r
@@ -262,9 +275,9 @@ writable_readable b r ok = record {
 }
 
 -- The plain layout spells its message.
-pub plain_spells : (h : Header) (q : MessageQuestion) (items : List Item) → HasRoom h q items → All IsWritable (records_of items)
+pub plain_spells : (h : Header) (q : Option MessageQuestion) (items : List Item) → HasRoom h q items → HasCounts items → All IsWritable (records_of items)
     → Spells (plain_layout h q items) (message_of h q items)
 unfolding plain_layout
-plain_spells h q items ok writable =
+plain_spells h q items ok counts writable =
     let b = plain_layout h q items in
-    spells_where b h q items ok (All-weaker IsWritable (IsReadable b) (writable_readable b) (records_of items) writable) refl
+    spells_where b h q items ok counts (All-weaker IsWritable (IsReadable b) (writable_readable b) (records_of items) writable) refl

@@ -5,9 +5,10 @@ use Rattle.std.proofs.lemmas.Option.{none-some, cond_some}
 use Rattle.std.proofs.lemmas.List.{length-take-le}
 use Rattle.std.specs.List.{list_all}
 use Rattle.dns_spec.specs.Names.{Octets, DomainName, wire, is_label}
-use Rattle.dns_spec.specs.Reading.{MessageQuestion, RunAt, NameAt, name_at}
+use Rattle.dns_spec.specs.Reading.{MessageQuestion, RunAt, NameAt}
+use Rattle.dns_spec.specs.ComputedReading.{name_at}
 use Rattle.dns_spec.specs.Reading.RunAt.{ends, goes_on, jumps}
-use Rattle.dns_spec.specs.Reply.{field16, question_of, question_at}
+use Rattle.dns_spec.specs.Query.{field16, question_of, question_at}
 use Rattle.dns_spec.proofs.NameReading.{name_at_computes}
 
 -- a run that begins by the end of the header has no pointer: it ends behind its own labels

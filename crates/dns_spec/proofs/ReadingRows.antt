@@ -3,7 +3,7 @@ use Rattle.std.specs.Prelude.{◌≡◌, [], ◌∷◌, ◌++◌, replicate, cod
 use Rattle.std.specs.Prelude.{None, Some}
 use mathlib.Core.Path.{refl}
 use Rattle.dns_spec.specs.Names.{Octets, DomainName, wire}
-use Rattle.dns_spec.specs.Reading.{run, runs_before, name_at}
+use Rattle.dns_spec.specs.ComputedReading.{run, runs_before, name_at}
 use Rattle.dns_spec.proofs.Examples.{hex, dotted, letters}
 
 -- octets behind a header

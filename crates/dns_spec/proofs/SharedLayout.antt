@@ -1,22 +1,30 @@
 -- The layout, in which names share suffixes, spells its message.
-use Rattle.std.proofs.Common.{◌≡◌, ℕ, zero, suc, ◌+◌, ◌≤◌, Bool, true, false, cond, nat_le, List, [], ◌∷◌, ◌++◌, map, length, take, drop, Option, None, Some, All, is_some, unwrap_or, refl, sym, ap, ◌∙◌, subst, arith, append_assoc, append-nil, length-append, add-zero, zero-add}
+use Rattle.std.proofs.Common.{◌≡◌, ℕ, zero, suc, ◌+◌, ◌^◌, ◌<◌, ◌≤◌, Bool, true, false, cond, nat_le, List, [], ◌∷◌, ◌++◌, map, length, take, drop, Option, None, Some, All, IfSome, is_some, unwrap_or, refl, sym, ap, ◌∙◌, subst, arith, append_assoc, append-nil, length-append, add-zero, zero-add}
 use Rattle.std.proofs.lemmas.Bool.{and_parts, false≢true}
 use Rattle.std.proofs.lemmas.Option.{none-some, same_Some, cond_some}
 use Rattle.std.proofs.lemmas.List.{length-map, map-append}
 use Rattle.std.specs.List.{list_all}
-use Rattle.dns_spec.specs.Names.{Octets, wire, is_label, labels_from}
+use Rattle.std.specs.Option.{option_to_list}
+use Rattle.dns_spec.specs.Names.{Octets, DomainName, wire, is_label, labels_from}
 use Rattle.dns_spec.specs.Data.{class_in, Fixed, width, Piece, fixed, domain, string, strings, anything, pieces_of, compresses, Part, octets, octets_front, piece_front, cut, valid, parts, laid_parts}
 use Rattle.dns_spec.specs.Records.{ResourceRecord}
 use Rattle.dns_spec.specs.Reading.{Header, MessageQuestion, MessageRecord, OctetsAt, NumberAt, PiecesAt, DataAt, RecordsAt, Spells}
-use Rattle.dns_spec.specs.Layout.{octets16, octets32, answer, authority, additional, Item, records_of, in_section, Placed, shared_octets, data_octets, data_names, parts_of, record_tail, records_octets, question_octets, reply_header, layout, size, message_record, message_of}
-use Rattle.dns_spec.specs.Laws.{IsWritable, HasRoom}
+use Rattle.dns_spec.specs.Layout.{octets16, octets32, answer, authority, additional, Item, records_of, in_section, Placed, shared_octets, data_laid, parts_of, record_tail, records_octets, question_octets, asked_octets, asked_placed, asked_names, reply_header, layout, records_size, size, names_of, is_section, Section, message_record, message_of}
+use Rattle.dns_spec.specs.Laws.{IsWritable, IsAskable, HasRoom, HasCounts}
 use Rattle.dns_spec.proofs.SortedOnce.{Each}
 use Rattle.dns_spec.proofs.Places.{Stands, stands_front, stands_rest, stands_behind, stands_all, stands_within, stands_get, number_at, octets_at}
 use Rattle.dns_spec.proofs.WrittenData.{cut_into, name_part, octets_part, all_strings, front_taken, data_written}
-use Rattle.dns_spec.proofs.PlainLayout.{records_by_section, header_at, question_at_12, length-question_octets}
+use Rattle.dns_spec.proofs.PlainLayout.{records_by_section, section_with, header_at, one_question, asked_at_12, length-question_octets}
 use Rattle.dns_spec.proofs.LayoutSize.{length-layout}
 use Rattle.dns_spec.proofs.WritableItems.{each_from_all}
 use Rattle.dns_spec.proofs.SharedNames.{Known, known_later, known_more, name_shared, nothing_known, shared_alone}
+
+-- what is laid out of data
+abbrev data_octets : List Placed → ℕ → List Part → Octets
+data_octets ms p ps = (data_laid ms p ps).written
+
+abbrev data_names : List Placed → ℕ → List Part → List Placed
+data_names ms p ps = (data_laid ms p ps).names
 
 -- behind the last octet there are only parts without octets
 take_none : (k : ℕ) → take {A = ℕ} k [] ≡ []
@@ -28,7 +36,7 @@ drop_none zero = refl
 drop_none (suc k) = refl
 
 no_octets : (ps : List Piece) (ys : List Part) → cut ps [] ≡ Some ys → (ms : List Placed) (i : ℕ) → length (data_octets ms i ys) ≡ 0
-unfolding cut data_octets labels_from
+unfolding cut data_laid labels_from
 no_octets [] ys h ms i = ap (λ z. length (data_octets ms i z)) (sym (same_Some [] ys h))
 no_octets (fixed f ∷ ps) ys h ms i =
     let k = width f in
@@ -58,25 +66,25 @@ module _ (b : Octets) (room : length b ≤ 16384) where
   -- behind octets, and behind a name
   module _ (ms : List Placed) (i : ℕ) (o : Octets) (ys : List Part) (known : Known b i ms) (header : 12 ≤ i) (at : Stands b i (data_octets ms i (octets o ∷ ys))) where
     at_octets : Stands b i o
-    unfolding data_octets
+    unfolding data_laid
     at_octets = stands_front o (data_octets ms (i + length o) ys) at
 
     behind_octets : (ps : List Piece) (rest : Octets) → Lays ps rest ys → Laid ps rest ms (i + length o) ys
-    unfolding data_octets
+    unfolding data_laid
     behind_octets ps rest lays =
         lays ms (i + length o) (known_later b i (i + length o) ms (omega arith) known) (omega arith) (stands_rest o (data_octets ms (i + length o) ys) at)
 
     end_of_octets : i + length o + length (data_octets ms (i + length o) ys) ≡ i + length (data_octets ms i (octets o ∷ ys))
-    unfolding data_octets
+    unfolding data_laid
     end_of_octets = omega (arith, length-append o (data_octets ms (i + length o) ys))
 
     known_behind : Known b (i + length o + length (data_octets ms (i + length o) ys)) (ms ++ data_names ms (i + length o) ys)
         → Known b (i + length (data_octets ms i (octets o ∷ ys))) (ms ++ data_names ms i (octets o ∷ ys))
-    unfolding data_names
+    unfolding data_laid
     known_behind k = subst (λ e. Known b e (ms ++ data_names ms (i + length o) ys)) end_of_octets k
 
   nil_lays : (os : Octets) (xs : List Part) → cut [] os ≡ Some xs → Lays [] os xs
-  unfolding cut data_octets data_names
+  unfolding cut data_laid
   nil_lays [] xs e ms i known header at =
       subst (Laid [] [] ms i) (same_Some [] xs e)
       (record { pieces = (sym (add-zero i), refl); known = subst (λ z. Known b z (ms ++ [])) (sym (add-zero i)) (subst (Known b i) (sym (append-nil ms)) known) })
@@ -163,7 +171,7 @@ module _ (b : Octets) (room : length b ≤ 16384) where
       record { pieces = (os, [], i + length os, r.0, sym (append-nil os), r.1, r.2); known = r.3 })
 
   domain_lays : (ps : List Piece) (os rest : Octets) (part : Part) (ys : List Part) → piece_front domain os ≡ Some (part, rest) → Lays ps rest ys → Lays (domain ∷ ps) os (part ∷ ys)
-  unfolding data_octets data_names
+  unfolding data_laid
   domain_lays ps os rest part ys front lays ms i known header =
       let m = name_part os rest part front in
       let n = m.0 in
@@ -207,7 +215,7 @@ module _ (b : Octets) (room : length b ≤ 16384) where
     known : Known b (i + length (data_octets ms i xs)) (ms ++ data_names ms i xs)
 
   whole_laid : (t : ℕ) (d : Octets) (ms : List Placed) (i : ℕ) → valid t d ≡ true → Known b i ms → Stands b i (data_octets ms i (octets d ∷ [])) → DataLaid t d ms i (octets d ∷ [])
-  unfolding data_octets data_names
+  unfolding data_laid
   whole_laid t d ms i ok known at =
       let none = append-nil d in
       record {
@@ -215,8 +223,8 @@ module _ (b : Octets) (room : length b ≤ 16384) where
         known = subst (Known b (i + length (d ++ []))) (sym (append-nil ms)) (known_later b i (i + length (d ++ [])) ms (omega arith) known);
       }
 
-  data_laid : (t : ℕ) (d : Octets) (ms : List Placed) (i : ℕ) → valid t d ≡ true → Known b i ms → 12 ≤ i → Stands b i (data_octets ms i (laid_parts t d)) → DataLaid t d ms i (laid_parts t d)
-  data_laid t d ms i ok known header = by_type (compresses t) (by_cut (cut (pieces_of t) d) refl some)
+  data_laid_at : (t : ℕ) (d : Octets) (ms : List Placed) (i : ℕ) → valid t d ≡ true → Known b i ms → 12 ≤ i → Stands b i (data_octets ms i (laid_parts t d)) → DataLaid t d ms i (laid_parts t d)
+  data_laid_at t d ms i ok known header = by_type (compresses t) (by_cut (cut (pieces_of t) d) refl some)
     where
       some : is_some (cut (pieces_of t) d) ≡ true
       some = (and_parts (nat_le (length d) 65535) (is_some (cut (pieces_of t) d)) ok).1
@@ -238,19 +246,20 @@ module _ (b : Octets) (room : length b ≤ 16384) where
       → RecordsAt b i (map message_record rs) (i + length (records_octets ms i rs))
   unfolding records_octets
   records_laid [] ms i known header w at = sym (add-zero i)
-  records_laid (r ∷ rs) ms i known header w at =
+  records_laid (r ∷ rs) ms i known header w_ok at =
       let n = shared_octets ms r.owner in
       let j : ℕ = i + length n in
       let behind : ℕ = i + length n + 10 in
       let earlier = ms ++ (r.owner, i) ∷ [] in
       let d = data_octets earlier behind (parts_of r) in
-      let later = earlier ++ data_names earlier behind (parts_of r) in
-      let rest = records_octets later (behind + length d) rs in
+      let w = n ++ record_tail r d in
+      let later = ms ++ (r.owner, i) ∷ data_names earlier behind (parts_of r) in
+      let rest = records_octets later (i + length w) rs in
       let t = octets16 r.rtype in
       let c = octets16 class_in in
       let l = octets32 r.ttl in
       let k = octets16 (length d) in
-      let front : Stands b i (n ++ record_tail r d) = stands_front (n ++ record_tail r d) rest at in
+      let front : Stands b i (n ++ record_tail r d) = stands_front w rest at in
       let own : Stands b i n = stands_front n (record_tail r d) front in
       let tail : Stands b j (t ++ c ++ l ++ k ++ d) = stands_rest n (record_tail r d) front in
       let upto_length : Stands b j (t ++ c ++ l ++ k) = stands_front (t ++ c ++ l ++ k) d tail in
@@ -258,57 +267,68 @@ module _ (b : Octets) (room : length b ≤ 16384) where
       let upto_class : Stands b j (t ++ c) = stands_front (t ++ c) l upto_ttl in
       let data_stands : Stands b behind d = stands_behind 10 (t ++ c ++ l ++ k) d refl tail in
       let short = stands_within d data_stands in
-      let labels = (and_parts (list_all is_label r.owner) (nat_le (length (wire r.owner)) 255) w.0.owner).0 in
+      let labels = (and_parts (list_all is_label r.owner) (nat_le (length (wire r.owner)) 255) w_ok.0.owner).0 in
       let known' : Known b behind earlier = known_later b j behind earlier (omega arith) (known_more b i ms known r.owner i (omega arith) header room labels own) in
-      let laid = data_laid r.rtype r.rdata earlier behind w.0.rdata known' (omega arith) data_stands in
+      let laid = data_laid_at r.rtype r.rdata earlier behind w_ok.0.rdata known' (omega arith) data_stands in
       let tail_len : length (record_tail r d) ≡ 10 + length d = length-append (t ++ c ++ l ++ k) d in
-      let next : i + length (n ++ record_tail r d) ≡ behind + length d = omega (arith, length-append n (record_tail r d), tail_len) in
-      let end : behind + length d + length rest ≡ i + length (n ++ record_tail r d ++ rest) = omega (arith, next, length-append (n ++ record_tail r d) rest) in (
+      let next : i + length w ≡ behind + length d = omega (arith, length-append n (record_tail r d), tail_len) in
+      let known_next : Known b (i + length w) later =
+      subst (λ e. Known b e later) (sym next) (subst (Known b (behind + length d)) (append_assoc ms ((r.owner, i) ∷ []) (data_names earlier behind (parts_of r))) laid.known) in
+      let end : i + length w + length rest ≡ i + length (w ++ rest) = omega (arith, length-append w rest) in
+      let others = records_laid rs later (i + length w) known_next (omega (arith, next)) w_ok.1 (stands_rest w rest at) in (
         j,
         length d,
         record {
-          owner = name_shared b i ms known r.owner i (omega arith) w.0.owner own;
-          rtype = number_at 2 r.rtype w.0.rtype (stands_front t c upto_class);
+          owner = name_shared b i ms known r.owner i (omega arith) w_ok.0.owner own;
+          rtype = number_at 2 r.rtype w_ok.0.rtype (stands_front t c upto_class);
           rclass = number_at 2 class_in (omega arith) (stands_behind 2 t c refl upto_class);
-          ttl = number_at 4 r.ttl w.0.ttl (stands_behind 4 (t ++ c) l refl upto_ttl);
+          ttl = number_at 4 r.ttl w_ok.0.ttl (stands_behind 4 (t ++ c) l refl upto_ttl);
           length = number_at 2 (length d) (omega (arith, short, room)) (stands_behind 8 (t ++ c ++ l) k refl upto_length);
           rdata = laid.data_at;
         },
-        subst (λ e. RecordsAt b (behind + length d) (map message_record rs) e) end
-            (records_laid rs later (behind + length d) laid.known (omega arith) w.1 (subst (λ x. Stands b x rest) next (stands_rest (n ++ record_tail r d) rest at))),
+        subst (λ p. RecordsAt b p (map message_record rs) (i + length (w ++ rest))) next
+            (subst (RecordsAt b (i + length w) (map message_record rs)) end others),
       )
 
 records_split : (b : Octets) (qs rs : List MessageRecord) (i e : ℕ) → RecordsAt b i (qs ++ rs) e → (j : ℕ) × RecordsAt b i qs j × RecordsAt b j rs e
 records_split b [] rs i e h = (i, refl, h)
 records_split b (q ∷ qs) rs i e h = let s = records_split b qs rs (h.0 + 10 + h.1) e h.3 in (s.0, (h.0, h.1, h.2, s.1), s.2)
 
-spells_where : (b : Octets) (h : Header) (q : MessageQuestion) (items : List Item) → length b ≤ 16384 → HasRoom h q items → Each IsWritable (records_of items)
-    → b ≡ reply_header h items ++ question_octets q ++ records_octets ((q.qname, 12) ∷ []) (12 + length (question_octets q)) (records_of items) → Spells b (message_of h q items)
-spells_where b h q items room ok writable whole =
-    let A = in_section answer items in
-    let B = in_section authority items in
-    let C = in_section additional items in
-    let rh = reply_header h items in
-    let qo = question_octets q in
-    let from : ℕ = 12 + length qo in
-    let rest = records_octets ((q.qname, 12) ∷ []) from (records_of items) in
-    let all : Stands b 0 (rh ++ qo ++ rest) = subst (Stands b 0) whole (stands_all b) in
-    let front : Stands b 0 (rh ++ qo) = stands_front (rh ++ qo) rest all in
-    let at = header_at h 1 (length A) (length B) (length C) ok.id ok.flags (omega arith) ok.answers ok.authorities ok.additionals (stands_front rh qo front) in
-    let question : Stands b 12 qo = stands_behind 12 rh qo refl front in
-    let asked = question_at_12 q ok.qname ok.qtype ok.qclass question in
-    let spelled : Stands b 12 (wire q.qname) = stands_front (wire q.qname) (octets16 q.qtype) (stands_front (wire q.qname ++ octets16 q.qtype) (octets16 q.qclass) question) in
+-- the name of the question is an earlier name of the records
+asked_known : (b : Octets) → length b ≤ 16384 → (q : Option MessageQuestion) → IfSome q IsAskable → Stands b 12 (asked_octets q)
+    → Known b (12 + length (asked_octets q)) (asked_placed q)
+asked_known b room None ok at = nothing_known b 12
+asked_known b room (Some q) ok at =
+    let from : ℕ = 12 + length (question_octets q) in
+    let spelled : Stands b 12 (wire q.qname) = stands_front (wire q.qname) (octets16 q.qtype) (stands_front (wire q.qname ++ octets16 q.qtype) (octets16 q.qclass) at) in
     let alone : Stands b 12 (shared_octets [] q.qname) = subst (Stands b 12) (sym (shared_alone q.qname)) spelled in
     let labels = (and_parts (list_all is_label q.qname) (nat_le (length (wire q.qname)) 255) ok.qname).0 in
     let first : Known b (12 + length (shared_octets [] q.qname)) ((q.qname, 12) ∷ []) =
     known_more b 12 [] (nothing_known b 12) q.qname 12 (omega arith) (omega arith) room labels alone in
-    let known : Known b from ((q.qname, 12) ∷ []) =
-    known_later b (12 + length (shared_octets [] q.qname)) from ((q.qname, 12) ∷ []) (omega (arith, ap length (shared_alone q.qname), length-question_octets q)) first in
+    known_later b (12 + length (shared_octets [] q.qname)) from ((q.qname, 12) ∷ []) (omega (arith, ap length (shared_alone q.qname), length-question_octets q)) first
+
+spells_where : (b : Octets) (h : Header) (q : Option MessageQuestion) (items : List Item) → length b ≤ 16384 → HasRoom h q items → HasCounts items
+    → Each IsWritable (records_of items)
+    → b ≡ reply_header h q items ++ asked_octets q ++ records_octets (asked_placed q) (12 + length (asked_octets q)) (records_of items) → Spells b (message_of h q items)
+spells_where b h q items room ok counts writable whole =
+    let A = in_section answer items in
+    let B = in_section authority items in
+    let C = in_section additional items in
+    let rh = reply_header h q items in
+    let qo = asked_octets q in
+    let from : ℕ = 12 + length qo in
+    let rest = records_octets (asked_placed q) from (records_of items) in
+    let all : Stands b 0 (rh ++ qo ++ rest) = subst (Stands b 0) whole (stands_all b) in
+    let front : Stands b 0 (rh ++ qo) = stands_front (rh ++ qo) rest all in
+    let at = header_at h (length (option_to_list q)) (length A) (length B) (length C) ok.id ok.flags (one_question q) counts.answers counts.authorities counts.additionals (stands_front rh qo front) in
+    let question : Stands b 12 qo = stands_behind 12 rh qo refl front in
+    let asked = asked_at_12 q ok.question question in
+    let known = asked_known b room q ok.question question in
     let head_len : length (rh ++ qo) ≡ from = length-append rh qo in
     let behind : Stands b from rest = subst (λ x. Stands b x rest) (zero-add from) (stands_behind from (rh ++ qo) rest head_len all) in
     let end : from + length rest ≡ length b = omega (arith, ap length whole, length-append (rh ++ qo) rest, head_len) in
     let read : RecordsAt b from (map message_record (records_of items)) (length b) =
-    subst (RecordsAt b from (map message_record (records_of items))) end (records_laid b room (records_of items) ((q.qname, 12) ∷ []) from known (omega arith) writable behind) in
+    subst (RecordsAt b from (map message_record (records_of items))) end (records_laid b room (records_of items) (asked_placed q) from known (omega arith) writable behind) in
     let split : map message_record (records_of items) ≡ map message_record A ++ (map message_record B ++ map message_record C) =
     ap (map message_record) (records_by_section items ok.in_order) ∙ map-append message_record A (B ++ C) ∙ ap (λ x. map message_record A ++ x) (map-append message_record B C) in
     let s = records_split b (map message_record A) (map message_record B ++ map message_record C) from (length b) (subst (λ x. RecordsAt b from x (length b)) split read) in
@@ -320,19 +340,44 @@ spells_where b h q items room ok writable whole =
       ancount = subst (NumberAt b 6 2) (sym (length-map A message_record)) at.3;
       nscount = subst (NumberAt b 8 2) (sym (length-map B message_record)) at.4;
       arcount = subst (NumberAt b 10 2) (sym (length-map C message_record)) at.5;
-      behind_questions = from;
-      behind_answers = s.0;
-      behind_authorities = t.0;
+      after_questions = from;
+      after_answers = s.0;
+      after_authorities = t.0;
       questions = asked;
       answers = s.1;
       authorities = t.1;
       additionals = t.2;
     }
 
+-- there are no more records than octets
+section_bound : (s : Section) (is : List Item) → length (in_section s is) ≤ length (records_of is)
+section_bound s [] = omega arith
+section_bound s (i ∷ is) = go (is_section s i.section) refl (section_bound s is)
+  where
+    go : (t : Bool) → is_section s i.section ≡ t → length (in_section s is) ≤ length (records_of is) → length (in_section s (i ∷ is)) ≤ length (i.records ++ records_of is)
+    go true e h = let q = ap length (section_with s i is true e) in omega (arith, h, q, length-append i.records (in_section s is), length-append i.records (records_of is))
+    go false e h = let q = ap length (section_with s i is false e) in omega (arith, h, q, length-append i.records (records_of is))
+
+pub counted : (is : List Item) → length (records_of is) < 2 ^ 16 → HasCounts is
+counted is few = record {
+  answers = omega (arith, section_bound answer is);
+  authorities = omega (arith, section_bound authority is);
+  additionals = omega (arith, section_bound additional is);
+}
+
+shared_bound : (ms : List DomainName) (rs : List ResourceRecord) → length rs ≤ records_size ms rs
+unfolding records_size
+shared_bound ms [] = omega arith
+shared_bound ms (r ∷ rs) = let b = shared_bound (ms ++ names_of r) rs in omega (arith, b)
+
+few_counts : (q : Option MessageQuestion) (is : List Item) → size q is < 2 ^ 16 → HasCounts is
+unfolding size
+few_counts q is short = let b = shared_bound (asked_names q) (records_of is) in counted is (omega (arith, b))
+
 -- The layout spells its message.
-pub layout_spells : (h : Header) (q : MessageQuestion) (items : List Item) → HasRoom h q items → All IsWritable (records_of items) → size q items ≤ 16384
+pub layout_spells : (h : Header) (q : Option MessageQuestion) (items : List Item) → HasRoom h q items → All IsWritable (records_of items) → size q items ≤ 16384
     → Spells (layout h q items) (message_of h q items)
 unfolding layout
 layout_spells h q items ok writable short =
     let b = layout h q items in
-    spells_where b h q items (omega (arith, length-layout h q items, short)) ok (each_from_all IsWritable (records_of items) writable) refl
+    spells_where b h q items (omega (arith, length-layout h q items, short)) ok (few_counts q items (omega arith)) (each_from_all IsWritable (records_of items) writable) refl

@@ -1,5 +1,5 @@
 -- The sets of an answer stand in the order of their sections, and their records fit a message where those of the zone do.
-use Rattle.std.proofs.Common.{◌≡◌, ℕ, zero, suc, ◌<◌, ◌≤◌, min, append_assoc, append-nil, Bool, true, false, ◌&&◌, not, cond, nat_le, ◌==◌, List, [], ◌∷◌, ◌++◌, map, reverse, length, take, Option, None, Some, is_some, option_map, unwrap_or, All, find, filter, flat_map, refl, sym, ap, subst, arith, nat_cmp}
+use Rattle.std.proofs.Common.{◌≡◌, ℕ, zero, suc, ◌<◌, ◌≤◌, min, append_assoc, append-nil, Bool, true, false, ◌&&◌, not, cond, nat_le, ◌==◌, List, [], ◌∷◌, ◌++◌, map, reverse, take, Option, None, Some, is_some, option_map, unwrap_or, All, find, filter, flat_map, refl, sym, ap, subst, arith}
 use mathlib.Core.List.{reverse_aux}
 use Rattle.std.proofs.lemmas.Bool.{and_from, le-leb}
 use Rattle.std.proofs.lemmas.Option.{none-some, same_Some, cond_some, option_and_then_some}
@@ -7,10 +7,12 @@ use Rattle.std.proofs.lemmas.List.Elements.{All-nil, All-cons, All-head, All-tai
 use Rattle.std.specs.List.{list_all, list_any}
 use Rattle.dns_spec.specs.Names.{Octets, DomainName, is_name, folded, same, at_or_below, suffixes}
 use Rattle.dns_spec.specs.Data.{type_a, type_ns, type_cname, type_soa, type_aaaa, qtype_any, width, Piece, fixed, domain, string, strings, anything, pieces_of, Part, octets, name, piece_front, cut, first_name, target, soa_minimum}
-use Rattle.dns_spec.specs.Records.{ResourceRecord, ZoneContents, data_order, at, of_type, rrset, with_owner, distinct, sort_by}
+use Rattle.dns_spec.specs.Records.{ResourceRecord, ZoneContents, data_order, at, of_type, rrset, with_owner}
+use Rattle.dns_spec.specs.Sets.{rising_types}
 use Rattle.dns_spec.specs.Tree.{exists, is_cut, cut_of, source_of_synthesis, found}
 use Rattle.dns_spec.specs.Layout.{Section, answer, authority, additional, Item, records_of}
-use Rattle.dns_spec.specs.Answer.{name_error, no_error, item, follows_alias, alias_set, first_target, next_sought, chain_from, chain, last_of, last_sought, alias_items, Outcome, all_sets, asked_sets, referral_to, negative, positive, or_empty, answer_from, outcome_at, outcome, targets, stands, address_set, address_sets, extra, main_items, items}
+use Rattle.dns_spec.specs.Reading.{name_error, no_error}
+use Rattle.dns_spec.specs.Answer.{item, follows_alias, alias_set, first_target, next_sought, chain_from, chain, last_of, last_sought, alias_items, Outcome, all_sets, asked_sets, negative, positive, has_any, outcome_by, outcome_at, outcome, targets, stands, address_set, address_sets, extra, main_items, items}
 use Rattle.dns_spec.specs.Laws.{section_rank, sections_in_order, IsWritable}
 use Rattle.dns_spec.proofs.NameLaws.{is_name-tail, is_name-folded}
 use Rattle.dns_spec.proofs.SortedOnce.{Each, each_filter, each_sort}
@@ -209,7 +211,7 @@ module _ (z : ZoneContents) (w : Writable z.records) where
 
   all_sets_stood : (rs : List ResourceRecord) → Writable rs → Each (Stood answer) (all_sets rs)
   all_sets_stood rs v =
-      let types = sort_by nat_cmp (distinct ◌==◌ (map (λ (r : ResourceRecord). r.rtype) rs)) in
+      let types = rising_types rs in
       each_flat_map (Stood answer) (λ _. Unit {0}) (λ t. item answer (of_type t rs)) types (λ t _. item_stood answer (of_type t rs) (of_type_writable t rs v)) (units types)
     where
       units : (ts : List ℕ) → Each (λ _. Unit {0}) ts
@@ -223,33 +225,26 @@ module _ (z : ZoneContents) (w : Writable z.records) where
       go true = all_sets_stood rs v
       go false = item_stood answer (of_type t rs) (of_type_writable t rs v)
 
-  or_empty_right : (is : List Item) → Each (Stood answer) is → Right (or_empty z is)
-  or_empty_right [] e = negative_right no_error (omega arith)
-  or_empty_right (i ∷ is) e = record { rcode = omega arith; answers = e; authorities = tt }
-
-  answer_from_right : (t : ℕ) (rs : List ResourceRecord) → Writable rs → Right (answer_from z t rs)
-  answer_from_right t rs v = go (follows_alias t && not (length (of_type type_cname rs) == 0)) (or_empty_right (asked_sets t rs) (asked_sets_stood t rs v))
+  answer_from_right : (t : ℕ) (rs : List ResourceRecord) → Writable rs → Right (outcome_by z t None (Some rs))
+  answer_from_right t rs v = go (follows_alias t && has_any (of_type type_cname rs)) (has_any (asked_sets t rs))
     where
-      go : (b : Bool) → Right (or_empty z (asked_sets t rs)) → Right (cond b (positive []) (or_empty z (asked_sets t rs)))
-      go true e = record { rcode = omega arith; answers = tt; authorities = tt }
-      go false e = e
+      go : (b c : Bool) → Right (cond b (positive []) (cond c (positive (asked_sets t rs)) (negative z no_error)))
+      go true c = record { rcode = omega arith; answers = tt; authorities = tt }
+      go false true = record { rcode = omega arith; answers = asked_sets_stood t rs v; authorities = tt }
+      go false false = negative_right no_error (omega arith)
 
   outcome_at_right : (t : ℕ) (s : DomainName) → Named s → Right (outcome_at z t s)
   unfolding outcome_at
-  outcome_at_right t s h = at_cut (cut_of z s) refl
+  outcome_at_right t s h = go (cut_of z s) (found z s) refl refl
     where
-      at_found : (y : Option (List ResourceRecord)) → found z s ≡ y → Right (elim y [ None ↦ negative z name_error | Some rs ↦ answer_from z t rs ])
-      at_found None e = negative_right name_error (omega arith)
-      at_found (Some rs) e = answer_from_right t rs (found_writable z w s rs h e)
-
-      at_cut : (y : Option DomainName) → cut_of z s ≡ y
-          → Right (elim y [ Some c ↦ referral_to z c | None ↦ elim (found z s) [ None ↦ negative z name_error | Some rs ↦ answer_from z t rs ] ])
-      at_cut None e = at_found (found z s) refl
-      at_cut (Some c) e = record {
+      go : (x : Option DomainName) (y : Option (List ResourceRecord)) → cut_of z s ≡ x → found z s ≡ y → Right (outcome_by z t x y)
+      go (Some c) y e f = record {
         rcode = omega arith;
         answers = tt;
         authorities = item_stood authority (with_owner c (rrset z c type_ns)) (with_owner_writable c (rrset z c type_ns) (named_cut z s c h e) (rrset_writable c type_ns));
       }
+      go None None e f = negative_right name_error (omega arith)
+      go None (Some rs) e f = answer_from_right t rs (found_writable z w s rs h f)
 
   alias_items_stood : (q : DomainName) (t : ℕ) → Named q → Each (Stood answer) (alias_items z q t)
   alias_items_stood q t h = go (follows_alias t)

@@ -1,31 +1,16 @@
 -- What a reader learns here: which RRsets answer a question: the names sought one after the other, the five cases of
 -- the last of them, the additional addresses, and which of all these a reply may not leave out.
-use Rattle.std.specs.Prelude.{ℕ, zero, suc, min, Bool, ◌&&◌, ◌||◌, not, List, [], ◌∷◌, ◌++◌, map, length, ◌==◌, if◌then◌else◌}
+use Rattle.std.specs.Prelude.{ℕ, zero, suc, min, Bool, true, false, ◌&&◌, ◌||◌, not, List, [], ◌∷◌, ◌++◌, map, length, ◌==◌, if◌then◌else◌}
 use Rattle.std.specs.Prelude.{Option, None, Some}
 use Rattle.std.specs.Option.{option_map, option_and_then, is_some, unwrap_or, option_to_list}
 use Rattle.std.specs.List.{list_any, filter, filter_map, flat_map}
-use Rattle.std.specs.Ordering.{nat_cmp}
 use Rattle.dns_spec.specs.Names.{DomainName, same, at_or_below}
 use Rattle.dns_spec.specs.Data.{type_a, type_ns, type_cname, type_soa, type_mx, type_aaaa, type_srv, qtype_any, target, soa_minimum}
-use Rattle.dns_spec.specs.Records.{ResourceRecord, ZoneContents, rrset, of_type, distinct, sort_by, with_owner}
+use Rattle.dns_spec.specs.Records.{ResourceRecord, ZoneContents, rrset, of_type, with_owner}
+use Rattle.dns_spec.specs.Sets.{rising_types}
 use Rattle.dns_spec.specs.Tree.{cut_of, found}
+use Rattle.dns_spec.specs.Reading.{no_error, name_error}
 use Rattle.dns_spec.specs.Layout.{Section, answer, authority, additional, Item, records_of}
-
--- RFC 1035 4.1.1: the RCODEs that a reply has
-abbrev pub no_error : ℕ
-no_error = 0
-
-abbrev pub format_error : ℕ
-format_error = 1
-
-abbrev pub name_error : ℕ
-name_error = 3
-
-abbrev pub not_implemented : ℕ
-not_implemented = 4
-
-abbrev pub refused : ℕ
-refused = 5
 
 -- an RRset of a section, where it has a record
 abbrev pub item : Section → List ResourceRecord → List Item
@@ -38,7 +23,8 @@ follows_alias t = not (t == type_cname || t == qtype_any)
 
 -- the CNAME set found for a name, where no cut is at or above it
 abbrev pub alias_set : ZoneContents → DomainName → List ResourceRecord
-alias_set z s = if is_some (cut_of z s) then [] else unwrap_or (option_map (of_type type_cname) (found z s)) []
+alias_set z s =
+    if is_some (cut_of z s) then [] else unwrap_or (option_map (of_type type_cname) (found z s)) []
 
 -- where it leads
 abbrev pub first_target : List ResourceRecord → Option DomainName
@@ -49,7 +35,9 @@ first_target (r ∷ rs) = target r.rtype r.rdata
 -- that is at or below the origin and was not sought yet
 abbrev pub next_sought : ZoneContents → List DomainName → DomainName → Option DomainName
 next_sought z sought s =
-    option_and_then (λ m. if at_or_below m z.origin && not (list_any (same m) sought) then Some m else None) (first_target (alias_set z s))
+    option_and_then
+    (λ m. if at_or_below m z.origin && not (list_any (same m) sought) then Some m else None)
+    (first_target (alias_set z s))
 
 -- the names sought from s on, of which at most k are targets
 unfoldable pub chain_from : ZoneContents → ℕ → List DomainName → DomainName → List DomainName
@@ -71,7 +59,8 @@ last_sought z q t = last_of q (chain z q t)
 
 -- the CNAME sets of the names sought
 abbrev pub alias_items : ZoneContents → DomainName → ℕ → List Item
-alias_items z q t = if follows_alias t then flat_map (λ s. item answer (alias_set z s)) (chain z q t) else []
+alias_items z q t =
+    if follows_alias t then flat_map (λ s. item answer (alias_set z s)) (chain z q t) else []
 
 -- How a question is answered.
 pub record Outcome : Type 0 where
@@ -83,47 +72,56 @@ pub record Outcome : Type 0 where
 -- RFC 2308 sections 3 and 5: the SOA of a negative answer has the lesser of its TTL and its MINIMUM
 abbrev pub negative_soa : ZoneContents → List Item
 negative_soa z =
-    item authority (map (λ (r : ResourceRecord). record r { ttl = min r.ttl (soa_minimum r.rdata) }) (rrset z z.origin type_soa))
+    item authority
+    (map (λ (r : ResourceRecord). record r { ttl = min r.ttl (soa_minimum r.rdata) })
+    (rrset z z.origin type_soa))
 
 -- all RRsets of the records, by rising type
 abbrev pub all_sets : List ResourceRecord → List Item
-all_sets rs =
-    flat_map (λ t. item answer (of_type t rs)) (sort_by nat_cmp (distinct ◌==◌ (map (λ (r : ResourceRecord). r.rtype) rs)))
+all_sets rs = flat_map (λ t. item answer (of_type t rs)) (rising_types rs)
 
 -- the sets that the records hold of what was asked for
 abbrev pub asked_sets : ℕ → List ResourceRecord → List Item
 asked_sets t rs = if t == qtype_any then all_sets rs else item answer (of_type t rs)
 
--- the cut that refers the asker elsewhere, with its NS set
+-- a referral: the cut that refers the asker elsewhere, with its NS set (RFC 1034 4.3.2 step 3b)
 abbrev pub referral_to : ZoneContents → DomainName → Outcome
-referral_to z c = record { rcode = no_error; referral = Some c; answers = []; authorities = item authority (with_owner c (rrset z c type_ns)) }
+referral_to z c =
+    record {
+      rcode = no_error;
+      referral = Some c;
+      answers = [];
+      authorities = item authority (with_owner c (rrset z c type_ns));
+    }
 
+-- a negative answer, with the SOA (RFC 2308 sections 2 and 3)
 abbrev pub negative : ZoneContents → ℕ → Outcome
-negative z rcode = record { rcode = rcode; referral = None; answers = []; authorities = negative_soa z }
+negative z rcode =
+    record { rcode = rcode; referral = None; answers = []; authorities = negative_soa z }
 
 abbrev pub positive : List Item → Outcome
 positive sets = record { rcode = no_error; referral = None; answers = sets; authorities = [] }
 
--- what is answered of the records found: an alias ends here without more, else the sets asked for, and none is an
--- empty answer (RFC 2308 section 2.2)
-abbrev pub or_empty : ZoneContents → List Item → Outcome
-or_empty z [] = negative z no_error
-or_empty z (i ∷ is) = positive (i ∷ is)
+abbrev pub has_any : {X : Type 0} → List X → Bool
+has_any [] = false
+has_any (x ∷ xs) = true
 
-abbrev pub answer_from : ZoneContents → ℕ → List ResourceRecord → Outcome
-answer_from z t rs =
-    if follows_alias t && not (length (of_type type_cname rs) == 0) then positive []
-    else or_empty z (asked_sets t rs)
+-- RFC 1034 4.3.2 step 3, by the cut at or above a name and the records found for it. The first of five cases that holds:
+-- a cut; nothing found; the alias ends here; the sets asked for; nothing of the type.
+abbrev pub outcome_by : ZoneContents → ℕ → Option DomainName → Option (List ResourceRecord)
+    → Outcome
+outcome_by z t (Some c) found = referral_to z c
+outcome_by z t None None = negative z name_error
+outcome_by z t None (Some rs) =
+    if follows_alias t && has_any (of_type type_cname rs) then positive []
+    else if has_any (asked_sets t rs) then positive (asked_sets t rs)
+    else negative z no_error
 
--- RFC 1034 4.3.2 steps 3 and 4, RFC 2308 section 2: the five cases of the last name sought
 unfoldable pub outcome_at : ZoneContents → ℕ → DomainName → Outcome
-outcome_at z t s =
-    elim (cut_of z s) [
-      | Some c ↦ referral_to z c
-      | None ↦ elim (found z s) [ None ↦ negative z name_error | Some rs ↦ answer_from z t rs ]
-    ]
+outcome_at z t s = outcome_by z t (cut_of z s) (found z s)
 
--- the outcome, with the aliases in front of its answer
+-- The outcome: that of the last name sought, with its RCODE (RFC 2308 section 2.1), and the aliases in front of its
+-- answer.
 unfoldable pub outcome : ZoneContents → DomainName → ℕ → Outcome
 outcome z q t =
     let o = outcome_at z t (last_sought z q t) in
@@ -139,16 +137,19 @@ has_target_type r = r.rtype == type_ns || r.rtype == type_mx || r.rtype == type_
 
 abbrev pub targets_of : List Item → List DomainName
 targets_of items =
-    filter_map (λ (r : ResourceRecord). if has_target_type r then target r.rtype r.rdata else None) (records_of items)
+    filter_map (λ (r : ResourceRecord). if has_target_type r then target r.rtype r.rdata else None)
+    (records_of items)
 
 -- the targets of a referral's NS set, at or below the cut and not
 abbrev pub targets_inside : Outcome → List DomainName
 targets_inside o =
-    flat_map (λ c. filter (λ m. at_or_below m c) (targets_of o.authorities)) (option_to_list o.referral)
+    flat_map (λ c. filter (λ m. at_or_below m c) (targets_of o.authorities))
+    (option_to_list o.referral)
 
 abbrev pub targets_outside : Outcome → List DomainName
 targets_outside o =
-    flat_map (λ c. filter (λ m. not (at_or_below m c)) (targets_of o.authorities)) (option_to_list o.referral)
+    flat_map (λ c. filter (λ m. not (at_or_below m c)) (targets_of o.authorities))
+    (option_to_list o.referral)
 
 -- The targets, in order. Of a referral those at or below the cut come first: without their addresses the asker gets
 -- no further (RFC 1034 4.3.2 step 3b).
@@ -157,7 +158,8 @@ targets o = targets_of o.answers ++ targets_inside o ++ targets_outside o
 
 -- the same owner and type stand in a set of the list
 abbrev pub stands : DomainName → ℕ → List Item → Bool
-stands n t items = list_any (λ (r : ResourceRecord). same r.owner n && r.rtype == t) (records_of items)
+stands n t items =
+    list_any (λ (r : ResourceRecord). same r.owner n && r.rtype == t) (records_of items)
 
 -- the addresses of a name that do not stand in the reply yet, A and then AAAA
 abbrev pub address_set : ZoneContents → List Item → DomainName → ℕ → List Item
@@ -183,9 +185,9 @@ items z q t =
     let o = outcome z q t in
     main_items o ++ extra z (main_items o) (targets o)
 
--- How many of them, from the first on, a reply may not leave out: answer, authority, and the glue of a referral. A
--- referral's answer has no targets, so its glue comes first.
-unfoldable pub required : ZoneContents → DomainName → ℕ → ℕ
-required z q t =
+-- The sets that a reply may not leave out: answer, authority, and the glue of a referral. All sets begin with them, since
+-- the aliases before a referral have no targets.
+unfoldable pub required_items : ZoneContents → DomainName → ℕ → List Item
+required_items z q t =
     let o = outcome z q t in
-    length (main_items o ++ extra z (main_items o) (targets_inside o))
+    main_items o ++ extra z (main_items o) (targets_inside o)

@@ -8,6 +8,7 @@ use Rattle.std.specs.declared.cmp.Ordering.{Ordering}
 use Rattle.dns_spec.specs.Names.{DomainName, folded, same, octets_equal, at_or_below, suffixes, name_order}
 use Rattle.dns_spec.specs.Data.{type_a, type_ns, type_cname, type_soa, type_mx, type_aaaa, type_srv, target}
 use Rattle.dns_spec.specs.Records.{ResourceRecord, ZoneContents, at, owns, distinct, sort_by}
+use Rattle.dns_spec.specs.Sets.{types_of}
 use Rattle.dns_spec.specs.Tree.{is_cut, without_first, asterisk}
 
 -- A condition on a name of a zone.
@@ -113,7 +114,7 @@ abbrev pub large_set : Check
 large_set z n = list_any (λ (r : ResourceRecord). nat_lt 64 (count z n r.rtype)) (at z n)
 
 abbrev pub many_sets : Check
-many_sets z n = nat_lt 32 (length (distinct ◌==◌ (map (λ (r : ResourceRecord). r.rtype) (at z n))))
+many_sets z n = nat_lt 32 (length (types_of (at z n)))
 
 -- the checks by their codes, Z01 to Z15
 abbrev pub checks : List (ℕ × Check)

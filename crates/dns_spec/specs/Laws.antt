@@ -1,9 +1,11 @@
 -- What a reader learns here: on what terms the laws of layouts hold.
-use Rattle.std.specs.Prelude.{◌≡◌, ℕ, ◌<◌, ◌^◌, Bool, true, ◌&&◌, List, [], ◌∷◌, length, take, nat_le, IsTrue}
+use Rattle.std.specs.Prelude.{◌≡◌, ℕ, ◌<◌, ◌^◌, Bool, true, ◌&&◌, List, [], ◌∷◌, length, take, nat_le, IsTrue, IfSome}
+use Rattle.std.specs.Prelude.{Option, Some}
 use Rattle.std.specs.List.{list_all}
-use Rattle.dns_spec.specs.Names.{is_name}
+use Rattle.dns_spec.specs.Names.{DomainName, is_name}
 use Rattle.dns_spec.specs.Data.{Valid}
 use Rattle.dns_spec.specs.Records.{ResourceRecord, ZoneContents}
+use Rattle.dns_spec.specs.Sets.{RecordSet, records_at}
 use Rattle.dns_spec.specs.Reading.{Header, MessageQuestion}
 use Rattle.dns_spec.specs.Layout.{Section, answer, authority, additional, Item, in_section, plain_size}
 use Rattle.dns_spec.specs.Answer.{items}
@@ -14,11 +16,12 @@ section_rank answer = 0
 section_rank authority = 1
 section_rank additional = 2
 
--- no set stands behind one of a later section
+-- no set stands after one of a later section
 abbrev pub sections_in_order : List Item → Bool
 sections_in_order [] = true
 sections_in_order (i ∷ is) =
-    list_all (λ (j : Item). nat_le (section_rank i.section) (section_rank j.section)) is && sections_in_order is
+    list_all (λ (j : Item). nat_le (section_rank i.section) (section_rank j.section)) is
+    && sections_in_order is
 
 -- RFC 1035 3.2.1: the record fits the fields of a message, and its data is of its type
 pub record IsWritable (r : ResourceRecord) : Type 0 where
@@ -27,19 +30,34 @@ pub record IsWritable (r : ResourceRecord) : Type 0 where
   pub ttl : r.ttl < 2 ^ 32
   pub rdata : Valid r.rtype r.rdata
 
--- RFC 1035 4.1: header, question and counts fit the fields of a message, and the sets stand in the order of its sections
-pub record HasRoom (h : Header) (q : MessageQuestion) (items : List Item) : Type 0 where
-  pub id : h.id < 2 ^ 16
-  pub flags : h.flags < 2 ^ 16
+-- RFC 2181 5: the records are those of a set at an owner, with one TTL
+pub record IsSetAt (rs : List ResourceRecord) : Type 0 where
+  pub owner : DomainName
+  pub ttl : ℕ
+  pub set : RecordSet
+  pub records : rs ≡ records_at owner ttl set
+
+-- RFC 1035 4.1.2: the question fits its fields
+pub record IsAskable (q : MessageQuestion) : Type 0 where
   pub qname : IsTrue (is_name q.qname)
   pub qtype : q.qtype < 2 ^ 16
   pub qclass : q.qclass < 2 ^ 16
+
+-- RFC 1035 4.1: header and question fit the fields of a message, and the sets stand in the order of its sections
+pub record HasRoom (h : Header) (q : Option MessageQuestion) (items : List Item) : Type 0 where
+  pub id : h.id < 2 ^ 16
+  pub flags : h.flags < 2 ^ 16
+  pub question : IfSome q IsAskable
+  pub in_order : IsTrue (sections_in_order items)
+
+-- RFC 1035 4.1.1: so do the counts of the records. Those of a message of at most 65,535 octets always do.
+pub record HasCounts (items : List Item) : Type 0 where
   pub answers : length (in_section answer items) < 2 ^ 16
   pub authorities : length (in_section authority items) < 2 ^ 16
   pub additionals : length (in_section additional items) < 2 ^ 16
-  pub in_order : IsTrue (sections_in_order items)
 
 -- `keep` keeps a beginning of the sets of each question, of which a message has room for the plain layout
 abbrev pub KeepsBeginning : ZoneContents → (MessageQuestion → List Item) → Type 0
 KeepsBeginning z keep =
-    (q : MessageQuestion) → IsTrue (is_name q.qname) → (k : ℕ) × (keep q ≡ take k (items z q.qname q.qtype)) × (plain_size q (keep q) < 2 ^ 16)
+    (q : MessageQuestion) → IsTrue (is_name q.qname)
+    → (k : ℕ) × (keep q ≡ take k (items z q.qname q.qtype)) × (plain_size (Some q) (keep q) < 2 ^ 16)

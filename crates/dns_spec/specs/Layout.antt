@@ -2,6 +2,7 @@
 -- and by which place, and the size of a layout, added up without writing it.
 use Rattle.std.specs.Prelude.{ℕ, zero, suc, ◌+◌, ◌-◌, ◌*◌, Bool, true, false, ◌&&◌, List, [], ◌∷◌, ◌++◌, map, length, nat_le, if◌then◌else◌}
 use Rattle.std.specs.Prelude.{Option, None, Some}
+use Rattle.std.specs.Option.{option_to_list}
 use Rattle.std.specs.List.{list_any, filter, flat_map}
 use Rattle.std.specs.Int.{bytes_high_first}
 use Rattle.dns_spec.specs.Names.{Octets, DomainName, wire, names_equal, last_labels}
@@ -16,7 +17,7 @@ octets16 = bytes_high_first 2
 abbrev pub octets32 : ℕ → Octets
 octets32 = bytes_high_first 4
 
--- RFC 1035 4.1: the sections of a reply behind its question
+-- RFC 1035 4.1: the sections of a reply after its question
 pub data Section : Type 0 where
   answer : Section
   authority : Section
@@ -66,82 +67,116 @@ place_of (m ∷ ms) s = if has_suffix m.0 s then Some (suffix_place m s) else pl
 -- it; without such a suffix it is written whole. The root is never shared.
 unfoldable pub shared_octets : List Placed → DomainName → Octets
 shared_octets ms [] = 0 ∷ []
-shared_octets ms (l ∷ n) = elim (place_of ms (l ∷ n)) [ None ↦ length l ∷ (l ++ shared_octets ms n) | Some p ↦ pointer p ]
+shared_octets ms (l ∷ n) =
+    elim (place_of ms (l ∷ n)) [ None ↦ length l ∷ (l ++ shared_octets ms n) | Some p ↦ pointer p ]
 
 -- its length: the octets of the labels before that suffix and 2, or all of them
 unfoldable pub cost : List DomainName → DomainName → ℕ
 cost ms [] = 1
-cost ms (l ∷ n) = elim (list_any (λ m. has_suffix m (l ∷ n)) ms) [ true ↦ 2 | false ↦ 1 + length l + cost ms n ]
+cost ms (l ∷ n) =
+    elim (list_any (λ m. has_suffix m (l ∷ n)) ms) [ true ↦ 2 | false ↦ 1 + length l + cost ms n ]
+
+-- What is laid out: its octets, and the names in it with their places.
+pub record Laid : Type 0 where
+  pub written : Octets
+  pub names : List Placed
+
+-- octets, and names in them, in front of what is laid out after them
+abbrev pub laid_front : Octets → List Placed → Laid → Laid
+laid_front o ms l = record { written = o ++ l.written; names = ms ++ l.names }
 
 -- data laid out from place p on: what is no name, or is none to a writer, stands as it is
-unfoldable pub data_octets : List Placed → ℕ → List Part → Octets
-data_octets ms p [] = []
-data_octets ms p (octets o ∷ ps) = o ++ data_octets ms (p + length o) ps
-data_octets ms p (name n ∷ ps) =
+unfoldable pub data_laid : List Placed → ℕ → List Part → Laid
+data_laid ms p [] = record { written = []; names = [] }
+data_laid ms p (octets o ∷ ps) = laid_front o [] (data_laid ms (p + length o) ps)
+data_laid ms p (name n ∷ ps) =
     let w = shared_octets ms n in
-    w ++ data_octets (ms ++ (n, p) ∷ []) (p + length w) ps
-
--- the names in it, with their places
-unfoldable pub data_names : List Placed → ℕ → List Part → List Placed
-data_names ms p [] = []
-data_names ms p (octets o ∷ ps) = data_names ms (p + length o) ps
-data_names ms p (name n ∷ ps) = (n, p) ∷ data_names (ms ++ (n, p) ∷ []) (p + length (shared_octets ms n)) ps
+    laid_front w ((n, p) ∷ []) (data_laid (ms ++ (n, p) ∷ []) (p + length w) ps)
 
 abbrev pub parts_of : ResourceRecord → List Part
 parts_of r = laid_parts r.rtype r.rdata
 
--- RFC 1035 4.1.3: type, class, TTL, data length and data behind an owner
+-- RFC 1035 4.1.3: type, class, TTL, data length and data after an owner
 abbrev pub record_tail : ResourceRecord → Octets → Octets
-record_tail r d = octets16 r.rtype ++ octets16 class_in ++ octets32 r.ttl ++ octets16 (length d) ++ d
+record_tail r d =
+    octets16 r.rtype ++ octets16 class_in ++ octets32 r.ttl ++ octets16 (length d) ++ d
 
--- the records laid out from place p on
+-- a record laid out from place p on: its owner is an earlier name of its data
+abbrev pub record_laid : List Placed → ℕ → ResourceRecord → Laid
+record_laid ms p r =
+    let owner = shared_octets ms r.owner in
+    let d = data_laid (ms ++ (r.owner, p) ∷ []) (p + length owner + 10) (parts_of r) in
+    record { written = owner ++ record_tail r d.written; names = (r.owner, p) ∷ d.names }
+
+-- the records laid out from place p on: the names of each are earlier names of those after it
 unfoldable pub records_octets : List Placed → ℕ → List ResourceRecord → Octets
 records_octets ms p [] = []
 records_octets ms p (r ∷ rs) =
-    let owner = shared_octets ms r.owner in
-    let behind = p + length owner + 10 in
-    let earlier = ms ++ (r.owner, p) ∷ [] in
-    let d = data_octets earlier behind (parts_of r) in
-    owner ++ record_tail r d ++ records_octets (earlier ++ data_names earlier behind (parts_of r)) (behind + length d) rs
+    let l = record_laid ms p r in
+    l.written ++ records_octets (ms ++ l.names) (p + length l.written) rs
 
 -- RFC 1035 4.1.2: the question, spelled as it was asked
 abbrev pub question_octets : MessageQuestion → Octets
 question_octets q = wire q.qname ++ octets16 q.qtype ++ octets16 q.qclass
 
+-- the question section of a message that has one question or none
+abbrev pub asked_octets : Option MessageQuestion → Octets
+asked_octets None = []
+asked_octets (Some q) = question_octets q
+
+-- the earlier names that it gives to the records: the question's, which begins at place 12
+abbrev pub asked_placed : Option MessageQuestion → List Placed
+asked_placed None = []
+asked_placed (Some q) = (q.qname, 12) ∷ []
+
+abbrev pub asked_names : Option MessageQuestion → List DomainName
+asked_names None = []
+asked_names (Some q) = q.qname ∷ []
+
+-- RFC 1035 4.1.1: ID and flags, and how many questions, answers, authority and additional records there are
 abbrev pub header_octets : Header → ℕ → ℕ → ℕ → ℕ → Octets
-header_octets h qd an ns ar = octets16 h.id ++ octets16 h.flags ++ octets16 qd ++ octets16 an ++ octets16 ns ++ octets16 ar
+header_octets h qd an ns ar =
+    octets16 h.id ++ octets16 h.flags ++ octets16 qd ++ octets16 an ++ octets16 ns ++ octets16 ar
 
--- the header of a reply with its counts
-abbrev pub reply_header : Header → List Item → Octets
-reply_header h items =
-    header_octets h 1 (length (in_section answer items)) (length (in_section authority items)) (length (in_section additional items))
+-- the header of a message with its counts
+abbrev pub reply_header : Header → Option MessageQuestion → List Item → Octets
+reply_header h q items =
+    header_octets h (length (option_to_list q)) (length (in_section answer items))
+    (length (in_section authority items)) (length (in_section additional items))
 
--- The layout: header, question and records. The question's name is the first of the earlier names.
-unfoldable pub layout : Header → MessageQuestion → List Item → Octets
+-- The layout: header, question and records. The question's name is the first of the earlier names. Without a question
+-- the records begin at place 12, and no name is earlier than theirs.
+unfoldable pub layout : Header → Option MessageQuestion → List Item → Octets
 layout h q items =
-    reply_header h items ++ question_octets q
-    ++ records_octets ((q.qname, 12) ∷ []) (12 + length (question_octets q)) (records_of items)
+    reply_header h q items ++ asked_octets q
+    ++ records_octets (asked_placed q) (12 + length (asked_octets q)) (records_of items)
 
--- the size of data, and the earlier names behind it
-unfoldable pub data_size : List DomainName → List Part → ℕ
-data_size ms [] = 0
-data_size ms (octets o ∷ ps) = length o + data_size ms ps
-data_size ms (name n ∷ ps) = cost ms n + data_size (ms ++ n ∷ []) ps
-
+-- the names in data that take part in sharing
 abbrev pub names_in : List Part → List DomainName
 names_in [] = []
 names_in (octets o ∷ ps) = names_in ps
 names_in (name n ∷ ps) = n ∷ names_in ps
 
+-- the names of a record that later names may share: its owner, and those in its data
+abbrev pub names_of : ResourceRecord → List DomainName
+names_of r = r.owner ∷ names_in (parts_of r)
+
+-- the size of data after earlier names, of a record, and of records
+unfoldable pub data_size : List DomainName → List Part → ℕ
+data_size ms [] = 0
+data_size ms (octets o ∷ ps) = length o + data_size ms ps
+data_size ms (name n ∷ ps) = cost ms n + data_size (ms ++ n ∷ []) ps
+
+abbrev pub record_size : List DomainName → ResourceRecord → ℕ
+record_size ms r = cost ms r.owner + 10 + data_size (ms ++ r.owner ∷ []) (parts_of r)
+
 unfoldable pub records_size : List DomainName → List ResourceRecord → ℕ
 records_size ms [] = 0
-records_size ms (r ∷ rs) =
-    let earlier = ms ++ r.owner ∷ [] in
-    cost ms r.owner + 10 + data_size earlier (parts_of r) + records_size (earlier ++ names_in (parts_of r)) rs
+records_size ms (r ∷ rs) = record_size ms r + records_size (ms ++ names_of r) rs
 
 -- the length of the layout, added up without writing
-unfoldable pub size : MessageQuestion → List Item → ℕ
-size q items = 12 + length (question_octets q) + records_size (q.qname ∷ []) (records_of items)
+unfoldable pub size : Option MessageQuestion → List Item → ℕ
+size q items = 12 + length (asked_octets q) + records_size (asked_names q) (records_of items)
 
 -- The plain layout: an owner that is spelled as the question's name is a pointer to it, unless it is the root. All other
 -- names are written whole.
@@ -152,9 +187,15 @@ plain_owner asked (l ∷ n) = if names_equal (l ∷ n) asked then pointer 12 els
 abbrev pub plain_record : DomainName → ResourceRecord → Octets
 plain_record asked r = plain_owner asked r.owner ++ record_tail r r.rdata
 
-unfoldable pub plain_layout : Header → MessageQuestion → List Item → Octets
+-- the name that owners are pointers to. The root is never pointed to, so it stands for no question.
+abbrev pub asked_name : Option MessageQuestion → DomainName
+asked_name None = []
+asked_name (Some q) = q.qname
+
+unfoldable pub plain_layout : Header → Option MessageQuestion → List Item → Octets
 plain_layout h q items =
-    reply_header h items ++ question_octets q ++ flat_map (plain_record q.qname) (records_of items)
+    reply_header h q items ++ asked_octets q
+    ++ flat_map (plain_record (asked_name q)) (records_of items)
 
 -- the length of the plain layout, added up
 abbrev pub plain_record_size : DomainName → ResourceRecord → ℕ
@@ -164,8 +205,9 @@ abbrev pub plain_records_size : DomainName → List ResourceRecord → ℕ
 plain_records_size asked [] = 0
 plain_records_size asked (r ∷ rs) = plain_record_size asked r + plain_records_size asked rs
 
-unfoldable pub plain_size : MessageQuestion → List Item → ℕ
-plain_size q items = 12 + length (question_octets q) + plain_records_size q.qname (records_of items)
+unfoldable pub plain_size : Option MessageQuestion → List Item → ℕ
+plain_size q items =
+    12 + length (asked_octets q) + plain_records_size (asked_name q) (records_of items)
 
 -- the greatest k up to n that passes the test, or 0
 abbrev pub greatest : (ℕ → Bool) → ℕ → ℕ
@@ -174,12 +216,13 @@ greatest test (suc k) = if test (suc k) then suc k else greatest test k
 
 -- The message that a layout spells.
 abbrev pub message_record : ResourceRecord → MessageRecord
-message_record r = record { owner = r.owner; rtype = r.rtype; rclass = class_in; ttl = r.ttl; rdata = r.rdata }
+message_record r =
+    record { owner = r.owner; rtype = r.rtype; rclass = class_in; ttl = r.ttl; rdata = r.rdata }
 
-abbrev pub message_of : Header → MessageQuestion → List Item → DnsMessage
+abbrev pub message_of : Header → Option MessageQuestion → List Item → DnsMessage
 message_of h q items = record {
   header = h;
-  questions = q ∷ [];
+  questions = option_to_list q;
   answers = map message_record (in_section answer items);
   authorities = map message_record (in_section authority items);
   additionals = map message_record (in_section additional items);

@@ -15,8 +15,11 @@ pub mod Checks
 pub mod ZonePrinted
 pub mod Report
 pub mod Reading
+pub mod ComputedReading
+pub mod Query
 pub mod Layout
 pub mod Sharing
 pub mod Answer
 pub mod Reply
+pub mod Stream
 pub mod Laws

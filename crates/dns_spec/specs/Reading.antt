@@ -1,70 +1,52 @@
 -- What a reader learns here: which name a place of a message spells, and which message octets spell.
-use Rattle.std.specs.Prelude.{◌≡◌, ℕ, zero, suc, ◌+◌, ◌-◌, ◌*◌, ◌<◌, ◌≤◌, true, false, ◌&&◌, List, [], ◌∷◌, ◌++◌, length, take, drop, nat_lt, nat_le, ◌==◌, IsTrue, slice_get, if◌then◌else◌}
-use Rattle.std.specs.Prelude.{Option, None, Some}
-use Rattle.std.specs.Option.{option_map, option_and_then}
+use Rattle.std.specs.Prelude.{◌≡◌, ℕ, ◌+◌, ◌-◌, ◌*◌, ◌<◌, ◌≤◌, List, [], ◌∷◌, ◌++◌, length, take, drop, ◌==◌, IsTrue, slice_get, if◌then◌else◌}
+use Rattle.std.specs.Prelude.{Some}
 use Rattle.dns_spec.specs.Names.{Octets, DomainName, wire, is_name}
 use Rattle.dns_spec.specs.Data.{class_in, width, Piece, fixed, domain, string, strings, anything, pieces_of, are_strings, number_of}
 
--- RFC 1035 4.1.4: the place that the two octets of a pointer tell, the first from 192 on
+-- RFC 1035 4.1.4: the place to which the two octets of a pointer point, the first from 192 on
 abbrev pub pointer_place : ℕ → ℕ → ℕ
 pointer_place o o' = (o - 192) * 256 + o'
 
 -- RFC 1035 4.1.4: in the octets b a run of labels began at place s. From place i on it spells n, and the octets of this
--- spelling end before place e. An octet 0 ends the run. An octet 1 to 63 has a label of so many octets behind it. An
--- octet from 192 on gives, with the one behind it, the place where a run begins that spells the rest; this place is
--- behind the header, and before the place where the run at hand began. Nothing else spells a name.
+-- spelling end before place e. An octet 0 ends the run. An octet 1 to 63 has a label of so many octets after it. An
+-- octet from 192 on gives, with the one after it, the place where a run begins that spells the rest; this place is
+-- after the header, and before the place where the run at hand began. Nothing else spells a name.
 pub data RunAt (b : Octets) : ℕ → ℕ → DomainName → ℕ → Type 0 where
   ends : {s : ℕ} (i : ℕ) → slice_get b i ≡ Some 0 → RunAt b s i [] (i + 1)
   goes_on : {s : ℕ} (i k : ℕ) (l : Octets) (n : DomainName) (e : ℕ)
       → slice_get b i ≡ Some k → 0 < k → k < 64 → i + 1 + k ≤ length b → l ≡ take k (drop (i + 1) b)
       → RunAt b s (i + 1 + k) n e → RunAt b s i (l ∷ n) e
   jumps : {s : ℕ} (i o o' p : ℕ) (n : DomainName) (e : ℕ)
-      → slice_get b i ≡ Some o → 192 ≤ o → slice_get b (i + 1) ≡ Some o' → p ≡ pointer_place o o' → 12 ≤ p → p < s
+      → slice_get b i ≡ Some o → 192 ≤ o → slice_get b (i + 1) ≡ Some o' → p ≡ pointer_place o o'
+      → 12 ≤ p → p < s
       → RunAt b p p n e → RunAt b s i n (i + 2)
 
 -- The name n is spelled at place i, by octets that end before place e. RFC 1035 2.3.4: it has at most 255 octets,
--- whatever part of it a pointer tells.
+-- whatever part of it stands where a pointer points.
 abbrev pub NameAt : Octets → ℕ → DomainName → ℕ → Type 0
 NameAt b i n e = RunAt b i i n e × IsTrue (is_name n)
-
--- The same computed. A run has no more steps than there are octets, since each takes one or more; `told` has what the
--- runs begun before place s spell.
-abbrev pub with_label : Octets → DomainName × ℕ → DomainName × ℕ
-with_label l (n, e) = (l ∷ n, e)
-
-abbrev pub jump : (ℕ → Option (DomainName × ℕ)) → ℕ → ℕ → ℕ → Option (DomainName × ℕ)
-jump told s i p = elim (nat_le 12 p && nat_lt p s) [ true ↦ option_map (λ r. (r.0, i + 2)) (told p) | false ↦ None ]
-
-unfoldable pub run : (ℕ → Option (DomainName × ℕ)) → Octets → ℕ → ℕ → ℕ → Option (DomainName × ℕ)
-run told b s zero i = None
-run told b s (suc r) i =
-    elim (slice_get b i) [
-      | None ↦ None
-      | Some o ↦ elim (o == 0) [
-        | true ↦ Some ([], i + 1)
-        | false ↦ elim (nat_lt o 64) [
-          | true ↦ elim (nat_le (i + 1 + o) (length b)) [ true ↦ option_map (with_label (take o (drop (i + 1) b))) (run told b s r (i + 1 + o)) | false ↦ None ]
-          | false ↦ elim (nat_lt o 192) [ true ↦ None | false ↦ option_and_then (λ o'. jump told s i (pointer_place o o')) (slice_get b (i + 1)) ]
-        ]
-      ]
-    ]
-
--- what the runs begun before place k spell
-unfoldable pub runs_before : Octets → ℕ → ℕ → Option (DomainName × ℕ)
-runs_before b zero p = None
-runs_before b (suc k) p = run (runs_before b k) b p (length b) p
-
-abbrev pub name_if_short : DomainName × ℕ → Option (DomainName × ℕ)
-name_if_short (n, e) = if is_name n then Some (n, e) else None
-
--- the name spelled at place i, and the place behind it
-unfoldable pub name_at : Octets → ℕ → Option (DomainName × ℕ)
-name_at b i = option_and_then name_if_short (runs_before b (suc i) i)
 
 -- RFC 1035 4.1.1: ID, and QR, opcode, AA, TC, RD, RA, three zero bits and RCODE as one number of 16 bits
 pub record Header : Type 0 where
   pub id : ℕ
   pub flags : ℕ
+
+-- RFC 1035 4.1.1: the RCODEs of this product's replies
+abbrev pub no_error : ℕ
+no_error = 0
+
+abbrev pub format_error : ℕ
+format_error = 1
+
+abbrev pub name_error : ℕ
+name_error = 3
+
+abbrev pub not_implemented : ℕ
+not_implemented = 4
+
+abbrev pub refused : ℕ
+refused = 5
 
 -- RFC 1035 4.1.2
 pub record MessageQuestion : Type 0 where
@@ -99,32 +81,40 @@ pub record NumberAt (b : Octets) (i k v : ℕ) : Type 0 where
   pub within : i + k ≤ length b
   pub spelled : v ≡ number_of (take k (drop i b))
 
--- Behind place i, up to place e, stands data of these pieces that reads d where it is not compressed. A name in it may
+-- From place i up to place e stands data of these pieces that reads d where it is not compressed. A name in it may
 -- go on elsewhere, but its own octets are in the data.
 abbrev pub PiecesAt : Octets → List Piece → ℕ → ℕ → Octets → Type 0
 PiecesAt b [] i e d = (i ≡ e) × (d ≡ [])
 PiecesAt b (fixed f ∷ ps) i e d =
-    (o rest : Octets) × OctetsAt b i (i + width f) o × (d ≡ o ++ rest) × PiecesAt b ps (i + width f) e rest
+    (o rest : Octets) × OctetsAt b i (i + width f) o × (d ≡ o ++ rest)
+    × PiecesAt b ps (i + width f) e rest
 PiecesAt b (domain ∷ ps) i e d =
-    (n : DomainName) × (j : ℕ) × (rest : Octets) × NameAt b i n j × (d ≡ wire n ++ rest) × PiecesAt b ps j e rest
+    (n : DomainName) × (j : ℕ) × (rest : Octets) × NameAt b i n j × (d ≡ wire n ++ rest)
+    × PiecesAt b ps j e rest
 PiecesAt b (string ∷ ps) i e d =
-    (k : ℕ) × (o rest : Octets) × (slice_get b i ≡ Some k) × OctetsAt b i (i + 1 + k) o × (d ≡ o ++ rest) × PiecesAt b ps (i + 1 + k) e rest
+    (k : ℕ) × (o rest : Octets) × (slice_get b i ≡ Some k) × OctetsAt b i (i + 1 + k) o
+    × (d ≡ o ++ rest) × PiecesAt b ps (i + 1 + k) e rest
 PiecesAt b (strings ∷ ps) i e d =
-    (o rest : Octets) × (j : ℕ) × OctetsAt b i j o × (0 < length o) × IsTrue (are_strings 0 o) × (d ≡ o ++ rest) × (j ≡ e) × PiecesAt b ps j e rest
+    (o rest : Octets) × (j : ℕ) × OctetsAt b i j o × (0 < length o) × IsTrue (are_strings 0 o)
+    × (d ≡ o ++ rest) × (j ≡ e) × PiecesAt b ps j e rest
 PiecesAt b (anything ∷ ps) i e d =
-    (o rest : Octets) × (j : ℕ) × OctetsAt b i j o × (d ≡ o ++ rest) × (j ≡ e) × PiecesAt b ps j e rest
+    (o rest : Octets) × (j : ℕ) × OctetsAt b i j o × (d ≡ o ++ rest) × (j ≡ e)
+    × PiecesAt b ps j e rest
 
 -- Data of another class than IN is octets.
 abbrev pub DataAt : Octets → ℕ → ℕ → ℕ → ℕ → Octets → Type 0
-DataAt b t c i e d = (i ≤ e) × (e ≤ length b) × PiecesAt b (if c == class_in then pieces_of t else anything ∷ []) i e d
+DataAt b t c i e d =
+    (i ≤ e) × (e ≤ length b)
+    × PiecesAt b (if c == class_in then pieces_of t else anything ∷ []) i e d
 
--- RFC 1035 4.1.2: questions one behind the other from place i up to place e
+-- RFC 1035 4.1.2: questions one after the other from place i up to place e
 abbrev pub QuestionsAt : Octets → ℕ → List MessageQuestion → ℕ → Type 0
 QuestionsAt b i [] e = i ≡ e
 QuestionsAt b i (q ∷ qs) e =
-    (j : ℕ) × NameAt b i q.qname j × NumberAt b j 2 q.qtype × NumberAt b (j + 2) 2 q.qclass × QuestionsAt b (j + 4) qs e
+    (j : ℕ) × NameAt b i q.qname j × NumberAt b j 2 q.qtype × NumberAt b (j + 2) 2 q.qclass
+    × QuestionsAt b (j + 4) qs e
 
--- RFC 1035 4.1.3: records one behind the other from place i up to place e
+-- RFC 1035 4.1.3: records one after the other from place i up to place e
 pub record RecordAt (b : Octets) (i : ℕ) (r : MessageRecord) (j len : ℕ) : Type 0 where
   pub owner : NameAt b i r.owner j
   pub rtype : NumberAt b j 2 r.rtype
@@ -145,10 +135,10 @@ pub record Spells (b : Octets) (m : DnsMessage) : Type 0 where
   pub ancount : NumberAt b 6 2 (length m.answers)
   pub nscount : NumberAt b 8 2 (length m.authorities)
   pub arcount : NumberAt b 10 2 (length m.additionals)
-  pub behind_questions : ℕ
-  pub behind_answers : ℕ
-  pub behind_authorities : ℕ
-  pub questions : QuestionsAt b 12 m.questions behind_questions
-  pub answers : RecordsAt b behind_questions m.answers behind_answers
-  pub authorities : RecordsAt b behind_answers m.authorities behind_authorities
-  pub additionals : RecordsAt b behind_authorities m.additionals (length b)
+  pub after_questions : ℕ
+  pub after_answers : ℕ
+  pub after_authorities : ℕ
+  pub questions : QuestionsAt b 12 m.questions after_questions
+  pub answers : RecordsAt b after_questions m.answers after_answers
+  pub authorities : RecordsAt b after_answers m.authorities after_authorities
+  pub additionals : RecordsAt b after_authorities m.additionals (length b)

@@ -1,8 +1,17 @@
--- What a reader learns here: what a record set is without its owner, and which records it stands for at an owner.
-use Rattle.std.specs.Prelude.{ℕ, List, map, All}
+-- What a reader learns here: of which types records are, what a record set is without its owner, and which records it
+-- stands for at an owner.
+use Rattle.std.specs.Prelude.{ℕ, List, map, All, ◌==◌}
+use Rattle.std.specs.Ordering.{nat_cmp}
 use Rattle.dns_spec.specs.Names.{Octets, DomainName}
 use Rattle.dns_spec.specs.Data.{Valid}
-use Rattle.dns_spec.specs.Records.{ResourceRecord}
+use Rattle.dns_spec.specs.Records.{ResourceRecord, distinct, sort_by}
+
+-- the types of records, each once, and by rising number
+abbrev pub types_of : List ResourceRecord → List ℕ
+types_of rs = distinct ◌==◌ (map (λ (r : ResourceRecord). r.rtype) rs)
+
+abbrev pub rising_types : List ResourceRecord → List ℕ
+rising_types rs = sort_by nat_cmp (types_of rs)
 
 -- RFC 2181 5: a type, a TTL in seconds, and the data of each record
 pub record RecordSet : Type 0 where
@@ -17,4 +26,5 @@ HasValidData set = All (Valid set.rtype) set.rdata
 -- the records of the set at an owner, with a TTL that may differ from the set's (RFC 2308 5)
 abbrev pub records_at : DomainName → ℕ → RecordSet → List ResourceRecord
 records_at owner ttl set =
-    map (λ (d : Octets). record { owner = owner; ttl = ttl; rtype = set.rtype; rdata = d }) set.rdata
+    map (λ (d : Octets). record { owner = owner; ttl = ttl; rtype = set.rtype; rdata = d })
+    set.rdata

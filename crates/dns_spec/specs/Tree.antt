@@ -39,7 +39,8 @@ asterisk = 42 ∷ []
 -- RFC 4592 3.3.1: the wildcard below the closest encloser, where it exists
 abbrev pub source_of_synthesis : ZoneContents → DomainName → Option DomainName
 source_of_synthesis z q =
-    option_and_then (λ e. if exists z (asterisk ∷ e) then Some (asterisk ∷ e) else None) (closest_encloser z q)
+    option_and_then (λ e. if exists z (asterisk ∷ e) then Some (asterisk ∷ e) else None)
+    (closest_encloser z q)
 
 -- RFC 1034 4.3.2 step 3: the records found for a name, shown with it as owner: its own where it exists, which may be
 -- none, else those of the wildcard. `None` is a name error.

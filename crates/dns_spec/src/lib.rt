@@ -9,4 +9,5 @@ pub mod names;
 pub mod printed;
 pub mod reading;
 pub mod reply;
+pub mod stream;
 pub mod text;

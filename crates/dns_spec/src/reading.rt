@@ -2,17 +2,20 @@
 
 ghost use Rattle.std.specs.Prelude.{◌≡◌, ℕ, ◌≤◌, Some, ◌↔◌, length};
 ghost use Rattle.dns_spec.specs.Names.{Octets, DomainName};
-ghost use Rattle.dns_spec.specs.Reading.{MessageQuestion, DnsMessage, NameAt, name_at, Spells};
-ghost use Rattle.dns_spec.specs.Reply.{question_at};
+ghost use Rattle.dns_spec.specs.Reading.{MessageQuestion, DnsMessage, NameAt, Spells};
+ghost use Rattle.dns_spec.specs.ComputedReading.{name_at, message_at};
+ghost use Rattle.dns_spec.specs.Query.{question_at};
 
 /// The computed reader of names gives a name and the place behind it exactly where they are spelled (RFC 1035 4.1.4).
 pub fn name_at_computes_the_relation()
-    ensures { (b : Octets) (i : ℕ) (n : DomainName) (e : ℕ) → (name_at b i ≡ Some (n, e)) ↔ NameAt b i n e }
+    ensures { (b : Octets) (i : ℕ) (n : DomainName) (e : ℕ)
+        → (name_at b i ≡ Some (n, e)) ↔ NameAt b i n e }
 {}
 
 /// A place of a message spells at most one name, with one end.
 pub fn place_spells_one_name()
-    ensures { (b : Octets) (i : ℕ) (n m : DomainName) (e f : ℕ) → NameAt b i n e → NameAt b i m f → (n ≡ m) × (e ≡ f) }
+    ensures { (b : Octets) (i : ℕ) (n m : DomainName) (e f : ℕ) → NameAt b i n e → NameAt b i m f
+        → (n ≡ m) × (e ≡ f) }
 {}
 
 /// A question ends at most 271 octets from the beginning of its message: 12 of the header, 255 of its name, 4 of its
@@ -24,4 +27,9 @@ pub fn question_ends_by_octet_271()
 /// Octets spell at most one message (RFC 1035 4.1).
 pub fn octets_spell_one_message()
     ensures { (b : Octets) (m n : DnsMessage) → Spells b m → Spells b n → m ≡ n }
+{}
+
+/// The computed message is the one that the octets spell, and there is one exactly where they spell one (RFC 1035 4.1).
+pub fn message_at_computes_the_relation()
+    ensures { (b : Octets) (m : DnsMessage) → (message_at b ≡ Some m) ↔ Spells b m }
 {}

@@ -1,17 +1,21 @@
 //! Laws of replies: their octets are the message that they are, and what is kept is the longest beginning that fits.
 
-ghost use Rattle.std.specs.Prelude.{◌≡◌, ℕ, List, [], ◌<◌, ◌≤◌, All, Some, length, take};
-ghost use Rattle.dns_spec.specs.Names.{Octets};
-ghost use Rattle.dns_spec.specs.Records.{ZoneContents};
+ghost use Rattle.std.specs.Prelude.{◌≡◌, ℕ, List, [], ◌++◌, ◌<◌, ◌≤◌, All, Option, Some, length, take};
+ghost use Rattle.dns_spec.specs.Names.{Octets, DomainName, folded};
+ghost use Rattle.dns_spec.specs.Records.{ResourceRecord, ZoneContents};
+ghost use Rattle.dns_spec.specs.Checks.{Passes};
 ghost use Rattle.dns_spec.specs.Reading.{MessageQuestion, Spells};
-ghost use Rattle.dns_spec.specs.Layout.{Item, layout, plain_layout};
-ghost use Rattle.dns_spec.specs.Reply.{Reply, kept, reply, reply_with, octets_by, reply_message};
-ghost use Rattle.dns_spec.specs.Laws.{IsWritable, KeepsBeginning};
+ghost use Rattle.dns_spec.specs.Answer.{items, required_items};
+ghost use Rattle.dns_spec.specs.Layout.{Item, layout, size, plain_layout, plain_size};
+ghost use Rattle.dns_spec.specs.Reply.{Reply, kept, fitting, reply, reply_with, octets_by, reply_message};
+ghost use Rattle.dns_spec.specs.Query.{query_read};
+ghost use Rattle.dns_spec.specs.Laws.{IsWritable, IsSetAt, KeepsBeginning};
 
 /// The octets of a reply in the plain layout spell the message that the reply is, over every zone whose records fit a
 /// message, for every datagram, whatever beginning of the sets is kept (RFC 1035 4.1).
 pub fn plain_reply_is_spelled()
-    ensures { (z : ZoneContents) (d : Octets) (keep : MessageQuestion → List Item) (r : Reply) → All IsWritable z.records
+    ensures { (z : ZoneContents) (d : Octets) (keep : MessageQuestion → List Item) (r : Reply)
+        → All IsWritable z.records
         → All (λ o. o < 256) d → KeepsBeginning z keep
         → reply_with keep z d ≡ Some r → Spells (octets_by plain_layout r) (reply_message r) }
 {}
@@ -19,7 +23,8 @@ pub fn plain_reply_is_spelled()
 /// The octets of a reply spell the message that the reply is, over every zone whose records fit a message, for every
 /// datagram and every limit from 271 to 16,384 octets (RFC 1035 4.1).
 pub fn reply_is_spelled()
-    ensures { (z : ZoneContents) (d : Octets) (limit : ℕ) (r : Reply) → All IsWritable z.records → All (λ o. o < 256) d
+    ensures { (z : ZoneContents) (d : Octets) (limit : ℕ) (r : Reply) → All IsWritable z.records
+        → All (λ o. o < 256) d
         → 271 ≤ limit → limit ≤ 16384
         → reply z d limit ≡ Some r → Spells (octets_by layout r) (reply_message r) }
 {}
@@ -30,18 +35,64 @@ pub fn reply_is_within_its_limit()
         → reply z d limit ≡ Some r → length (octets_by layout r) ≤ limit }
 {}
 
+/// The sets of a reply begin with those that it may not leave out (RFC 1035 4.1.1).
+pub fn items_begin_with_the_required()
+    ensures { (z : ZoneContents) (q : DomainName) (t : ℕ)
+        → take (length (required_items z q t)) (items z q t) ≡ required_items z q t }
+{}
+
+/// Each set of a reply is the records of a set at an owner, with one TTL, over every zone that passes and whose names are
+/// in lower case, as those that are read (RFC 2181 section 5).
+pub fn items_are_record_sets()
+    ensures { (z : ZoneContents) → folded z.origin ≡ z.origin
+        → All (λ (r : ResourceRecord). folded r.owner ≡ r.owner) z.records → Passes z
+        → (q : DomainName) (t : ℕ) → All (λ (i : Item). IsSetAt i.records) (items z q t) }
+{}
+
 /// What is kept of a list of sets fits where nothing does.
 pub fn kept_sets_fit()
-    ensures { (size_of : List Item → ℕ) (limit : ℕ) (sets : List Item) → size_of [] ≤ limit → size_of (kept size_of limit sets) ≤ limit }
+    ensures { (size_of : List Item → ℕ) (limit : ℕ) (sets : List Item) → size_of [] ≤ limit
+        → size_of (kept size_of limit sets) ≤ limit }
 {}
 
 /// No longer beginning of a list of sets fits than what is kept of it.
 pub fn kept_sets_are_the_most()
-    ensures { (size_of : List Item → ℕ) (limit : ℕ) (sets : List Item) (k : ℕ) → k ≤ length sets → size_of (take k sets) ≤ limit
+    ensures { (size_of : List Item → ℕ) (limit : ℕ) (sets : List Item) (k : ℕ) → k ≤ length sets
+        → size_of (take k sets) ≤ limit
         → k ≤ length (kept size_of limit sets) }
 {}
 
-/// A reply depends on the first 512 octets of a datagram alone: a question ends before them.
+/// The size of the layout grows with each set.
+pub fn size_grows_with_each_set()
+    ensures { (q : Option MessageQuestion) (front more : List Item)
+        → size q front ≤ size q (front ++ more) }
+{}
+
+/// So does the size of the plain layout.
+pub fn plain_size_grows_with_each_set()
+    ensures { (q : Option MessageQuestion) (front more : List Item)
+        → plain_size q front ≤ plain_size q (front ++ more) }
+{}
+
+/// So the longest beginning of sets that fits is reached by stopping at the first set that does not fit.
+pub fn kept_sets_stop_at_the_first_that_does_not_fit()
+    ensures { (q : Option MessageQuestion) (limit : ℕ) (sets : List Item)
+        → kept (size q) limit sets ≡ fitting (size q) limit [] sets }
+{}
+
+/// And so in the plain layout.
+pub fn plain_kept_sets_stop_at_the_first_that_does_not_fit()
+    ensures { (q : Option MessageQuestion) (limit : ℕ) (sets : List Item)
+        → kept (plain_size q) limit sets ≡ fitting (plain_size q) limit [] sets }
+{}
+
+/// What a datagram is as a query depends on its first 512 octets alone: a question ends before them.
+pub fn first_512_octets_are_read()
+    ensures { (d : Octets) → query_read d ≡ query_read (take 512 d) }
+{}
+
+/// So does the reply.
 pub fn first_512_octets_decide()
-    ensures { (z : ZoneContents) (keep : MessageQuestion → List Item) (d : Octets) → reply_with keep z d ≡ reply_with keep z (take 512 d) }
+    ensures { (z : ZoneContents) (keep : MessageQuestion → List Item) (d : Octets)
+        → reply_with keep z d ≡ reply_with keep z (take 512 d) }
 {}

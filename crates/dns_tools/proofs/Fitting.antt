@@ -1,5 +1,5 @@
 -- The longest beginning of sets that fits is what a writer keeps that puts set after set, up to the first that does not fit.
-use Rattle.std.proofs.Common.{Bool, true, false, cond, ◌≡◌, ℕ, zero, suc, ◌+◌, ◌<◌, ◌≤◌, List, [], ◌∷◌, ◌++◌, length, take, refl, sym, ◌∙◌, ap, arith, nat_le}
+use Rattle.std.proofs.Common.{Bool, true, false, cond, ◌≡◌, ℕ, suc, ◌+◌, ◌<◌, ◌≤◌, List, [], ◌∷◌, ◌++◌, length, take, refl, ◌∙◌, ap, arith, nat_le, Some}
 use Rattle.std.proofs.lemmas.Bool.{leb-true, le-leb, lt-leb}
 use Rattle.std.proofs.lemmas.List.{append-nil}
 use Rattle.std.specs.Prelude.{if◌then◌else◌}
@@ -10,18 +10,8 @@ use Rattle.dns_spec.specs.Reading.{MessageQuestion}
 use Rattle.dns_spec.specs.Layout.{Section, answer, authority, additional, is_section, Item, records_of, in_section, question_octets, plain_records_size, plain_size, greatest}
 use Rattle.dns_spec.specs.Answer.{item}
 use Rattle.dns_spec.specs.Reply.{kept}
+use Rattle.dns_spec.proofs.GrowingSize.{greatest-first}
 use Rattle.dns_tools.specs.ListZone.{fitting}
-
--- where no later number passes a test that 1 fails, the greatest that passes is one more than that of the test behind it
-greatest-first : (test : ℕ → Bool) (n : ℕ) → ((k : ℕ) → test (suc k) ≡ true → test 1 ≡ true)
-    → greatest test (suc n) ≡ cond (test 1) (suc (greatest (λ k. test (suc k)) n)) 0
-greatest-first test zero h = refl
-greatest-first test (suc n) h = go (test (suc (suc n))) refl (greatest-first test n h)
-  where
-    go : (b : Bool) → test (suc (suc n)) ≡ b → greatest test (suc n) ≡ cond (test 1) (suc (greatest (λ k. test (suc k)) n)) 0
-        → cond b (suc (suc n)) (greatest test (suc n)) ≡ cond (test 1) (suc (cond b (suc n) (greatest (λ k. test (suc k)) n))) 0
-    go true e f = sym (ap (λ t. cond t (suc (suc n)) 0) (h (suc n) e))
-    go false e f = f
 
 pub records_of-item : (s : Section) (rs : List ResourceRecord) → records_of (item s rs) ≡ rs
 records_of-item s [] = refl
@@ -101,7 +91,7 @@ module _ (q : DomainName) where
     large-some s [] is place inside large = absurd (omega arith)
     large-some s (r ∷ rs) is place inside large = omega arith
 
-pub kept-fitting : (q : MessageQuestion) (limit : ℕ) (is : List Item) → kept (plain_size q) limit is ≡ fitting q.qname (12 + length (question_octets q)) limit is
+pub kept-fitting : (q : MessageQuestion) (limit : ℕ) (is : List Item) → kept (plain_size (Some q)) limit is ≡ fitting q.qname (12 + length (question_octets q)) limit is
 unfolding plain_size
 kept-fitting q limit is = kept_from q.qname limit (12 + length (question_octets q)) is
 

@@ -13,7 +13,8 @@ use Rattle.dns_spec.specs.Data.{type_a, type_ns, type_soa, type_cname, qtype_any
 use Rattle.dns_spec.specs.Records.{ResourceRecord, ZoneContents, at, of_type, rrset, with_owner, sort_by, data_order}
 use Rattle.dns_spec.specs.Tree.{exists, cut_of, found, asterisk, closest_encloser}
 use Rattle.dns_spec.specs.Layout.{answer, authority, Item}
-use Rattle.dns_spec.specs.Answer.{item, follows_alias, alias_set, next_sought, chain_from, chain, alias_items, Outcome, negative, negative_soa, positive, or_empty, answer_from, asked_sets, all_sets, outcome_at, outcome, main_items, no_error, name_error, referral_to}
+use Rattle.dns_spec.specs.Answer.{item, follows_alias, alias_set, next_sought, chain_from, chain, alias_items, Outcome, negative, negative_soa, positive, has_any, outcome_by, asked_sets, all_sets, outcome_at, outcome, main_items}
+use Rattle.dns_spec.specs.Reading.{no_error, name_error}
 use Rattle.dns_tools.specs.ListZone.{IsListZone, WantedSet, shown, asked_set, soa_set, picked, listed_types, asked_types, asked_items, soa_items, or_else, due_items, is_listed}
 use Rattle.dns_spec.specs.Reading.{MessageQuestion}
 use Rattle.dns_spec.proofs.SortedOnce.{Each}
@@ -159,14 +160,11 @@ module _ (z : ZoneContents) (ok : IsListZone z) where
 
   -- the outcome, by what is found
   abbrev pub listed_outcome : ℕ → Option (List ResourceRecord) → Outcome
-  listed_outcome t None = negative z name_error
-  listed_outcome t (Some rs) = answer_from z t rs
+  listed_outcome t y = outcome_by z t None y
 
-  last_cases : (t : ℕ) (x : Option DomainName) (y : Option (List ResourceRecord)) → x ≡ None
-      → elim x [ Some c ↦ referral_to z c | None ↦ elim y [ None ↦ negative z name_error | Some rs ↦ answer_from z t rs ] ] ≡ listed_outcome t y
+  last_cases : (t : ℕ) (x : Option DomainName) (y : Option (List ResourceRecord)) → x ≡ None → outcome_by z t x y ≡ listed_outcome t y
   last_cases t (Some c) y e = absurd (cc)
-  last_cases t None None e = refl
-  last_cases t None (Some rs) e = refl
+  last_cases t None y e = refl
 
   at_last : (q : DomainName) (t : ℕ) → outcome_at z t q ≡ listed_outcome t (found z q)
   unfolding outcome_at
@@ -176,10 +174,14 @@ module _ (z : ZoneContents) (ok : IsListZone z) where
   unfolding outcome
   outcome-is q t = rw (no_alias_items q t, chain_alone q t) (at_last q t)
 
-  no_alias_answer : (t : ℕ) (rs : List ResourceRecord) → of_type type_cname rs ≡ [] → answer_from z t rs ≡ or_empty z (asked_sets t rs)
+  -- the sets asked for, or an empty answer
+  abbrev or_empty : List Item → Outcome
+  or_empty is = if has_any is then positive is else negative z no_error
+
+  no_alias_answer : (t : ℕ) (rs : List ResourceRecord) → of_type type_cname rs ≡ [] → listed_outcome t (Some rs) ≡ or_empty (asked_sets t rs)
   no_alias_answer t rs e = rw e (by_test (follows_alias t))
     where
-      by_test : (b : Bool) → (if b && false then positive [] else or_empty z (asked_sets t rs)) ≡ or_empty z (asked_sets t rs)
+      by_test : (b : Bool) → (if b && false then positive [] else or_empty (asked_sets t rs)) ≡ or_empty (asked_sets t rs)
       by_test true = refl
       by_test false = refl
 
@@ -202,7 +204,7 @@ module _ (z : ZoneContents) (ok : IsListZone z) where
   found_as q = found_cases q (exists z q) refl
 
   -- no outcome is a referral
-  or_empty-direct : (items : List Item) → IsDirect (or_empty z items) no_error
+  or_empty-direct : (items : List Item) → IsDirect (or_empty items) no_error
   or_empty-direct [] = record { rcode_is = refl; no_referral = refl }
   or_empty-direct (i ∷ is) = record { rcode_is = refl; no_referral = refl }
 
@@ -247,7 +249,7 @@ module _ (z : ZoneContents) (ok : IsListZone z) where
       in
       ap (λ rs. item authority (map (shown (soa_set z.origin)) rs)) sorted ∙ ap (item authority) (sym (picked-is (soa_set z.origin) z.records))
 
-  or_empty-is : (is : List Item) → main_items (or_empty z is) ≡ or_else (soa_items z) is
+  or_empty-is : (is : List Item) → main_items (or_empty is) ≡ or_else (soa_items z) is
   or_empty-is [] = negative_soa-is
   or_empty-is (i ∷ is) = append-nil (i ∷ is)
 

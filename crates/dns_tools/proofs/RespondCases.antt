@@ -10,7 +10,8 @@ use Rattle.dns_spec.specs.Records.{ResourceRecord, ZoneContents}
 use Rattle.dns_spec.specs.Reading.{MessageQuestion, Spells}
 use Rattle.dns_spec.specs.Layout.{header_octets, plain_layout, question_octets}
 use Rattle.dns_spec.specs.Laws.{IsWritable}
-use Rattle.dns_spec.specs.Reply.{Decision, silence, header_alone, question_alone, answered, Reply, is_ignored, reply_head, answer_with, keep_plain, reply_with, reply_of, octets_by, reply_message, decide}
+use Rattle.dns_spec.specs.Query.{is_ignored, head_of, refusal_head}
+use Rattle.dns_spec.specs.Reply.{Decision, silence, header_alone, question_alone, answered, Reply, answer_with, keep_plain, reply_with, reply_of, octets_by, reply_message, decide}
 use Rattle.dns_spec.proofs.ReplySpelled.{reply_spells, keep_plain_begins}
 use Rattle.dns_tools.specs.ListZone.{IsListZone, is_listed}
 use Rattle.dns_tools.specs.Body.{body}
@@ -20,7 +21,7 @@ use Rattle.dns_tools.specs.declared.reply.Limit.TheVariants.{Udp}
 use Rattle.dns_tools.proofs.AllSets.{IsListedType}
 use Rattle.dns_tools.proofs.BodyLaws.{take-header}
 use Rattle.dns_tools.proofs.ListAnswer.{listed_type}
-use Rattle.dns_tools.proofs.ListReply.{alone-is}
+use Rattle.dns_tools.proofs.ListReply.{alone-is, bare-is}
 use Rattle.dns_tools.proofs.Decisions.{Sound, decide-sound}
 
 -- the reply as it is sent
@@ -69,9 +70,9 @@ module _ (z : ZoneContents) (d out : Octets) where
   sound : (x : Decision) → decide z d ≡ x → Sound d x (is_ignored d)
   sound x e = subst (λ y. Sound d y (is_ignored d)) e (decide-sound z d)
 
-  sent-is : (x : Decision) → decide z d ≡ x → sent z d ≡ reply_of (keep_plain z 512) z d x
+  sent-is : (x : Decision) → decide z d ≡ x → sent z d ≡ reply_of (keep_plain z 512) z x
   unfolding reply_with
-  sent-is x e = ap (reply_of (keep_plain z 512) z d) e
+  sent-is x e = ap (reply_of (keep_plain z 512) z) e
 
   abbrev told : Option ℕ → Option Reply → Type 0
   told result r = option_map (λ len. take len out) result ≡ option_map (octets_by plain_layout) r
@@ -87,42 +88,42 @@ module _ (z : ZoneContents) (d out : Octets) where
   loud len heard = (λ h. absurd (true≢false h), λ h. absurd (true≢false (sym h ∙ heard)))
 
   -- the header is sent alone
-  pub header_sent : (rcode : ℕ) → decide z d ≡ header_alone rcode → take 12 out ≡ header_octets (reply_head d false false rcode) 0 0 0 0 → IsReply z d out (Some 12)
+  pub header_sent : (rcode : ℕ) → decide z d ≡ header_alone (refusal_head (head_of d) rcode) → take 12 out ≡ header_octets (refusal_head (head_of d) rcode) 0 0 0 0 → IsReply z d out (Some 12)
   header_sent rcode e is = record {
-    absent = loud 12 (sym (sound (header_alone rcode) e).silent);
-    octets = subst (told (Some 12)) (sym (sent-is (header_alone rcode) e)) (ap (λ b. Some b) is);
+    absent = loud 12 (sym (sound (header_alone (refusal_head (head_of d) rcode)) e).silent);
+    octets = subst (told (Some 12)) (sym (sent-is (header_alone (refusal_head (head_of d) rcode)) e)) (ap (λ b. Some b) (is ∙ sym (bare-is (refusal_head (head_of d) rcode))));
   }
 
   -- the question is sent alone
-  pub question_sent : (q : MessageQuestion) (rcode end : ℕ) → decide z d ≡ question_alone q rcode
-      → take end out ≡ plain_layout (reply_head d false false rcode) q [] → IsReply z d out (Some end)
+  pub question_sent : (q : MessageQuestion) (rcode end : ℕ) → decide z d ≡ question_alone (refusal_head (head_of d) rcode) q
+      → take end out ≡ plain_layout (refusal_head (head_of d) rcode) (Some q) [] → IsReply z d out (Some end)
   question_sent q rcode end e is = record {
-    absent = loud end (sym (sound (question_alone q rcode) e).silent);
-    octets = subst (told (Some end)) (sym (sent-is (question_alone q rcode) e)) (ap (λ b. Some b) is);
+    absent = loud end (sym (sound (question_alone (refusal_head (head_of d) rcode) q) e).silent);
+    octets = subst (told (Some end)) (sym (sent-is (question_alone (refusal_head (head_of d) rcode) q) e)) (ap (λ b. Some b) is);
   }
 
   -- the question is answered
-  pub answer_sent : (q : MessageQuestion) (end : ℕ) → decide z d ≡ answered q
-      → take end out ≡ octets_by plain_layout (answer_with z d q (keep_plain z 512 q)) → IsReply z d out (Some end)
+  pub answer_sent : (q : MessageQuestion) (end : ℕ) → decide z d ≡ answered (head_of d) q
+      → take end out ≡ octets_by plain_layout (answer_with z (head_of d) q (keep_plain z 512 q)) → IsReply z d out (Some end)
   answer_sent q end e is = record {
-    absent = loud end (sym (sound (answered q) e).silent);
-    octets = subst (told (Some end)) (sym (sent-is (answered q) e)) (ap (λ b. Some b) is);
+    absent = loud end (sym (sound (answered (head_of d) q) e).silent);
+    octets = subst (told (Some end)) (sym (sent-is (answered (head_of d) q) e)) (ap (λ b. Some b) is);
   }
 
 module _ (d out : Octets) (rcode id flags questions answers authorities : ℕ)
-    (is_id : id ≡ (reply_head d false false rcode).id) (is_flags : flags ≡ (reply_head d false false rcode).flags) (none : answers ≡ 0) (nothing : authorities ≡ 0) where
+    (is_id : id ≡ (refusal_head (head_of d) rcode).id) (is_flags : flags ≡ (refusal_head (head_of d) rcode).flags) (none : answers ≡ 0) (nothing : authorities ≡ 0) where
   -- the header alone at the front of the buffer
   pub header_laid : questions ≡ 0
-      → take 12 (header_octets (record { id = id; flags = flags }) questions answers authorities 0 ++ drop 12 out) ≡ header_octets (reply_head d false false rcode) 0 0 0 0
+      → take 12 (header_octets (record { id = id; flags = flags }) questions answers authorities 0 ++ drop 12 out) ≡ header_octets (refusal_head (head_of d) rcode) 0 0 0 0
   header_laid zero_questions = λ i. header_octets (record { id = is_id i; flags = is_flags i }) (zero_questions i) (none i) (nothing i) 0
 
   -- the header in front of the question
   pub question_laid : (q : MessageQuestion) (end : ℕ) → questions ≡ 1 → 12 ≤ end → body out end ≡ question_octets q
-      → take end (header_octets (record { id = id; flags = flags }) questions answers authorities 0 ++ drop 12 out) ≡ plain_layout (reply_head d false false rcode) q []
+      → take end (header_octets (record { id = id; flags = flags }) questions answers authorities 0 ++ drop 12 out) ≡ plain_layout (refusal_head (head_of d) rcode) (Some q) []
   question_laid q end one behind is_body =
       take-header (header_octets (record { id = id; flags = flags }) questions answers authorities 0) out end refl behind
       ∙ (λ i. header_octets (record { id = is_id i; flags = is_flags i }) (one i) (none i) (nothing i) 0 ++ is_body i)
-      ∙ sym (alone-is (reply_head d false false rcode) q)
+      ∙ sym (alone-is (refusal_head (head_of d) rcode) q)
 
 -- the one limit
 pub limit_is : (limit : Limit) → limit_of limit ≡ 512

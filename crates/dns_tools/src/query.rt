@@ -1,8 +1,10 @@
 //! What is made of a datagram: taken apart, and judged (RFC 1035 4.1).
 ghost use Rattle.std.specs.Prelude.{◌≡◌, ℕ, ◌+◌, ◌≤◌, length, IsTrue, IfSome};
-ghost use Rattle.dns_spec.specs.Reading.{name_at};
+ghost use Rattle.dns_spec.specs.Names.{Octets};
+ghost use Rattle.dns_spec.specs.ComputedReading.{name_at};
 ghost use Rattle.dns_tools.specs.Decided.{code_of, decision_of, HasHeader};
-ghost use Rattle.dns_spec.specs.Reply.{field16, is_ignored, counts_are_one_question, question_at, is_meta_type, decide, decide_question};
+ghost use Rattle.dns_spec.specs.Query.{field16, head_of, is_ignored, counts_are_one_question, question_at};
+ghost use Rattle.dns_spec.specs.Reply.{is_meta_type, refusal, decide, decide_question};
 
 use crate::list::Zone;
 use byteorder::{BigEndian, ByteOrder};
@@ -116,7 +118,7 @@ fn read_name(datagram: &[u8]) -> Option<(Name, usize)>
 }
 
 // The question that is all that stands behind the header.
-#[tactic(auto, unfolding(dns_spec::specs::Reply::question_at))]
+#[tactic(auto, unfolding(dns_spec::specs::Query::question_at))]
 fn read_question(datagram: &[u8]) -> Option<Question>
     ensures { result ≡ question_at datagram.now }
 {
@@ -141,9 +143,9 @@ fn is_meta_type(qtype: u16) -> bool
 }
 
 /// What a zone makes of a datagram, of any octets.
-#[tactic(auto, unfolding(dns_spec::specs::Reply::decide))]
+#[tactic(auto, unfolding(dns_spec::specs::Reply::decide, dns_spec::specs::Query::query_read))]
 pub(crate) fn decide(zone: &Zone, datagram: &[u8]) -> Decision
-    ensures decision { decision_of result ≡ decide zone.now datagram.now }
+    ensures decision { decision_of datagram.now result ≡ decide zone.now datagram.now }
     ensures header { HasHeader result (length datagram.now) }
 {
     if is_ignored(datagram) {
@@ -163,7 +165,7 @@ pub(crate) fn decide(zone: &Zone, datagram: &[u8]) -> Decision
 
 // A question is judged by its class, then its type, then its name.
 fn decide_question(zone: &Zone, question: Question) -> Decision
-    ensures { decision_of result ≡ decide_question zone.now question }
+    ensures { (d : Octets) → decision_of d result ≡ decide_question (head_of d) question (refusal zone.now question) }
 {
     if question.qclass != CLASS_IN {
         Decision::QuestionAlone(question, Rcode::Refused)

@@ -6,7 +6,8 @@ ghost use Rattle.std.specs.List.{flat_map};
 ghost use Rattle.dns_spec.specs.Layout.{answer, authority, records_of, in_section, plain_record, plain_records_size, plain_layout};
 ghost use Rattle.dns_tools.specs.Body.{body};
 ghost use Rattle.dns_tools.specs.ListZone.{IsListZone, asked_items, due_items, fitting, kept_items};
-ghost use Rattle.dns_spec.specs.Reply.{is_ignored, reply_head, reply_with, answer_with, keep_plain, octets_by, reply_message};
+ghost use Rattle.dns_spec.specs.Query.{is_ignored, head_of, reply_head};
+ghost use Rattle.dns_spec.specs.Reply.{reply_with, answer_with, keep_plain, octets_by, reply_message};
 ghost use Rattle.dns_tools.specs.Decided.{code_of, limit_of};
 
 use crate::layout::{Head, Wanted, put_header, put_question, put_set};
@@ -99,7 +100,7 @@ fn answer(zone: &Zone, datagram: &[u8], question: &Question, out: &mut [u8]) -> 
     requires header { 12 ≤ length datagram.now }
     requires room { length out.old ≡ 512 }
     ensures octets { take result out.new
-        ≡ octets_by plain_layout (answer_with zone.now datagram.now question.now (keep_plain zone.now 512 question.now)) }
+        ≡ octets_by plain_layout (answer_with zone.now (head_of datagram.now) question.now (keep_plain zone.now 512 question.now)) }
     ensures fits { result ≤ 512 }
 {
     let end = put_question(out, question);
@@ -223,8 +224,8 @@ fn head(
     authorities: u16,
 ) -> Head
     requires { 12 ≤ length datagram.now }
-    ensures id { result.id ≡ (reply_head datagram.now authoritative truncated (code_of rcode)).id }
-    ensures flags { result.flags ≡ (reply_head datagram.now authoritative truncated (code_of rcode)).flags }
+    ensures id { result.id ≡ (reply_head (head_of datagram.now) authoritative truncated (code_of rcode)).id }
+    ensures flags { result.flags ≡ (reply_head (head_of datagram.now) authoritative truncated (code_of rcode)).flags }
     ensures questions { result.questions ≡ questions }
     ensures answers { result.answers ≡ answers }
     ensures authorities { result.authorities ≡ authorities }

@@ -142,10 +142,10 @@ module _ {b : Octets} {i j : ℕ} {so_far : List MessageRecord} (read : RecordsR
 -- What a message has in its sections follows from its header, section by section.
 module _ (b : Octets) (head : Header) (counts : Counts) (there : HeaderAt b head counts) where
   questions_end_at : (m : DnsMessage) (spells : Spells b m) (qs : List MessageQuestion) (e : ℕ) → AreQuestions b 12 counts.questions qs e
-      → spells.behind_questions ≡ e
+      → spells.after_questions ≡ e
   questions_end_at m spells qs e are =
       let long = one_number refl spells.qdcount there.questions ∙ sym are.as_many in
-      (same_questions b m.questions qs 12 12 spells.behind_questions e long refl spells.questions are.there).1
+      (same_questions b m.questions qs 12 12 spells.after_questions e long refl spells.questions are.there).1
 
   section_ends_at : (rs ws : List MessageRecord) (i j e f count k : ℕ) → i ≡ j → RecordsAt b i ws e → AreRecords b j count rs f
       → NumberAt b k 2 (length ws) → NumberAt b k 2 count → e ≡ f
@@ -155,25 +155,25 @@ module _ (b : Octets) (head : Header) (counts : Counts) (there : HeaderAt b head
   module _ (qs : List MessageQuestion) (e : ℕ) (asked : AreQuestions b 12 counts.questions qs e) where
     pub no_answers : NoRecords b e counts.answers → NoMessage b
     no_answers none m spells =
-        none m.answers spells.behind_answers (subst (λ i. RecordsAt b i m.answers spells.behind_answers) (questions_end_at m spells qs e asked) spells.answers)
+        none m.answers spells.after_answers (subst (λ i. RecordsAt b i m.answers spells.after_answers) (questions_end_at m spells qs e asked) spells.answers)
         (one_number refl spells.ancount there.answers)
 
     module _ (rs : List MessageRecord) (f : ℕ) (answers : AreRecords b e counts.answers rs f) where
-      answers_end_at : (m : DnsMessage) (spells : Spells b m) → spells.behind_answers ≡ f
+      answers_end_at : (m : DnsMessage) (spells : Spells b m) → spells.after_answers ≡ f
       answers_end_at m spells =
-          section_ends_at rs m.answers spells.behind_questions e spells.behind_answers f counts.answers 6 (questions_end_at m spells qs e asked)
+          section_ends_at rs m.answers spells.after_questions e spells.after_answers f counts.answers 6 (questions_end_at m spells qs e asked)
           spells.answers answers spells.ancount there.answers
 
       pub no_authorities : NoRecords b f counts.authorities → NoMessage b
       no_authorities none m spells =
-          none m.authorities spells.behind_authorities
-          (subst (λ i. RecordsAt b i m.authorities spells.behind_authorities) (answers_end_at m spells) spells.authorities)
+          none m.authorities spells.after_authorities
+          (subst (λ i. RecordsAt b i m.authorities spells.after_authorities) (answers_end_at m spells) spells.authorities)
           (one_number refl spells.nscount there.authorities)
 
       module _ (ws : List MessageRecord) (g : ℕ) (authorities : AreRecords b f counts.authorities ws g) where
-        authorities_end_at : (m : DnsMessage) (spells : Spells b m) → spells.behind_authorities ≡ g
+        authorities_end_at : (m : DnsMessage) (spells : Spells b m) → spells.after_authorities ≡ g
         authorities_end_at m spells =
-            section_ends_at ws m.authorities spells.behind_answers f spells.behind_authorities g counts.authorities 8 (answers_end_at m spells)
+            section_ends_at ws m.authorities spells.after_answers f spells.after_authorities g counts.authorities 8 (answers_end_at m spells)
             spells.authorities authorities spells.nscount there.authorities
 
         pub no_additionals : NoRecords b g counts.additionals → NoMessage b
@@ -183,5 +183,5 @@ module _ (b : Octets) (head : Header) (counts : Counts) (there : HeaderAt b head
 
         pub not_to_the_end : (xs : List MessageRecord) (k : ℕ) → AreRecords b g counts.additionals xs k → (k ≡ length b → ⊥) → NoMessage b
         not_to_the_end xs k additionals other m spells =
-            other (sym (section_ends_at xs m.additionals spells.behind_authorities g (length b) k counts.additionals 10 (authorities_end_at m spells)
+            other (sym (section_ends_at xs m.additionals spells.after_authorities g (length b) k counts.additionals 10 (authorities_end_at m spells)
             spells.additionals additionals spells.arcount there.additionals))

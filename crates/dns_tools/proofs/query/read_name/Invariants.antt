@@ -1,6 +1,6 @@
 use Rattle.std.proofs.Common.{length, ◌-◌, ◌≡◌, true}
 use Rattle.dns_spec.specs.Names.{is_name}
-use Rattle.dns_spec.specs.Reading.{name_at}
+use Rattle.dns_spec.specs.ComputedReading.{name_at}
 use Rattle.dns_tools.proofs.NameLoop.{read_on}
 use Rattle.dns_tools.proofs.query.read_name.Given as goal
 

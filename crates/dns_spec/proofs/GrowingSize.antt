@@ -1,0 +1,72 @@
+-- The size of a layout grows with each set. So the greatest number of sets that fits is reached by stopping at the first
+-- that does not.
+use Rattle.std.proofs.Common.{◌≡◌, ℕ, zero, suc, ◌≤◌, Bool, true, false, cond, nat_le, List, [], ◌∷◌, ◌++◌, length, take, Option, refl, sym, ap, ◌∙◌, subst, arith, append_assoc, append-nil, le-leb, leb-true}
+use Rattle.std.proofs.lemmas.List.Concat.{flat_map-append}
+use Rattle.dns_spec.specs.Names.{DomainName}
+use Rattle.dns_spec.specs.Records.{ResourceRecord}
+use Rattle.dns_spec.specs.Reading.{MessageQuestion}
+use Rattle.dns_spec.specs.Layout.{Item, greatest, records_of, asked_names, asked_name, names_of, records_size, size, plain_records_size, plain_size}
+use Rattle.dns_spec.specs.Reply.{kept, fitting}
+
+records_grow : (ms : List DomainName) (rs ss : List ResourceRecord) → records_size ms rs ≤ records_size ms (rs ++ ss)
+unfolding records_size
+records_grow ms [] ss = omega arith
+records_grow ms (r ∷ rs) ss = let h = records_grow (ms ++ names_of r) rs ss in omega (arith, h)
+
+plain_records_grow : (asked : DomainName) (rs ss : List ResourceRecord) → plain_records_size asked rs ≤ plain_records_size asked (rs ++ ss)
+plain_records_grow asked [] ss = omega arith
+plain_records_grow asked (r ∷ rs) ss = let h = plain_records_grow asked rs ss in omega (arith, h)
+
+both : (is js : List Item) → records_of (is ++ js) ≡ records_of is ++ records_of js
+both is js = flat_map-append (λ (i : Item). i.records) is js
+
+pub size_grows : (q : Option MessageQuestion) (is js : List Item) → size q is ≤ size q (is ++ js)
+unfolding size
+size_grows q is js =
+    let h = subst (λ rs. records_size (asked_names q) (records_of is) ≤ records_size (asked_names q) rs) (sym (both is js)) (records_grow (asked_names q) (records_of is) (records_of js)) in
+    omega (arith, h)
+
+pub plain_size_grows : (q : Option MessageQuestion) (is js : List Item) → plain_size q is ≤ plain_size q (is ++ js)
+unfolding plain_size
+plain_size_grows q is js =
+    let h = subst (λ rs. plain_records_size (asked_name q) (records_of is) ≤ plain_records_size (asked_name q) rs) (sym (both is js)) (plain_records_grow (asked_name q) (records_of is) (records_of js)) in
+    omega (arith, h)
+
+-- where no later number passes a test that 1 fails, the greatest that passes is one more than that of the test after it
+pub greatest-first : (test : ℕ → Bool) (n : ℕ) → ((k : ℕ) → test (suc k) ≡ true → test 1 ≡ true)
+    → greatest test (suc n) ≡ cond (test 1) (suc (greatest (λ k. test (suc k)) n)) 0
+greatest-first test zero h = refl
+greatest-first test (suc n) h = go (test (suc (suc n))) refl (greatest-first test n h)
+  where
+    go : (b : Bool) → test (suc (suc n)) ≡ b → greatest test (suc n) ≡ cond (test 1) (suc (greatest (λ k. test (suc k)) n)) 0
+        → cond b (suc (suc n)) (greatest test (suc n)) ≡ cond (test 1) (suc (cond b (suc n) (greatest (λ k. test (suc k)) n))) 0
+    go true e f = sym (ap (λ t. cond t (suc (suc n)) 0) (h (suc n) e))
+    go false e f = f
+
+module _ (size_of : List Item → ℕ) (grows : (is js : List Item) → size_of is ≤ size_of (is ++ js)) (limit : ℕ) where
+  fits : List Item → Bool
+  fits is = nat_le (size_of is) limit
+
+  fits_before : (is js : List Item) → nat_le (size_of (is ++ js)) limit ≡ true → nat_le (size_of is) limit ≡ true
+  fits_before is js e = let h = leb-true (size_of (is ++ js)) limit e in let g = grows is js in le-leb (size_of is) limit (omega (arith, h, g))
+
+  stops : (front is : List Item) → fitting size_of limit front is ≡ front ++ take (greatest (λ k. nat_le (size_of (front ++ take k is)) limit) (length is)) is
+  stops front [] = sym (append-nil front)
+  stops front (i ∷ is) =
+      let next = front ++ i ∷ [] in
+      let test : ℕ → Bool = λ k. nat_le (size_of (front ++ take k (i ∷ is))) limit in
+      let same : (k : ℕ) → next ++ take k is ≡ front ++ i ∷ take k is = λ k. append_assoc front (i ∷ []) (take k is) in
+      let later : (λ (k : ℕ). nat_le (size_of (next ++ take k is)) limit) ≡ (λ (k : ℕ). test (suc k)) = λ j k. nat_le (size_of (same k j)) limit in
+      let first : (k : ℕ) → test (suc k) ≡ true → test 1 ≡ true = λ k e. fits_before next (take k is) (ap (λ x. nat_le (size_of x) limit) (same k) ∙ e) in
+      go (test 1) (stops next is ∙ (λ j. next ++ take (greatest (later j) (length is)) is))
+      ∙ ap (λ n. front ++ take n (i ∷ is)) (sym (greatest-first test (length is) first))
+    where
+      go : (b : Bool)
+          → fitting size_of limit (front ++ i ∷ []) is ≡ (front ++ i ∷ []) ++ take (greatest (λ k. nat_le (size_of (front ++ take (suc k) (i ∷ is))) limit) (length is)) is
+          → cond b (fitting size_of limit (front ++ i ∷ []) is) front
+          ≡ front ++ take (cond b (suc (greatest (λ k. nat_le (size_of (front ++ take (suc k) (i ∷ is))) limit) (length is))) 0) (i ∷ is)
+      go true e = e ∙ append_assoc front (i ∷ []) (take (greatest (λ k. nat_le (size_of (front ++ take (suc k) (i ∷ is))) limit) (length is)) is)
+      go false e = sym (append-nil front)
+
+  pub kept_is_fitting : (is : List Item) → kept size_of limit is ≡ fitting size_of limit [] is
+  kept_is_fitting is = sym (stops [] is)

@@ -1,0 +1,172 @@
+-- What a reader learns here: how the name at a place of a message, and the message that octets spell, are computed. A reader
+-- may skip this: Reading says what they are, and laws say that these are the same.
+use Rattle.std.specs.Prelude.{ℕ, zero, suc, ◌+◌, ◌-◌, ◌&&◌, true, false, List, [], ◌∷◌, ◌++◌, length, take, drop, nat_lt, nat_le, ◌==◌, slice_get, if◌then◌else◌}
+use Rattle.std.specs.Prelude.{Option, None, Some}
+use Rattle.std.specs.Option.{option_map, option_and_then}
+use Rattle.dns_spec.specs.Names.{Octets, DomainName, wire, is_name}
+use Rattle.dns_spec.specs.Data.{class_in, width, Piece, fixed, domain, string, strings, anything, pieces_of, are_strings, number_of}
+use Rattle.dns_spec.specs.Reading.{pointer_place, MessageQuestion, MessageRecord, DnsMessage}
+
+-- RFC 1035 4.1.4: how a run of labels goes on at a place: it ends, a label of k octets follows, a pointer to place p
+-- follows, or nothing lawful does.
+pub data RunStep : Type 0 where
+  run_end : RunStep
+  run_label : ℕ → RunStep
+  run_pointer : ℕ → RunStep
+  unlawful : RunStep
+
+abbrev pub pointer_step : ℕ → Option ℕ → RunStep
+pointer_step o None = unlawful
+pointer_step o (Some o') = run_pointer (pointer_place o o')
+
+abbrev pub step_of : Octets → ℕ → Option ℕ → RunStep
+step_of b i None = unlawful
+step_of b i (Some o) =
+    if o == 0 then run_end
+    else if nat_lt o 64 then (if nat_le (i + 1 + o) (length b) then run_label o else unlawful)
+    else if nat_lt o 192 then unlawful
+    else pointer_step o (slice_get b (i + 1))
+
+-- a name, and the place after its own octets
+abbrev pub Placed : Type 0
+Placed = DomainName × ℕ
+
+abbrev pub with_label : Octets → Placed → Placed
+with_label l (n, e) = (l ∷ n, e)
+
+-- A pointer is lawful to a place after the header and before its run. `earlier` has what the runs begun before that spell.
+abbrev pub jump : (ℕ → Option Placed) → ℕ → ℕ → ℕ → Option Placed
+jump earlier s i p =
+    elim (nat_le 12 p && nat_lt p s) [
+      | true ↦ option_map (λ r. (r.0, i + 2)) (earlier p)
+      | false ↦ None
+    ]
+
+-- What a run begun at place s spells from place i on. It has no more steps than there are octets, since each takes one
+-- or more.
+unfoldable pub run : (ℕ → Option Placed) → Octets → ℕ → ℕ → ℕ → Option Placed
+run earlier b s zero i = None
+run earlier b s (suc r) i =
+    elim (step_of b i (slice_get b i)) [
+      | run_end ↦ Some ([], i + 1)
+      | run_label k ↦ option_map (with_label (take k (drop (i + 1) b)))
+          (run earlier b s r (i + 1 + k))
+      | run_pointer p ↦ jump earlier s i p
+      | unlawful ↦ None
+    ]
+
+-- what the runs begun before place k spell
+unfoldable pub runs_before : Octets → ℕ → ℕ → Option Placed
+runs_before b zero p = None
+runs_before b (suc k) p = run (runs_before b k) b p (length b) p
+
+abbrev pub name_if_short : Placed → Option Placed
+name_if_short (n, e) = if is_name n then Some (n, e) else None
+
+-- the name spelled at place i, and the place after it
+unfoldable pub name_at : Octets → ℕ → Option Placed
+name_at b i = option_and_then name_if_short (runs_before b (suc i) i)
+
+-- RFC 1035 2.3.2: the number that k octets from place i spell
+abbrev pub value_at : Octets → ℕ → ℕ → ℕ
+value_at b i k = number_of (take k (drop i b))
+
+-- the octets from place i up to place e, and that place
+abbrev pub octets_upto : Octets → ℕ → ℕ → Option (Octets × ℕ)
+octets_upto b i e =
+    if nat_le i e && nat_le e (length b) then Some (take (e - i) (drop i b), e) else None
+
+-- one piece at place i of data that ends before place e: its octets, not compressed, and the place after it
+abbrev pub strings_only : Octets × ℕ → Option (Octets × ℕ)
+strings_only (o, e) = if nat_lt 0 (length o) && are_strings 0 o then Some (o, e) else None
+
+abbrev pub piece_at : Octets → Piece → ℕ → ℕ → Option (Octets × ℕ)
+piece_at b (fixed f) i e = octets_upto b i (i + width f)
+piece_at b domain i e = option_map (λ r. (wire r.0, r.1)) (name_at b i)
+piece_at b string i e = option_and_then (λ k. octets_upto b i (i + 1 + k)) (slice_get b i)
+piece_at b strings i e = option_and_then strings_only (octets_upto b i e)
+piece_at b anything i e = octets_upto b i e
+
+unfoldable pub pieces_at : Octets → List Piece → ℕ → ℕ → Option Octets
+pieces_at b [] i e = if i == e then Some [] else None
+pieces_at b (p ∷ ps) i e =
+    option_and_then (λ r. option_map (λ d. r.0 ++ d) (pieces_at b ps r.1 e)) (piece_at b p i e)
+
+abbrev pub data_at : Octets → ℕ → ℕ → ℕ → ℕ → Option Octets
+data_at b t c i e =
+    if nat_le i e && nat_le e (length b)
+    then pieces_at b (if c == class_in then pieces_of t else anything ∷ []) i e else None
+
+-- the question, and the record, at a place, and the place after it
+abbrev pub question_after : Octets → Placed → Option (MessageQuestion × ℕ)
+question_after b (n, j) =
+    if nat_le (j + 4) (length b)
+    then Some (record { qname = n; qtype = value_at b j 2; qclass = value_at b (j + 2) 2 }, j + 4)
+    else None
+
+abbrev pub message_question_at : Octets → ℕ → Option (MessageQuestion × ℕ)
+message_question_at b i = option_and_then (question_after b) (name_at b i)
+
+abbrev pub record_with : Octets → Placed → Octets → MessageRecord × ℕ
+record_with b (n, j) d = (
+  record {
+    owner = n;
+    rtype = value_at b j 2;
+    rclass = value_at b (j + 2) 2;
+    ttl = value_at b (j + 4) 4;
+    rdata = d;
+  },
+  j + 10 + value_at b (j + 8) 2,
+)
+
+abbrev pub record_after : Octets → Placed → Option (MessageRecord × ℕ)
+record_after b (n, j) =
+    if nat_le (j + 10) (length b)
+    then option_map (record_with b (n, j))
+    (data_at b (value_at b j 2) (value_at b (j + 2) 2) (j + 10) (j + 10 + value_at b (j + 8) 2))
+    else None
+
+abbrev pub message_record_at : Octets → ℕ → Option (MessageRecord × ℕ)
+message_record_at b i = option_and_then (record_after b) (name_at b i)
+
+-- so many questions or records one after the other from a place on
+unfoldable pub several : {X : Type 0} → (ℕ → Option (X × ℕ)) → ℕ → ℕ → Option (List X × ℕ)
+several read zero i = Some ([], i)
+several read (suc k) i =
+    option_and_then (λ r. option_map (λ s. (r.0 ∷ s.0, s.1)) (several read k r.1)) (read i)
+
+-- RFC 1035 4.1: the sections after a place, one after the other, up to the end
+abbrev pub last_section : Octets → List MessageQuestion → List MessageRecord → List MessageRecord
+    → List MessageRecord × ℕ → Option DnsMessage
+last_section b qs ans ns r =
+    if r.1 == length b
+    then Some (record {
+      header = record { id = value_at b 0 2; flags = value_at b 2 2 };
+      questions = qs;
+      answers = ans;
+      authorities = ns;
+      additionals = r.0;
+    })
+    else None
+
+abbrev pub from_additionals : Octets → List MessageQuestion → List MessageRecord
+    → List MessageRecord × ℕ → Option DnsMessage
+from_additionals b qs ans r =
+    option_and_then (last_section b qs ans r.0)
+    (several (message_record_at b) (value_at b 10 2) r.1)
+
+abbrev pub from_authorities : Octets → List MessageQuestion → List MessageRecord × ℕ
+    → Option DnsMessage
+from_authorities b qs r =
+    option_and_then (from_additionals b qs r.0) (several (message_record_at b) (value_at b 8 2) r.1)
+
+abbrev pub from_answers : Octets → List MessageQuestion × ℕ → Option DnsMessage
+from_answers b r =
+    option_and_then (from_authorities b r.0) (several (message_record_at b) (value_at b 6 2) r.1)
+
+-- the message that octets spell
+unfoldable pub message_at : Octets → Option DnsMessage
+message_at b =
+    if nat_le 12 (length b)
+    then option_and_then (from_answers b) (several (message_question_at b) (value_at b 4 2) 12)
+    else None

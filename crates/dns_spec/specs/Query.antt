@@ -1,0 +1,81 @@
+-- What a reader learns here: what a datagram is as a query, before any zone is asked: no query, a query that is
+-- refused with a header alone, or a header and a question.
+use Rattle.std.specs.Prelude.{ℕ, ◌+◌, ◌*◌, ◌/◌, ◌%◌, ◌^◌, Bool, false, ◌&&◌, ◌||◌, not, length, take, drop, nat_lt, nat_le, ◌==◌, if◌then◌else◌}
+use Rattle.std.specs.Prelude.{Option, None, Some}
+use Rattle.dns_spec.specs.Names.{Octets, DomainName}
+use Rattle.dns_spec.specs.Data.{number_of}
+use Rattle.dns_spec.specs.Reading.{Header, MessageQuestion, format_error, not_implemented}
+use Rattle.dns_spec.specs.ComputedReading.{name_at}
+
+-- the 16 bits at a place
+abbrev pub field16 : Octets → ℕ → ℕ
+field16 d i = number_of (take 2 (drop i d))
+
+-- RFC 1035 4.1.1: the bits of the flags that a server looks at
+abbrev pub is_response : ℕ → Bool
+is_response flags = nat_le 1 (flags / 2 ^ 15)
+
+abbrev pub opcode : ℕ → ℕ
+opcode flags = flags / 2 ^ 11 % 2 ^ 4
+
+abbrev pub recursion_desired : ℕ → ℕ
+recursion_desired flags = flags / 2 ^ 8 % 2
+
+abbrev pub bit : Bool → ℕ
+bit b = if b then 1 else 0
+
+-- RFC 1035 4.1.1: ID and flags of a datagram
+abbrev pub head_of : Octets → Header
+head_of d = record { id = field16 d 0; flags = field16 d 2 }
+
+-- The header of a reply to a query with header h: its ID, opcode and RD, QR set, RA and the three zero bits 0.
+abbrev pub reply_head : Header → Bool → Bool → ℕ → Header
+reply_head h aa tc rcode = record {
+  id = h.id;
+  flags =
+      2 ^ 15 + opcode h.flags * 2 ^ 11 + bit aa * 2 ^ 10 + bit tc * 2 ^ 9
+      + recursion_desired h.flags * 2 ^ 8 + rcode;
+}
+
+-- the header of a reply that has no records, with an RCODE
+abbrev pub refusal_head : Header → ℕ → Header
+refusal_head h = reply_head h false false
+
+-- RFC 1035 4.1.2: the octets after the header are exactly one question
+abbrev pub question_of : Octets → DomainName × ℕ → Option MessageQuestion
+question_of d (n, e) =
+    if length d == e + 4
+    then Some (record { qname = n; qtype = field16 d e; qclass = field16 d (e + 2) }) else None
+
+unfoldable pub question_at : Octets → Option MessageQuestion
+question_at d = elim (name_at d 12) [ None ↦ None | Some r ↦ question_of d r ]
+
+-- one question and no record
+abbrev pub counts_are_one_question : Octets → Bool
+counts_are_one_question d =
+    field16 d 4 == 1 && field16 d 6 == 0 && field16 d 8 == 0 && field16 d 10 == 0
+
+-- no reply is owed to what is shorter than a header, or is a reply itself
+abbrev pub is_ignored : Octets → Bool
+is_ignored d = nat_lt (length d) 12 || is_response (field16 d 2)
+
+-- A datagram as a query. One that is no query gets no reply; a query of another opcode, or without just one question,
+-- gets the header of a reply alone; else there is its header as it came, and its question.
+pub data QueryRead : Type 0 where
+  absent : QueryRead
+  refused_with : Header → QueryRead
+  query : Header → MessageQuestion → QueryRead
+
+abbrev pub query_or_error : Header → Option MessageQuestion → QueryRead
+query_or_error h None = refused_with (refusal_head h format_error)
+query_or_error h (Some q) = query h q
+
+-- These are judged in this order; the order is this project's.
+unfoldable pub query_read : Octets → QueryRead
+query_read d =
+    if is_ignored d then absent
+    else if not (opcode (field16 d 2) == 0)
+    then refused_with (refusal_head (head_of d) not_implemented)
+    else if not (counts_are_one_question d)
+    then refused_with (refusal_head (head_of d) format_error)
+    else query_or_error (head_of d) (question_at d)

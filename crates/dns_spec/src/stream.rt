@@ -1,0 +1,24 @@
+//! Laws of streams: which messages they hold, and what of them is left.
+
+ghost use Rattle.std.specs.Prelude.{◌≡◌, ℕ, List, [], ◌++◌, ◌+◌, ◌<◌, ◌^◌, ◌⊎◌, All, length};
+ghost use Rattle.std.specs.List.{flat_map};
+ghost use Rattle.dns_spec.specs.Names.{Octets};
+ghost use Rattle.dns_spec.specs.Stream.{frame, frames, after_frames, IsCutFrame};
+
+/// A stream is the frames of its messages, and the octets after them.
+pub fn stream_is_its_frames_and_the_rest()
+    ensures { (k : ℕ) (x : Octets) → All (λ o. o < 256) x
+        → flat_map frame (frames k x) ++ after_frames k x ≡ x }
+{}
+
+/// Where a stream has fewer messages than are asked for, what is left of it is empty, or a frame that was cut.
+pub fn rest_is_empty_or_cut()
+    ensures { (k : ℕ) (x : Octets) → All (λ o. o < 256) x → length (frames k x) < k
+        → (after_frames k x ≡ []) ⊎ IsCutFrame (after_frames k x) }
+{}
+
+/// Frames of messages in front of a stream are read as these messages, each of at most 65,535 octets.
+pub fn frames_are_read_as_their_messages()
+    ensures { (k : ℕ) (ms : List Octets) (x : Octets) → All (λ m. length m < 2 ^ 16) ms
+        → frames (length ms + k) (flat_map frame ms ++ x) ≡ ms ++ frames k x }
+{}
