@@ -1,10 +1,11 @@
 -- The entries of a text one after another: what the rest means, with the records so far before it, the whole means.
-use Rattle.std.proofs.Common.{◌≡◌, ℕ, ◌≤◌, ◌<◌, Bool, true, false, List, [], ◌∷◌, ◌++◌, length, take, nat_lt, append-nil, append_assoc, refl, sym, ap, ◌∙◌, subst, arith, Option, Some, None}
+use Rattle.std.proofs.Common.{◌≡◌, ◌≤◌, ◌<◌, Bool, true, false, List, [], ◌∷◌, ◌++◌, length, take, nat_lt, append-nil, append_assoc, refl, sym, ap, ◌∙◌, subst, arith, Option, Some, None}
 use Rattle.std.proofs.lemmas.Bool.{ltb-true, ltb-false, lt-ltb, le-ltb}
 use Rattle.std.proofs.lemmas.List.{take_all, take-take, length-take-le}
 use Rattle.dns_spec.specs.Names.{Octets, DomainName}
 use Rattle.dns_spec.specs.Records.{ResourceRecord}
-use Rattle.dns_spec.specs.ZoneText.{Entry, PiecesThen, with_end, cut_entries}
+use Rattle.dns_spec.specs.ZoneText.{Entry, PiecesThen, with_end, cut_entries, extent_by}
+use Rattle.dns_spec.specs.FileFaults.{too_long, FileFault}
 use Rattle.dns_spec.specs.Meaning.{Meaning, records, fault_at, behind, line_behind, Means}
 use Rattle.dns_master.specs.EntryForm.{TextMeans}
 use Rattle.dns_master.specs.SourceForm.{TextOf, GivesMeaning}
@@ -47,15 +48,15 @@ module _ (o : DomainName) (goes_on : Bool) (text : Octets) where
             (subst (TextMeans o [] goes_on text) (behind-append old.records.items done.taken later) (so.means (behind done.taken later) (done.means later h)));
       }
 
-  pub one-faulty : (rest : Octets) (reader : Reader) (code : ℕ) → (so : EntriesSoFar rest reader)
+  pub one-faulty : (rest : Octets) (reader : Reader) (code : FileFault) → (so : EntriesSoFar rest reader)
       → TextMeans o so.earlier goes_on rest (fault_at code (line_behind so.earlier)) → TextMeans o [] goes_on text (fault_at code reader.line)
   one-faulty rest reader code so h = rw so.line_is (so.means (fault_at code (line_behind so.earlier)) h)
 
-  pub past-limit : (rest : Octets) (reader : Reader) → EntriesSoFar rest reader → rest ≡ [] → goes_on ≡ true → TextMeans o [] goes_on text (fault_at 15 reader.line)
+  pub past-limit : (rest : Octets) (reader : Reader) → EntriesSoFar rest reader → rest ≡ [] → goes_on ≡ true → TextMeans o [] goes_on text (fault_at too_long reader.line)
   past-limit rest reader so empty on =
-      one-faulty rest reader 15 so
-      (subst (λ b. TextMeans o so.earlier b rest (fault_at 15 (line_behind so.earlier))) (sym on)
-      (subst (λ x. TextMeans o so.earlier true x (fault_at 15 (line_behind so.earlier))) (sym empty) (past-means o so.earlier)))
+      one-faulty rest reader too_long so
+      (subst (λ b. TextMeans o so.earlier b rest (fault_at too_long (line_behind so.earlier))) (sym on)
+      (subst (λ x. TextMeans o so.earlier true x (fault_at too_long (line_behind so.earlier))) (sym empty) (past-means o so.earlier)))
 
   pub all-entries : (rest : Octets) (reader : Reader) → EntriesSoFar rest reader → rest ≡ [] → goes_on ≡ false → TextMeans o [] goes_on text (records reader.records.items)
   all-entries rest reader so empty off =
@@ -84,13 +85,13 @@ whole-means : (o : DomainName) (x text front : Octets) (goes_on : Bool) (m : Mea
 whole-means o x text front goes_on m e f on h =
     let looked : front ≡ take 16777216 x = f ∙ ap (take 16777216) e ∙ take-take 16777216 16777217 x (omega arith) in
     let behind : goes_on ≡ nat_lt 16777216 (length x) = on ∙ ap (λ y. nat_lt 16777216 (length y)) e ∙ goes_on_behind x in (
-      with_end goes_on h.rest (cut_entries false h.pieces),
+      with_end (extent_by goes_on) h.rest (cut_entries false h.pieces),
       record {
         pieces = h.pieces;
         rest = h.rest;
         spelled = subst (λ y. PiecesThen y h.pieces h.rest) looked h.spelled;
         at_end = h.at_end;
-        entries = ap (λ b. with_end b h.rest (cut_entries false h.pieces)) behind;
+        entries = ap (λ b. with_end (extent_by b) h.rest (cut_entries false h.pieces)) behind;
       },
       h.meant,
     )

@@ -8,7 +8,8 @@ use Rattle.dns_spec.specs.NameText.{SpellsName}
 use Rattle.dns_spec.specs.DataText.{Word}
 use Rattle.dns_spec.specs.Records.{ResourceRecord}
 use Rattle.dns_spec.specs.ZoneText.{Entry}
-use Rattle.dns_spec.specs.Meaning.{Nothing, Sort, no_words, directive, owned, unowned, sort_of, sort_by_words, is_directive, Fields, fields, Answer, faulty, gives, OriginIs, NameIs, OneWord, OwnerBefore, TtlSays, nearest, directive_word, owner_word, ttl_word, is_record, IsRecord, RecordGives, SortGives}
+use Rattle.dns_spec.specs.FileFaults.{directive_words, no_owner, FileFault, bad_owner}
+use Rattle.dns_spec.specs.Meaning.{Nothing, Sort, no_words, directive, owned, unowned, sort_of, sort_by_words, is_directive, Fields, fields, EntryMeaning, faulty, gives, OriginIs, NameIs, OneWord, OwnerBefore, TtlSays, nearest, directive_word, owner_word, ttl_word, is_record, IsRecord, RecordGives, SortGives}
 use Rattle.dns_master.specs.RecordForm.{TtlOf, Inherited, LastOwner, SpelledName}
 use Rattle.dns_master.specs.ReaderForm.{last_owner, Knows, RecordTaken, EntryTaken}
 use Rattle.dns_master.specs.declared.state.Reader.{Reader}
@@ -29,13 +30,13 @@ otherwise f (inr h) = inr (h.0, f h.1)
 
 module _ (o : DomainName) (earlier : List Entry) (Owner : DomainName → Type 0) (f : Fields) (n owner : DomainName) (is : Owner n) (low : owner ≡ folded n)
     (twice : folded owner ≡ owner) where
-  owned_record : (answer : Answer) → (r : ResourceRecord) × IsRecord o earlier (λ m. m ≡ owner) f r × (answer ≡ gives (r ∷ []))
+  owned_record : (answer : EntryMeaning) → (r : ResourceRecord) × IsRecord o earlier (λ m. m ≡ owner) f r × (answer ≡ gives (r ∷ []))
       → (r : ResourceRecord) × IsRecord o earlier Owner f r × (answer ≡ gives (r ∷ []))
   owned_record answer (r, h, e) =
       (r, record { owner = (n, is, h.owner.2 ∙ ap folded h.owner.1 ∙ twice ∙ low); ttl = h.ttl; rtype = h.rtype; rdata = h.rdata }, e)
 
   -- what is given for the owner in lower case is given for the owner
-  pub given-owner : (code : ℕ) (answer : Answer) → RecordGives o earlier 8 (λ m. m ≡ owner) f answer → RecordGives o earlier code Owner f answer
+  pub given-owner : (code : FileFault) (answer : EntryMeaning) → RecordGives o earlier no_owner (λ m. m ≡ owner) f answer → RecordGives o earlier code Owner f answer
   given-owner code answer (inl h) = absurd (h.0 owner refl)
   given-owner code answer (inr h) =
       inr ((λ none. none n is), otherwise (otherwise (otherwise (otherwise (otherwise (otherwise (owned_record answer)))))) h.1)
@@ -126,7 +127,7 @@ module _ (o : DomainName) (earlier : List Entry) where
         record {
           taken = t.taken ∷ [];
           given = subst (λ s. SortGives o earlier s (gives (t.taken ∷ []))) (sym is)
-              (given-owner o earlier (NameIs o earlier w) (fields ws) n owner named low twice 7 (gives (t.taken ∷ [])) t.given);
+              (given-owner o earlier (NameIs o earlier w) (fields ws) n owner named low twice bad_owner (gives (t.taken ∷ [])) t.given);
           known = known-of_sort e (owned w ws) _ _ _ _ _ is (record_behind (owned w ws) owner (fields ws) refl refl refl refl n named low t);
           records = t.records;
         }
@@ -137,7 +138,7 @@ module _ (o : DomainName) (earlier : List Entry) where
         record {
           taken = t.taken ∷ [];
           given = subst (λ s. SortGives o earlier s (gives (t.taken ∷ []))) (sym is)
-              (given-owner o earlier (OwnerBefore o earlier) (fields ws) n owner named low twice 8 (gives (t.taken ∷ [])) t.given);
+              (given-owner o earlier (OwnerBefore o earlier) (fields ws) n owner named low twice no_owner (gives (t.taken ∷ [])) t.given);
           known = known-of_sort e (unowned ws) _ _ _ _ _ is (record_behind (unowned ws) owner (fields ws) refl refl refl refl n named low t);
           records = t.records;
         }
@@ -195,7 +196,7 @@ module _ (o : DomainName) (earlier : List Entry) where
 
   -- the words of `$ORIGIN` are none
   pub origin-fault : (old : Reader) → Knows o earlier old → (ws : List Word) → ((n : DomainName) → OneWord (λ w. SpelledName old.origin w n) ws → ⊥)
-      → SortGives o earlier (directive (codes "$origin") ws) (faulty 6)
+      → SortGives o earlier (directive (codes "$origin") ws) (faulty directive_words)
   origin-fault old known ws none = inl (no_origin ws none, refl)
     where
       no_origin : (ws : List Word) → ((n : DomainName) → OneWord (λ w. SpelledName old.origin w n) ws → ⊥) → Nothing (λ (n : DomainName). OneWord (λ w. NameIs o earlier w n) ws)
@@ -203,7 +204,7 @@ module _ (o : DomainName) (earlier : List Entry) where
       no_origin (w ∷ v ∷ ws) none n h = h
       no_origin (w ∷ []) none n h = none n (h.0, subst (λ m. SpellsName m w.raw n) (known.no_other h.1.0 h.1.1) h.1.2)
 
-  pub default-fault : (ws : List Word) → ((n : ℕ) → OneWord (λ w. TtlSays w n) ws → ⊥) → SortGives o earlier (directive (codes "$ttl") ws) (faulty 6)
+  pub default-fault : (ws : List Word) → ((n : ℕ) → OneWord (λ w. TtlSays w n) ws → ⊥) → SortGives o earlier (directive (codes "$ttl") ws) (faulty directive_words)
   default-fault ws none = inl (none, refl)
 
 -- the sort of an entry by its first octet and its words

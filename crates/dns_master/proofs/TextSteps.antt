@@ -7,8 +7,9 @@ use Rattle.std.specs.List.{flat_map, list_any}
 use Rattle.dns_spec.specs.Names.{Octets, DomainName}
 use Rattle.dns_spec.specs.DataText.{Word}
 use Rattle.dns_spec.specs.Records.{ResourceRecord}
-use Rattle.dns_spec.specs.ZoneText.{Piece, quoted, line_end, Entry, ended, piece_front, PiecesThen, is_blank, is_blank_piece, begins_blank, closed, line_feed_front, word_length, string_length, cut_entries, with_end, end_code, broken_code, is_open_at_end, take_turns, parentheses}
-use Rattle.dns_spec.specs.Meaning.{Answer, faulty, gives, Meaning, records, fault_at, behind, line_behind, SortGives, sort_of, sort_by_words, EntryGives, EntriesMean}
+use Rattle.dns_spec.specs.ZoneText.{Piece, quoted, line_end, Entry, ended, piece_front, PiecesThen, is_blank, is_blank_piece, begins_blank, closed, line_feed_front, word_length, string_length, cut_entries, with_end, is_open_at_end, take_turns, parentheses, whole_text, extent_by, stop_fault, stop_at, Extent, beginning, in_string, in_piece}
+use Rattle.dns_spec.specs.FileFaults.{bad_parenthesis, too_long, FileFault}
+use Rattle.dns_spec.specs.Meaning.{EntryMeaning, faulty, gives, Meaning, records, fault_at, behind, line_behind, SortGives, sort_of, sort_by_words, EntryGives, EntriesMean}
 use Rattle.dns_spec.proofs.TextPieces.{has_pieces, front-shorter}
 use Rattle.dns_master.specs.EntryForm.{Reads, unended, wrong, IsWrong, line_ends, piece_words, EntryRead, outcome_of, TextMeans}
 use Rattle.dns_master.specs.EntryForm as form
@@ -20,28 +21,28 @@ pieces-append text middle rest [] qs h k = subst (λ x. PiecesThen x qs rest) (s
 pieces-append text middle rest (p ∷ ps) qs h k = (h.0, h.1, pieces-append h.0 middle rest ps qs h.2 k)
 
 -- an entry that nothing is wrong with by its place gives what its sort gives
-by_sort : (o : DomainName) (earlier : List Entry) (e : Entry) (answer : Answer) → take_turns false (parentheses e.pieces) ≡ true → e.end_fault ≡ None
+by_sort : (o : DomainName) (earlier : List Entry) (e : Entry) (answer : EntryMeaning) → take_turns false (parentheses e.pieces) ≡ true → e.end_fault ≡ None
     → SortGives o earlier (sort_of e) answer → EntryGives o earlier e answer
 by_sort o earlier e answer turns none h = rw turns (rw none h)
 
-by_end : (o : DomainName) (earlier : List Entry) (e : Entry) (code : ℕ) → take_turns false (parentheses e.pieces) ≡ true → e.end_fault ≡ Some code
+by_end : (o : DomainName) (earlier : List Entry) (e : Entry) (code : FileFault) → take_turns false (parentheses e.pieces) ≡ true → e.end_fault ≡ Some code
     → EntryGives o earlier e (faulty code)
 by_end o earlier e code turns some = rw turns (rw some refl)
 
-by_turns : (o : DomainName) (earlier : List Entry) (e : Entry) → take_turns false (parentheses e.pieces) ≡ false → EntryGives o earlier e (faulty 4)
+by_turns : (o : DomainName) (earlier : List Entry) (e : Entry) → take_turns false (parentheses e.pieces) ≡ false → EntryGives o earlier e (faulty bad_parenthesis)
 by_turns o earlier e turns = rw turns refl
 
 with_end-more : (goes_on : Bool) (rest : Octets) (ps : List Piece) (es : List (List Piece)) → HasFirst es
-    → with_end goes_on rest (ps ∷ es) ≡ ended ps ∷ with_end goes_on rest es
+    → with_end (extent_by goes_on) rest (ps ∷ es) ≡ ended ps ∷ with_end (extent_by goes_on) rest es
 with_end-more goes_on rest ps es h =
-    ap (λ x. with_end goes_on rest (ps ∷ x)) h.is ∙ ap (λ x. ended ps ∷ with_end goes_on rest x) (sym h.is)
+    ap (λ x. with_end (extent_by goes_on) rest (ps ∷ x)) h.is ∙ ap (λ x. ended ps ∷ with_end (extent_by goes_on) rest x) (sym h.is)
 
 module _ (o : DomainName) (earlier : List Entry) (goes_on : Bool) (text : Octets) where
   -- an entry that a line end ends
   module _ (ps : List Piece) (others : Octets) (reads : Reads false text ps (form.ended others)) where
-    cut_behind : (rest : Octets) (qs : List Piece) → with_end goes_on rest (cut_entries false (ps ++ qs)) ≡ ended ps ∷ with_end goes_on rest (cut_entries false qs)
+    cut_behind : (rest : Octets) (qs : List Piece) → with_end (extent_by goes_on) rest (cut_entries false (ps ++ qs)) ≡ ended ps ∷ with_end (extent_by goes_on) rest (cut_entries false qs)
     cut_behind rest qs =
-        ap (with_end goes_on rest) ((reads-ended false text ps others reads).cuts qs) ∙ with_end-more goes_on rest ps (cut_entries false qs) (has_first false qs)
+        ap (with_end (extent_by goes_on) rest) ((reads-ended false text ps others reads).cuts qs) ∙ with_end-more goes_on rest ps (cut_entries false qs) (has_first false qs)
 
     pub ended-gives : (rs : List ResourceRecord) → SortGives o earlier (sort_of (ended ps)) (gives rs)
         → (later : Meaning) → TextMeans o (ended ps ∷ earlier) goes_on others later → TextMeans o earlier goes_on text (behind rs later)
@@ -56,7 +57,7 @@ module _ (o : DomainName) (earlier : List Entry) (goes_on : Bool) (text : Octets
               (gives rs, by_sort o earlier (ended ps) (gives rs) c.turns refl given, (later, h.meant, refl));
         }
 
-    pub ended-faulty : (code : ℕ) → SortGives o earlier (sort_of (ended ps)) (faulty code) → TextMeans o earlier goes_on text (fault_at code (line_behind earlier))
+    pub ended-faulty : (code : FileFault) → SortGives o earlier (sort_of (ended ps)) (faulty code) → TextMeans o earlier goes_on text (fault_at code (line_behind earlier))
     ended-faulty code given =
         let c = reads-ended false text ps others reads in
         let h = has_pieces others in
@@ -72,10 +73,10 @@ module _ (o : DomainName) (earlier : List Entry) (goes_on : Bool) (text : Octets
   -- an entry up to where no piece begins
   module _ (ps : List Piece) (is_open : Bool) (rest : Octets) (reads : Reads false text ps (unended is_open rest)) where
     last_entry : Entry
-    last_entry = record { pieces = ps; end_fault = end_code goes_on (is_open_at_end ps) rest }
+    last_entry = record { pieces = ps; end_fault = stop_fault (extent_by goes_on) (is_open_at_end ps) (stop_at rest) }
 
-    same_end : end_code goes_on (is_open_at_end ps) rest ≡ end_code goes_on is_open rest
-    same_end = ap (λ x. end_code goes_on x rest) (reads-unended false text ps is_open rest reads).opens
+    same_end : stop_fault (extent_by goes_on) (is_open_at_end ps) (stop_at rest) ≡ stop_fault (extent_by goes_on) is_open (stop_at rest)
+    same_end = ap (λ x. stop_fault (extent_by goes_on) x (stop_at rest)) (reads-unended false text ps is_open rest reads).opens
 
     last_means : (m : Meaning) → EntriesMean o earlier (last_entry ∷ []) m → TextMeans o earlier goes_on text m
     unfolding last_entry
@@ -86,23 +87,23 @@ module _ (o : DomainName) (earlier : List Entry) (goes_on : Bool) (text : Octets
           rest = rest;
           spelled = c.spelled;
           at_end = c.at_end;
-          meant = subst (λ es. EntriesMean o earlier (with_end goes_on rest es) m) (sym c.cuts) h;
+          meant = subst (λ es. EntriesMean o earlier (with_end (extent_by goes_on) rest es) m) (sym c.cuts) h;
         }
 
-    pub unended-end : (code : ℕ) → end_code goes_on is_open rest ≡ Some code → TextMeans o earlier goes_on text (fault_at code (line_behind earlier))
+    pub unended-end : (code : FileFault) → stop_fault (extent_by goes_on) is_open (stop_at rest) ≡ Some code → TextMeans o earlier goes_on text (fault_at code (line_behind earlier))
     unfolding last_entry
     unended-end code e =
         last_means (fault_at code (line_behind earlier))
         (faulty code, by_end o earlier last_entry code (reads-unended false text ps is_open rest reads).turns (same_end ∙ e), refl)
 
-    pub unended-faulty : (code : ℕ) → end_code goes_on is_open rest ≡ None → SortGives o earlier (sort_of (ended ps)) (faulty code)
+    pub unended-faulty : (code : FileFault) → stop_fault (extent_by goes_on) is_open (stop_at rest) ≡ None → SortGives o earlier (sort_of (ended ps)) (faulty code)
         → TextMeans o earlier goes_on text (fault_at code (line_behind earlier))
     unfolding last_entry
     unended-faulty code e given =
         last_means (fault_at code (line_behind earlier))
         (faulty code, by_sort o earlier last_entry (faulty code) (reads-unended false text ps is_open rest reads).turns (same_end ∙ e) given, refl)
 
-    pub unended-gives : (rs : List ResourceRecord) → end_code goes_on is_open rest ≡ None → SortGives o earlier (sort_of (ended ps)) (gives rs)
+    pub unended-gives : (rs : List ResourceRecord) → stop_fault (extent_by goes_on) is_open (stop_at rest) ≡ None → SortGives o earlier (sort_of (ended ps)) (gives rs)
         → TextMeans o earlier goes_on text (behind rs (records []))
     unfolding last_entry
     unended-gives rs e given =
@@ -110,7 +111,7 @@ module _ (o : DomainName) (earlier : List Entry) (goes_on : Bool) (text : Octets
         (gives rs, by_sort o earlier last_entry (gives rs) (reads-unended false text ps is_open rest reads).turns (same_end ∙ e) given, (records [], refl, refl))
 
   -- a parenthesis that is misplaced
-  pub wrong-faulty : IsWrong text → TextMeans o earlier goes_on text (fault_at 4 (line_behind earlier))
+  pub wrong-faulty : IsWrong text → TextMeans o earlier goes_on text (fault_at bad_parenthesis (line_behind earlier))
   wrong-faulty (ps, reads) =
       let c = reads-wrong false text ps reads in
       let h = has_pieces c.rest in
@@ -120,15 +121,15 @@ module _ (o : DomainName) (earlier : List Entry) (goes_on : Bool) (text : Octets
         rest = h.rest;
         spelled = pieces-append text c.rest h.rest ps h.pieces c.spelled h.spelled;
         at_end = h.at_end;
-        meant = subst (λ es. EntriesMean o earlier (with_end goes_on h.rest es) (fault_at 4 (line_behind earlier))) (sym w.cuts)
+        meant = subst (λ es. EntriesMean o earlier (with_end (extent_by goes_on) h.rest es) (fault_at bad_parenthesis (line_behind earlier))) (sym w.cuts)
             (first_wrong h.rest w.first w.others w.turns);
       }
     where
       first_wrong : (rest : Octets) (first : List Piece) (others : List (List Piece)) → take_turns false (parentheses first) ≡ false
-          → EntriesMean o earlier (with_end goes_on rest (first ∷ others)) (fault_at 4 (line_behind earlier))
+          → EntriesMean o earlier (with_end (extent_by goes_on) rest (first ∷ others)) (fault_at bad_parenthesis (line_behind earlier))
       first_wrong rest first [] turns =
-          (faulty 4, by_turns o earlier (record { pieces = first; end_fault = end_code goes_on (is_open_at_end first) rest }) turns, refl)
-      first_wrong rest first (second ∷ others) turns = (faulty 4, by_turns o earlier (ended first) turns, refl)
+          (faulty bad_parenthesis, by_turns o earlier (record { pieces = first; end_fault = stop_fault (extent_by goes_on) (is_open_at_end first) (stop_at rest) }) turns, refl)
+      first_wrong rest first (second ∷ others) turns = (faulty bad_parenthesis, by_turns o earlier (ended first) turns, refl)
 
 -- the line behind an entry
 pub line-more : (ps : List Piece) (earlier : List Entry) → line_behind (ended ps ∷ earlier) ≡ line_behind earlier + line_ends ps
@@ -191,16 +192,16 @@ pub begins-blank : (b : Bool) (text : Octets) (ps : List Piece) (outcome : form.
 begins-blank b text [] outcome h = sym (none-front text h.0)
 begins-blank b text (p ∷ ps) outcome h = blank-front text h.0 p h.1
 
-answer_records : Answer → List ResourceRecord
+answer_records : EntryMeaning → List ResourceRecord
 answer_records (faulty code) = []
 answer_records (gives rs) = rs
 
-is_faulty : Answer → Bool
+is_faulty : EntryMeaning → Bool
 is_faulty (faulty code) = true
 is_faulty (gives rs) = false
 
 -- an entry without pieces, the last of a text, gives nothing
-meant-nothing : (o : DomainName) (earlier : List Entry) (later : Meaning) (answer : Answer) → answer ≡ gives []
+meant-nothing : (o : DomainName) (earlier : List Entry) (later : Meaning) (answer : EntryMeaning) → answer ≡ gives []
     → elim answer as (λ _. Type 0) [ faulty code ↦ later ≡ fault_at code (line_behind earlier) | gives rs ↦ (more : Meaning) × (more ≡ records []) × (later ≡ behind rs more) ]
     → later ≡ records []
 unfolding answer_records is_faulty
@@ -210,9 +211,9 @@ meant-nothing o earlier later (gives rs) e h = h.2 ∙ ap (behind rs) h.1 ∙ ap
 pub empty-means : (o : DomainName) (earlier : List Entry) (later : Meaning) → TextMeans o earlier false [] later → later ≡ records []
 empty-means o earlier later h = go h.pieces h.rest h.spelled h.meant
   where
-    go : (ps : List Piece) (rest : Octets) → PiecesThen [] ps rest → EntriesMean o earlier (with_end false rest (cut_entries false ps)) later → later ≡ records []
+    go : (ps : List Piece) (rest : Octets) → PiecesThen [] ps rest → EntriesMean o earlier (with_end whole_text rest (cut_entries false ps)) later → later ≡ records []
     go [] rest e k =
-        let m = subst (λ x. EntriesMean o earlier (with_end false x (cut_entries false [])) later) (sym e) k in
+        let m = subst (λ x. EntriesMean o earlier (with_end whole_text x (cut_entries false [])) later) (sym e) k in
         meant-nothing o earlier later m.0 m.1 m.2
     go (p ∷ ps) rest e k = absurd (none-some (p, e.0) e.1)
 
@@ -220,13 +221,21 @@ pub nothing-means : (o : DomainName) (earlier : List Entry) → TextMeans o earl
 nothing-means o earlier = record { pieces = []; rest = []; spelled = refl; at_end = refl; meant = (gives [], refl, (records [], refl, refl)) }
 
 -- the text goes on past its limit
-pub past-means : (o : DomainName) (earlier : List Entry) → TextMeans o earlier true [] (fault_at 15 (line_behind earlier))
-past-means o earlier = record { pieces = []; rest = []; spelled = refl; at_end = refl; meant = (faulty 15, refl, refl) }
+pub past-means : (o : DomainName) (earlier : List Entry) → TextMeans o earlier true [] (fault_at too_long (line_behind earlier))
+past-means o earlier = record { pieces = []; rest = []; spelled = refl; at_end = refl; meant = (faulty too_long, refl, refl) }
+
+-- a text that can't go on is faulty
+stuck-faulty : (extent : Extent) (is_open in_a_string : Bool) (x y : Octets)
+    → stop_fault extent is_open (if in_a_string then in_string x else in_piece y) ≡ None → ⊥
+stuck-faulty whole_text is_open true x y e = none-some _ (sym e)
+stuck-faulty whole_text is_open false x y e = none-some _ (sym e)
+stuck-faulty beginning is_open true x y e = none-some _ (sym e)
+stuck-faulty beginning is_open false x y e = none-some _ (sym e)
 
 -- where an entry without a line end ends without fault, the text is over
-pub over-at_end : (goes_on is_open : Bool) (rest : Octets) → end_code goes_on is_open rest ≡ None → (rest ≡ []) × (goes_on ≡ false)
-over-at_end goes_on is_open (o ∷ rest) e = absurd (none-some (broken_code goes_on (o ∷ rest)) (sym e))
-over-at_end true is_open [] e = absurd (none-some 15 (sym e))
+pub over-at_end : (goes_on is_open : Bool) (rest : Octets) → stop_fault (extent_by goes_on) is_open (stop_at rest) ≡ None → (rest ≡ []) × (goes_on ≡ false)
+over-at_end goes_on is_open (o ∷ rest) e = absurd (stuck-faulty (extent_by goes_on) is_open (o == 34) _ _ e)
+over-at_end true is_open [] e = absurd (none-some too_long (sym e))
 over-at_end false is_open [] e = (refl, refl)
 
 pub same_sort : (text : Octets) (ps : List Piece) (words : List Word) (outcome : form.Outcome) → Reads false text ps outcome → words ≡ [] ++ piece_words ps
@@ -237,7 +246,7 @@ same_sort text ps words outcome h e =
 module _ (o : DomainName) (earlier : List Entry) (goes_on : Bool) (text rest : Octets) (words : List Word) (lines : ℕ) (is_ended is_open : Bool)
     (read : EntryRead text [] words lines (outcome_of is_ended is_open rest)) where
   -- an entry that ends without fault, and what it gives
-  pub entry-means : (is_ended ≡ true) ⊎ (end_code goes_on is_open rest ≡ None) → (rs : List ResourceRecord) → SortGives o earlier (sort_of (ended read.pieces)) (gives rs)
+  pub entry-means : (is_ended ≡ true) ⊎ (stop_fault (extent_by goes_on) is_open (stop_at rest) ≡ None) → (rs : List ResourceRecord) → SortGives o earlier (sort_of (ended read.pieces)) (gives rs)
       → (later : Meaning) → TextMeans o (ended read.pieces ∷ earlier) goes_on rest later → TextMeans o earlier goes_on text (behind rs later)
   entry-means (inl e) rs given later h =
       ended-gives o earlier goes_on text read.pieces rest (subst (λ b. Reads false text read.pieces (outcome_of b is_open rest)) e read.reads) rs given later h
@@ -253,7 +262,7 @@ module _ (o : DomainName) (earlier : List Entry) (goes_on : Bool) (text rest : O
           (unended-gives o earlier goes_on text read.pieces is_open rest reads rs e given)
 
   -- one whose words are at fault
-  pub entry-faulty : (is_ended ≡ true) ⊎ (end_code goes_on is_open rest ≡ None) → (code : ℕ) → SortGives o earlier (sort_of (ended read.pieces)) (faulty code)
+  pub entry-faulty : (is_ended ≡ true) ⊎ (stop_fault (extent_by goes_on) is_open (stop_at rest) ≡ None) → (code : FileFault) → SortGives o earlier (sort_of (ended read.pieces)) (faulty code)
       → TextMeans o earlier goes_on text (fault_at code (line_behind earlier))
   entry-faulty (inl e) code given =
       ended-faulty o earlier goes_on text read.pieces rest (subst (λ b. Reads false text read.pieces (outcome_of b is_open rest)) e read.reads) code given
@@ -264,7 +273,7 @@ module _ (o : DomainName) (earlier : List Entry) (goes_on : Bool) (text rest : O
       go false reads = unended-faulty o earlier goes_on text read.pieces is_open rest reads code e given
 
   -- one that ends by a fault
-  pub entry-ends_faulty : is_ended ≡ false → (code : ℕ) → end_code goes_on is_open rest ≡ Some code → TextMeans o earlier goes_on text (fault_at code (line_behind earlier))
+  pub entry-ends_faulty : is_ended ≡ false → (code : FileFault) → stop_fault (extent_by goes_on) is_open (stop_at rest) ≡ Some code → TextMeans o earlier goes_on text (fault_at code (line_behind earlier))
   entry-ends_faulty e code is =
       unended-end o earlier goes_on text read.pieces is_open rest (subst (λ b. Reads false text read.pieces (outcome_of b is_open rest)) e read.reads) code is
 
@@ -291,7 +300,7 @@ some-shorter (o ∷ text) rest some e = let none : length rest ≡ 0 = ap length
 
 -- an entry that ends without fault has an octet or more
 pub entry-shorter : (goes_on : Bool) (text rest : Octets) (before words : List Word) (lines : ℕ) (is_ended is_open : Bool) → (text ≡ [] → ⊥)
-    → EntryRead text before words lines (outcome_of is_ended is_open rest) → (is_ended ≡ true) ⊎ (end_code goes_on is_open rest ≡ None) → length rest < length text
+    → EntryRead text before words lines (outcome_of is_ended is_open rest) → (is_ended ≡ true) ⊎ (stop_fault (extent_by goes_on) is_open (stop_at rest) ≡ None) → length rest < length text
 entry-shorter goes_on text rest before words lines true is_open some read h = ended-shorter text rest read.pieces (reads-ended false text read.pieces rest read.reads)
 entry-shorter goes_on text rest before words lines false is_open some read (inl e) = absurd (false≢true e)
 entry-shorter goes_on text rest before words lines false is_open some read (inr e) = some-shorter text rest some (over-at_end goes_on is_open rest e).0

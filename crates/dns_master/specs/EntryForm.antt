@@ -4,7 +4,7 @@ use Rattle.std.specs.Prelude.{◌≡◌, ℕ, Bool, true, false, List, [], ◌�
 use Rattle.std.specs.List.{filter, filter_map}
 use Rattle.dns_spec.specs.Names.{Octets, DomainName}
 use Rattle.dns_spec.specs.DataText.{Word}
-use Rattle.dns_spec.specs.ZoneText.{Piece, blank, comment, word, quoted, opening, closing, line_end, Entry, piece_front, PiecesThen, cut_entries, with_end, is_line_end, word_of}
+use Rattle.dns_spec.specs.ZoneText.{Piece, blank, comment, word, quoted, opening, closing, line_end, Entry, piece_front, PiecesThen, cut_entries, with_end, is_line_end, word_of, extent_by}
 use Rattle.dns_spec.specs.Meaning.{Meaning, EntriesMean}
 
 -- How reading goes on behind a piece: not at all, since a parenthesis is misplaced, or since the entry has ended; or inside
@@ -67,4 +67,4 @@ pub record TextMeans (o : DomainName) (earlier : List Entry) (goes_on : Bool) (t
   pub rest : Octets
   pub spelled : PiecesThen text pieces rest
   pub at_end : piece_front rest ≡ None
-  pub meant : EntriesMean o earlier (with_end goes_on rest (cut_entries false pieces)) m
+  pub meant : EntriesMean o earlier (with_end (extent_by goes_on) rest (cut_entries false pieces)) m

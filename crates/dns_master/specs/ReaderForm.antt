@@ -6,6 +6,7 @@ use Rattle.dns_spec.specs.Names.{Octets, DomainName}
 use Rattle.dns_spec.specs.DataText.{Word}
 use Rattle.dns_spec.specs.Records.{ResourceRecord}
 use Rattle.dns_spec.specs.ZoneText.{Entry}
+use Rattle.dns_spec.specs.FileFaults.{no_owner}
 use Rattle.dns_spec.specs.Meaning.{Fields, gives, RecordGives, SortGives, sort_of, Meaning, behind, line_behind}
 use Rattle.dns_master.specs.EntryForm.{TextMeans}
 use Rattle.dns_master.specs.RecordForm.{Inherited, TtlOf}
@@ -21,7 +22,7 @@ Knows o earlier r = Inherited o earlier r.origin (last_owner r.records.items) r.
 -- a record was taken, whose owner in lower case is this
 pub record RecordTaken (o : DomainName) (earlier : List Entry) (owner : DomainName) (f : Fields) (old new : Reader) : Type 0 where
   pub taken : ResourceRecord
-  pub given : RecordGives o earlier 8 (λ n. n ≡ owner) f (gives (taken ∷ []))
+  pub given : RecordGives o earlier no_owner (λ n. n ≡ owner) f (gives (taken ∷ []))
   pub owner_is : taken.owner ≡ owner
   pub origin_is : new.origin ≡ old.origin
   pub default_is : new.default_ttl ≡ old.default_ttl

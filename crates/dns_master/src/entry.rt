@@ -2,11 +2,11 @@
 ghost use Rattle.std.specs.Prelude.{◌≡◌, ◌≢◌, ◌+◌, ◌≤◌, ◌++◌, [], ◌∷◌, ◌⊎◌, true, false, Some, None, length, take, IfOk, IfErr, IfSome, OnOk};
 ghost use Rattle.std.specs.List.{list_any};
 ghost use Rattle.std.specs.Option.{option_map};
-ghost use Rattle.dns_spec.specs.ZoneText.{is_blank, begins_line_end, is_cut_short, stuck_code, end_code};
+ghost use Rattle.dns_spec.specs.ZoneText.{is_blank, begins_line_end, is_cut_short, extent_by, stop_at, stop_fault, string_fault, piece_fault, unless_cut_short};
 ghost use Rattle.dns_master.specs.PieceForm.{shown_piece};
 ghost use Rattle.dns_master.specs.EntryForm.{EntryRead, IsWrong, outcome_of, step, piece_words, line_ends};
 ghost use Rattle.dns_master.specs.Steps.{shown_step};
-ghost use Rattle.dns_master.specs.Codes.{code_number};
+ghost use Rattle.dns_master.specs.Codes.{fault_of};
 
 use crate::fault::ReadCode;
 use crate::piece::{Piece, first_piece};
@@ -118,8 +118,8 @@ pub(crate) fn begins_blank(text: &[u8]) -> bool
 
 /// Whether an entry may end as it does: it is ended by its line end, or by the end of a text that does not go on.
 pub(crate) fn check_end(end: &EntryEnd<'_>, goes_on: bool) -> Result<(), ReadCode>
-    ensures ok { OnOk result ((end.now.is_ended ≡ true) ⊎ (end_code goes_on end.now.is_open end.now.rest.now ≡ None)) }
-    ensures err { IfErr result (λ code. (end.now.is_ended ≡ false) × (end_code goes_on end.now.is_open end.now.rest.now ≡ Some (code_number code))) }
+    ensures ok { OnOk result ((end.now.is_ended ≡ true) ⊎ (stop_fault (extent_by goes_on) end.now.is_open (stop_at end.now.rest.now) ≡ None)) }
+    ensures err { IfErr result (λ code. (end.now.is_ended ≡ false) × (stop_fault (extent_by goes_on) end.now.is_open (stop_at end.now.rest.now) ≡ Some (fault_of code))) }
     ensures source { IfErr result (λ code. code ≢ ReadCode.SourceFailed) }
 {
     if end.is_ended {
@@ -133,7 +133,7 @@ pub(crate) fn check_end(end: &EntryEnd<'_>, goes_on: bool) -> Result<(), ReadCod
 
 // The fault of an entry that no line end ends: `goes_on` is whether the text goes on past its limit.
 fn end_fault(end: &EntryEnd<'_>, goes_on: bool) -> Option<ReadCode>
-    ensures value { option_map code_number result ≡ end_code goes_on end.now.is_open end.now.rest.now }
+    ensures value { option_map fault_of result ≡ stop_fault (extent_by goes_on) end.now.is_open (stop_at end.now.rest.now) }
     ensures source { IfSome result (λ code. code ≢ ReadCode.SourceFailed) }
 {
     let Some((first, others)) = end.rest.split_first() else {
@@ -148,22 +148,38 @@ fn end_fault(end: &EntryEnd<'_>, goes_on: bool) -> Option<ReadCode>
     };
     if *first == b'"' {
         let (_, place) = others.split_at(Run::String.length(others));
-        return Some(stuck_fault(goes_on, true, place));
+        return Some(unless_cut_short(goes_on, place, string_fault(place)));
     }
-    Some(stuck_fault(goes_on, false, end.rest))
+    Some(unless_cut_short(goes_on, end.rest, piece_fault(end.rest)))
 }
 
-// The fault of a text that can't go on, in a string or where no piece begins.
-fn stuck_fault(goes_on: bool, in_string: bool, place: &[u8]) -> ReadCode
-    ensures value { code_number result ≡ stuck_code goes_on in_string place.now }
-    ensures source { result ≢ ReadCode.SourceFailed }
+// A fault at a place where the text can't go on, unless more octets than are looked at would be needed to tell.
+fn unless_cut_short(goes_on: bool, place: &[u8], fault: ReadCode) -> ReadCode
+    ensures value { fault_of result ≡ unless_cut_short (extent_by goes_on) place.now (fault_of fault) }
+    ensures source { fault ≢ ReadCode.SourceFailed → result ≢ ReadCode.SourceFailed }
 {
     if goes_on && is_cut_short(place) {
         return ReadCode::TooLong;
     }
-    if in_string && (place.is_empty() || begins_line_end(place)) {
+    fault
+}
+
+// The fault of a string that can't go on.
+fn string_fault(place: &[u8]) -> ReadCode
+    ensures value { fault_of result ≡ string_fault place.now }
+    ensures source { result ≢ ReadCode.SourceFailed }
+{
+    if place.is_empty() || begins_line_end(place) {
         return ReadCode::UnendedString;
     }
+    piece_fault(place)
+}
+
+// The fault of a text with which no piece begins.
+fn piece_fault(place: &[u8]) -> ReadCode
+    ensures value { fault_of result ≡ piece_fault place.now }
+    ensures source { result ≢ ReadCode.SourceFailed }
+{
     if place.first() == Some(&b'\\') {
         return ReadCode::BadEscape;
     }

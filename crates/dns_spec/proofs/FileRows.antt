@@ -8,6 +8,7 @@ use Rattle.dns_spec.specs.DataText.{Word, Says, hex_octets}
 use Rattle.dns_spec.specs.AddressText.{ipv6_groups}
 use Rattle.dns_spec.specs.Records.{ResourceRecord}
 use Rattle.dns_spec.specs.ZoneText.{Entry, run_length}
+use Rattle.dns_spec.specs.FileFaults.{bad_owner, no_owner}
 use Rattle.dns_spec.specs.Meaning.{gives, records, Means, TtlSays, NameIs, OwnerBefore, EntryGives, EntriesMean, fields}
 use Rattle.dns_spec.proofs.Examples.{hex, example, under, net_192, soa_of, strings_data}
 use Rattle.dns_spec.proofs.ReadTexts.{pieces_in, means, entry_in, earlier_in, left_in, is_plain, plain_octet, plain_label, plain_name, plain_string, record_given, given_then}
@@ -196,7 +197,7 @@ at_origin = (refl, (example, refl, spells_origin))
 soa_given : EntryGives example (earlier 1) (entry_at 1) (gives (soa_record ∷ []))
 unfolding pieces_in run_length xor
 soa_given =
-    record_given example (earlier 1) 7 (NameIs example (earlier 1) (bare (codes "@")))
+    record_given example (earlier 1) bad_owner (NameIs example (earlier 1) (bare (codes "@")))
     (fields (bare (codes "SOA") ∷ bare (codes "ns") ∷ bare (codes "h") ∷ bare (codes "1") ∷ bare (codes "2") ∷ bare (codes "3") ∷ bare (codes "4") ∷ bare (codes "5") ∷ []))
     soa_record
     (record {
@@ -210,7 +211,7 @@ soa_given =
 ns_given : EntryGives example (earlier 2) (entry_at 2) (gives (ns_record ∷ []))
 unfolding pieces_in run_length xor
 ns_given =
-    record_given example (earlier 2) 8 (OwnerBefore example (earlier 2)) (fields (bare (codes "NS") ∷ bare (codes "ns") ∷ [])) ns_record
+    record_given example (earlier 2) no_owner (OwnerBefore example (earlier 2)) (fields (bare (codes "NS") ∷ bare (codes "ns") ∷ [])) ns_record
     (record {
       owner = (example, at_origin, refl);
       ttl = sixty;
@@ -225,7 +226,7 @@ ns_owner = (refl, (example, refl, spells_ns))
 a_given : EntryGives example (earlier 3) (entry_at 3) (gives (a_record ∷ []))
 unfolding pieces_in run_length xor
 a_given =
-    record_given example (earlier 3) 7 (NameIs example (earlier 3) (bare (codes "ns"))) (fields (bare (codes "A") ∷ bare (codes "192.0.2.1") ∷ [])) a_record
+    record_given example (earlier 3) bad_owner (NameIs example (earlier 3) (bare (codes "ns"))) (fields (bare (codes "A") ∷ bare (codes "192.0.2.1") ∷ [])) a_record
     (record {
       owner = (under (codes "ns"), ns_owner, refl);
       ttl = sixty;
@@ -236,7 +237,7 @@ a_given =
 aaaa_given : EntryGives example (earlier 4) (entry_at 4) (gives (aaaa_record ∷ []))
 unfolding pieces_in run_length xor
 aaaa_given =
-    record_given example (earlier 4) 8 (OwnerBefore example (earlier 4)) (fields (bare (codes "AAAA") ∷ bare (codes "2001:DB8:0:0:1::1") ∷ [])) aaaa_record
+    record_given example (earlier 4) no_owner (OwnerBefore example (earlier 4)) (fields (bare (codes "AAAA") ∷ bare (codes "2001:DB8:0:0:1::1") ∷ [])) aaaa_record
     (record {
       owner = (under (codes "ns"), ns_owner, refl);
       ttl = sixty;
@@ -252,7 +253,7 @@ dotted_given = (refl, (deep, (example, refl, spells_deep), spells_dotted))
 txt_given : EntryGives example (earlier 6) (entry_at 6) (gives (txt_record ∷ []))
 unfolding pieces_in run_length xor digits
 txt_given =
-    record_given example (earlier 6) 7 (NameIs example (earlier 6) (bare (codes "a\\.b")))
+    record_given example (earlier 6) bad_owner (NameIs example (earlier 6) (bare (codes "a\\.b")))
     (fields (bare (codes "7") ∷ bare (codes "IN") ∷ bare (codes "TXT") ∷ bare (codes "hi") ∷ record { raw = codes "x;y"; is_quoted = true } ∷ [])) txt_record
     (record {
       owner = (dotted_owner, dotted_given, refl);
@@ -264,7 +265,7 @@ txt_given =
 unknown_given : EntryGives example (earlier 7) (entry_at 7) (gives (unknown_record ∷ []))
 unfolding pieces_in run_length xor digits
 unknown_given =
-    record_given example (earlier 7) 8 (OwnerBefore example (earlier 7))
+    record_given example (earlier 7) no_owner (OwnerBefore example (earlier 7))
     (fields (bare (codes "CLASS1") ∷ bare (codes "9") ∷ bare (codes "TYPE65280") ∷ bare (codes "\\#") ∷ bare (codes "3") ∷ bare (codes "AB") ∷ bare (codes "cdef") ∷ []))
     unknown_record
     (record {

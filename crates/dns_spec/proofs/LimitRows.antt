@@ -6,7 +6,8 @@ use Rattle.std.specs.List.{list_all, prefix_len, filter}
 use Rattle.std.proofs.lemmas.Bool.{and_parts, and_from, lt-ltb, le-leb, lt-leb}
 use Rattle.std.proofs.lemmas.List.{append_assoc, take_all, length-take, drop_all}
 use Rattle.dns_spec.specs.Names.{Octets}
-use Rattle.dns_spec.specs.ZoneText.{Piece, blank, word, line_end, most_octets, is_blank, piece_front, PiecesThen, run_length, Entry, ended, end_code, cut_entries, with_end}
+use Rattle.dns_spec.specs.ZoneText.{Piece, blank, word, line_end, most_octets, is_blank, piece_front, PiecesThen, run_length, Entry, ended, cut_entries, with_end, whole_text, beginning, extent_by, stop_fault, stop_at}
+use Rattle.dns_spec.specs.FileFaults.{bad_escape, bad_octet, bad_owner, too_long, too_many_records, FileFault}
 use Rattle.dns_spec.specs.Meaning.{no_words, SortGives, faulty, gives, fault_at, most_records, OriginIs, NameIs, IsRecord, is_record, line_behind, fields, EntryGives, EntriesMean, Means}
 use Rattle.dns_spec.specs.Data.{cut, type_txt}
 use Rattle.dns_spec.specs.DataText.{Word, Says}
@@ -33,17 +34,17 @@ blanks_front (o ∷ text) some h =
     rw parts.0 (ap (λ k. Some (blank, drop k text)) (all_before is_blank text parts.1) ∙ ap (λ rest. Some (blank, rest)) (drop_all (length text) text (omega arith)))
 
 -- octet 16,777,217, where nothing else is at fault
-past_limit : (text : Octets) → most_octets < length text → list_all is_blank text ≡ true → Means example text (fault_at 15 1)
+past_limit : (text : Octets) → most_octets < length text → list_all is_blank text ≡ true → Means example text (fault_at too_long 1)
 past_limit text long blanks = (
-  with_end true [] (cut_entries false (blank ∷ [])),
+  with_end beginning [] (cut_entries false (blank ∷ [])),
   record {
     pieces = blank ∷ [];
     rest = [];
     spelled = ([], blanks_front (take most_octets text) some (all_taken is_blank most_octets text blanks), refl);
     at_end = refl;
-    entries = ap (λ b. with_end b [] (cut_entries false (blank ∷ []))) (sym (lt-ltb most_octets (length text) long));
+    entries = ap (λ b. with_end (extent_by b) [] (cut_entries false (blank ∷ []))) (sym (lt-ltb most_octets (length text) long));
   },
-  (faulty 15, refl, refl),
+  (faulty too_long, refl, refl),
 )
   where
     some : 0 < length (take most_octets text)
@@ -104,7 +105,7 @@ unfolding pieces_of_lines cut_lines
 lines_cut zero = refl
 lines_cut (suc n) = ap (λ es. line_pieces ∷ es) (lines_cut n)
 
-lines_ended : (n : ℕ) → with_end false [] (cut_lines n) ≡ entries_of_lines n
+lines_ended : (n : ℕ) → with_end whole_text [] (cut_lines n) ≡ entries_of_lines n
 unfolding cut_lines entries_of_lines
 lines_ended zero = refl
 lines_ended (suc zero) = refl
@@ -153,27 +154,27 @@ is_line_record k = record {
 line_given : (k : ℕ) → k < most_records → EntryGives example (earlier k) line_entry (gives (line_record ∷ []))
 unfolding xor
 line_given k few =
-    record_given example (earlier k) 7 (NameIs example (earlier k) (bare (codes "@"))) (fields (bare (codes "7") ∷ bare (codes "TXT") ∷ bare (codes "a") ∷ [])) line_record
+    record_given example (earlier k) bad_owner (NameIs example (earlier k) (bare (codes "@"))) (fields (bare (codes "7") ∷ bare (codes "TXT") ∷ bare (codes "a") ∷ [])) line_record
     (is_line_record k) refl (ap (nat_le most_records) (records_counted k) ∙ lt-leb most_records k few)
 
-line_refused : (k : ℕ) → k ≡ most_records → EntryGives example (earlier k) line_entry (faulty 14)
+line_refused : (k : ℕ) → k ≡ most_records → EntryGives example (earlier k) line_entry (faulty too_many_records)
 unfolding xor
 line_refused k all =
-    record_but_count example (earlier k) 7 (NameIs example (earlier k) (bare (codes "@"))) (fields (bare (codes "7") ∷ bare (codes "TXT") ∷ bare (codes "a") ∷ [])) line_record
-    (faulty 14) (is_line_record k) refl
+    record_but_count example (earlier k) bad_owner (NameIs example (earlier k) (bare (codes "@"))) (fields (bare (codes "7") ∷ bare (codes "TXT") ∷ bare (codes "a") ∷ [])) line_record
+    (faulty too_many_records) (is_line_record k) refl
     (inl (ap (nat_le most_records) (records_counted k) ∙ le-leb most_records k (omega (arith, all)), refl))
 
-lines_mean : (n k : ℕ) → k + n ≡ most_records → EntriesMean example (earlier k) (entries_of_lines (suc n)) (fault_at 14 (suc most_records))
+lines_mean : (n k : ℕ) → k + n ≡ most_records → EntriesMean example (earlier k) (entries_of_lines (suc n)) (fault_at too_many_records (suc most_records))
 unfolding entries_of_lines earlier
 lines_mean zero k e =
     let all : k ≡ most_records = omega (arith, e) in
-    (faulty 14, line_refused k all, ap (λ l. fault_at 14 l) (sym (lines_counted k ∙ ap suc all)))
+    (faulty too_many_records, line_refused k all, ap (λ l. fault_at too_many_records l) (sym (lines_counted k ∙ ap suc all)))
 lines_mean (suc n) k e =
-    given_then example (earlier k) line_entry (entries_of_lines (suc n)) (line_record ∷ []) (fault_at 14 (suc most_records)) (line_given k (omega (arith, e)))
+    given_then example (earlier k) line_entry (entries_of_lines (suc n)) (line_record ∷ []) (fault_at too_many_records (suc most_records)) (line_given k (omega (arith, e)))
     (lines_mean n (suc k) (omega (arith, e)))
 
 -- so many lines of records, and one more
-many_lines : (n : ℕ) → n ≡ most_records → Means example (lines (suc n)) (fault_at 14 (suc most_records))
+many_lines : (n : ℕ) → n ≡ most_records → Means example (lines (suc n)) (fault_at too_many_records (suc most_records))
 unfolding earlier
 many_lines n all = (
   entries_of_lines (suc n),
@@ -183,8 +184,8 @@ many_lines n all = (
     spelled = subst (λ t. PiecesThen t (pieces_of_lines (suc n)) []) (sym (take_all most_octets (lines (suc n)) within)) (lines_spelled (suc n));
     at_end = refl;
     entries =
-        sym (lines_ended (suc n)) ∙ ap (with_end false []) (sym (lines_cut (suc n)))
-        ∙ ap (λ b. with_end b [] (cut_entries false (pieces_of_lines (suc n)))) (sym (le-ltb most_octets (length (lines (suc n))) within));
+        sym (lines_ended (suc n)) ∙ ap (with_end whole_text []) (sym (lines_cut (suc n)))
+        ∙ ap (λ b. with_end (extent_by b) [] (cut_entries false (pieces_of_lines (suc n)))) (sym (le-ltb most_octets (length (lines (suc n))) within));
   },
   lines_mean n 0 (omega (arith, all)),
 )
@@ -193,7 +194,7 @@ many_lines n all = (
     within = omega (arith, length-lines (suc n), all)
 
 -- record 100,001
-one_record_too_many : Means example (lines 100001) (fault_at 14 100001)
+one_record_too_many : Means example (lines 100001) (fault_at too_many_records 100001)
 one_record_too_many = many_lines 100000 refl
 
 -- blanks, and then a text that begins with none
@@ -208,18 +209,18 @@ blanks_then (o ∷ text) rest some h none =
     before_rest (x ∷ xs) h = let parts = and_parts (is_blank x) _ h in rw parts.0 (omega (arith, before_rest xs parts.1))
 
 -- The octets at the limit stand behind blanks. Where no piece begins with them, they tell the fault.
-cut_at_limit : (text ends more : Octets) (code : ℕ) → length text + length ends ≡ most_octets → 0 < length text → 0 < length more → list_all is_blank text ≡ true
-    → prefix_len is_blank ends ≡ 0 → piece_front ends ≡ None → end_code true false ends ≡ Some code → Means example (text ++ (ends ++ more)) (fault_at code 1)
+cut_at_limit : (text ends more : Octets) (code : FileFault) → length text + length ends ≡ most_octets → 0 < length text → 0 < length more → list_all is_blank text ≡ true
+    → prefix_len is_blank ends ≡ 0 → piece_front ends ≡ None → stop_fault beginning false (stop_at ends) ≡ Some code → Means example (text ++ (ends ++ more)) (fault_at code 1)
 cut_at_limit text ends more code full some goes_on blanks none at_end tells = (
-  with_end true ends (cut_entries false (blank ∷ [])),
+  with_end beginning ends (cut_entries false (blank ∷ [])),
   record {
     pieces = blank ∷ [];
     rest = ends;
     spelled = subst (λ t. PiecesThen t (blank ∷ []) ends) (sym taken) (ends, blanks_then text ends some blanks none, refl);
     at_end = at_end;
-    entries = ap (λ b. with_end b ends (cut_entries false (blank ∷ []))) (sym (lt-ltb most_octets _ long));
+    entries = ap (λ b. with_end (extent_by b) ends (cut_entries false (blank ∷ []))) (sym (lt-ltb most_octets _ long));
   },
-  (faulty code, told (end_code true false ends) tells, refl),
+  (faulty code, told (stop_fault beginning false (stop_at ends)) tells, refl),
 )
   where
     whole : text ++ (ends ++ more) ≡ (text ++ ends) ++ more
@@ -233,28 +234,28 @@ cut_at_limit text ends more code full some goes_on blanks none at_end tells = (
     long : most_octets < length (text ++ (ends ++ more))
     long = omega (arith, ap length whole, length-append (text ++ ends) more, length-append text ends, full, goes_on)
 
-    told : (o : Option ℕ) → o ≡ Some code → MatchOption o (SortGives example [] no_words (faulty code)) (λ c. faulty code ≡ faulty c)
+    told : (o : Option FileFault) → o ≡ Some code → MatchOption o (SortGives example [] no_words (faulty code)) (λ c. faulty code ≡ faulty c)
     told None e = cc
     told (Some c) e = cc
 
 -- an escape that the next octets might end, and one that they can't
-digit_at_limit : (text more : Octets) → length text + 2 ≡ most_octets → 0 < length more → list_all is_blank text ≡ true → Means example (text ++ 92 ∷ 51 ∷ more) (fault_at 15 1)
+digit_at_limit : (text more : Octets) → length text + 2 ≡ most_octets → 0 < length more → list_all is_blank text ≡ true → Means example (text ++ 92 ∷ 51 ∷ more) (fault_at too_long 1)
 unfolding run_length
-digit_at_limit text more full goes_on blanks = cut_at_limit text (92 ∷ 51 ∷ []) more 15 full (omega (arith, full)) goes_on blanks refl refl refl
+digit_at_limit text more full goes_on blanks = cut_at_limit text (92 ∷ 51 ∷ []) more too_long full (omega (arith, full)) goes_on blanks refl refl refl
 
-digit_and_letter : (text more : Octets) → length text + 3 ≡ most_octets → 0 < length more → list_all is_blank text ≡ true → Means example (text ++ 92 ∷ 49 ∷ 120 ∷ more) (fault_at 2 1)
+digit_and_letter : (text more : Octets) → length text + 3 ≡ most_octets → 0 < length more → list_all is_blank text ≡ true → Means example (text ++ 92 ∷ 49 ∷ 120 ∷ more) (fault_at bad_escape 1)
 unfolding run_length
-digit_and_letter text more full goes_on blanks = cut_at_limit text (92 ∷ 49 ∷ 120 ∷ []) more 2 full (omega (arith, full)) goes_on blanks refl refl refl
+digit_and_letter text more full goes_on blanks = cut_at_limit text (92 ∷ 49 ∷ 120 ∷ []) more bad_escape full (omega (arith, full)) goes_on blanks refl refl refl
 
-cr_at_limit : (text more : Octets) → length text + 1 ≡ most_octets → 0 < length more → list_all is_blank text ≡ true → Means example (text ++ 13 ∷ more) (fault_at 15 1)
-cr_at_limit text more full goes_on blanks = cut_at_limit text (13 ∷ []) more 15 full (omega (arith, full)) goes_on blanks refl refl refl
+cr_at_limit : (text more : Octets) → length text + 1 ≡ most_octets → 0 < length more → list_all is_blank text ≡ true → Means example (text ++ 13 ∷ more) (fault_at too_long 1)
+cr_at_limit text more full goes_on blanks = cut_at_limit text (13 ∷ []) more too_long full (omega (arith, full)) goes_on blanks refl refl refl
 
 -- an octet that isn't allowed, before the limit
-octet_at_limit : (text more : Octets) → length text + 1 ≡ most_octets → 0 < length more → list_all is_blank text ≡ true → Means example (text ++ 0 ∷ more) (fault_at 1 1)
+octet_at_limit : (text more : Octets) → length text + 1 ≡ most_octets → 0 < length more → list_all is_blank text ≡ true → Means example (text ++ 0 ∷ more) (fault_at bad_octet 1)
 unfolding run_length
-octet_at_limit text more full goes_on blanks = cut_at_limit text (0 ∷ []) more 1 full (omega (arith, full)) goes_on blanks refl refl refl
+octet_at_limit text more full goes_on blanks = cut_at_limit text (0 ∷ []) more bad_octet full (omega (arith, full)) goes_on blanks refl refl refl
 
 -- a string that isn't ended at the limit
-string_at_limit : (text more : Octets) → length text + 2 ≡ most_octets → 0 < length more → list_all is_blank text ≡ true → Means example (text ++ 34 ∷ 97 ∷ more) (fault_at 15 1)
+string_at_limit : (text more : Octets) → length text + 2 ≡ most_octets → 0 < length more → list_all is_blank text ≡ true → Means example (text ++ 34 ∷ 97 ∷ more) (fault_at too_long 1)
 unfolding run_length
-string_at_limit text more full goes_on blanks = cut_at_limit text (34 ∷ 97 ∷ []) more 15 full (omega (arith, full)) goes_on blanks refl refl refl
+string_at_limit text more full goes_on blanks = cut_at_limit text (34 ∷ 97 ∷ []) more too_long full (omega (arith, full)) goes_on blanks refl refl refl

@@ -8,6 +8,7 @@ use Rattle.dns_spec.specs.Data.{cut, type_txt}
 use Rattle.dns_spec.specs.DataText.{Word, Says}
 use Rattle.dns_spec.specs.Records.{ResourceRecord}
 use Rattle.dns_spec.specs.ZoneText.{run_length}
+use Rattle.dns_spec.specs.FileFaults.{bad_parenthesis, bad_owner}
 use Rattle.dns_spec.specs.Meaning.{faulty, gives, records, fault_at, Means, TtlSays, NameIs, EntryGives, fields}
 use Rattle.dns_spec.proofs.Examples.{example, under, strings_data}
 use Rattle.dns_spec.proofs.ReadTexts.{pieces_in, means, entry_in, earlier_in, left_in, is_plain, plain_name, plain_string, record_given, given_then}
@@ -51,7 +52,7 @@ quoted_said = record {
 quoted_given : EntryGives example [] (entry_in two_lines 0) (gives (txt_of (codes "a)") (codes "b") ∷ []))
 unfolding pieces_in run_length xor
 quoted_given =
-    record_given example [] 7 (NameIs example [] (bare (codes "v")))
+    record_given example [] bad_owner (NameIs example [] (bare (codes "v")))
     (fields (bare (codes "60") ∷ bare (codes "TXT") ∷ in_quotes (codes "a)") ∷ in_quotes (codes "b") ∷ [])) (txt_of (codes "a)") (codes "b"))
     (record {
       owner = (under (codes "v"), (refl, (example, refl, spells_v)), refl);
@@ -89,7 +90,7 @@ words_said = record {
 words_given : EntryGives example [] (entry_in beside 0) (gives (txt_of (codes "a") (codes "b") ∷ []))
 unfolding pieces_in run_length xor
 words_given =
-    record_given example [] 7 (NameIs example [] (bare (codes "v")))
+    record_given example [] bad_owner (NameIs example [] (bare (codes "v")))
     (fields (bare (codes "60") ∷ bare (codes "TXT") ∷ bare (codes "a") ∷ bare (codes "b") ∷ [])) (txt_of (codes "a") (codes "b"))
     (record {
       owner = (under (codes "v"), (refl, (example, refl, spells_v)), refl);
@@ -105,10 +106,10 @@ beside_means =
     (given_then example [] (entry_in beside 0) [] (txt_of (codes "a") (codes "b") ∷ []) (records []) words_given refl)
 
 -- one that is closed and was not open, and one in another
-only_closed : Means example (codes "v 60 TXT a)") (fault_at 4 1)
+only_closed : Means example (codes "v 60 TXT a)") (fault_at bad_parenthesis 1)
 unfolding pieces_in run_length xor
-only_closed = means (codes "v 60 TXT a)") (fault_at 4 1) refl refl refl (faulty 4, refl, refl)
+only_closed = means (codes "v 60 TXT a)") (fault_at bad_parenthesis 1) refl refl refl (faulty bad_parenthesis, refl, refl)
 
-nested : Means example (codes "v 60 TXT ((a))") (fault_at 4 1)
+nested : Means example (codes "v 60 TXT ((a))") (fault_at bad_parenthesis 1)
 unfolding pieces_in run_length xor
-nested = means (codes "v 60 TXT ((a))") (fault_at 4 1) refl refl refl (faulty 4, refl, refl)
+nested = means (codes "v 60 TXT ((a))") (fault_at bad_parenthesis 1) refl refl refl (faulty bad_parenthesis, refl, refl)

@@ -17,7 +17,8 @@ use Rattle.dns_spec.specs.TypeText.{text_in_lower_case, numbered_type, type_text
 use Rattle.dns_spec.specs.DataText.{Word, Says}
 use Rattle.dns_spec.specs.WrittenText.{plain, written_words}
 use Rattle.dns_spec.specs.Records.{ResourceRecord}
-use Rattle.dns_spec.specs.ZoneText.{Piece, most_octets, PiecesThen, take_turns, cut_entries, begins_with, Entry, Entries, ended, with_end, lexical_fault}
+use Rattle.dns_spec.specs.ZoneText.{Piece, most_octets, PiecesThen, take_turns, cut_entries, begins_with, Entry, Entries, ended, with_end, lexical_fault, whole_text, extent_by}
+use Rattle.dns_spec.specs.FileFaults.{bad_owner, bad_parenthesis}
 use Rattle.dns_spec.specs.Meaning.{faulty, gives, no_words, directive, owned, unowned, sort_by_words, sort_of, Fields, fields, is_ttl_word, directive_word, is_record, OriginIs, NameIs, IsRecord, most_records, RecordGives, SortGives, EntryGives, records, EntriesMean, Means}
 use Rattle.dns_spec.specs.ZonePrinted.{IsReadRecord, HasZoneType, record_line}
 use Rattle.dns_spec.proofs.SortedOnce.{Each}
@@ -54,7 +55,7 @@ unfolding lines_pieces
 lines_cut [] = refl
 lines_cut (r ∷ rs) = line_cut r (lines_pieces rs) ∙ ap (λ es. line_pieces r ∷ es) (lines_cut rs)
 
-lines_ended : (rs : List ResourceRecord) → with_end false [] (map line_pieces rs ++ [] ∷ []) ≡ lines_entries rs
+lines_ended : (rs : List ResourceRecord) → with_end whole_text [] (map line_pieces rs ++ [] ∷ []) ≡ lines_entries rs
 lines_ended [] = refl
 lines_ended (r ∷ []) = refl
 lines_ended (r ∷ s ∷ rs) = ap (λ es. line_entry r ∷ es) (lines_ended (s ∷ rs))
@@ -63,13 +64,13 @@ text_entries : (rs : List ResourceRecord) → Each IsReadRecord rs → length (f
     → Entries (flat_map record_line rs) (lines_entries rs)
 text_entries rs h short =
     let text = flat_map record_line rs in
-    let within = ap (λ goes_on. with_end goes_on [] (cut_entries false (lines_pieces rs))) (le-ltb most_octets (length text) short) in
+    let within = ap (λ goes_on. with_end (extent_by goes_on) [] (cut_entries false (lines_pieces rs))) (le-ltb most_octets (length text) short) in
     record {
       pieces = lines_pieces rs;
       rest = [];
       spelled = subst (λ t. PiecesThen t (lines_pieces rs) []) (sym (take_all most_octets text short)) (lines_read rs h);
       at_end = refl;
-      entries = sym (within ∙ ap (with_end false []) (lines_cut rs) ∙ lines_ended rs);
+      entries = sym (within ∙ ap (with_end whole_text []) (lines_cut rs) ∙ lines_ended rs);
     }
 
 -- the text of a name is no directive
@@ -124,7 +125,7 @@ fields_are : (r : ResourceRecord) → IsReadRecord r → fields (words_behind r)
 fields_are r h = rw (ttl_begins r.ttl (omega (arith, h.ttl))) refl
 
 line_faultless : (r : ResourceRecord) → lexical_fault (line_entry r) ≡ None
-line_faultless r = ap (λ marks. if take_turns false marks then None else Some 4) (line_parentheses r)
+line_faultless r = ap (λ marks. if take_turns false marks then None else Some bad_parenthesis) (line_parentheses r)
 
 -- a type's word names it
 found_passes : {X : Type 0} (p : X → Bool) (xs : List X) (x : X) → find p xs ≡ Some x → p x ≡ true
@@ -180,11 +181,11 @@ line_given : (o : DomainName) (earlier : List Entry) (r : ResourceRecord) → Or
 line_given o earlier r origin h zone_type few =
     let answer = gives (r ∷ []) in
     let Owner = NameIs o earlier (plain (name_text r.owner)) in
-    let given : RecordGives o earlier 7 Owner (line_fields r) answer =
-    record_given o earlier 7 Owner (line_fields r) r (line_record o earlier r origin h zone_type) refl (lt-leb most_records (length (filter is_record earlier)) few)
+    let given : RecordGives o earlier bad_owner Owner (line_fields r) answer =
+    record_given o earlier bad_owner Owner (line_fields r) r (line_record o earlier r origin h zone_type) refl (lt-leb most_records (length (filter is_record earlier)) few)
     in
     let by_words : SortGives o earlier (owned (plain (name_text r.owner)) (words_behind r)) answer =
-    subst (λ f. RecordGives o earlier 7 Owner f answer) (sym (fields_are r h)) given
+    subst (λ f. RecordGives o earlier bad_owner Owner f answer) (sym (fields_are r h)) given
     in
     let by_sort : SortGives o earlier (sort_of (line_entry r)) answer = subst (λ s. SortGives o earlier s answer) (sym (line_sort r)) by_words in
     subst (λ fault. MatchOption fault (SortGives o earlier (sort_of (line_entry r)) answer) (λ code. answer ≡ faulty code)) (sym (line_faultless r)) by_sort

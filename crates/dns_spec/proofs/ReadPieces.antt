@@ -1,12 +1,12 @@
 -- The words and strings in a text are octets below 256: what stands in them by itself, and their escapes, are printable.
-use Rattle.std.proofs.Common.{◌≡◌, ℕ, zero, suc, ◌+◌, ◌<◌, ◌⊎◌, inl, inr, Bool, true, false, cond, not, ◌&&◌, ◌||◌, ◌==◌, nat_le, nat_lt, Option, Some, None, List, [], ◌∷◌, length, take, drop, refl, sym, subst, arith, codes, filter_map}
+use Rattle.std.proofs.Common.{◌≡◌, ℕ, zero, suc, ◌+◌, ◌<◌, ◌⊎◌, inl, inr, Bool, true, false, cond, not, ◌&&◌, ◌||◌, ◌==◌, nat_le, nat_lt, Option, Some, None, List, [], ◌∷◌, take, drop, refl, sym, subst, arith, codes, filter_map}
 use Rattle.std.proofs.lemmas.Bool.{and_parts, eqb-true, leb-true, or_cases}
 use Rattle.std.proofs.lemmas.Option.{none-some, same_Some}
 use Rattle.std.specs.List.{list_any}
 use Rattle.std.specs.Char.{is_ascii_graphic, is_ascii_digit}
 use Rattle.dns_spec.specs.Names.{Octets}
 use Rattle.dns_spec.specs.NameText.{three_digits_value}
-use Rattle.dns_spec.specs.ZoneText.{most_octets, Piece, blank, comment, word, quoted, opening, closing, line_end, is_printable, is_blank, is_word_octet, is_string_octet, digits_behind, escape_behind, escape_left, unit_left, run_length, word_length, string_length, closed, quoted_front, word_front, line_feed_front, piece_front, PiecesThen, is_line_end, open_behind, before_first, cut_entries, Entry, with_end, Entries, word_of, entry_words}
+use Rattle.dns_spec.specs.ZoneText.{most_octets, Piece, blank, comment, word, quoted, opening, closing, line_end, is_printable, is_blank, is_word_octet, is_string_octet, digits_behind, escape_behind, escape_left, unit_left, run_length, word_length, string_length, closed, quoted_front, word_front, line_feed_front, piece_front, PiecesThen, is_line_end, open_behind, before_first, cut_entries, Entry, with_end, Entries, word_of, entry_words, Extent, extent_of}
 use Rattle.dns_spec.proofs.SortedOnce.{Each}
 use Rattle.dns_spec.proofs.ReadOctets.{Octet, SmallWord}
 
@@ -145,15 +145,15 @@ cut_small is_open (p ∷ ps) small = go (is_line_end p && not is_open) (λ opene
 abbrev pub SmallEntry : Entry → Type 0
 SmallEntry e = Each SmallPiece e.pieces
 
-ended_small : (goes_on : Bool) (rest : Octets) (pss : List (List Piece)) → Each (Each SmallPiece) pss → Each SmallEntry (with_end goes_on rest pss)
-ended_small goes_on rest [] small = tt
-ended_small goes_on rest (ps ∷ []) small = (small.0, tt)
-ended_small goes_on rest (ps ∷ qs ∷ pss) small = (small.0, ended_small goes_on rest (qs ∷ pss) small.1)
+ended_small : (extent : Extent) (rest : Octets) (pss : List (List Piece)) → Each (Each SmallPiece) pss → Each SmallEntry (with_end extent rest pss)
+ended_small extent rest [] small = tt
+ended_small extent rest (ps ∷ []) small = (small.0, tt)
+ended_small extent rest (ps ∷ qs ∷ pss) small = (small.0, ended_small extent rest (qs ∷ pss) small.1)
 
 pub entries_small : (text : Octets) (es : List Entry) → Entries text es → Each SmallEntry es
 entries_small text es h =
     subst (Each SmallEntry) (sym h.entries)
-    (ended_small (nat_lt most_octets (length text)) h.rest (cut_entries false h.pieces)
+    (ended_small (extent_of text) h.rest (cut_entries false h.pieces)
     (cut_small false h.pieces (pieces_small (take most_octets text) h.pieces h.rest h.spelled)))
 
 -- the words of an entry

@@ -8,8 +8,9 @@ use Rattle.dns_spec.specs.Names.{Octets, DomainName, is_name}
 use Rattle.dns_spec.specs.NameText.{SpellsOctet, LabelThen, SpellsName}
 use Rattle.dns_spec.specs.DataText.{Word, SpellsString}
 use Rattle.dns_spec.specs.Records.{ResourceRecord}
-use Rattle.dns_spec.specs.ZoneText.{Piece, most_octets, piece_front, PiecesThen, Entry, ended, cut_entries, with_end}
-use Rattle.dns_spec.specs.Meaning.{Answer, gives, Unless, IsRecord, Fields, TtlIs, TtlSays, IsNoTtl, is_other_class, are_too_many, RecordGives, EntryGives, Meaning, behind, EntriesMean, Means}
+use Rattle.dns_spec.specs.ZoneText.{Piece, most_octets, piece_front, PiecesThen, Entry, ended, cut_entries, with_end, whole_text, extent_by}
+use Rattle.dns_spec.specs.FileFaults.{too_many_records, FileFault}
+use Rattle.dns_spec.specs.Meaning.{EntryMeaning, gives, Lowest, IsRecord, Fields, TtlIs, TtlSays, IsNoTtl, is_other_class, are_too_many, RecordGives, EntryGives, Meaning, behind, EntriesMean, Means}
 use Rattle.dns_spec.proofs.Examples.{example}
 
 -- at most n pieces of a text, and what is behind them
@@ -34,7 +35,7 @@ pieces_spelled (suc n) text = by_front (piece_front text) refl (λ r. pieces_spe
 
 -- A text within its limit that has at most 99 pieces means what its entries mean.
 abbrev pub entries_of : Octets → List Entry
-entries_of text = with_end false (pieces_in 99 text).1 (cut_entries false (pieces_in 99 text).0)
+entries_of text = with_end whole_text (pieces_in 99 text).1 (cut_entries false (pieces_in 99 text).0)
 
 -- the entry of a text behind so many, those before it, the nearest first, and those from it on
 abbrev pub entry_in : Octets → ℕ → Entry
@@ -55,7 +56,7 @@ means text m all within at_end h = (
     rest = (pieces_in 99 text).1;
     spelled = subst (λ t. PiecesThen t (pieces_in 99 text).0 (pieces_in 99 text).1) (sym all) (pieces_spelled 99 text);
     at_end = at_end;
-    entries = ap (λ b. with_end b (pieces_in 99 text).1 (cut_entries false (pieces_in 99 text).0)) (sym within);
+    entries = ap (λ b. with_end (extent_by b) (pieces_in 99 text).1 (cut_entries false (pieces_in 99 text).0)) (sym within);
   },
   h,
 )
@@ -106,9 +107,9 @@ ttl_known None n h none = h
 ttl_known (Some w) n h none = false≢true none
 
 -- a record is one but for how many there are
-pub record_but_count : (o : DomainName) (earlier : List Entry) (code : ℕ) (Owner : DomainName → Type 0) (f : Fields) (r : ResourceRecord) (answer : Answer)
+pub record_but_count : (o : DomainName) (earlier : List Entry) (code : FileFault) (Owner : DomainName → Type 0) (f : Fields) (r : ResourceRecord) (answer : EntryMeaning)
     → IsRecord o earlier Owner f r → is_other_class f.class ≡ false
-    → Unless 14 (IsTrue (are_too_many earlier)) (λ a. (s : ResourceRecord) × IsRecord o earlier Owner f s × (a ≡ gives (s ∷ []))) answer
+    → Lowest ((too_many_records, IsTrue (are_too_many earlier)) ∷ []) (λ a. (s : ResourceRecord) × IsRecord o earlier Owner f s × (a ≡ gives (s ∷ []))) answer
     → RecordGives o earlier code Owner f answer
 record_but_count o earlier code Owner f r answer h class rest =
     inr (
@@ -128,7 +129,7 @@ record_but_count o earlier code Owner f r answer h class rest =
       ),
     )
 
-pub record_given : (o : DomainName) (earlier : List Entry) (code : ℕ) (Owner : DomainName → Type 0) (f : Fields) (r : ResourceRecord)
+pub record_given : (o : DomainName) (earlier : List Entry) (code : FileFault) (Owner : DomainName → Type 0) (f : Fields) (r : ResourceRecord)
     → IsRecord o earlier Owner f r → is_other_class f.class ≡ false → are_too_many earlier ≡ false → RecordGives o earlier code Owner f (gives (r ∷ []))
 record_given o earlier code Owner f r h class few =
     record_but_count o earlier code Owner f r (gives (r ∷ [])) h class (inr (λ e. false≢true (sym few ∙ e), (r, h, refl)))

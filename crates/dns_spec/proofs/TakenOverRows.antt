@@ -8,6 +8,7 @@ use Rattle.dns_spec.specs.Data.{cut, type_txt}
 use Rattle.dns_spec.specs.DataText.{Word, Says}
 use Rattle.dns_spec.specs.Records.{ResourceRecord}
 use Rattle.dns_spec.specs.ZoneText.{run_length}
+use Rattle.dns_spec.specs.FileFaults.{bad_owner, no_owner}
 use Rattle.dns_spec.specs.Meaning.{gives, records, Means, TtlSays, NameIs, OwnerBefore, EntryGives, fields}
 use Rattle.dns_spec.proofs.Examples.{example, under}
 use Rattle.dns_spec.proofs.ReadTexts.{pieces_in, means, entry_in, earlier_in, left_in, is_plain, plain_name, plain_string, record_given, given_then}
@@ -63,7 +64,7 @@ w_owner = (refl, (example, refl, spells_w))
 w_given : EntryGives example (earlier_in first_file 1) (entry_in first_file 1) (gives (txt_of (under (codes "w")) 7 ∷ []))
 unfolding pieces_in run_length xor
 w_given =
-    record_given example (earlier_in first_file 1) 7 (NameIs example (earlier_in first_file 1) (bare (codes "w"))) (fields (bare (codes "7") ∷ bare (codes "TXT") ∷ bare (codes "a") ∷ []))
+    record_given example (earlier_in first_file 1) bad_owner (NameIs example (earlier_in first_file 1) (bare (codes "w"))) (fields (bare (codes "7") ∷ bare (codes "TXT") ∷ bare (codes "a") ∷ []))
     (txt_of (under (codes "w")) 7)
     (record {
       owner = (under (codes "w"), w_owner, refl);
@@ -75,7 +76,7 @@ w_given =
 w_again : EntryGives example (earlier_in first_file 3) (entry_in first_file 3) (gives (txt_of (under (codes "w")) 5 ∷ []))
 unfolding pieces_in run_length xor
 w_again =
-    record_given example (earlier_in first_file 3) 8 (OwnerBefore example (earlier_in first_file 3)) (fields (bare (codes "TXT") ∷ bare (codes "a") ∷ [])) (txt_of (under (codes "w")) 5)
+    record_given example (earlier_in first_file 3) no_owner (OwnerBefore example (earlier_in first_file 3)) (fields (bare (codes "TXT") ∷ bare (codes "a") ∷ [])) (txt_of (under (codes "w")) 5)
     (record {
       owner = (under (codes "w"), w_owner, refl);
       ttl = five;
@@ -86,7 +87,7 @@ w_again =
 y_given : EntryGives example (earlier_in first_file 4) (entry_in first_file 4) (gives (txt_of (codes "y" ∷ under (codes "x")) 5 ∷ []))
 unfolding pieces_in run_length xor
 y_given =
-    record_given example (earlier_in first_file 4) 7 (NameIs example (earlier_in first_file 4) (bare (codes "y"))) (fields (bare (codes "TXT") ∷ bare (codes "a") ∷ []))
+    record_given example (earlier_in first_file 4) bad_owner (NameIs example (earlier_in first_file 4) (bare (codes "y"))) (fields (bare (codes "TXT") ∷ bare (codes "a") ∷ []))
     (txt_of (codes "y" ∷ under (codes "x")) 5)
     (record {
       owner = (codes "y" ∷ under (codes "x"), (refl, (under (codes "x"), (example, refl, spells_x), spells_y)), refl);
@@ -112,7 +113,7 @@ second_file = codes "w 5 TXT a\nw 7 TXT a\nv TXT a"
 w_5 : EntryGives example (earlier_in second_file 0) (entry_in second_file 0) (gives (txt_of (under (codes "w")) 5 ∷ []))
 unfolding pieces_in run_length xor
 w_5 =
-    record_given example (earlier_in second_file 0) 7 (NameIs example (earlier_in second_file 0) (bare (codes "w")))
+    record_given example (earlier_in second_file 0) bad_owner (NameIs example (earlier_in second_file 0) (bare (codes "w")))
     (fields (bare (codes "5") ∷ bare (codes "TXT") ∷ bare (codes "a") ∷ [])) (txt_of (under (codes "w")) 5)
     (record {
       owner = (under (codes "w"), (refl, (example, refl, spells_w)), refl);
@@ -124,7 +125,7 @@ w_5 =
 w_7 : EntryGives example (earlier_in second_file 1) (entry_in second_file 1) (gives (txt_of (under (codes "w")) 7 ∷ []))
 unfolding pieces_in run_length xor
 w_7 =
-    record_given example (earlier_in second_file 1) 7 (NameIs example (earlier_in second_file 1) (bare (codes "w")))
+    record_given example (earlier_in second_file 1) bad_owner (NameIs example (earlier_in second_file 1) (bare (codes "w")))
     (fields (bare (codes "7") ∷ bare (codes "TXT") ∷ bare (codes "a") ∷ [])) (txt_of (under (codes "w")) 7)
     (record {
       owner = (under (codes "w"), (refl, (example, refl, spells_w)), refl);
@@ -136,7 +137,7 @@ w_7 =
 v_7 : EntryGives example (earlier_in second_file 2) (entry_in second_file 2) (gives (txt_of (under (codes "v")) 7 ∷ []))
 unfolding pieces_in run_length xor
 v_7 =
-    record_given example (earlier_in second_file 2) 7 (NameIs example (earlier_in second_file 2) (bare (codes "v")))
+    record_given example (earlier_in second_file 2) bad_owner (NameIs example (earlier_in second_file 2) (bare (codes "v")))
     (fields (bare (codes "TXT") ∷ bare (codes "a") ∷ [])) (txt_of (under (codes "v")) 7)
     (record {
       owner = (under (codes "v"), (refl, (example, refl, spells_v)), refl);

@@ -13,6 +13,7 @@ use Rattle.dns_spec.specs.NameText.{SpellsName}
 use Rattle.dns_spec.specs.TypeText.{text_in_lower_case, NamesType}
 use Rattle.dns_spec.specs.DataText.{Word, Says}
 use Rattle.dns_spec.specs.Records.{ResourceRecord}
+use Rattle.dns_spec.specs.FileFaults.{FileFault, unknown_directive, directive_words, bad_owner, no_owner, bad_ttl, other_class, bad_type, no_ttl, bad_data, too_many_records}
 use Rattle.dns_spec.specs.ZoneText.{Entry, Entries, begins_with, is_line_end, begins_blank, entry_words, lexical_fault}
 
 -- RFC 2181 section 8: a TTL is at most 2^31 - 1 seconds
@@ -23,18 +24,21 @@ most_ttl = 2147483647
 abbrev pub most_records : ℕ
 most_records = 100000
 
--- What an entry gives: a fault by its code, or records, one at most.
-pub data Answer : Type 0 where
-  faulty : ℕ → Answer
-  gives : List ResourceRecord → Answer
+-- What an entry means: a fault, or records, one at most.
+pub data EntryMeaning : Type 0 where
+  faulty : FileFault → EntryMeaning
+  gives : List ResourceRecord → EntryMeaning
 
 -- where nothing is such
 abbrev pub Nothing : {A : Type 0} → (A → Type 0) → Type 0
 Nothing {A} P = (v : A) → P v → ⊥
 
--- The code is told where its fault is there; else what comes behind decides. Faults in a row, by rising code, tell the lowest.
-abbrev pub Unless : ℕ → Type 0 → (Answer → Type 0) → Answer → Type 0
-Unless code Fault others answer = (Fault × (answer ≡ faulty code)) ⊎ ((Fault → ⊥) × others answer)
+-- Faults by rising code, each with its condition: the entry has the lowest whose condition holds; where none does, it means
+-- what `Faultless` says.
+abbrev pub Lowest : List (FileFault × Type 0) → (EntryMeaning → Type 0) → EntryMeaning → Type 0
+Lowest [] Faultless given = Faultless given
+Lowest ((fault, Condition) ∷ higher) Faultless given =
+    (Condition × (given ≡ faulty fault)) ⊎ ((Condition → ⊥) × Lowest higher Faultless given)
 
 -- RFC 1035 5.1: what an entry is. Words are compared in lower case.
 pub data Sort : Type 0 where
@@ -190,18 +194,23 @@ is_other_class (Some w) = not (is_class_in w)
 abbrev pub are_too_many : List Entry → Bool
 are_too_many earlier = nat_le most_records (length (filter is_record earlier))
 
--- The faults of a record by rising code: `R07`, its owner is no name, or `R08`, no record before has one; `R09`, its TTL; `R10`,
--- its class; `R11`, its type; `R12`, no TTL is known; `R13`, its data; `R14`, there are too many records. Else it is a record.
-abbrev pub RecordGives : DomainName → List Entry → ℕ → (DomainName → Type 0) → Fields → Answer → Type 0
-RecordGives o earlier owner_code Owner f =
-    Unless owner_code (Nothing Owner)
-    (Unless 9 (IsNoTtl f.ttl)
-    (Unless 10 (IsTrue (is_other_class f.class))
-    (Unless 11 (Nothing (TypeIs f.others))
-    (Unless 12 (IsTrue (is_none (ttl_in_force earlier f.ttl)))
-    (Unless 13 (Nothing (DataIs o earlier f.others))
-    (Unless 14 (IsTrue (are_too_many earlier))
-    (λ answer. (r : ResourceRecord) × IsRecord o earlier Owner f r × (answer ≡ gives (r ∷ [])))))))))
+-- The faults of a record: `R07`, its owner is no name, or `R08`, no record before has one; `R09`, its TTL; `R10`, its class;
+-- `R11`, its type; `R12`, no TTL is known; `R13`, its data; `R14`, there are too many records.
+abbrev pub record_faults : DomainName → List Entry → FileFault → (DomainName → Type 0) → Fields → List (FileFault × Type 0)
+record_faults o earlier owner_fault Owner f =
+    (owner_fault, Nothing Owner)
+    ∷ (bad_ttl, IsNoTtl f.ttl)
+    ∷ (other_class, IsTrue (is_other_class f.class))
+    ∷ (bad_type, Nothing (TypeIs f.others))
+    ∷ (no_ttl, IsTrue (is_none (ttl_in_force earlier f.ttl)))
+    ∷ (bad_data, Nothing (DataIs o earlier f.others))
+    ∷ (too_many_records, IsTrue (are_too_many earlier))
+    ∷ []
+
+abbrev pub RecordGives : DomainName → List Entry → FileFault → (DomainName → Type 0) → Fields → EntryMeaning → Type 0
+RecordGives o earlier owner_fault Owner f =
+    Lowest (record_faults o earlier owner_fault Owner f)
+    (λ given. (r : ResourceRecord) × IsRecord o earlier Owner f r × (given ≡ gives (r ∷ [])))
 
 -- a directive has one word
 abbrev pub OneWord : (Word → Type 0) → List Word → Type 0
@@ -210,38 +219,35 @@ OneWord P (w ∷ []) = P w
 OneWord P (w ∷ v ∷ ws) = ⊥
 
 -- `R06`: the words of a directive are not its own
-abbrev pub OriginGives : DomainName → List Entry → List Word → Answer → Type 0
-OriginGives o earlier ws =
-    Unless 6 (Nothing (λ (n : DomainName). OneWord (λ w. NameIs o earlier w n) ws)) (λ answer. answer ≡ gives [])
-
-abbrev pub TtlGives : List Word → Answer → Type 0
-TtlGives ws = Unless 6 (Nothing (λ (n : ℕ). OneWord (λ w. TtlSays w n) ws)) (λ answer. answer ≡ gives [])
+abbrev pub DirectiveSays : {A : Type 0} → (A → Word → Type 0) → List Word → EntryMeaning → Type 0
+DirectiveSays {A} P ws =
+    Lowest ((directive_words, Nothing (λ (v : A). OneWord (P v) ws)) ∷ []) (λ given. given ≡ gives [])
 
 -- RFC 1035 5.1, RFC 2308 section 4; `R05`: another directive
-abbrev pub DirectiveGives : DomainName → List Entry → Octets → List Word → Answer → Type 0
-DirectiveGives o earlier name ws answer =
-    MatchBool (octets_equal name (codes "$origin")) (OriginGives o earlier ws answer)
-    (MatchBool (octets_equal name (codes "$ttl")) (TtlGives ws answer) (answer ≡ faulty 5))
+abbrev pub DirectiveGives : DomainName → List Entry → Octets → List Word → EntryMeaning → Type 0
+DirectiveGives o earlier name ws given =
+    MatchBool (octets_equal name (codes "$origin")) (DirectiveSays (λ n w. NameIs o earlier w n) ws given)
+    (MatchBool (octets_equal name (codes "$ttl")) (DirectiveSays (λ n w. TtlSays w n) ws given) (given ≡ faulty unknown_directive))
 
-abbrev pub SortGives : DomainName → List Entry → Sort → Answer → Type 0
-SortGives o earlier no_words answer = answer ≡ gives []
-SortGives o earlier (directive name ws) answer = DirectiveGives o earlier name ws answer
-SortGives o earlier (owned w ws) answer = RecordGives o earlier 7 (NameIs o earlier w) (fields ws) answer
-SortGives o earlier (unowned ws) answer = RecordGives o earlier 8 (OwnerBefore o earlier) (fields ws) answer
+abbrev pub SortGives : DomainName → List Entry → Sort → EntryMeaning → Type 0
+SortGives o earlier no_words given = given ≡ gives []
+SortGives o earlier (directive name ws) given = DirectiveGives o earlier name ws given
+SortGives o earlier (owned w ws) given = RecordGives o earlier bad_owner (NameIs o earlier w) (fields ws) given
+SortGives o earlier (unowned ws) given = RecordGives o earlier no_owner (OwnerBefore o earlier) (fields ws) given
 
 -- what an entry gives: its fault by place, else what its words give
-abbrev pub EntryGives : DomainName → List Entry → Entry → Answer → Type 0
-EntryGives o earlier e answer =
-    MatchOption (lexical_fault e) (SortGives o earlier (sort_of e) answer) (λ code. answer ≡ faulty code)
+abbrev pub EntryGives : DomainName → List Entry → Entry → EntryMeaning → Type 0
+EntryGives o earlier e given =
+    MatchOption (lexical_fault e) (SortGives o earlier (sort_of e) given) (λ fault. given ≡ faulty fault)
 
--- What a text means: its records in order, or a fault by its code and line.
+-- What a text means: its records in order, or a fault and its line.
 pub data Meaning : Type 0 where
   records : List ResourceRecord → Meaning
-  fault_at : ℕ → ℕ → Meaning
+  fault_at : FileFault → ℕ → Meaning
 
 abbrev pub behind : List ResourceRecord → Meaning → Meaning
 behind rs (records more) = records (rs ++ more)
-behind rs (fault_at code line) = fault_at code line
+behind rs (fault_at fault line) = fault_at fault line
 
 -- the line on which an entry begins, counted from 1
 abbrev pub line_behind : List Entry → ℕ
@@ -251,9 +257,9 @@ line_behind earlier = 1 + length (filter is_line_end (flat_map (λ (e : Entry). 
 abbrev pub EntriesMean : DomainName → List Entry → List Entry → Meaning → Type 0
 EntriesMean o earlier [] m = m ≡ records []
 EntriesMean o earlier (e ∷ es) m =
-    (answer : Answer) × EntryGives o earlier e answer
-    × elim answer [
-      | faulty code ↦ m ≡ fault_at code (line_behind earlier)
+    (given : EntryMeaning) × EntryGives o earlier e given
+    × elim given [
+      | faulty fault ↦ m ≡ fault_at fault (line_behind earlier)
       | gives rs ↦ (later : Meaning) × EntriesMean o (e ∷ earlier) es later × (m ≡ behind rs later)
     ]
 

@@ -9,6 +9,7 @@ use Rattle.std.specs.Char.{is_ascii_graphic, is_ascii_digit}
 use Rattle.dns_spec.specs.Names.{Octets}
 use Rattle.dns_spec.specs.NameText.{three_digits_value}
 use Rattle.dns_spec.specs.DataText.{Word}
+use Rattle.dns_spec.specs.FileFaults.{FileFault, bad_octet, bad_escape, unended_string, bad_parenthesis, too_long}
 
 -- A text has at most so many octets (in this product).
 abbrev pub most_octets : ℕ
@@ -177,40 +178,66 @@ abbrev pub begins_with : ℕ → Octets → Bool
 begins_with x [] = false
 begins_with x (o ∷ text) = o == x
 
--- The code of where a string, or a text that begins with no piece, can't go on. The octets from there are all that is
--- looked at; the text may go on behind them. `R15`: it goes on past its limit, and more than that would be needed. `R03`:
--- a string isn't ended on its line. `R02`: a backslash begins no escape. `R01`: an octet isn't allowed.
-abbrev pub stuck_code : Bool → Bool → Octets → ℕ
-stuck_code goes_on in_string place =
-    if goes_on && is_cut_short place then 15
-    else if in_string && (length place == 0 || begins_line_end place) then 3
-    else if begins_with 92 place then 2
-    else 1
+-- How much of a text is looked at: all of it, or a beginning, after which it goes on.
+pub data Extent : Type 0 where
+  whole_text : Extent
+  beginning : Extent
 
--- where the text can't go on: in a string, or where no piece begins
-abbrev pub broken_code : Bool → Octets → ℕ
-broken_code goes_on [] = 0
-broken_code goes_on (o ∷ text) =
-    if o == 34 then stuck_code goes_on true (drop (string_length text) text) else stuck_code goes_on false (o ∷ text)
+abbrev pub extent_by : Bool → Extent
+extent_by goes_on = if goes_on then beginning else whole_text
 
--- What ends an entry that isn't ended by a line end, if that is a fault: `R15`, the text goes on past its limit; `R04`, it
--- ends inside parentheses; or a piece that is wrong.
-abbrev pub end_code : Bool → Bool → Octets → Option ℕ
-end_code goes_on is_open [] = if goes_on then Some 15 else if is_open then Some 4 else None
-end_code goes_on is_open (o ∷ rest) = Some (broken_code goes_on (o ∷ rest))
+-- no more of a text than its limit is looked at
+abbrev pub extent_of : Octets → Extent
+extent_of text = extent_by (nat_lt most_octets (length text))
 
--- An entry: its pieces, and the code of what ends it, where that is a fault.
+-- Why no piece begins: the text is over; or it can't go on, in a string or where a piece should begin, with the octets from
+-- there on.
+pub data Stop : Type 0 where
+  text_over : Stop
+  in_string : Octets → Stop
+  in_piece : Octets → Stop
+
+abbrev pub stop_at : Octets → Stop
+stop_at [] = text_over
+stop_at (o ∷ text) = if o == 34 then in_string (drop (string_length text) text) else in_piece (o ∷ text)
+
+-- `R02`: a backslash begins no escape. `R01`: an octet isn't allowed.
+abbrev pub piece_fault : Octets → FileFault
+piece_fault place = if begins_with 92 place then bad_escape else bad_octet
+
+-- `R03`: the string isn't ended on its line; or its next octets are wrong.
+abbrev pub string_fault : Octets → FileFault
+string_fault place = if length place == 0 || begins_line_end place then unended_string else piece_fault place
+
+-- `R15`: the text goes on past its limit, and more of it would be needed to tell.
+abbrev pub unless_cut_short : Extent → Octets → FileFault → FileFault
+unless_cut_short whole_text place fault = fault
+unless_cut_short beginning place fault = if is_cut_short place then too_long else fault
+
+-- The fault of an entry that isn't ended by a line end, inside parentheses or outside them: `R15`, the text goes on past its
+-- limit; `R04`, it ends inside parentheses; or a piece that is wrong.
+abbrev pub stop_fault : Extent → Bool → Stop → Option FileFault
+stop_fault whole_text is_open text_over = if is_open then Some bad_parenthesis else None
+stop_fault beginning is_open text_over = Some too_long
+stop_fault extent is_open (in_string place) = Some (unless_cut_short extent place (string_fault place))
+stop_fault extent is_open (in_piece place) = Some (unless_cut_short extent place (piece_fault place))
+
+-- An entry: its pieces, and what is wrong with its end, if anything is.
 pub record Entry : Type 0 where
   pub pieces : List Piece
-  pub end_fault : Option ℕ
+  pub end_fault : Option FileFault
 
 abbrev pub ended : List Piece → Entry
 ended ps = record { pieces = ps; end_fault = None }
 
-abbrev pub with_end : Bool → Octets → List (List Piece) → List Entry
-with_end goes_on rest [] = []
-with_end goes_on rest (ps ∷ []) = record { pieces = ps; end_fault = end_code goes_on (is_open_at_end ps) rest } ∷ []
-with_end goes_on rest (ps ∷ qs ∷ es) = ended ps ∷ with_end goes_on rest (qs ∷ es)
+abbrev pub unended : Extent → Octets → List Piece → Entry
+unended extent rest ps = record { pieces = ps; end_fault = stop_fault extent (is_open_at_end ps) (stop_at rest) }
+
+-- the last entry is ended by no line end, but by `rest`
+abbrev pub with_end : Extent → Octets → List (List Piece) → List Entry
+with_end extent rest [] = []
+with_end extent rest (ps ∷ []) = unended extent rest ps ∷ []
+with_end extent rest (ps ∷ qs ∷ es) = ended ps ∷ with_end extent rest (qs ∷ es)
 
 -- The entries of a text, of which no more than its limit is looked at: its pieces up to where none begins, cut into entries.
 pub record Entries (text : Octets) (es : List Entry) : Type 0 where
@@ -218,12 +245,12 @@ pub record Entries (text : Octets) (es : List Entry) : Type 0 where
   pub rest : Octets
   pub spelled : PiecesThen (take most_octets text) pieces rest
   pub at_end : piece_front rest ≡ None
-  pub entries : es ≡ with_end (nat_lt most_octets (length text)) rest (cut_entries false pieces)
+  pub entries : es ≡ with_end (extent_of text) rest (cut_entries false pieces)
 
 -- The first fault of an entry by its place, before any word of it is read: `R04`, a parenthesis in a parenthesis or a close
 -- one without an open one; else what ends it.
-abbrev pub lexical_fault : Entry → Option ℕ
-lexical_fault e = if take_turns false (parentheses e.pieces) then e.end_fault else Some 4
+abbrev pub lexical_fault : Entry → Option FileFault
+lexical_fault e = if take_turns false (parentheses e.pieces) then e.end_fault else Some bad_parenthesis
 
 abbrev pub word_of : Piece → Option Word
 word_of blank = None
