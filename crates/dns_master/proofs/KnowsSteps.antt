@@ -65,8 +65,8 @@ module _ (o : DomainName) (earlier : List Entry) where
   abbrev OwnerAt : Sort → DomainName → Type 0
   OwnerAt s n = MatchOption (owner_word s) (OwnerBefore o earlier n) (λ w. NameIs o earlier w n)
 
-  -- what is known behind an entry of this sort
-  record Behind (s : Sort) (origin : DomainName) (owner : Option DomainName) (default_ttl stated_ttl : Option ℕ) (count : ℕ) : Type 0 where
+  -- what is known after an entry of this sort
+  record After (s : Sort) (origin : DomainName) (owner : Option DomainName) (default_ttl stated_ttl : Option ℕ) (count : ℕ) : Type 0 where
     origin_is : OriginAt s origin
     no_other : (n : DomainName) → OriginAt s n → n ≡ origin
     owner_is : MatchOption owner (Nothing (OwnerAt s)) (λ f. (n : DomainName) × OwnerAt s n × (f ≡ folded n))
@@ -74,9 +74,9 @@ module _ (o : DomainName) (earlier : List Entry) where
     stated_is : TtlOf (option_or (ttl_word s) (nearest ttl_word earlier)) stated_ttl
     count_is : count ≡ counted (counts_as_record s) (length (filter is_record earlier))
 
-  known-behind : (e : Entry) (origin : DomainName) (owner : Option DomainName) (default_ttl stated_ttl : Option ℕ) (count : ℕ)
-      → Behind (sort_of e) origin owner default_ttl stated_ttl count → Inherited o (e ∷ earlier) origin owner default_ttl stated_ttl count
-  known-behind e origin owner default_ttl stated_ttl count h =
+  known-after : (e : Entry) (origin : DomainName) (owner : Option DomainName) (default_ttl stated_ttl : Option ℕ) (count : ℕ)
+      → After (sort_of e) origin owner default_ttl stated_ttl count → Inherited o (e ∷ earlier) origin owner default_ttl stated_ttl count
+  known-after e origin owner default_ttl stated_ttl count h =
       record {
         origin_is = h.origin_is;
         no_other = h.no_other;
@@ -87,9 +87,9 @@ module _ (o : DomainName) (earlier : List Entry) where
       }
 
   known-of_sort : (e : Entry) (s : Sort) (origin : DomainName) (owner : Option DomainName) (default_ttl stated_ttl : Option ℕ) (count : ℕ) → sort_of e ≡ s
-      → Behind s origin owner default_ttl stated_ttl count → Inherited o (e ∷ earlier) origin owner default_ttl stated_ttl count
+      → After s origin owner default_ttl stated_ttl count → Inherited o (e ∷ earlier) origin owner default_ttl stated_ttl count
   known-of_sort e s origin owner default_ttl stated_ttl count is h =
-      known-behind e origin owner default_ttl stated_ttl count (subst (λ s. Behind s origin owner default_ttl stated_ttl count) (sym is) h)
+      known-after e origin owner default_ttl stated_ttl count (subst (λ s. After s origin owner default_ttl stated_ttl count) (sym is) h)
 
   module _ (e : Entry) (old new : Reader) (known : Knows o earlier old) where
     -- an entry without words
@@ -107,11 +107,11 @@ module _ (o : DomainName) (earlier : List Entry) where
     owner_taken : (owner : DomainName) (f : Fields) (t : RecordTaken o earlier owner f old new) → last_owner new.records.items ≡ Some owner
     owner_taken owner f t = ap last_owner t.records ∙ last_owner-push old.records.items t.taken ∙ ap Some t.owner_is
 
-    -- what behind a record is known, where its owner is the one of its sort
-    record_behind : (s : Sort) (owner : DomainName) (f : Fields) → directive_word (codes "$origin") s ≡ None → directive_word (codes "$ttl") s ≡ None → ttl_word s ≡ f.ttl
+    -- what after a record is known, where its owner is the one of its sort
+    record_after : (s : Sort) (owner : DomainName) (f : Fields) → directive_word (codes "$origin") s ≡ None → directive_word (codes "$ttl") s ≡ None → ttl_word s ≡ f.ttl
         → counts_as_record s ≡ true → (n : DomainName) → OwnerAt s n → owner ≡ folded n → (t : RecordTaken o earlier owner f old new)
-        → Behind s new.origin (last_owner new.records.items) new.default_ttl new.stated_ttl (length new.records.items)
-    record_behind s owner f no_origin no_ttl ttl counts n is low t =
+        → After s new.origin (last_owner new.records.items) new.default_ttl new.stated_ttl (length new.records.items)
+    record_after s owner f no_origin no_ttl ttl counts n is low t =
         record {
           origin_is = rw no_origin (rw t.origin_is known.origin_is);
           no_other = rw no_origin (λ m h. known.no_other m h ∙ sym t.origin_is);
@@ -128,7 +128,7 @@ module _ (o : DomainName) (earlier : List Entry) where
           taken = t.taken ∷ [];
           given = subst (λ s. SortGives o earlier s (gives (t.taken ∷ []))) (sym is)
               (given-owner o earlier (NameIs o earlier w) (fields ws) n owner named low twice bad_owner (gives (t.taken ∷ [])) t.given);
-          known = known-of_sort e (owned w ws) _ _ _ _ _ is (record_behind (owned w ws) owner (fields ws) refl refl refl refl n named low t);
+          known = known-of_sort e (owned w ws) _ _ _ _ _ is (record_after (owned w ws) owner (fields ws) refl refl refl refl n named low t);
           records = t.records;
         }
 
@@ -139,7 +139,7 @@ module _ (o : DomainName) (earlier : List Entry) where
           taken = t.taken ∷ [];
           given = subst (λ s. SortGives o earlier s (gives (t.taken ∷ []))) (sym is)
               (given-owner o earlier (OwnerBefore o earlier) (fields ws) n owner named low twice no_owner (gives (t.taken ∷ [])) t.given);
-          known = known-of_sort e (unowned ws) _ _ _ _ _ is (record_behind (unowned ws) owner (fields ws) refl refl refl refl n named low t);
+          known = known-of_sort e (unowned ws) _ _ _ _ _ is (record_after (unowned ws) owner (fields ws) refl refl refl refl n named low t);
           records = t.records;
         }
 

@@ -1,7 +1,7 @@
 -- How far a run goes, octet by octet and escape by escape.
 use Rattle.std.proofs.Common.{◌≡◌, ℕ, zero, suc, ◌+◌, ◌≤◌, Bool, true, false, [], ◌∷◌, length, drop, refl, ap, arith, Option, None, Some, ◌==◌}
 use Rattle.dns_spec.specs.Names.{Octets}
-use Rattle.dns_spec.specs.ZoneText.{escape_behind, unit_left, run_length}
+use Rattle.dns_spec.specs.ZoneText.{escape_after, unit_left, run_length}
 
 module _ (by : ℕ → Bool) where
   -- the octets of an escape
@@ -27,17 +27,17 @@ module _ (by : ℕ → Bool) where
   run-end o text e h = by_unit o text None (rw e (rw h refl))
 
   -- an escape
-  pub run-escape : (o : ℕ) (text : Octets) → (o == 92) ≡ true → (escape_behind text == 0) ≡ false → escape_behind text ≤ length text
-      → run_length by 0 (o ∷ text) ≡ 1 + escape_behind text + run_length by 0 (drop (escape_behind text) text)
+  pub run-escape : (o : ℕ) (text : Octets) → (o == 92) ≡ true → (escape_after text == 0) ≡ false → escape_after text ≤ length text
+      → run_length by 0 (o ∷ text) ≡ 1 + escape_after text + run_length by 0 (drop (escape_after text) text)
   run-escape o text e h fits =
-      let others : run_length by (escape_behind text) text ≡ escape_behind text + run_length by 0 (drop (escape_behind text) text) =
-      skipped (escape_behind text) text fits in
-      let all : run_length by 0 (o ∷ text) ≡ 1 + run_length by (escape_behind text) text =
-      by_unit o text (Some (escape_behind text)) (rw e (rw h refl)) in
+      let others : run_length by (escape_after text) text ≡ escape_after text + run_length by 0 (drop (escape_after text) text) =
+      skipped (escape_after text) text fits in
+      let all : run_length by 0 (o ∷ text) ≡ 1 + run_length by (escape_after text) text =
+      by_unit o text (Some (escape_after text)) (rw e (rw h refl)) in
       omega (arith, others, all)
 
   -- a backslash that begins no escape
-  pub run-no_escape : (o : ℕ) (text : Octets) → (o == 92) ≡ true → (escape_behind text == 0) ≡ true → run_length by 0 (o ∷ text) ≡ 0
+  pub run-no_escape : (o : ℕ) (text : Octets) → (o == 92) ≡ true → (escape_after text == 0) ≡ true → run_length by 0 (o ∷ text) ≡ 0
   run-no_escape o text e h = by_unit o text None (rw e (rw h refl))
 
   pub run-none : (text : Octets) → length text ≡ 0 → run_length by 0 text ≡ 0

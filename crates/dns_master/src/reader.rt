@@ -7,7 +7,7 @@ ghost use Rattle.dns_spec.specs.DataText.{Says};
 ghost use Rattle.dns_spec.specs.TypeText.{text_in_lower_case};
 ghost use Rattle.dns_spec.specs.ZoneText.{Entry};
 ghost use Rattle.dns_spec.specs.FileFaults.{no_owner};
-ghost use Rattle.dns_spec.specs.Meaning.{Nothing, TtlSays, gives, faulty, directive, owned, unowned, sort_of, sort_by_words, fields, RecordGives, SortGives, records, fault_at, line_behind, most_records};
+ghost use Rattle.dns_spec.specs.Meaning.{Nothing, TtlSays, gives, faulty, directive, owned, unowned, sort_of, sort_by_words, fields, RecordGives, SortGives, records, fault_at, line_after, most_records};
 ghost use Rattle.dns_master.specs.Codes.{fault_of, failures_after_read};
 ghost use Rattle.dns_master.specs.EntryForm.{TextMeans};
 ghost use Rattle.dns_master.specs.SourceForm.{GivesMeaning};
@@ -117,7 +117,7 @@ impl Reader {
         }
     }
 
-    // Takes the entry that a text begins with, and gives the text behind it.
+    // Takes the entry that a text begins with, and gives the text after it.
     fn take_entry<'a>(
         &mut self,
         text: &'a [u8],
@@ -126,12 +126,12 @@ impl Reader {
     ) -> Result<&'a [u8], ReadCode>
         requires some { text.now ≢ [] }
         requires fits { self.old.line + length text.now ≤ 16777217 }
-        ensures ok { IfOk result (λ rest. (o : DomainName) (earlier : List Entry) → Knows o earlier self.old → self.old.line ≡ line_behind earlier
+        ensures ok { IfOk result (λ rest. (o : DomainName) (earlier : List Entry) → Knows o earlier self.old → self.old.line ≡ line_after earlier
             → EntryDone o earlier goes_on text.now rest.now self.old self.new) }
         ensures shorter { IfOk result (λ rest. length rest.now < length text.now) }
         ensures lines { IfOk result (λ rest. self.new.line + length rest.now ≤ self.old.line + length text.now) }
         ensures err { IfErr result (λ code. code ≢ ReadCode.NoMemory → (o : DomainName) (earlier : List Entry) → Knows o earlier self.old
-            → TextMeans o earlier goes_on text.now (fault_at (fault_of code) (line_behind earlier))) }
+            → TextMeans o earlier goes_on text.now (fault_at (fault_of code) (line_after earlier))) }
         ensures source { IfErr result (λ code. code ≢ ReadCode.SourceFailed) }
     {
         words.clear();
@@ -163,7 +163,7 @@ impl Reader {
         self.take_owned(first, others)
     }
 
-    // Takes a directive: its name, and the words behind it.
+    // Takes a directive: its name, and the words after it.
     fn take_directive(&mut self, name: &[u8], words: &[Word<'_>]) -> Result<(), ReadCode>
         ensures ok { OnOk result ((o : DomainName) (earlier : List Entry) (e : Entry) → Knows o earlier self.old → sort_of e ≡ directive (text_in_lower_case name.now) words.now
             → EntryTaken o earlier e self.old self.new) }
@@ -213,7 +213,7 @@ impl Reader {
         Ok(())
     }
 
-    // Takes a record that states its owner: that word, and the words behind it.
+    // Takes a record that states its owner: that word, and the words after it.
     fn take_owned(&mut self, owner: &Word<'_>, words: &[Word<'_>]) -> Result<(), ReadCode>
         ensures ok { OnOk result ((o : DomainName) (earlier : List Entry) (e : Entry) → Knows o earlier self.old → sort_of e ≡ owned owner.now words.now
             → EntryTaken o earlier e self.old self.new) }
@@ -245,7 +245,7 @@ impl Reader {
         self.take_record(owner, words)
     }
 
-    // Takes the record of an owner and of the words behind it.
+    // Takes the record of an owner and of the words after it.
     fn take_record(&mut self, owner: Name, words: &[Word<'_>]) -> Result<(), ReadCode>
         requires { folded owner ≡ owner }
         ensures ok { OnOk result ((o : DomainName) (earlier : List Entry) → Knows o earlier self.old → RecordTaken o earlier owner (fields words.now) self.old self.new) }
@@ -260,7 +260,7 @@ impl Reader {
         push_record(&mut self.records, record)
     }
 
-    // The record of an owner and of the fields behind it.
+    // The record of an owner and of the fields after it.
     fn read_record(&self, owner: Name, fields: &Fields<'_, '_>) -> Result<Record, ReadCode>
         requires { folded owner ≡ owner }
         ensures ok { IfOk result (λ r. (o : DomainName) (earlier : List Entry) → Knows o earlier self.now → RecordGives o earlier no_owner (λ n. n ≡ owner) fields.now (gives (r ∷ []))) }
@@ -324,7 +324,7 @@ fn push_record(records: &mut Vec<Record>, last: Record) -> Result<(), ReadCode>
     records.push(last).map_err(|_| ReadCode::NoMemory)
 }
 
-// The TTL that was stated last, behind a record that states one or not.
+// The TTL that was stated last, after a record that states one or not.
 fn last_stated(is_stated: bool, ttl: u32, before: Option<u32>) -> Option<u32>
     ensures { result ≡ (if is_stated then Some ttl else before) }
 {

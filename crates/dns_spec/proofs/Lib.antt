@@ -45,7 +45,7 @@ mod ReadingRows
 mod TextRows
 mod TypeRows
 mod DataRows
-pub mod TextPieces
+pub mod TextTokens
 mod WordRows
 pub mod ReadWords
 pub mod PrintedLines
@@ -63,7 +63,7 @@ pub mod RecordOrder
 pub mod PassedChecks
 pub mod OrderedReport
 pub mod ReadOctets
-pub mod ReadPieces
+pub mod ReadTokens
 pub mod ReadRecords
 pub mod SameRecords
 pub mod PrintedAgain

@@ -8,9 +8,9 @@ use Rattle.dns_spec.specs.Names.{Octets, DomainName, folded, octets_equal}
 use Rattle.dns_spec.specs.NameText.{SpellsName}
 use Rattle.dns_spec.specs.DataText.{Word, Says}
 use Rattle.dns_spec.specs.Records.{ResourceRecord}
-use Rattle.dns_spec.specs.ZoneText.{Piece, most_octets, piece_front, PiecesThen, cut_entries, with_end, extent_of, Entry, Entries, lexical_fault}
+use Rattle.dns_spec.specs.ZoneText.{Token, most_octets, token_front, TokensThen, cut_entries, with_end, extent_of, Entry, Entries, lexical_fault}
 use Rattle.dns_spec.specs.FileFaults.{FileFault, unknown_directive, directive_words, bad_owner, no_owner}
-use Rattle.dns_spec.specs.Meaning.{EntryMeaning, faulty, gives, Nothing, Lowest, Sort, no_words, directive, owned, unowned, sort_of, directive_word, owner_word, OriginIs, NameIs, OwnerBefore, TtlSays, ttl_in_force, TtlIs, TypeIs, DataIs, IsRecord, Fields, fields, record_faults, RecordGives, OneWord, DirectiveSays, DirectiveGives, SortGives, EntryGives, Meaning, fault_at, behind, line_behind, EntriesMean, Means}
+use Rattle.dns_spec.specs.Meaning.{EntryMeaning, faulty, gives, Nothing, Lowest, Sort, no_words, directive, owned, unowned, sort_of, directive_word, owner_word, OriginIs, NameIs, OwnerBefore, TtlSays, ttl_in_force, TtlIs, TypeIs, DataIs, IsRecord, Fields, fields, record_faults, RecordGives, OneWord, DirectiveSays, DirectiveGives, SortGives, EntryGives, Meaning, fault_at, after, line_after, EntriesMean, Means}
 use Rattle.dns_spec.proofs.OneName.{name_once}
 use Rattle.dns_spec.proofs.OneData.{data_once}
 use Rattle.dns_spec.proofs.TypeWords.{one_type}
@@ -117,15 +117,15 @@ entry_gives_once o earlier e a b =
 abbrev FromHere : DomainName → List Entry → Entry → List Entry → Meaning → EntryMeaning → Type 0
 FromHere o earlier e es m answer =
     elim answer [
-      | faulty code ↦ m ≡ fault_at code (line_behind earlier)
-      | gives rs ↦ (later : Meaning) × EntriesMean o (e ∷ earlier) es later × (m ≡ behind rs later)
+      | faulty code ↦ m ≡ fault_at code (line_after earlier)
+      | gives rs ↦ (later : Meaning) × EntriesMean o (e ∷ earlier) es later × (m ≡ after rs later)
     ]
 
 from_here_once : (o : DomainName) (earlier : List Entry) (e : Entry) (es : List Entry) (m n : Meaning) (answer : EntryMeaning)
     → ((x y : Meaning) → EntriesMean o (e ∷ earlier) es x → EntriesMean o (e ∷ earlier) es y → x ≡ y)
     → FromHere o earlier e es m answer → FromHere o earlier e es n answer → m ≡ n
 from_here_once o earlier e es m n (faulty code) later h k = h ∙ sym k
-from_here_once o earlier e es m n (gives rs) later (x, h, is) (y, k, is') = is ∙ ap (behind rs) (later x y h k) ∙ sym is'
+from_here_once o earlier e es m n (gives rs) later (x, h, is) (y, k, is') = is ∙ ap (after rs) (later x y h k) ∙ sym is'
 
 entries_once : (o : DomainName) (earlier es : List Entry) (m n : Meaning) → EntriesMean o earlier es m → EntriesMean o earlier es n → m ≡ n
 entries_once o earlier [] m n h k = h ∙ sym k
@@ -133,22 +133,22 @@ entries_once o earlier (e ∷ es) m n (a, gives_a, h) (b, gives_b, k) =
     from_here_once o earlier e es m n b (entries_once o (e ∷ earlier) es)
     (subst (FromHere o earlier e es m) (entry_gives_once o earlier e a b gives_a gives_b) h) k
 
--- a text has one run of pieces up to where none begins
-pieces_once : (text : Octets) (ps qs : List Piece) (rest others : Octets) → PiecesThen text ps rest → PiecesThen text qs others
-    → piece_front rest ≡ None → piece_front others ≡ None → (ps ≡ qs) × (rest ≡ others)
-pieces_once text [] [] rest others h k end end' = (refl, sym h ∙ k)
-pieces_once text [] (q ∷ qs) rest others h (behind, e, k) end end' =
-    absurd (none-some (q, behind) (sym end ∙ ap piece_front (sym h) ∙ e))
-pieces_once text (p ∷ ps) [] rest others (behind, e, h) k end end' =
-    absurd (none-some (p, behind) (sym end' ∙ ap piece_front (sym k) ∙ e))
-pieces_once text (p ∷ ps) (q ∷ qs) rest others (x, e, h) (y, f, k) end end' =
+-- a text has one run of tokens up to where none begins
+tokens_once : (text : Octets) (ps qs : List Token) (rest others : Octets) → TokensThen text ps rest → TokensThen text qs others
+    → token_front rest ≡ None → token_front others ≡ None → (ps ≡ qs) × (rest ≡ others)
+tokens_once text [] [] rest others h k end end' = (refl, sym h ∙ k)
+tokens_once text [] (q ∷ qs) rest others h (after, e, k) end end' =
+    absurd (none-some (q, after) (sym end ∙ ap token_front (sym h) ∙ e))
+tokens_once text (p ∷ ps) [] rest others (after, e, h) k end end' =
+    absurd (none-some (p, after) (sym end' ∙ ap token_front (sym k) ∙ e))
+tokens_once text (p ∷ ps) (q ∷ qs) rest others (x, e, h) (y, f, k) end end' =
     let one = some_pair_parts p q x y (sym e ∙ f) in
-    let more = pieces_once x ps qs rest others h (subst (λ t. PiecesThen t qs others) (sym one.1) k) end end' in
+    let more = tokens_once x ps qs rest others h (subst (λ t. TokensThen t qs others) (sym one.1) k) end end' in
     (ap₂ (λ z zs. z ∷ zs) one.0 more.0, more.1)
 
 one_cut : (text : Octets) (es fs : List Entry) → Entries text es → Entries text fs → es ≡ fs
 one_cut text es fs h k =
-    let same = pieces_once (take most_octets text) h.pieces k.pieces h.rest k.rest h.spelled k.spelled h.at_end k.at_end in
+    let same = tokens_once (take most_octets text) h.tokens k.tokens h.rest k.rest h.spelled k.spelled h.at_end k.at_end in
     h.entries ∙ ap₂ (λ rest ps. with_end (extent_of text) rest (cut_entries false ps)) same.1 same.0 ∙ sym k.entries
 
 pub meaning_once : (o : DomainName) (text : Octets) (m n : Meaning) → Means o text m → Means o text n → m ≡ n

@@ -11,7 +11,7 @@ use Rattle.dns_spec.specs.DataText.{Word}
 use Rattle.dns_spec.specs.Records.{ResourceRecord}
 use Rattle.dns_spec.specs.ZoneText.{Entry, entry_words, begins_blank, lexical_fault}
 use Rattle.dns_spec.specs.FileFaults.{too_many_records, FileFault, bad_owner, no_owner, unknown_directive, directive_words, bad_ttl, other_class, bad_type, no_ttl, bad_data}
-use Rattle.dns_spec.specs.Meaning.{EntryMeaning, faulty, gives, Sort, no_words, directive, owned, unowned, is_directive, sort_by_words, sort_of, directive_word, owner_word, is_record, OriginIs, NameIs, OwnerBefore, TtlSays, ttl_in_force, most_ttl, TtlIs, TypeIs, DataIs, is_zone_type, Fields, class_behind, ttl_behind, is_ttl_word, is_class_word, fields, IsRecord, most_records, are_too_many, RecordGives, DirectiveGives, SortGives, EntryGives, Meaning, records, fault_at, behind, EntriesMean, Means}
+use Rattle.dns_spec.specs.Meaning.{EntryMeaning, faulty, gives, Sort, no_words, directive, owned, unowned, is_directive, sort_by_words, sort_of, directive_word, owner_word, is_record, OriginIs, NameIs, OwnerBefore, TtlSays, ttl_in_force, most_ttl, TtlIs, TypeIs, DataIs, is_zone_type, Fields, class_after, ttl_after, is_ttl_word, is_class_word, fields, IsRecord, most_records, are_too_many, RecordGives, DirectiveGives, SortGives, EntryGives, Meaning, records, fault_at, after, EntriesMean, Means}
 use Rattle.dns_spec.specs.ZonePrinted.{IsReadRecord, HasZoneType}
 use Rattle.dns_spec.proofs.FaultOrder.{folded_folded}
 use Rattle.dns_spec.proofs.SortedOnce.{Each}
@@ -21,7 +21,7 @@ use Rattle.dns_spec.proofs.LoweredData.{lowered_data, lowered-twice}
 use Rattle.dns_spec.proofs.TypeWords.{named_type-small}
 use Rattle.dns_spec.proofs.OneMeaning.{type_once}
 use Rattle.dns_spec.proofs.ReadOctets.{Octet, SmallName, SmallWord, name_small, folded_small, data_small}
-use Rattle.dns_spec.proofs.ReadPieces.{SmallEntry, entries_small, words_small}
+use Rattle.dns_spec.proofs.ReadTokens.{SmallEntry, entries_small, words_small}
 
 -- a record by the words of an entry of this sort
 abbrev IsRecordOf : DomainName → List Entry → Sort → ResourceRecord → Type 0
@@ -34,7 +34,7 @@ by_bool : {P Q R : Type 0} (b : Bool) → (P → R) → (Q → R) → MatchBool 
 by_bool true f g h = f h
 by_bool false f g h = g h
 
--- a fault or what comes behind it
+-- a fault or what comes after it
 unless_holds : (Q : EntryMeaning → Type 0) → ((code : FileFault) → Q (faulty code)) → {Fault Others : Type 0} (code : FileFault) (answer : EntryMeaning) → (Others → Q answer)
     → (Fault × (answer ≡ faulty code)) ⊎ ((Fault → ⊥) × Others) → Q answer
 unless_holds Q faults code answer others (inl (fault, e)) = subst Q (sym e) (faults code)
@@ -95,16 +95,16 @@ module _ (o : DomainName) (Kept : Entry → Type 0) (P : ResourceRecord → Type
   each_joined [] ss h k = k
   each_joined (r ∷ rs) ss h k = (h.0, each_joined rs ss h.1 k)
 
-  behind_meant : (rs : List ResourceRecord) (later : Meaning) → Each P rs → Meant later → Meant (behind rs later)
-  behind_meant rs (records more) h k = each_joined rs more h k
-  behind_meant rs (fault_at code line) h k = tt
+  after_meant : (rs : List ResourceRecord) (later : Meaning) → Each P rs → Meant later → Meant (after rs later)
+  after_meant rs (records more) h k = each_joined rs more h k
+  after_meant rs (fault_at code line) h k = tt
 
   entries_meant : (earlier es : List Entry) (m : Meaning) → Each Kept earlier → Each Kept es → EntriesMean o earlier es m → Meant m
   entries_meant earlier [] m keeps kept h = subst Meant (sym h) tt
   entries_meant earlier (e ∷ es) m keeps kept (faulty code, given, h) = subst Meant (sym h) tt
   entries_meant earlier (e ∷ es) m keeps kept (gives rs, given, (later, h, is)) =
       subst Meant (sym is)
-      (behind_meant rs later (entry_given earlier e (gives rs) keeps kept.0 given) (entries_meant (e ∷ earlier) es later (kept.0, keeps) kept.1 h))
+      (after_meant rs later (entry_given earlier e (gives rs) keeps kept.0 given) (entries_meant (e ∷ earlier) es later (kept.0, keeps) kept.1 h))
 
   records_hold : (es : List Entry) (rs : List ResourceRecord) → Each Kept es → EntriesMean o [] es (records rs) → All P rs
   records_hold es rs kept h = all_each P rs (entries_meant [] es (records rs) tt kept h)
@@ -145,7 +145,7 @@ words_sort blank [] small = tt
 words_sort blank (w ∷ ws) small = sort_by blank _ _ small (sort_by (is_directive w) _ _ small.1 small)
 
 sort_small : (e : Entry) → SmallEntry e → SmallSort (sort_of e)
-sort_small e small = words_sort (begins_blank e.pieces) (entry_words e) (words_small e small)
+sort_small e small = words_sort (begins_blank e.tokens) (entry_words e) (words_small e small)
 
 abbrev SmallOption : Option Word → Type 0
 SmallOption None = Unit {0}
@@ -162,7 +162,7 @@ directive_small name (directive n (w ∷ ws)) small = go (octets_equal n name)
 directive_small name (owned w ws) small = tt
 directive_small name (unowned ws) small = tt
 
--- the words behind a TTL and a class are words of the record
+-- the words after a TTL and a class are words of the record
 abbrev SmallFields : Fields → Type 0
 SmallFields f = Each SmallWord f.others
 
@@ -170,11 +170,11 @@ fields_by : (b : Bool) (f g : Fields) → SmallFields f → SmallFields g → Sm
 fields_by true f g h k = h
 fields_by false f g h k = k
 
-class_small : (ttl : Word) (ws : List Word) → Each SmallWord ws → SmallFields (class_behind ttl ws)
+class_small : (ttl : Word) (ws : List Word) → Each SmallWord ws → SmallFields (class_after ttl ws)
 class_small ttl [] small = tt
 class_small ttl (w ∷ ws) small = fields_by (is_class_word w) _ _ small.1 small
 
-ttl_small : (class : Word) (ws : List Word) → Each SmallWord ws → SmallFields (ttl_behind class ws)
+ttl_small : (class : Word) (ws : List Word) → Each SmallWord ws → SmallFields (ttl_after class ws)
 ttl_small class [] small = tt
 ttl_small class (w ∷ ws) small = fields_by (is_ttl_word w) _ _ small.1 small
 
@@ -372,9 +372,9 @@ abbrev Few : ℕ → Meaning → Type 0
 Few count (records rs) = length rs + count ≤ most_records
 Few count (fault_at code line) = ⊤
 
-behind_few : (rs : List ResourceRecord) (later : Meaning) (count more : ℕ) → more ≡ length rs + count → Few more later → Few count (behind rs later)
-behind_few rs (records others) count more e few = omega (arith, e, few, length-append rs others)
-behind_few rs (fault_at code line) count more e few = tt
+after_few : (rs : List ResourceRecord) (later : Meaning) (count more : ℕ) → more ≡ length rs + count → Few more later → Few count (after rs later)
+after_few rs (records others) count more e few = omega (arith, e, few, length-append rs others)
+after_few rs (fault_at code line) count more e few = tt
 
 entries_few : (o : DomainName) (earlier es : List Entry) (m : Meaning) → counted earlier ≤ most_records → EntriesMean o earlier es m → Few (counted earlier) m
 entries_few o earlier [] m few h = let all : 0 + counted earlier ≤ most_records = omega (arith, few) in subst (Few (counted earlier)) (sym h) all
@@ -385,7 +385,7 @@ entries_few o earlier (e ∷ es) m few (gives rs, given, (later, h, is)) =
     counted_more (is_record e) e (filter is_record earlier) ∙ ap (λ n. n + counted earlier) (sym fits.0)
     in
     subst (Few (counted earlier)) (sym is)
-    (behind_few rs later (counted earlier) (counted (e ∷ earlier)) more (entries_few o (e ∷ earlier) es later (omega (arith, more, fits.1)) h))
+    (after_few rs later (counted earlier) (counted (e ∷ earlier)) more (entries_few o (e ∷ earlier) es later (omega (arith, more, fits.1)) h))
 
 pub records_few : (o : DomainName) (text : Octets) (rs : List ResourceRecord) → Means o text (records rs) → length rs ≤ most_records
 records_few o text rs (es, cut, h) = let few = entries_few o [] es (records rs) (omega arith) h in omega (arith, few)

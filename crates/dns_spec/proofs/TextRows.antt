@@ -41,7 +41,7 @@ by_digits : name_text ((0 ∷ 32 ∷ 127 ∷ 255 ∷ []) ∷ []) ≡ codes "\\00
 unfolding octet_text
 by_digits = refl
 
--- the digit behind an octet's three is an octet of its own
-digit_behind : name_text ((9 ∷ 49 ∷ []) ∷ []) ≡ codes "\\0091."
+-- the digit after an octet's three is an octet of its own
+digit_after : name_text ((9 ∷ 49 ∷ []) ∷ []) ≡ codes "\\0091."
 unfolding octet_text
-digit_behind = refl
+digit_after = refl

@@ -11,7 +11,7 @@ use Rattle.dns_spec.proofs.SortedOnce.{Each}
 use Rattle.dns_spec.proofs.SmallOctets.{Small, small_head, small_tail}
 use Rattle.dns_spec.proofs.BareWords.{Bare, no_backslash, graphic_bare, follows}
 
--- a run goes on over all of these octets, whatever stands behind them
+-- a run goes on over all of these octets, whatever stands after them
 abbrev pub Runs : (ℕ → Bool) → Octets → Type 0
 Runs p x = (rest : Octets) → run_length p 0 (x ++ rest) ≡ length x + run_length p 0 rest
 

@@ -32,7 +32,7 @@ abbrev pub groups_said : Octets → Option (List ℕ)
 groups_said [] = Some []
 groups_said (c ∷ text) = group_values (slice_split (λ o. o == 58) (c ∷ text))
 
--- what stands before the first `::` of a text, and what stands behind it
+-- what stands before the first `::` of a text, and what stands after it
 abbrev pub around_gap : Octets → Option (Octets × Octets)
 around_gap [] = None
 around_gap (c ∷ []) = None

@@ -34,7 +34,7 @@ SpellsString text [] = text ≡ []
 SpellsString text (x ∷ s) =
     (first : Octets) × (others : Octets) × (text ≡ first ++ others) × SpellsStringOctet first x × SpellsString others s
 
--- RFC 1035 3.3: a character-string has at most 255 octets, and stands behind its length
+-- RFC 1035 3.3: a character-string has at most 255 octets, and stands after its length
 abbrev pub SaysString : Octets → Octets → Type 0
 SaysString text d = (s : Octets) × (length s ≤ 255) × SpellsString text s × (d ≡ length s ∷ s)
 
@@ -65,7 +65,7 @@ pub record SaysWord (form : WordForm) (origin : DomainName) (w : Word) (d : Octe
   pub quotes : IsTrue (may_be_quoted form || not w.is_quoted)
   pub said : SaysForm form origin w.raw d
 
--- the words spell the data one behind the other, as many words as forms
+-- the words spell the data one after the other, as many words as forms
 abbrev pub SaysForms : List WordForm → DomainName → List Word → Octets → Type 0
 SaysForms [] origin [] d = d ≡ []
 SaysForms [] origin (w ∷ ws) d = ⊥
@@ -107,7 +107,7 @@ is_hex_word w = not w.is_quoted && nat_lt 0 (length w.raw) && length w.raw % 2 =
 abbrev pub SaysHex : List Word → Octets → Type 0
 SaysHex ws d = IsTrue (list_all is_hex_word ws) × (hex_octets (flat_map (λ (w : Word). w.raw) ws) ≡ Some d)
 
--- RFC 3597 section 5: behind `\#` come the length of the data, without zeros in front (in this product), and its octets
+-- RFC 3597 section 5: after `\#` come the length of the data, without zeros in front (in this product), and its octets
 abbrev pub SaysUnknown : List Word → Octets → Type 0
 SaysUnknown [] d = ⊥
 SaysUnknown (w ∷ ws) d = IsTrue (not w.is_quoted) × (w.raw ≡ decimal (length d)) × SaysHex ws d

@@ -60,9 +60,9 @@ sort_by_words blank (w ∷ ws) =
 -- An entry without words is nothing. One that begins with a blank is a record without an owner of its own; else one whose
 -- first word begins with `$` is a directive; else the first word is the owner of a record.
 abbrev pub sort_of : Entry → Sort
-sort_of e = sort_by_words (begins_blank e.pieces) (entry_words e)
+sort_of e = sort_by_words (begins_blank e.tokens) (entry_words e)
 
--- RFC 1035 5.1: behind the owner come a TTL and a class, in either order, where they are stated; then the type and the data
+-- RFC 1035 5.1: after the owner come a TTL and a class, in either order, where they are stated; then the type and the data
 pub record Fields : Type 0 where
   pub ttl : Option Word
   pub class : Option Word
@@ -85,23 +85,23 @@ is_class_word w =
 abbrev pub is_class_in : Word → Bool
 is_class_in w = is_word (codes "in") w.raw || is_word (codes "class1") w.raw
 
-abbrev pub class_behind : Word → List Word → Fields
-class_behind ttl [] = record { ttl = Some ttl; class = None; others = [] }
-class_behind ttl (w ∷ ws) =
+abbrev pub class_after : Word → List Word → Fields
+class_after ttl [] = record { ttl = Some ttl; class = None; others = [] }
+class_after ttl (w ∷ ws) =
     if is_class_word w then record { ttl = Some ttl; class = Some w; others = ws }
     else record { ttl = Some ttl; class = None; others = w ∷ ws }
 
-abbrev pub ttl_behind : Word → List Word → Fields
-ttl_behind class [] = record { ttl = None; class = Some class; others = [] }
-ttl_behind class (w ∷ ws) =
+abbrev pub ttl_after : Word → List Word → Fields
+ttl_after class [] = record { ttl = None; class = Some class; others = [] }
+ttl_after class (w ∷ ws) =
     if is_ttl_word w then record { ttl = Some w; class = Some class; others = ws }
     else record { ttl = None; class = Some class; others = w ∷ ws }
 
 abbrev pub fields : List Word → Fields
 fields [] = record { ttl = None; class = None; others = [] }
 fields (w ∷ ws) =
-    if is_ttl_word w then class_behind w ws
-    else if is_class_word w then ttl_behind w ws
+    if is_ttl_word w then class_after w ws
+    else if is_class_word w then ttl_after w ws
     else record { ttl = None; class = None; others = w ∷ ws }
 
 -- the first word of a directive of this name; below it, the word that states an owner, and the one that states a TTL
@@ -171,7 +171,7 @@ abbrev pub TypeIs : List Word → ℕ → Type 0
 TypeIs [] t = ⊥
 TypeIs (w ∷ ws) t = IsTrue (not w.is_quoted) × NamesType w.raw t × IsTrue (is_zone_type t)
 
--- the words behind the type say the data
+-- the words after the type say the data
 abbrev pub DataIs : DomainName → List Entry → List Word → Octets → Type 0
 DataIs o earlier ws d =
     (t : ℕ) × TypeIs ws t × ((m : DomainName) × OriginIs o earlier m × Says t (drop 1 ws) m d)
@@ -245,13 +245,13 @@ pub data Meaning : Type 0 where
   records : List ResourceRecord → Meaning
   fault_at : FileFault → ℕ → Meaning
 
-abbrev pub behind : List ResourceRecord → Meaning → Meaning
-behind rs (records more) = records (rs ++ more)
-behind rs (fault_at fault line) = fault_at fault line
+abbrev pub after : List ResourceRecord → Meaning → Meaning
+after rs (records more) = records (rs ++ more)
+after rs (fault_at fault line) = fault_at fault line
 
 -- the line on which an entry begins, counted from 1
-abbrev pub line_behind : List Entry → ℕ
-line_behind earlier = 1 + length (filter is_line_end (flat_map (λ (e : Entry). e.pieces) earlier))
+abbrev pub line_after : List Entry → ℕ
+line_after earlier = 1 + length (filter is_line_end (flat_map (λ (e : Entry). e.tokens) earlier))
 
 -- the first faulty entry decides
 abbrev pub EntriesMean : DomainName → List Entry → List Entry → Meaning → Type 0
@@ -259,8 +259,8 @@ EntriesMean o earlier [] m = m ≡ records []
 EntriesMean o earlier (e ∷ es) m =
     (given : EntryMeaning) × EntryGives o earlier e given
     × elim given [
-      | faulty fault ↦ m ≡ fault_at fault (line_behind earlier)
-      | gives rs ↦ (later : Meaning) × EntriesMean o (e ∷ earlier) es later × (m ≡ behind rs later)
+      | faulty fault ↦ m ≡ fault_at fault (line_after earlier)
+      | gives rs ↦ (later : Meaning) × EntriesMean o (e ∷ earlier) es later × (m ≡ after rs later)
     ]
 
 -- What a text means as the file of a zone with this origin (RFC 1035 section 5).

@@ -24,7 +24,7 @@ LabelThen text (x ∷ l) rest =
     (first : Octets) × (others : Octets) × (text ≡ first ++ others) × SpellsOctet first x × LabelThen others l rest
 
 -- RFC 1035 5.1: the text spells the first label, and either ends there, so that the labels of the origin follow; or
--- has a dot, and then spells the other labels. Nothing behind a dot is the root.
+-- has a dot, and then spells the other labels. Nothing after a dot is the root.
 abbrev pub TextSpells : DomainName → Octets → DomainName → Type 0
 TextSpells origin text [] = text ≡ []
 TextSpells origin text (l ∷ n) =

@@ -42,7 +42,7 @@ hex_words (o ∷ d) = plain (hex_text (o ∷ d)) ∷ []
 abbrev pub unknown_words : Octets → List Word
 unknown_words d = plain (92 ∷ codes "#") ∷ plain (decimal (length d)) ∷ hex_words d
 
--- The word that data begins with, as it is written, and the data behind it.
+-- The word that data begins with, as it is written, and the data after it.
 abbrev pub name_front : Option (DomainName × Octets) → Word × Octets
 name_front None = (plain [], [])
 name_front (Some (n, d)) = (plain (name_text n), d)

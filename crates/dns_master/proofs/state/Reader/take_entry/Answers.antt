@@ -26,8 +26,8 @@ returns-in_err-take_words-clause-err c =
     fault_told c.from_residual-in_err-take_words.result c.in_err-take_words.field-0.0 _ c.from_residual-in_err-take_words.ensures.1 (λ other o earlier known.
     let read = subst (λ before. EntryRead c.args.text.now before c.read_entry.new.words.items c.in_ok-end.end.lines (outcome_of c.in_ok-end.end.is_ended c.in_ok-end.end.is_open c.in_ok-end.end.rest.now))
     c.clear.ensures.items c.in_ok-end.ensures.ok in
-    let sort : sort_of (ended read.pieces) ≡ sort_by_words c.begins_blank.result c.as_slice.result.now =
-    same_sort c.args.text.now read.pieces c.read_entry.new.words.items _ read.reads read.words
+    let sort : sort_of (ended read.tokens) ≡ sort_by_words c.begins_blank.result c.as_slice.result.now =
+    same_sort c.args.text.now read.tokens c.read_entry.new.words.items _ read.reads read.words
     ∙ ap (λ b. sort_by_words b c.read_entry.new.words.items) (sym c.begins_blank.ensures) ∙ ap (sort_by_words c.begins_blank.result) (sym c.as_slice.ensures.value) in
     entry-faulty o earlier c.args.goes_on c.args.text.now c.in_ok-end.end.rest.now _ _ c.in_ok-end.end.is_ended c.in_ok-end.end.is_open read
     c.in_ok-check_end.ensures.ok (fault_of c.in_err-take_words.field-0.0)
@@ -37,12 +37,12 @@ pub returns-clause-ok : goal.returns-clause-ok
 returns-clause-ok c = λ o earlier known line.
     let read = subst (λ before. EntryRead c.args.text.now before c.read_entry.new.words.items c.in_ok-end.end.lines (outcome_of c.in_ok-end.end.is_ended c.in_ok-end.end.is_open c.in_ok-end.end.rest.now))
     c.clear.ensures.items c.in_ok-end.ensures.ok in
-    let sort : sort_of (ended read.pieces) ≡ sort_by_words c.begins_blank.result c.as_slice.result.now =
-    same_sort c.args.text.now read.pieces c.read_entry.new.words.items _ read.reads read.words
+    let sort : sort_of (ended read.tokens) ≡ sort_by_words c.begins_blank.result c.as_slice.result.now =
+    same_sort c.args.text.now read.tokens c.read_entry.new.words.items _ read.reads read.words
     ∙ ap (λ b. sort_by_words b c.read_entry.new.words.items) (sym c.begins_blank.ensures) ∙ ap (sort_by_words c.begins_blank.result) (sym c.as_slice.ensures.value) in
-    let done = c.in_ok-take_words.ensures.ok o earlier (ended read.pieces) known sort in
+    let done = c.in_ok-take_words.ensures.ok o earlier (ended read.tokens) known sort in
     record {
-      entry = ended read.pieces;
+      entry = ended read.tokens;
       taken = done.taken;
       known = done.known;
       line_is = ap (λ n. n + c.in_ok-end.end.lines) (c.in_ok-take_words.ensures.line ∙ line)
