@@ -5,7 +5,7 @@ use Rattle.std.specs.Prelude.{fold}
 use mathlib.Core.Bool.{xor}
 use Rattle.std.specs.List.{cons_option}
 use Rattle.dns_spec.specs.Names.{Octets}
-use Rattle.dns_spec.specs.ZoneText.{Token, blank, comment, word, quoted, opening, closing, line_end, token_front, TokensThen, parenthesis, parentheses, is_line_end, open_after, before_first, cut_entries, take_turns}
+use Rattle.dns_spec.specs.ZoneText.{Token, blank, comment, word, quoted_string, opening, closing, line_end, token_front, TokensThen, parenthesis, parentheses, is_line_end, open_after, before_first, cut_entries, take_turns}
 use Rattle.dns_master.specs.EntryForm.{Step, misplaced, over, onward, step, Outcome, ended, unended, wrong, Reads}
 
 step_code : Step → ℕ
@@ -44,7 +44,7 @@ unfolding step_code step_open xor
 goes b blank now e = same_open b now blank e refl refl (λ marks. refl)
 goes b comment now e = same_open b now comment e refl refl (λ marks. refl)
 goes b (word raw) now e = same_open b now (word raw) e refl refl (λ marks. refl)
-goes b (quoted raw) now e = same_open b now (quoted raw) e refl refl (λ marks. refl)
+goes b (quoted_string raw) now e = same_open b now (quoted_string raw) e refl refl (λ marks. refl)
 goes true opening now e = absurd (differ misplaced (onward now) refl e)
 goes false opening now e = record { no_end = refl; opens = ap step_open e; turns = λ marks. ap (λ x. take_turns x marks) (ap step_open e) }
 goes true closing now e = record { no_end = refl; opens = ap step_open e; turns = λ marks. ap (λ x. take_turns x marks) (ap step_open e) }
@@ -62,7 +62,7 @@ unfolding step_code
 ends b blank e = absurd (differ (onward b) over refl e)
 ends b comment e = absurd (differ (onward b) over refl e)
 ends b (word raw) e = absurd (differ (onward b) over refl e)
-ends b (quoted raw) e = absurd (differ (onward b) over refl e)
+ends b (quoted_string raw) e = absurd (differ (onward b) over refl e)
 ends true opening e = absurd (differ misplaced over refl e)
 ends false opening e = absurd (differ (onward true) over refl e)
 ends true closing e = absurd (differ (onward false) over refl e)
@@ -80,7 +80,7 @@ unfolding step_code xor
 misses b blank e = absurd (differ (onward b) misplaced refl e)
 misses b comment e = absurd (differ (onward b) misplaced refl e)
 misses b (word raw) e = absurd (differ (onward b) misplaced refl e)
-misses b (quoted raw) e = absurd (differ (onward b) misplaced refl e)
+misses b (quoted_string raw) e = absurd (differ (onward b) misplaced refl e)
 misses true opening e = record { no_end = refl; turns = λ marks. refl }
 misses false opening e = absurd (differ (onward true) misplaced refl e)
 misses true closing e = absurd (differ (onward false) misplaced refl e)

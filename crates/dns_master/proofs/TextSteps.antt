@@ -7,7 +7,7 @@ use Rattle.std.specs.List.{flat_map, list_any}
 use Rattle.dns_spec.specs.Names.{Octets, DomainName}
 use Rattle.dns_spec.specs.DataText.{Word}
 use Rattle.dns_spec.specs.Records.{ResourceRecord}
-use Rattle.dns_spec.specs.ZoneText.{Token, quoted, line_end, Entry, ended, token_front, TokensThen, is_blank, is_blank_token, begins_blank, closed, line_feed_front, word_length, string_length, cut_entries, with_end, is_open_at_end, take_turns, parentheses, whole_text, extent_by, stop_fault, stop_at, Extent, beginning, in_string, in_token}
+use Rattle.dns_spec.specs.ZoneText.{Token, quoted_string, line_end, Entry, ended, token_front, TokensThen, is_blank, is_blank_token, begins_blank, closed, line_feed_front, word_length, string_length, cut_entries, with_end, is_open_at_end, take_turns, parentheses, whole_text, extent_by, stop_fault, stop_at, Extent, beginning, in_string, in_token}
 use Rattle.dns_spec.specs.FileFaults.{bad_parenthesis, too_long, FileFault}
 use Rattle.dns_spec.specs.Meaning.{EntryMeaning, faulty, gives, Meaning, records, fault_at, after, line_after, SortGives, sort_of, sort_by_words, EntryGives, EntriesMean}
 use Rattle.dns_spec.proofs.TextTokens.{has_tokens, front-shorter}
@@ -150,7 +150,7 @@ choose false b x y f g = g refl
 closed-blank : (b : Bool) (raw text : Octets) → b ≡ false → FirstBlank b (closed raw text)
 unfolding FirstBlank
 closed-blank b raw [] h = h
-closed-blank b raw (o ∷ text) h = choose (o == 34) b (Some (quoted raw, text)) None (λ _. sym h) (λ _. h)
+closed-blank b raw (o ∷ text) h = choose (o == 34) b (Some (quoted_string raw, text)) None (λ _. sym h) (λ _. h)
 
 line_feed-blank : (b : Bool) (text : Octets) → b ≡ false → FirstBlank b (line_feed_front text)
 unfolding FirstBlank

@@ -4,7 +4,7 @@ use Rattle.std.specs.Prelude.{◌≡◌, ℕ, Bool, true, false, List, [], ◌�
 use Rattle.std.specs.List.{filter, filter_map}
 use Rattle.dns_spec.specs.Names.{Octets, DomainName}
 use Rattle.dns_spec.specs.DataText.{Word}
-use Rattle.dns_spec.specs.ZoneText.{Token, blank, comment, word, quoted, opening, closing, line_end, Entry, token_front, TokensThen, cut_entries, with_end, is_line_end, word_of, extent_by}
+use Rattle.dns_spec.specs.ZoneText.{Token, blank, comment, word, quoted_string, opening, closing, line_end, Entry, token_front, TokensThen, cut_entries, with_end, is_line_end, word_of, extent_by}
 use Rattle.dns_spec.specs.Meaning.{Meaning, EntriesMean}
 
 -- How reading goes on after a token: not at all, since a parenthesis is misplaced, or since the entry has ended; or inside
@@ -18,7 +18,7 @@ abbrev pub step : Bool → Token → Step
 step is_open blank = onward is_open
 step is_open comment = onward is_open
 step is_open (word raw) = onward is_open
-step is_open (quoted raw) = onward is_open
+step is_open (quoted_string raw) = onward is_open
 step is_open opening = if is_open then misplaced else onward true
 step is_open closing = if is_open then onward false else misplaced
 step is_open line_end = if is_open then onward true else over

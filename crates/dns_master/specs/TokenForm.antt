@@ -2,7 +2,7 @@
 use Rattle.std.specs.Prelude.{◌≡◌, ℕ, Bool, Option, Some, None}
 use Rattle.std.specs.Borrow.{Bor}
 use Rattle.dns_spec.specs.Names.{Octets}
-use Rattle.dns_spec.specs.ZoneText.{blank, comment, word, quoted, opening, closing, line_end, is_word_octet, is_string_octet}
+use Rattle.dns_spec.specs.ZoneText.{blank, comment, word, quoted_string, opening, closing, line_end, is_word_octet, is_string_octet}
 use Rattle.dns_spec.specs.ZoneText as text
 use Rattle.dns_master.specs.declared.run.Run.{Run}
 use Rattle.dns_master.specs.declared.run.Run.TheVariants.{Word as WordRun, String as StringRun}
@@ -18,7 +18,7 @@ abbrev pub shown_token : Token → text.Token
 shown_token Blank = blank
 shown_token Comment = comment
 shown_token (Word raw) = word raw.now
-shown_token (Quoted raw) = quoted raw.now
+shown_token (Quoted raw) = quoted_string raw.now
 shown_token Opening = opening
 shown_token Closing = closing
 shown_token LineEnd = line_end

@@ -1,7 +1,8 @@
 //! Runs of octets: how far a word, a string, a blank or a comment goes (RFC 1035 5.1).
 ghost use Rattle.std.specs.Prelude.{◌≡◌, ◌==◌, ◌≤◌, not, length, drop};
 ghost use Rattle.std.specs.List.{prefix_len};
-ghost use Rattle.dns_spec.specs.ZoneText.{is_blank, is_word_octet, is_string_octet, digits_after, escape_after, run_length};
+ghost use Rattle.dns_spec.specs.ZoneText.{is_blank, is_word_octet, is_string_octet, run_length};
+ghost use Rattle.dns_spec.proofs.Escapes.{counted_digits, counted_escape};
 ghost use Rattle.dns_master.specs.TokenForm.{by_itself};
 
 /// What a run is made of, beside escapes.
@@ -33,12 +34,12 @@ impl Run {
         let mut rest = text;
         'run: while let Some((first, others)) = rest.split_first() {
             if *first == b'\\' {
-                let after = escape_after(others);
-                if after == 0 {
+                let escape = escape_length(others);
+                if escape == 0 {
                     break;
                 }
-                length += 1 + after;
-                rest = others.split_at(after).1;
+                length += 1 + escape;
+                rest = others.split_at(escape).1;
             } else {
                 if !self.has(*first) {
                     break;
@@ -65,15 +66,15 @@ fn is_string_octet(octet: u8) -> bool
 
 // How many octets after a backslash belong to its escape: one that is printable and no digit, or three digits up to 255.
 // 0 where it begins no escape.
-fn escape_after(text: &[u8]) -> usize
-    ensures value { result ≡ escape_after text.now }
+fn escape_length(text: &[u8]) -> usize
+    ensures value { result ≡ counted_escape text.now }
     ensures bound { result ≤ length text.now }
 {
     let Some(first) = text.first() else {
         return 0;
     };
     if first.is_ascii_digit() {
-        return digits_after(text);
+        return digits_length(text);
     }
     if *first >= b' ' && *first <= b'~' {
         1
@@ -82,8 +83,8 @@ fn escape_after(text: &[u8]) -> usize
     }
 }
 
-fn digits_after(text: &[u8]) -> usize
-    ensures value { result ≡ digits_after text.now }
+fn digits_length(text: &[u8]) -> usize
+    ensures value { result ≡ counted_digits text.now }
     ensures bound { result ≤ length text.now }
 {
     let Some(digits) = text.first_chunk::<3>() else {

@@ -1,5 +1,5 @@
 //! The tokens that the text of a zone file is made of (RFC 1035 5.1).
-ghost use Rattle.dns_spec.specs.ZoneText.{token_front, quoted_front, word_front, line_feed_front};
+ghost use Rattle.dns_spec.specs.ZoneText.{token_front, quoted_front, unquoted_front, line_feed_front};
 ghost use Rattle.dns_master.specs.TokenForm.{Begins};
 
 use crate::run::{Run, after_blank, after_comment};
@@ -46,7 +46,7 @@ fn first_quoted(text: &[u8]) -> Option<(Token<'_>, &[u8])>
 }
 
 fn first_word(text: &[u8]) -> Option<(Token<'_>, &[u8])>
-    ensures { Begins result (word_front text.now) }
+    ensures { Begins result (unquoted_front text.now) }
 {
     let length = Run::Word.length(text);
     if length == 0 {

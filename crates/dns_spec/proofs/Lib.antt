@@ -45,6 +45,7 @@ mod ReadingRows
 mod TextRows
 mod TypeRows
 mod DataRows
+pub mod Escapes
 pub mod TextTokens
 mod WordRows
 pub mod ReadWords
@@ -52,6 +53,7 @@ pub mod PrintedLines
 pub mod ReadTexts
 pub mod PrintedMeaning
 pub mod PrintedZone
+mod TokenRows
 mod MeaningRows
 mod FileRows
 mod LimitRows

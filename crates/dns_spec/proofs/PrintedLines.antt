@@ -10,7 +10,7 @@ use Rattle.dns_spec.specs.TypeText.{numbered_type, type_text}
 use Rattle.dns_spec.specs.DataText.{Word}
 use Rattle.dns_spec.specs.WrittenText.{plain, word_text, written_words, data_text, is_bare, stands_alone}
 use Rattle.dns_spec.specs.Records.{ResourceRecord}
-use Rattle.dns_spec.specs.ZoneText.{Token, blank, word, quoted, line_end, is_blank, TokensThen, parenthesis, before_first, cut_entries, parentheses, word_of}
+use Rattle.dns_spec.specs.ZoneText.{Token, blank, word, quoted_string, line_end, is_blank, TokensThen, parenthesis, before_first, cut_entries, parentheses, word_of}
 use Rattle.dns_spec.specs.ZonePrinted.{IsReadRecord, record_line}
 use Rattle.dns_spec.proofs.SortedOnce.{Each}
 use Rattle.dns_spec.proofs.BareWords.{Bare, bare_append, bare_decimal}
@@ -150,7 +150,7 @@ cut_word w ps e es cut = by w.raw w.is_quoted
   where
     by : (raw : Octets) (q : Bool)
         → cut_entries false (word_token (record { raw = raw; is_quoted = q }) ∷ ps) ≡ (word_token (record { raw = raw; is_quoted = q }) ∷ e) ∷ es
-    by raw true = ap (before_first (quoted raw)) cut
+    by raw true = ap (before_first (quoted_string raw)) cut
     by raw false = ap (before_first (word raw)) cut
 
 cut_words : (ws : List Word) (ps : List Token) → cut_entries false (words_tokens ws ++ ps) ≡ words_tokens ws ∷ cut_entries false ps

@@ -1,13 +1,14 @@
 -- The words and strings in a text are octets below 256: what stands in them by itself, and their escapes, are printable.
-use Rattle.std.proofs.Common.{◌≡◌, ℕ, zero, suc, ◌+◌, ◌<◌, ◌⊎◌, inl, inr, Bool, true, false, cond, not, ◌&&◌, ◌||◌, ◌==◌, nat_le, nat_lt, Option, Some, None, List, [], ◌∷◌, take, drop, refl, sym, subst, arith, codes, filter_map}
+use Rattle.std.proofs.Common.{◌≡◌, ℕ, zero, suc, ◌+◌, ◌<◌, ◌⊎◌, inl, inr, Bool, true, false, cond, not, ◌&&◌, ◌||◌, ◌==◌, nat_le, nat_lt, Option, Some, None, List, [], ◌∷◌, take, drop, refl, sym, ◌∙◌, subst, arith, codes, filter_map}
 use Rattle.std.proofs.lemmas.Bool.{and_parts, eqb-true, leb-true, or_cases}
 use Rattle.std.proofs.lemmas.Option.{none-some, same_Some}
 use Rattle.std.specs.List.{list_any}
 use Rattle.std.specs.Char.{is_ascii_graphic, is_ascii_digit}
 use Rattle.dns_spec.specs.Names.{Octets}
-use Rattle.dns_spec.specs.NameText.{three_digits_value}
-use Rattle.dns_spec.specs.ZoneText.{most_octets, Token, blank, comment, word, quoted, opening, closing, line_end, is_printable, is_blank, is_word_octet, is_string_octet, digits_after, escape_after, escape_left, unit_left, run_length, word_length, string_length, closed, quoted_front, word_front, line_feed_front, token_front, TokensThen, is_line_end, open_after, before_first, cut_entries, Entry, with_end, Entries, word_of, entry_words, Extent, extent_of}
+use Rattle.dns_spec.specs.NameText.{three_digits_value, is_printable}
+use Rattle.dns_spec.specs.ZoneText.{most_octets, Token, blank, comment, word, quoted_string, opening, closing, line_end, is_blank, is_word_octet, is_string_octet, escape_length, escape_left, unit_left, run_length, word_length, string_length, closed, quoted_front, unquoted_front, line_feed_front, token_front, TokensThen, is_line_end, open_after, before_first, cut_entries, Entry, with_end, Entries, word_of, entry_words, Extent, extent_of}
 use Rattle.dns_spec.proofs.SortedOnce.{Each}
+use Rattle.dns_spec.proofs.Escapes.{counted_digits, counted_escape, escape-counted}
 use Rattle.dns_spec.proofs.ReadOctets.{Octet, SmallWord}
 
 range_small : (low high o : ℕ) → high < 256 → (nat_le low o && nat_le o high) ≡ true → Octet o
@@ -25,7 +26,7 @@ string_octet_small o e = go (or_cases (is_printable o) (o == 9) (and_parts (is_p
     go (inr tab) = let is = eqb-true o 9 tab in omega (arith, is)
 
 -- the octets of an escape
-digits_small : (text : Octets) → Each Octet (take (digits_after text) text)
+digits_small : (text : Octets) → Each Octet (take (counted_digits text) text)
 digits_small [] = tt
 digits_small (a ∷ []) = tt
 digits_small (a ∷ b ∷ []) = tt
@@ -40,21 +41,21 @@ digits_small (a ∷ b ∷ c ∷ text) = go (is_ascii_digit a && is_ascii_digit b
         let both = and_parts (is_ascii_digit a) (is_ascii_digit b) third.0 in
         (range_small 48 57 a (omega arith) both.0, (range_small 48 57 b (omega arith) both.1, (range_small 48 57 c (omega arith) third.1, tt)))
 
-escape_small : (text : Octets) → Each Octet (take (escape_after text) text)
+escape_small : (text : Octets) → Each Octet (take (counted_escape text) text)
 escape_small [] = tt
 escape_small (a ∷ text) = go (is_ascii_digit a) (is_printable a) refl
   where
-    go : (d p : Bool) → is_printable a ≡ p → Each Octet (take (cond d (digits_after (a ∷ text)) (cond p 1 0)) (a ∷ text))
+    go : (d p : Bool) → is_printable a ≡ p → Each Octet (take (cond d (counted_digits (a ∷ text)) (cond p 1 0)) (a ∷ text))
     go true p e = digits_small (a ∷ text)
     go false true e = (range_small 32 126 a (omega arith) e, tt)
     go false false e = tt
 
 escape_left_small : (text : Octets) (k : ℕ) → escape_left text ≡ Some k → Each Octet (take k text)
-escape_left_small text k e = go (escape_after text == 0) e
+escape_left_small text k e = go (escape_length text == 0) e
   where
-    go : (t : Bool) → cond t None (Some (escape_after text)) ≡ Some k → Each Octet (take k text)
+    go : (t : Bool) → cond t None (Some (escape_length text)) ≡ Some k → Each Octet (take k text)
     go true e = absurd (none-some k e)
-    go false e = subst (λ n. Each Octet (take n text)) (same_Some (escape_after text) k e) (escape_small text)
+    go false e = subst (λ n. Each Octet (take n text)) (sym (escape-counted text) ∙ same_Some (escape_length text) k e) (escape_small text)
 
 unit_small : (p : ℕ → Bool) → ((o : ℕ) → p o ≡ true → Octet o) → (o : ℕ) (text : Octets) (k : ℕ) → unit_left p o text ≡ Some k → Octet o × Each Octet (take k text)
 unit_small p small o text k e = go (o == 92) (p o) refl refl e
@@ -86,7 +87,7 @@ abbrev pub SmallToken : Token → Type 0
 SmallToken blank = Unit {0}
 SmallToken comment = Unit {0}
 SmallToken (word raw) = Each Octet raw
-SmallToken (quoted raw) = Each Octet raw
+SmallToken (quoted_string raw) = Each Octet raw
 SmallToken opening = Unit {0}
 SmallToken closing = Unit {0}
 SmallToken line_end = Unit {0}
@@ -101,7 +102,7 @@ front_by false x y h k = k
 
 closed_small : (raw text : Octets) → Each Octet raw → Front (closed raw text)
 closed_small raw [] small = tt
-closed_small raw (o ∷ text) small = front_by (o == 34) (Some (quoted raw, text)) None small tt
+closed_small raw (o ∷ text) small = front_by (o == 34) (Some (quoted_string raw, text)) None small tt
 
 line_feed_small : (text : Octets) → Front (line_feed_front text)
 line_feed_small [] = tt
@@ -110,7 +111,7 @@ line_feed_small (o ∷ text) = front_by (o == 10) (Some (line_end, text)) None t
 quoted_small : (text : Octets) → Front (quoted_front text)
 quoted_small text = closed_small (take (string_length text) text) (drop (string_length text) text) (run_small is_string_octet string_octet_small 0 text tt)
 
-word_small : (text : Octets) → Front (word_front text)
+word_small : (text : Octets) → Front (unquoted_front text)
 word_small text = front_by (word_length text == 0) None _ tt (run_small is_word_octet word_octet_small 0 text tt)
 
 front_small : (text : Octets) → Front (token_front text)
@@ -122,7 +123,7 @@ front_small (o ∷ text) =
     (front_by (o == 40) _ _ tt
     (front_by (o == 41) _ _ tt
     (front_by (o == 10) _ _ tt
-    (front_by (o == 13) (line_feed_front text) (word_front (o ∷ text)) (line_feed_small text) (word_small (o ∷ text))))))))
+    (front_by (o == 13) (line_feed_front text) (unquoted_front (o ∷ text)) (line_feed_small text) (word_small (o ∷ text))))))))
 
 tokens_small : (text : Octets) (ps : List Token) (rest : Octets) → TokensThen text ps rest → Each SmallToken ps
 tokens_small text [] rest h = tt
@@ -162,7 +163,7 @@ words_of_small [] small = tt
 words_of_small (blank ∷ ps) small = words_of_small ps small.1
 words_of_small (comment ∷ ps) small = words_of_small ps small.1
 words_of_small (word raw ∷ ps) small = (small.0, words_of_small ps small.1)
-words_of_small (quoted raw ∷ ps) small = (small.0, words_of_small ps small.1)
+words_of_small (quoted_string raw ∷ ps) small = (small.0, words_of_small ps small.1)
 words_of_small (opening ∷ ps) small = words_of_small ps small.1
 words_of_small (closing ∷ ps) small = words_of_small ps small.1
 words_of_small (line_end ∷ ps) small = words_of_small ps small.1

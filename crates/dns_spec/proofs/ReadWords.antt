@@ -7,7 +7,7 @@ use Rattle.std.specs.List.{prefix_len}
 use Rattle.dns_spec.specs.Names.{Octets}
 use Rattle.dns_spec.specs.DataText.{Word}
 use Rattle.dns_spec.specs.WrittenText.{word_text, is_unbroken, is_bare, stands_alone}
-use Rattle.dns_spec.specs.ZoneText.{Token, blank, word, quoted, is_blank, is_word_octet, is_string_octet, run_length, word_length, string_length, closed, word_front, token_front}
+use Rattle.dns_spec.specs.ZoneText.{Token, blank, word, quoted_string, is_blank, is_word_octet, is_string_octet, run_length, word_length, string_length, closed, unquoted_front, token_front}
 use Rattle.dns_spec.proofs.WordRuns.{Runs}
 use Rattle.dns_spec.proofs.StandingWords.{TakenWhole}
 
@@ -21,19 +21,19 @@ apart o k begins none = elim (cases_Bool (o == k)) [
   | inr other ↦ other
 ]
 
-word_reached : (o : ℕ) (text : Octets) → begins_word o ≡ true → token_front (o ∷ text) ≡ word_front (o ∷ text)
+word_reached : (o : ℕ) (text : Octets) → begins_word o ≡ true → token_front (o ∷ text) ≡ unquoted_front (o ∷ text)
 word_reached o text begins =
     rw (apart o 32 begins refl, apart o 9 begins refl, apart o 59 begins refl, apart o 34 begins refl, apart o 40 begins refl, apart o 41 begins refl, apart o 10 begins refl, apart o 13 begins refl) refl
 
 not_zero : (k : ℕ) → (suc k == 0) ≡ false
 not_zero k = false_from_ne_true (suc k == 0) (λ h. absurd (omega (arith, eqb-true (suc k) 0 h)))
 
-front_taken : (n : ℕ) (text : Octets) → word_length text ≡ suc n → word_front text ≡ Some (word (take (suc n) text), drop (suc n) text)
+front_taken : (n : ℕ) (text : Octets) → word_length text ≡ suc n → unquoted_front text ≡ Some (word (take (suc n) text), drop (suc n) text)
 front_taken n text e = ap (λ k. if k == 0 then None else Some (word (take k text), drop k text)) e ∙ rw (not_zero n) refl
 
 -- the token of a word
 abbrev pub word_token : Word → Token
-word_token w = if w.is_quoted then quoted w.raw else word w.raw
+word_token w = if w.is_quoted then quoted_string w.raw else word w.raw
 
 bare_read : (raw : Octets) (c : ℕ) (rest : Octets) → nat_lt 0 (length raw) ≡ true → is_unbroken is_bare false raw ≡ true → Runs is_word_octet raw
     → word_length (c ∷ rest) ≡ 0 → token_front (raw ++ c ∷ rest) ≡ Some (word raw, c ∷ rest)
@@ -46,7 +46,7 @@ bare_read (o ∷ raw) c rest some unbroken whole ends =
     ∙ ap (λ x. Some (word x, drop (length (o ∷ raw)) text)) (take-append_seam (o ∷ raw) (c ∷ rest))
     ∙ ap (λ x. Some (word (o ∷ raw), x)) (drop-append_seam (o ∷ raw) (c ∷ rest))
 
-string_read : (raw rest : Octets) → Runs is_string_octet raw → token_front (34 ∷ (raw ++ 34 ∷ rest)) ≡ Some (quoted raw, rest)
+string_read : (raw rest : Octets) → Runs is_string_octet raw → token_front (34 ∷ (raw ++ 34 ∷ rest)) ≡ Some (quoted_string raw, rest)
 unfolding run_length
 string_read raw rest whole =
     ap (λ k. closed (take k text) (drop k text)) long

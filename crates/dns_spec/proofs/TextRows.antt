@@ -1,7 +1,7 @@
 -- Names as they are written, computed from the definitions.
-use Rattle.std.specs.Prelude.{◌≡◌, [], ◌∷◌, codes}
+use Rattle.std.specs.Prelude.{◌≡◌, [], ◌∷◌, codes, Some, None}
 use mathlib.Core.Path.{refl}
-use Rattle.dns_spec.specs.NameText.{octet_text, name_text}
+use Rattle.dns_spec.specs.NameText.{escape_front, octet_text, name_text}
 use Rattle.dns_spec.proofs.Examples.{dotted}
 
 server : name_text (dotted (codes "ns.example")) ≡ codes "ns.example."
@@ -45,3 +45,16 @@ by_digits = refl
 digit_after : name_text ((9 ∷ 49 ∷ []) ∷ []) ≡ codes "\\0091."
 unfolding octet_text
 digit_after = refl
+
+-- escapes, after their backslash: one octet, three digits, three digits past 255, and two digits
+escaped_dot : escape_front (codes ".b") ≡ Some (46, codes "b")
+escaped_dot = refl
+
+escaped_number : escape_front (codes "0461") ≡ Some (46, codes "1")
+escaped_number = refl
+
+number_past_255 : escape_front (codes "256") ≡ None
+number_past_255 = refl
+
+two_digits_only : escape_front (codes "04b") ≡ None
+two_digits_only = refl

@@ -5,7 +5,7 @@ use Rattle.std.proofs.lemmas.List.{length-drop}
 use Rattle.std.proofs.lemmas.Bool.{eqb-true, false_from_ne_true}
 use Rattle.std.specs.List.{prefix_len}
 use Rattle.dns_spec.specs.Names.{Octets}
-use Rattle.dns_spec.specs.ZoneText.{Token, blank, comment, word, quoted, opening, closing, line_end, is_blank, string_length, word_length, closed, quoted_front, line_feed_front, token_front, TokensThen}
+use Rattle.dns_spec.specs.ZoneText.{Token, blank, comment, word, quoted_string, opening, closing, line_end, is_blank, string_length, word_length, closed, quoted_front, line_feed_front, token_front, TokensThen}
 
 -- what comes after the token is shorter than so many octets
 Shorter : ℕ → Option (Token × Octets) → Type 0
@@ -22,7 +22,7 @@ dropped k n text h = let e : length (drop k text) ≡ length text - k = length-d
 closed-shorter : (n : ℕ) (raw text : Octets) → length text < n → Shorter n (closed raw text)
 unfolding Shorter
 closed-shorter n raw [] h = tt
-closed-shorter n raw (o ∷ text) h = either (o == 34) n (Some (quoted raw, text)) None (omega (arith, h)) tt
+closed-shorter n raw (o ∷ text) h = either (o == 34) n (Some (quoted_string raw, text)) None (omega (arith, h)) tt
 
 line_feed-shorter : (n : ℕ) (text : Octets) → length text < n → Shorter n (line_feed_front text)
 unfolding Shorter

@@ -1,7 +1,8 @@
 -- What a reader learns here: which name a word of a zone file spells, and how a name is written.
-use Rattle.std.specs.Prelude.{◌≡◌, ◌≢◌, ℕ, ◌+◌, ◌-◌, ◌*◌, ◌/◌, ◌%◌, ◌<◌, ◌≤◌, ◌⊎◌, Bool, ◌==◌, if◌then◌else◌, [], ◌∷◌, ◌++◌, codes, IsTrue}
+use Rattle.std.specs.Prelude.{◌≡◌, ◌≢◌, ℕ, ◌+◌, ◌-◌, ◌*◌, ◌/◌, ◌%◌, ◌<◌, ◌≤◌, ◌⊎◌, Bool, ◌&&◌, ◌==◌, nat_le, nat_lt, if◌then◌else◌, [], ◌∷◌, ◌++◌, codes, IsTrue}
+use Rattle.std.specs.Prelude.{Option, None, Some}
 use Rattle.std.specs.List.{flat_map, list_any}
-use Rattle.std.specs.Char.{is_ascii_graphic, IsAsciiDigit, IsNotAsciiDigit}
+use Rattle.std.specs.Char.{is_ascii_graphic, is_ascii_digit, IsAsciiDigit, IsNotAsciiDigit}
 use Rattle.dns_spec.specs.Names.{Octets, DomainName, is_name}
 
 -- the number that three decimal digits spell
@@ -16,6 +17,25 @@ SpellsOctet (e ∷ a ∷ []) x = (e ≡ 92) × (a ≡ x) × (32 ≤ a) × (a ≤
 SpellsOctet (e ∷ a ∷ b ∷ c ∷ []) x =
     (e ≡ 92) × IsAsciiDigit a × IsAsciiDigit b × IsAsciiDigit c × (three_digits_value a b c ≡ x) × (x < 256)
 SpellsOctet _ x = ⊥
+
+abbrev pub is_printable : ℕ → Bool
+is_printable o = nat_le 32 o && nat_le o 126
+
+-- three decimal digits up to 255 at the beginning of a text: the octet of that number, and the text after them
+abbrev pub digits_front : Octets → Option (ℕ × Octets)
+digits_front [] = None
+digits_front (a ∷ []) = None
+digits_front (a ∷ b ∷ []) = None
+digits_front (a ∷ b ∷ c ∷ text) =
+    if is_ascii_digit a && is_ascii_digit b && is_ascii_digit c && nat_lt (three_digits_value a b c) 256
+    then Some (three_digits_value a b c, text) else None
+
+-- RFC 1035 5.1: after a backslash, the octet that its escape stands for, and the text after that. One that is printable and
+-- no digit stands for itself, three digits for the octet of their number; else the backslash begins no escape.
+abbrev pub escape_front : Octets → Option (ℕ × Octets)
+escape_front [] = None
+escape_front (a ∷ text) =
+    if is_ascii_digit a then digits_front (a ∷ text) else if is_printable a then Some (a, text) else None
 
 -- the text spells the octets of a label, one after another, and then comes `rest`
 abbrev pub LabelThen : Octets → Octets → Octets → Type 0

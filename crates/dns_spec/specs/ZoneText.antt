@@ -1,13 +1,13 @@
 -- What a reader learns here: of which tokens the text of a zone file is made, which entries it has, and where it is at
 -- fault before any word of it is read.
-use Rattle.std.specs.Prelude.{◌≡◌, ℕ, zero, suc, ◌+◌, Bool, true, false, ◌&&◌, ◌||◌, not, List, [], ◌∷◌, length, take, drop, nat_le, nat_lt, ◌==◌, if◌then◌else◌, codes, fold}
+use Rattle.std.specs.Prelude.{◌≡◌, ℕ, zero, suc, ◌+◌, ◌-◌, Bool, true, false, ◌&&◌, ◌||◌, not, List, [], ◌∷◌, length, take, drop, nat_lt, ◌==◌, if◌then◌else◌, codes, fold}
 use Rattle.std.specs.Prelude.{Option, None, Some}
 use Rattle.std.specs.Option.{unwrap_or}
 use Rattle.std.specs.Bool.{xor}
 use Rattle.std.specs.List.{list_any, prefix_len, filter_map}
 use Rattle.std.specs.Char.{is_ascii_graphic, is_ascii_digit}
 use Rattle.dns_spec.specs.Names.{Octets}
-use Rattle.dns_spec.specs.NameText.{three_digits_value}
+use Rattle.dns_spec.specs.NameText.{is_printable, escape_front}
 use Rattle.dns_spec.specs.DataText.{Word}
 use Rattle.dns_spec.specs.FileFaults.{FileFault, bad_octet, bad_escape, unended_string, bad_parenthesis, too_long}
 
@@ -20,13 +20,10 @@ pub data Token : Type 0 where
   blank : Token
   comment : Token
   word : Octets → Token
-  quoted : Octets → Token
+  quoted_string : Octets → Token
   opening : Token
   closing : Token
   line_end : Token
-
-abbrev pub is_printable : ℕ → Bool
-is_printable o = nat_le 32 o && nat_le o 126
 
 abbrev pub is_blank : ℕ → Bool
 is_blank o = o == 32 || o == 9
@@ -39,22 +36,12 @@ is_word_octet o = is_ascii_graphic o && not (list_any (λ s. o == s) (codes "\"(
 abbrev pub is_string_octet : ℕ → Bool
 is_string_octet o = (is_printable o || o == 9) && not (list_any (λ s. o == s) (codes "\"\\"))
 
--- RFC 1035 5.1: how many octets after a backslash belong to its escape: one that is printable and no digit, or three
--- decimal digits up to 255. 0 where it begins no escape.
-abbrev pub digits_after : Octets → ℕ
-digits_after [] = 0
-digits_after (a ∷ []) = 0
-digits_after (a ∷ b ∷ []) = 0
-digits_after (a ∷ b ∷ c ∷ text) =
-    if is_ascii_digit a && is_ascii_digit b && is_ascii_digit c && nat_lt (three_digits_value a b c) 256 then 3 else 0
+-- how many octets after the backslash at hand belong to its escape, 0 where it begins none
+abbrev pub escape_length : Octets → ℕ
+escape_length text = elim (escape_front text) [ None ↦ 0 | Some r ↦ length text - length r.1 ]
 
-abbrev pub escape_after : Octets → ℕ
-escape_after [] = 0
-escape_after (a ∷ text) = if is_ascii_digit a then digits_after (a ∷ text) else if is_printable a then 1 else 0
-
--- After the backslash at hand: whether it begins an escape, and then how many octets of that are still to come.
 abbrev pub escape_left : Octets → Option ℕ
-escape_left text = if escape_after text == 0 then None else Some (escape_after text)
+escape_left text = if escape_length text == 0 then None else Some (escape_length text)
 
 -- Whether an octet goes on with a word or a string, which has such octets and escapes, and then how many octets of its escape
 -- are still to come.
@@ -80,13 +67,13 @@ string_length text = run_length is_string_octet 0 text
 -- after a quotation mark: the string up to the next one, and the text after that
 abbrev pub closed : Octets → Octets → Option (Token × Octets)
 closed raw [] = None
-closed raw (o ∷ text) = if o == 34 then Some (quoted raw, text) else None
+closed raw (o ∷ text) = if o == 34 then Some (quoted_string raw, text) else None
 
 abbrev pub quoted_front : Octets → Option (Token × Octets)
 quoted_front text = closed (take (string_length text) text) (drop (string_length text) text)
 
-abbrev pub word_front : Octets → Option (Token × Octets)
-word_front text =
+abbrev pub unquoted_front : Octets → Option (Token × Octets)
+unquoted_front text =
     if word_length text == 0 then None else Some (word (take (word_length text) text), drop (word_length text) text)
 
 -- after CR
@@ -106,7 +93,7 @@ token_front (o ∷ text) =
     else if o == 41 then Some (closing, text)
     else if o == 10 then Some (line_end, text)
     else if o == 13 then line_feed_front text
-    else word_front (o ∷ text)
+    else unquoted_front (o ∷ text)
 
 -- The text begins with these tokens, one after the other, and then comes `rest`.
 abbrev pub TokensThen : Octets → List Token → Octets → Type 0
@@ -118,7 +105,7 @@ abbrev pub parenthesis : Token → Option Bool
 parenthesis blank = None
 parenthesis comment = None
 parenthesis (word raw) = None
-parenthesis (quoted raw) = None
+parenthesis (quoted_string raw) = None
 parenthesis opening = Some true
 parenthesis closing = Some false
 parenthesis line_end = None
@@ -127,7 +114,7 @@ abbrev pub is_line_end : Token → Bool
 is_line_end blank = false
 is_line_end comment = false
 is_line_end (word raw) = false
-is_line_end (quoted raw) = false
+is_line_end (quoted_string raw) = false
 is_line_end opening = false
 is_line_end closing = false
 is_line_end line_end = true
@@ -256,7 +243,7 @@ abbrev pub word_of : Token → Option Word
 word_of blank = None
 word_of comment = None
 word_of (word raw) = Some (record { raw = raw; is_quoted = false })
-word_of (quoted raw) = Some (record { raw = raw; is_quoted = true })
+word_of (quoted_string raw) = Some (record { raw = raw; is_quoted = true })
 word_of opening = None
 word_of closing = None
 word_of line_end = None
@@ -269,7 +256,7 @@ abbrev pub is_blank_token : Token → Bool
 is_blank_token blank = true
 is_blank_token comment = false
 is_blank_token (word raw) = false
-is_blank_token (quoted raw) = false
+is_blank_token (quoted_string raw) = false
 is_blank_token opening = false
 is_blank_token closing = false
 is_blank_token line_end = false
