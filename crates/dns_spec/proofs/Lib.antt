@@ -46,6 +46,7 @@ mod TextRows
 mod TypeRows
 mod DataRows
 pub mod Escapes
+pub mod Beginnings
 pub mod TextTokens
 mod WordRows
 pub mod ReadWords
@@ -53,6 +54,7 @@ pub mod PrintedLines
 pub mod ReadTexts
 pub mod PrintedMeaning
 pub mod PrintedZone
+pub mod BeginningsMean
 mod TokenRows
 mod MeaningRows
 mod FileRows

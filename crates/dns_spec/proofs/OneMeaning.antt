@@ -114,7 +114,7 @@ entry_gives_once o earlier e a b =
     by_option (lexical_fault e) a b (sort_gives_once o earlier (sort_of e) a b) (λ code. given (faulty code) a b)
 
 -- what the entries mean from here, where this one gives that
-abbrev FromHere : DomainName → List Entry → Entry → List Entry → Meaning → EntryMeaning → Type 0
+abbrev pub FromHere : DomainName → List Entry → Entry → List Entry → Meaning → EntryMeaning → Type 0
 FromHere o earlier e es m answer =
     elim answer [
       | faulty code ↦ m ≡ fault_at code (line_after earlier)

@@ -28,7 +28,7 @@ word_reached o text begins =
 not_zero : (k : ℕ) → (suc k == 0) ≡ false
 not_zero k = false_from_ne_true (suc k == 0) (λ h. absurd (omega (arith, eqb-true (suc k) 0 h)))
 
-front_taken : (n : ℕ) (text : Octets) → word_length text ≡ suc n → unquoted_front text ≡ Some (word (take (suc n) text), drop (suc n) text)
+pub front_taken : (n : ℕ) (text : Octets) → word_length text ≡ suc n → unquoted_front text ≡ Some (word (take (suc n) text), drop (suc n) text)
 front_taken n text e = ap (λ k. if k == 0 then None else Some (word (take k text), drop k text)) e ∙ rw (not_zero n) refl
 
 -- the token of a word

@@ -14,7 +14,7 @@ use Rattle.dns_spec.specs.TypeText.{text_in_lower_case, NamesType}
 use Rattle.dns_spec.specs.DataText.{Word, Says}
 use Rattle.dns_spec.specs.Records.{ResourceRecord}
 use Rattle.dns_spec.specs.FileFaults.{FileFault, unknown_directive, directive_words, bad_owner, no_owner, bad_ttl, other_class, bad_type, no_ttl, bad_data, too_many_records}
-use Rattle.dns_spec.specs.ZoneText.{Entry, Entries, begins_with, is_line_end, begins_blank, entry_words, lexical_fault}
+use Rattle.dns_spec.specs.ZoneText.{Extent, extent_of, most_octets, Entry, EntriesOf, begins_with, is_line_end, begins_blank, entry_words, lexical_fault}
 
 -- RFC 2181 section 8: a TTL is at most 2^31 - 1 seconds
 abbrev pub most_ttl : ℕ
@@ -263,6 +263,11 @@ EntriesMean o earlier (e ∷ es) m =
       | gives rs ↦ (later : Meaning) × EntriesMean o (e ∷ earlier) es later × (m ≡ after rs later)
     ]
 
+-- What octets mean after the entries before them. They are all that is left of a text, or a beginning of it, which is read as
+-- one that goes on.
+abbrev pub OctetsMean : DomainName → List Entry → Extent → Octets → Meaning → Type 0
+OctetsMean o earlier extent octets m = (es : List Entry) × EntriesOf extent octets es × EntriesMean o earlier es m
+
 -- What a text means as the file of a zone with this origin (RFC 1035 section 5).
 abbrev pub Means : DomainName → Octets → Meaning → Type 0
-Means o text m = (es : List Entry) × Entries text es × EntriesMean o [] es m
+Means o text m = OctetsMean o [] (extent_of text) (take most_octets text) m

@@ -226,13 +226,17 @@ with_end extent rest [] = []
 with_end extent rest (ps ∷ []) = unended extent rest ps ∷ []
 with_end extent rest (ps ∷ qs ∷ es) = ended ps ∷ with_end extent rest (qs ∷ es)
 
--- The entries of a text, of which no more than its limit is looked at: its tokens up to where none begins, cut into entries.
-pub record Entries (text : Octets) (es : List Entry) : Type 0 where
+-- The entries of octets that are all of a text, or a beginning of one: their tokens up to where none begins, cut into entries.
+pub record EntriesOf (extent : Extent) (octets : Octets) (es : List Entry) : Type 0 where
   pub tokens : List Token
   pub rest : Octets
-  pub spelled : TokensThen (take most_octets text) tokens rest
+  pub spelled : TokensThen octets tokens rest
   pub at_end : token_front rest ≡ None
-  pub entries : es ≡ with_end (extent_of text) rest (cut_entries false tokens)
+  pub entries : es ≡ with_end extent rest (cut_entries false tokens)
+
+-- The entries of a text, of which no more than its limit is looked at.
+abbrev pub Entries : Octets → List Entry → Type 0
+Entries text es = EntriesOf (extent_of text) (take most_octets text) es
 
 -- The first fault of an entry by its place, before any word of it is read: `R04`, a parenthesis in a parenthesis or a close
 -- one without an open one; else what ends it.
