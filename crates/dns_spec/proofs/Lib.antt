@@ -55,6 +55,7 @@ pub mod ReadTexts
 pub mod PrintedMeaning
 pub mod PrintedZone
 pub mod BeginningsMean
+pub mod SomeMeaning
 mod TokenRows
 mod MeaningRows
 mod FileRows

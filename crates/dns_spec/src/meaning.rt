@@ -4,11 +4,16 @@ ghost use Rattle.std.specs.Prelude.{◌≡◌, ◌≢◌, ◌≤◌, ◌++◌, �
 ghost use Rattle.dns_spec.specs.Names.{Octets, DomainName};
 ghost use Rattle.dns_spec.specs.FileFaults.{FileFault, too_long};
 ghost use Rattle.dns_spec.specs.ZoneText.{most_octets, Extent, beginning, Entry};
-ghost use Rattle.dns_spec.specs.Meaning.{Meaning, fault_at, OctetsMean, Means};
+ghost use Rattle.dns_spec.specs.Meaning.{Meaning, Nothing, fault_at, OctetsMean, Means};
 
 /// A text means one thing: its records, or one fault (RFC 1035 section 5).
 pub fn text_has_one_meaning()
     ensures { (o : DomainName) (text : Octets) (m n : Meaning) → Means o text m → Means o text n → m ≡ n }
+{}
+
+/// No text is without a meaning.
+pub fn no_text_is_without_a_meaning()
+    ensures { (o : DomainName) (text : Octets) → Nothing (Means o text) → ⊥ }
 {}
 
 /// A fault that a beginning has so far, other than the limit's, is the fault of every text that goes on from it: an entry
