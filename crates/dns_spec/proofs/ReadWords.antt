@@ -1,9 +1,10 @@
 -- A word that is written, and something after it that ends it, begin with that word as a token.
-use Rattle.std.proofs.Common.{◌≡◌, ℕ, suc, inl, inr, Bool, true, false, ◌||◌, ◌==◌, Some, None, [], ◌∷◌, ◌++◌, length, take, drop, nat_lt, refl, sym, ◌∙◌, ap, arith, append_assoc}
+use Rattle.std.proofs.Common.{◌≡◌, ℕ, suc, inl, inr, Bool, true, false, ◌&&◌, ◌||◌, ◌==◌, Some, None, [], ◌∷◌, ◌++◌, length, take, drop, nat_lt, refl, sym, ◌∙◌, ap, arith, append_assoc}
 use Rattle.std.proofs.Math.Seq.{take-append_seam, drop-append_seam}
 use Rattle.std.proofs.lemmas.Bool.{true≢false, false≢true, cases_Bool, eqb-true, and_parts, false_from_ne_true}
 use Rattle.std.specs.Prelude.{if◌then◌else◌}
 use Rattle.std.specs.List.{prefix_len}
+use Rattle.std.specs.Char.{is_ascii_graphic}
 use Rattle.dns_spec.specs.Names.{Octets}
 use Rattle.dns_spec.specs.DataText.{Word}
 use Rattle.dns_spec.specs.WrittenText.{word_text, is_unbroken, is_bare, stands_alone}
@@ -35,13 +36,26 @@ front_taken n text e = ap (λ k. if k == 0 then None else Some (word (take k tex
 abbrev pub word_token : Word → Token
 word_token w = if w.is_quoted then quoted_string w.raw else word w.raw
 
-bare_read : (raw : Octets) (c : ℕ) (rest : Octets) → nat_lt 0 (length raw) ≡ true → is_unbroken is_bare false raw ≡ true → Runs is_word_octet raw
+first_begins : (o : ℕ) (raw : Octets) → is_unbroken is_bare (o ∷ raw) ≡ true → begins_word o ≡ true
+first_begins o [] h = go (o == 92) h
+  where
+    go : (slash : Bool) → is_bare o ≡ true → (slash || is_bare o) ≡ true
+    go true h = refl
+    go false h = h
+first_begins o (d ∷ raw) h = go (o == 92) h
+  where
+    go : (slash : Bool) → elim slash as (λ _. Bool) [ true ↦ is_ascii_graphic d && is_unbroken is_bare raw | false ↦ is_bare o && is_unbroken is_bare (d ∷ raw) ] ≡ true
+        → (slash || is_bare o) ≡ true
+    go true h = refl
+    go false h = (and_parts (is_bare o) _ h).0
+
+bare_read : (raw : Octets) (c : ℕ) (rest : Octets) → nat_lt 0 (length raw) ≡ true → is_unbroken is_bare raw ≡ true → Runs is_word_octet raw
     → word_length (c ∷ rest) ≡ 0 → token_front (raw ++ c ∷ rest) ≡ Some (word raw, c ∷ rest)
 bare_read [] c rest some unbroken whole ends = absurd (false≢true some)
 bare_read (o ∷ raw) c rest some unbroken whole ends =
     let text = (o ∷ raw) ++ c ∷ rest in
     let long : word_length text ≡ suc (length raw) = whole (c ∷ rest) ∙ omega (arith, ends) in
-    word_reached o (raw ++ c ∷ rest) (and_parts (begins_word o) _ unbroken).0
+    word_reached o (raw ++ c ∷ rest) (first_begins o raw unbroken)
     ∙ front_taken (length raw) text long
     ∙ ap (λ x. Some (word x, drop (length (o ∷ raw)) text)) (take-append_seam (o ∷ raw) (c ∷ rest))
     ∙ ap (λ x. Some (word (o ∷ raw), x)) (drop-append_seam (o ∷ raw) (c ∷ rest))
@@ -78,8 +92,8 @@ no_blank w rest alone = begin w.raw w.is_quoted alone
     begin raw true alone = refl
     begin [] false alone = absurd (false≢true alone)
     begin (o ∷ raw) false alone =
-        let unbroken = (and_parts (nat_lt 0 (length (o ∷ raw))) (is_unbroken is_bare false (o ∷ raw)) alone).1 in
-        let begins = (and_parts (begins_word o) _ unbroken).0 in
+        let unbroken = (and_parts (nat_lt 0 (length (o ∷ raw))) (is_unbroken is_bare (o ∷ raw)) alone).1 in
+        let begins = (first_begins o raw unbroken) in
         rw (apart o 32 begins refl, apart o 9 begins refl) refl
 
 -- a space, and something after it that is none

@@ -78,12 +78,12 @@ written_words t d = words_by (forms_of t (string_count 0 d)) d
 unfoldable pub data_text : ℕ → Octets → Octets
 data_text t d = join_with_byte 32 (map word_text (written_words t d))
 
--- RFC 1035 5.1: each octet of a text is one that p takes, or a printable one with a backslash before it; the flag says
--- whether one stands before the text
-abbrev pub is_unbroken : (ℕ → Bool) → Bool → Octets → Bool
-is_unbroken p escaped [] = not escaped
-is_unbroken p true (c ∷ text) = is_ascii_graphic c && is_unbroken p false text
-is_unbroken p false (c ∷ text) = (c == 92 || p c) && is_unbroken p (c == 92) text
+-- RFC 1035 5.1: a text is of octets that p takes, and of escapes: a backslash, which p doesn't take, with a printable octet
+abbrev pub is_unbroken : (ℕ → Bool) → Octets → Bool
+is_unbroken p [] = true
+is_unbroken p (c ∷ []) = p c
+is_unbroken p (c ∷ d ∷ text) =
+    elim (c == 92) [ true ↦ is_ascii_graphic d && is_unbroken p text | false ↦ p c && is_unbroken p (d ∷ text) ]
 
 -- RFC 1035 5.1: octets that by themselves neither end a word out of quotation marks nor escape another
 abbrev pub is_bare : ℕ → Bool
@@ -96,5 +96,5 @@ is_quotable c = nat_le 32 c && nat_le c 126 && not (list_any (λ s. c == s) (cod
 -- the text of a word is one word, with nothing in it that ends it
 abbrev pub stands_alone : Word → Bool
 stands_alone w =
-    if w.is_quoted then is_unbroken is_quotable false w.raw
-    else nat_lt 0 (length w.raw) && is_unbroken is_bare false w.raw
+    if w.is_quoted then is_unbroken is_quotable w.raw
+    else nat_lt 0 (length w.raw) && is_unbroken is_bare w.raw
