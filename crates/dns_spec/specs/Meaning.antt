@@ -1,7 +1,8 @@
--- What a reader learns here: which records the text of a zone file means, or which fault it has, and on which line.
+-- What a reader learns here: which records the text of a zone file means, or which fault it has,
+-- and on which line.
 --
--- What an entry takes over from those before it is found by looking back: `earlier` are the entries before it, the nearest
--- first.
+-- What an entry takes over from those before it is found by looking back: `earlier` are the entries
+-- before it, the nearest first.
 use Rattle.std.specs.Prelude.{◌≡◌, ℕ, ◌+◌, ◌≤◌, ◌⊎◌, Bool, true, false, ◌&&◌, ◌||◌, not, List, [], ◌∷◌, ◌++◌, length, take, drop, nat_le, ◌==◌, IsTrue, if◌then◌else◌, codes, decimal, MatchOption}
 use Rattle.std.specs.Prelude.{Option, None, Some}
 use Rattle.std.specs.Bool.{MatchBool}
@@ -33,8 +34,8 @@ pub data EntryMeaning : Type 0 where
 abbrev pub Nothing : {A : Type 0} → (A → Type 0) → Type 0
 Nothing {A} P = (v : A) → P v → ⊥
 
--- Faults by rising code, each with its condition: the entry has the lowest whose condition holds; where none does, it means
--- what `Faultless` says.
+-- Faults by rising code, each with its condition: the entry has the lowest whose condition holds;
+-- where none does, it means what `Faultless` says.
 abbrev pub Lowest : List (FileFault × Type 0) → (EntryMeaning → Type 0) → EntryMeaning → Type 0
 Lowest [] Faultless given = Faultless given
 Lowest ((fault, Condition) ∷ higher) Faultless given =
@@ -57,12 +58,14 @@ sort_by_words blank (w ∷ ws) =
     else if is_directive w then directive (text_in_lower_case w.raw) ws
     else owned w ws
 
--- An entry without words is nothing. One that begins with a blank is a record without an owner of its own; else one whose
--- first word begins with `$` is a directive; else the first word is the owner of a record.
+-- An entry without words is nothing. One that begins with a blank is a record without an owner of
+-- its own; else one whose first word begins with `$` is a directive; else the first word is the
+-- owner of a record.
 abbrev pub sort_of : Entry → Sort
 sort_of e = sort_by_words (begins_blank e.tokens) (entry_words e)
 
--- RFC 1035 5.1: after the owner come a TTL and a class, in either order, where they are stated; then the type and the data
+-- RFC 1035 5.1: after the owner come a TTL and a class, in either order, where they are stated;
+-- then the type and the data
 pub record Fields : Type 0 where
   pub ttl : Option Word
   pub class : Option Word
@@ -104,7 +107,8 @@ fields (w ∷ ws) =
     else if is_class_word w then ttl_after w ws
     else record { ttl = None; class = None; others = w ∷ ws }
 
--- the first word of a directive of this name; below it, the word that states an owner, and the one that states a TTL
+-- the first word of a directive of this name; below it, the word that states an owner, and the one
+-- that states a TTL
 abbrev pub directive_word : Octets → Sort → Option Word
 directive_word name no_words = None
 directive_word name (directive n []) = None
@@ -125,14 +129,19 @@ ttl_word (owned w ws) = (fields ws).ttl
 ttl_word (unowned ws) = (fields ws).ttl
 
 abbrev pub is_record : Entry → Bool
-is_record e = elim (sort_of e) [ no_words ↦ false | directive n ws ↦ false | owned w ws ↦ true | unowned ws ↦ true ]
+is_record e = elim (sort_of e) [
+  | no_words ↦ false
+  | directive n ws ↦ false
+  | owned w ws ↦ true
+  | unowned ws ↦ true
+]
 
 abbrev pub nearest : (Sort → Option Word) → List Entry → Option Word
 nearest word_of [] = None
 nearest word_of (e ∷ earlier) = option_or (word_of (sort_of e)) (nearest word_of earlier)
 
--- RFC 1035 5.1: the origin is that of the last `$ORIGIN` before, which is relative to the origin before it; else that of
--- the file
+-- RFC 1035 5.1: the origin is that of the last `$ORIGIN` before, which is relative to the origin
+-- before it; else that of the file
 abbrev pub OriginIs : DomainName → List Entry → DomainName → Type 0
 OriginIs o [] n = n ≡ o
 OriginIs o (e ∷ earlier) n =
@@ -141,30 +150,36 @@ OriginIs o (e ∷ earlier) n =
 
 -- an unquoted word spells a name, relative to the origin in force
 abbrev pub NameIs : DomainName → List Entry → Word → DomainName → Type 0
-NameIs o earlier w n = IsTrue (not w.is_quoted) × ((m : DomainName) × OriginIs o earlier m × SpellsName m w.raw n)
+NameIs o earlier w n =
+    IsTrue (not w.is_quoted) × ((m : DomainName) × OriginIs o earlier m × SpellsName m w.raw n)
 
--- RFC 1035 5.1: a record that doesn't state an owner has that of the nearest record before that states one
+-- RFC 1035 5.1: a record that doesn't state an owner has that of the nearest record before that
+-- states one
 abbrev pub OwnerBefore : DomainName → List Entry → DomainName → Type 0
 OwnerBefore o [] n = ⊥
-OwnerBefore o (e ∷ earlier) n = MatchOption (owner_word (sort_of e)) (OwnerBefore o earlier n) (λ w. NameIs o earlier w n)
+OwnerBefore o (e ∷ earlier) n =
+    MatchOption (owner_word (sort_of e)) (OwnerBefore o earlier n) (λ w. NameIs o earlier w n)
 
 -- a TTL in decimal, without zeros in front (in this product)
 abbrev pub TtlSays : Word → ℕ → Type 0
 TtlSays w n = IsTrue (not w.is_quoted) × (w.raw ≡ decimal n) × (n ≤ most_ttl)
 
--- RFC 2308 section 4: a record that doesn't state a TTL has that of the last `$TTL` before; without one, RFC 1035 5.1, the last
--- that a record before states
+-- RFC 2308 section 4: a record that doesn't state a TTL has that of the last `$TTL` before; without
+-- one, RFC 1035 5.1, the last that a record before states
 abbrev pub ttl_in_force : List Entry → Option Word → Option Word
 ttl_in_force earlier stated =
-    option_or stated (option_or (nearest (directive_word (codes "$ttl")) earlier) (nearest ttl_word earlier))
+    option_or stated
+    (option_or (nearest (directive_word (codes "$ttl")) earlier) (nearest ttl_word earlier))
 
 abbrev pub TtlIs : List Entry → Option Word → ℕ → Type 0
 TtlIs earlier stated n = MatchOption (ttl_in_force earlier stated) ⊥ (λ w. TtlSays w n)
 
--- All types but those that no zone has: 0, and those of questions and of what a message says of itself, RFC 6895 3.1; and,
--- in this product, the types of DNSSEC and DNAME.
+-- All types but those that no zone has: 0, and those of questions and of what a message says of
+-- itself, RFC 6895 3.1; and, in this product, the types of DNSSEC and DNAME.
 abbrev pub is_zone_type : ℕ → Bool
-is_zone_type t = not (t == 0 || (nat_le 128 t && nat_le t 255) || list_any (λ u. t == u) (39 ∷ 41 ∷ 43 ∷ 46 ∷ 47 ∷ 48 ∷ 50 ∷ 51 ∷ []))
+is_zone_type t =
+    not (t == 0 || (nat_le 128 t && nat_le t 255)
+    || list_any (λ u. t == u) (39 ∷ 41 ∷ 43 ∷ 46 ∷ 47 ∷ 48 ∷ 50 ∷ 51 ∷ []))
 
 -- the first of these words names the type
 abbrev pub TypeIs : List Word → ℕ → Type 0
@@ -177,7 +192,8 @@ DataIs o earlier ws d =
     (t : ℕ) × TypeIs ws t × ((m : DomainName) × OriginIs o earlier m × Says t (drop 1 ws) m d)
 
 -- What a record is: its owner in lower case, its TTL, type and data.
-pub record IsRecord (o : DomainName) (earlier : List Entry) (Owner : DomainName → Type 0) (f : Fields) (r : ResourceRecord) : Type 0 where
+pub record IsRecord (o : DomainName) (earlier : List Entry) (Owner : DomainName → Type 0)
+    (f : Fields) (r : ResourceRecord) : Type 0 where
   pub owner : (n : DomainName) × Owner n × (r.owner ≡ folded n)
   pub ttl : TtlIs earlier f.ttl r.ttl
   pub rtype : TypeIs f.others r.rtype
@@ -194,9 +210,11 @@ is_other_class (Some w) = not (is_class_in w)
 abbrev pub are_too_many : List Entry → Bool
 are_too_many earlier = nat_le most_records (length (filter is_record earlier))
 
--- The faults of a record: `R07`, its owner is no name, or `R08`, no record before has one; `R09`, its TTL; `R10`, its class;
--- `R11`, its type; `R12`, no TTL is known; `R13`, its data; `R14`, there are too many records.
-abbrev pub record_faults : DomainName → List Entry → FileFault → (DomainName → Type 0) → Fields → List (FileFault × Type 0)
+-- The faults of a record: `R07`, its owner is no name, or `R08`, no record before has one; `R09`,
+-- its TTL; `R10`, its class; `R11`, its type; `R12`, no TTL is known; `R13`, its data; `R14`, there
+-- are too many records.
+abbrev pub record_faults : DomainName → List Entry → FileFault → (DomainName → Type 0) → Fields
+    → List (FileFault × Type 0)
 record_faults o earlier owner_fault Owner f =
     (owner_fault, Nothing Owner)
     ∷ (bad_ttl, IsNoTtl f.ttl)
@@ -207,7 +225,8 @@ record_faults o earlier owner_fault Owner f =
     ∷ (too_many_records, IsTrue (are_too_many earlier))
     ∷ []
 
-abbrev pub RecordGives : DomainName → List Entry → FileFault → (DomainName → Type 0) → Fields → EntryMeaning → Type 0
+abbrev pub RecordGives : DomainName → List Entry → FileFault → (DomainName → Type 0) → Fields
+    → EntryMeaning → Type 0
 RecordGives o earlier owner_fault Owner f =
     Lowest (record_faults o earlier owner_fault Owner f)
     (λ given. (r : ResourceRecord) × IsRecord o earlier Owner f r × (given ≡ gives (r ∷ [])))
@@ -221,24 +240,31 @@ OneWord P (w ∷ v ∷ ws) = ⊥
 -- `R06`: the words of a directive are not its own
 abbrev pub DirectiveSays : {A : Type 0} → (A → Word → Type 0) → List Word → EntryMeaning → Type 0
 DirectiveSays {A} P ws =
-    Lowest ((directive_words, Nothing (λ (v : A). OneWord (P v) ws)) ∷ []) (λ given. given ≡ gives [])
+    Lowest ((directive_words, Nothing (λ (v : A). OneWord (P v) ws)) ∷ [])
+    (λ given. given ≡ gives [])
 
 -- RFC 1035 5.1, RFC 2308 section 4; `R05`: another directive
 abbrev pub DirectiveGives : DomainName → List Entry → Octets → List Word → EntryMeaning → Type 0
 DirectiveGives o earlier name ws given =
-    MatchBool (octets_equal name (codes "$origin")) (DirectiveSays (λ n w. NameIs o earlier w n) ws given)
-    (MatchBool (octets_equal name (codes "$ttl")) (DirectiveSays (λ n w. TtlSays w n) ws given) (given ≡ faulty unknown_directive))
+    MatchBool (octets_equal name (codes "$origin"))
+    (DirectiveSays (λ n w. NameIs o earlier w n) ws given)
+    (MatchBool (octets_equal name (codes "$ttl"))
+    (DirectiveSays (λ n w. TtlSays w n) ws given)
+    (given ≡ faulty unknown_directive))
 
 abbrev pub SortGives : DomainName → List Entry → Sort → EntryMeaning → Type 0
 SortGives o earlier no_words given = given ≡ gives []
 SortGives o earlier (directive name ws) given = DirectiveGives o earlier name ws given
-SortGives o earlier (owned w ws) given = RecordGives o earlier bad_owner (NameIs o earlier w) (fields ws) given
-SortGives o earlier (unowned ws) given = RecordGives o earlier no_owner (OwnerBefore o earlier) (fields ws) given
+SortGives o earlier (owned w ws) given =
+    RecordGives o earlier bad_owner (NameIs o earlier w) (fields ws) given
+SortGives o earlier (unowned ws) given =
+    RecordGives o earlier no_owner (OwnerBefore o earlier) (fields ws) given
 
 -- what an entry gives: its fault by place, else what its words give
 abbrev pub EntryGives : DomainName → List Entry → Entry → EntryMeaning → Type 0
 EntryGives o earlier e given =
-    MatchOption (lexical_fault e) (SortGives o earlier (sort_of e) given) (λ fault. given ≡ faulty fault)
+    MatchOption (lexical_fault e) (SortGives o earlier (sort_of e) given)
+    (λ fault. given ≡ faulty fault)
 
 -- What a text means: its records in order, or a fault and its line.
 pub data Meaning : Type 0 where
@@ -263,10 +289,11 @@ EntriesMean o earlier (e ∷ es) m =
       | gives rs ↦ (later : Meaning) × EntriesMean o (e ∷ earlier) es later × (m ≡ after rs later)
     ]
 
--- What octets mean after the entries before them. They are all that is left of a text, or a beginning of it, which is read as
--- one that goes on.
+-- What octets mean after the entries before them. They are all that is left of a text, or a
+-- beginning of it, which is read as one that goes on.
 abbrev pub OctetsMean : DomainName → List Entry → Extent → Octets → Meaning → Type 0
-OctetsMean o earlier extent octets m = (es : List Entry) × EntriesOf extent octets es × EntriesMean o earlier es m
+OctetsMean o earlier extent octets m =
+    (es : List Entry) × EntriesOf extent octets es × EntriesMean o earlier es m
 
 -- What a text means as the file of a zone with this origin (RFC 1035 section 5).
 abbrev pub Means : DomainName → Octets → Meaning → Type 0

@@ -1,5 +1,5 @@
--- What a reader learns here: of which tokens the text of a zone file is made, which entries it has, and where it is at
--- fault before any word of it is read.
+-- What a reader learns here: of which tokens the text of a zone file is made, which entries it has,
+-- and where it is at fault before any word of it is read.
 use Rattle.std.specs.Prelude.{◌≡◌, ℕ, zero, suc, ◌+◌, ◌-◌, Bool, true, false, ◌&&◌, ◌||◌, not, List, [], ◌∷◌, length, take, drop, nat_lt, ◌==◌, if◌then◌else◌, codes, fold}
 use Rattle.std.specs.Prelude.{Option, None, Some}
 use Rattle.std.specs.Option.{unwrap_or}
@@ -15,7 +15,8 @@ use Rattle.dns_spec.specs.FileFaults.{FileFault, bad_octet, bad_escape, unended_
 abbrev pub most_octets : ℕ
 most_octets = 16777216
 
--- RFC 1035 5.1: what a text is made of. A word and a quoted string keep their spelling, without the quotation marks.
+-- RFC 1035 5.1: what a text is made of. A word and a quoted string keep their spelling, without the
+-- quotation marks.
 pub data Token : Type 0 where
   blank : Token
   comment : Token
@@ -43,13 +44,14 @@ escape_length text = elim (escape_front text) [ None ↦ 0 | Some r ↦ length t
 abbrev pub escape_left : Octets → Option ℕ
 escape_left text = if escape_length text == 0 then None else Some (escape_length text)
 
--- Whether an octet goes on with a word or a string, which has such octets and escapes, and then how many octets of its escape
--- are still to come.
+-- Whether an octet goes on with a word or a string, which has such octets and escapes, and then how
+-- many octets of its escape are still to come.
 abbrev pub unit_left : (ℕ → Bool) → ℕ → Octets → Option ℕ
-unit_left by_itself o text = if o == 92 then escape_left text else if by_itself o then Some 0 else None
+unit_left by_itself o text =
+    if o == 92 then escape_left text else if by_itself o then Some 0 else None
 
--- how many octets of a word or a string stand at the beginning of a text, where k octets of the escape at hand are still to
--- come
+-- how many octets of a word or a string stand at the beginning of a text, where k octets of the
+-- escape at hand are still to come
 unfoldable pub run_length : (ℕ → Bool) → ℕ → Octets → ℕ
 run_length by_itself k [] = 0
 run_length by_itself (suc k) (o ∷ text) = 1 + run_length by_itself k text
@@ -74,15 +76,17 @@ quoted_front text = closed (take (string_length text) text) (drop (string_length
 
 abbrev pub unquoted_front : Octets → Option (Token × Octets)
 unquoted_front text =
-    if word_length text == 0 then None else Some (word (take (word_length text) text), drop (word_length text) text)
+    if word_length text == 0 then None
+    else Some (word (take (word_length text) text), drop (word_length text) text)
 
 -- after CR
 abbrev pub line_feed_front : Octets → Option (Token × Octets)
 line_feed_front [] = None
 line_feed_front (o ∷ text) = if o == 10 then Some (line_end, text) else None
 
--- RFC 1035 5.1: the token that a text begins with, by its first octet, and the text after it. A blank is the longest run of
--- spaces and tabs, a word the longest run of its octets; a comment goes on to the end of its line, whatever it holds.
+-- RFC 1035 5.1: the token that a text begins with, by its first octet, and the text after it. A
+-- blank is the longest run of spaces and tabs, a word the longest run of its octets; a comment goes
+-- on to the end of its line, whatever it holds.
 abbrev pub token_front : Octets → Option (Token × Octets)
 token_front [] = None
 token_front (o ∷ text) =
@@ -98,7 +102,8 @@ token_front (o ∷ text) =
 -- The text begins with these tokens, one after the other, and then comes `rest`.
 abbrev pub TokensThen : Octets → List Token → Octets → Type 0
 TokensThen text [] rest = text ≡ rest
-TokensThen text (p ∷ ps) rest = (others : Octets) × (token_front text ≡ Some (p, others)) × TokensThen others ps rest
+TokensThen text (p ∷ ps) rest =
+    (others : Octets) × (token_front text ≡ Some (p, others)) × TokensThen others ps rest
 
 -- an open parenthesis, or a close one
 abbrev pub parenthesis : Token → Option Bool
@@ -127,8 +132,8 @@ abbrev pub before_first : Token → List (List Token) → List (List Token)
 before_first p [] = []
 before_first p (e ∷ es) = (p ∷ e) ∷ es
 
--- RFC 1035 5.1: parentheses group words over line ends, so an entry goes up to its first line end outside them. What is
--- left after the last such line end is the last of these lists.
+-- RFC 1035 5.1: parentheses group words over line ends, so an entry goes up to its first line end
+-- outside them. What is left after the last such line end is the last of these lists.
 abbrev pub cut_entries : Bool → List Token → List (List Token)
 cut_entries is_open [] = [] ∷ []
 cut_entries is_open (p ∷ ps) =
@@ -177,8 +182,8 @@ extent_by goes_on = if goes_on then beginning else whole_text
 abbrev pub extent_of : Octets → Extent
 extent_of text = extent_by (nat_lt most_octets (length text))
 
--- Why no token begins: the text is over; or it can't go on, in a string or where a token should begin, with the octets from
--- there on.
+-- Why no token begins: the text is over; or it can't go on, in a string or where a token should
+-- begin, with the octets from there on.
 pub data Stop : Type 0 where
   text_over : Stop
   in_string : Octets → Stop
@@ -186,7 +191,8 @@ pub data Stop : Type 0 where
 
 abbrev pub stop_at : Octets → Stop
 stop_at [] = text_over
-stop_at (o ∷ text) = if o == 34 then in_string (drop (string_length text) text) else in_token (o ∷ text)
+stop_at (o ∷ text) =
+    if o == 34 then in_string (drop (string_length text) text) else in_token (o ∷ text)
 
 -- `R02`: a backslash begins no escape. `R01`: an octet isn't allowed.
 abbrev pub token_fault : Octets → FileFault
@@ -194,20 +200,23 @@ token_fault place = if begins_with 92 place then bad_escape else bad_octet
 
 -- `R03`: the string isn't ended on its line; or its next octets are wrong.
 abbrev pub string_fault : Octets → FileFault
-string_fault place = if length place == 0 || begins_line_end place then unended_string else token_fault place
+string_fault place =
+    if length place == 0 || begins_line_end place then unended_string else token_fault place
 
 -- `R15`: the text goes on past its limit, and more of it would be needed to tell.
 abbrev pub unless_cut_short : Extent → Octets → FileFault → FileFault
 unless_cut_short whole_text place fault = fault
 unless_cut_short beginning place fault = if is_cut_short place then too_long else fault
 
--- The fault of an entry that isn't ended by a line end, inside parentheses or outside them: `R15`, the text goes on past its
--- limit; `R04`, it ends inside parentheses; or a token that is wrong.
+-- The fault of an entry that isn't ended by a line end, inside parentheses or outside them: `R15`,
+-- the text goes on past its limit; `R04`, it ends inside parentheses; or a token that is wrong.
 abbrev pub stop_fault : Extent → Bool → Stop → Option FileFault
 stop_fault whole_text is_open text_over = if is_open then Some bad_parenthesis else None
 stop_fault beginning is_open text_over = Some too_long
-stop_fault extent is_open (in_string place) = Some (unless_cut_short extent place (string_fault place))
-stop_fault extent is_open (in_token place) = Some (unless_cut_short extent place (token_fault place))
+stop_fault extent is_open (in_string place) =
+    Some (unless_cut_short extent place (string_fault place))
+stop_fault extent is_open (in_token place) =
+    Some (unless_cut_short extent place (token_fault place))
 
 -- An entry: its tokens, and what is wrong with its end, if anything is.
 pub record Entry : Type 0 where
@@ -218,7 +227,8 @@ abbrev pub ended : List Token → Entry
 ended ps = record { tokens = ps; end_fault = None }
 
 abbrev pub unended : Extent → Octets → List Token → Entry
-unended extent rest ps = record { tokens = ps; end_fault = stop_fault extent (is_open_at_end ps) (stop_at rest) }
+unended extent rest ps =
+    record { tokens = ps; end_fault = stop_fault extent (is_open_at_end ps) (stop_at rest) }
 
 -- the last entry is ended by no line end, but by `rest`
 abbrev pub with_end : Extent → Octets → List (List Token) → List Entry
@@ -226,7 +236,8 @@ with_end extent rest [] = []
 with_end extent rest (ps ∷ []) = unended extent rest ps ∷ []
 with_end extent rest (ps ∷ qs ∷ es) = ended ps ∷ with_end extent rest (qs ∷ es)
 
--- The entries of octets that are all of a text, or a beginning of one: their tokens up to where none begins, cut into entries.
+-- The entries of octets that are all of a text, or a beginning of one: their tokens up to where
+-- none begins, cut into entries.
 pub record EntriesOf (extent : Extent) (octets : Octets) (es : List Entry) : Type 0 where
   pub tokens : List Token
   pub rest : Octets
@@ -238,10 +249,11 @@ pub record EntriesOf (extent : Extent) (octets : Octets) (es : List Entry) : Typ
 abbrev pub Entries : Octets → List Entry → Type 0
 Entries text es = EntriesOf (extent_of text) (take most_octets text) es
 
--- The first fault of an entry by its place, before any word of it is read: `R04`, a parenthesis in a parenthesis or a close
--- one without an open one; else what ends it.
+-- The first fault of an entry by its place, before any word of it is read: `R04`, a parenthesis in
+-- a parenthesis or a close one without an open one; else what ends it.
 abbrev pub lexical_fault : Entry → Option FileFault
-lexical_fault e = if take_turns false (parentheses e.tokens) then e.end_fault else Some bad_parenthesis
+lexical_fault e =
+    if take_turns false (parentheses e.tokens) then e.end_fault else Some bad_parenthesis
 
 abbrev pub word_of : Token → Option Word
 word_of blank = None

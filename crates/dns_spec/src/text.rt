@@ -12,11 +12,12 @@ pub fn written_name_is_read_back()
 
 /// A word spells at most one name, relative to an origin.
 pub fn word_spells_one_name()
-    ensures { (origin : DomainName) (word : Octets) (n m : DomainName) → SpellsName origin word n → SpellsName origin word m → n ≡ m }
+    ensures { (origin : DomainName) (word : Octets) (n m : DomainName)
+        → SpellsName origin word n → SpellsName origin word m → n ≡ m }
 {}
 
-/// What the octets after a backslash stand for is the octet that they spell with it in a name, and nothing else is (RFC 1035
-/// 5.1).
+/// What the octets after a backslash stand for is the octet that they spell with it in a name, and
+/// nothing else is (RFC 1035 5.1).
 pub fn escape_stands_for_what_it_spells()
     ensures { (text : Octets) (x : ℕ) (rest : Octets) → (escape_front text ≡ Some (x, rest))
         ↔ ((e : Octets) × (text ≡ e ++ rest) × SpellsOctet (92 ∷ e) x) }
