@@ -1,11 +1,11 @@
--- What reading an entry piece by piece says of the entries that a text's pieces are cut into.
+-- What reading an entry token by token says of the entries that a text's tokens are cut into.
 use Rattle.std.proofs.Common.{◌≡◌, ℕ, Bool, true, false, ◌&&◌, ◌==◌, not, List, [], ◌∷◌, ◌++◌, refl, sym, ap, ◌∙◌, subst, Some, None}
 use Rattle.std.proofs.lemmas.Bool.{false≢true, eq-eqb}
 use Rattle.std.specs.Prelude.{fold}
 use mathlib.Core.Bool.{xor}
 use Rattle.std.specs.List.{cons_option}
 use Rattle.dns_spec.specs.Names.{Octets}
-use Rattle.dns_spec.specs.ZoneText.{Piece, blank, comment, word, quoted, opening, closing, line_end, piece_front, PiecesThen, parenthesis, parentheses, is_line_end, open_behind, before_first, cut_entries, take_turns}
+use Rattle.dns_spec.specs.ZoneText.{Token, blank, comment, word, quoted_string, opening, closing, line_end, token_front, TokensThen, parenthesis, parentheses, is_line_end, open_after, before_first, cut_entries, take_turns}
 use Rattle.dns_master.specs.EntryForm.{Step, misplaced, over, onward, step, Outcome, ended, unended, wrong, Reads}
 
 step_code : Step → ℕ
@@ -23,13 +23,13 @@ outcome_code (ended o) = 0
 outcome_code (unended b o) = 1
 outcome_code wrong = 2
 
--- a piece behind which the entry goes on
-record Goes (b : Bool) (p : Piece) (now : Bool) : Type 0 where
+-- a token after which the entry goes on
+record Goes (b : Bool) (p : Token) (now : Bool) : Type 0 where
   no_end : (is_line_end p && not b) ≡ false
-  opens : open_behind b p ≡ now
+  opens : open_after b p ≡ now
   turns : (marks : List Bool) → take_turns b (cons_option (parenthesis p) marks) ≡ take_turns now marks
 
-same_open : (b now : Bool) (p : Piece) → onward b ≡ onward now → (is_line_end p && not b) ≡ false → open_behind b p ≡ b
+same_open : (b now : Bool) (p : Token) → onward b ≡ onward now → (is_line_end p && not b) ≡ false → open_after b p ≡ b
     → ((marks : List Bool) → take_turns b (cons_option (parenthesis p) marks) ≡ take_turns b marks) → Goes b p now
 unfolding step_open
 same_open b now p e no_end opens turns =
@@ -39,12 +39,12 @@ same_open b now p e no_end opens turns =
 differ : (s t : Step) → (step_code s == step_code t) ≡ false → s ≡ t → ⊥
 differ s t h e = false≢true (sym h ∙ ap (λ x. step_code s == step_code x) (sym e) ∙ eq-eqb (step_code s) (step_code s) refl)
 
-goes : (b : Bool) (p : Piece) (now : Bool) → step b p ≡ onward now → Goes b p now
+goes : (b : Bool) (p : Token) (now : Bool) → step b p ≡ onward now → Goes b p now
 unfolding step_code step_open xor
 goes b blank now e = same_open b now blank e refl refl (λ marks. refl)
 goes b comment now e = same_open b now comment e refl refl (λ marks. refl)
 goes b (word raw) now e = same_open b now (word raw) e refl refl (λ marks. refl)
-goes b (quoted raw) now e = same_open b now (quoted raw) e refl refl (λ marks. refl)
+goes b (quoted_string raw) now e = same_open b now (quoted_string raw) e refl refl (λ marks. refl)
 goes true opening now e = absurd (differ misplaced (onward now) refl e)
 goes false opening now e = record { no_end = refl; opens = ap step_open e; turns = λ marks. ap (λ x. take_turns x marks) (ap step_open e) }
 goes true closing now e = record { no_end = refl; opens = ap step_open e; turns = λ marks. ap (λ x. take_turns x marks) (ap step_open e) }
@@ -52,17 +52,17 @@ goes false closing now e = absurd (differ misplaced (onward now) refl e)
 goes true line_end now e = record { no_end = refl; opens = ap step_open e; turns = λ marks. ap (λ x. take_turns x marks) (ap step_open e) }
 goes false line_end now e = absurd (differ over (onward now) refl e)
 
--- the piece that ends the entry
-record Ends (b : Bool) (p : Piece) : Type 0 where
+-- the token that ends the entry
+record Ends (b : Bool) (p : Token) : Type 0 where
   is_end : (is_line_end p && not b) ≡ true
   no_mark : parenthesis p ≡ None
 
-ends : (b : Bool) (p : Piece) → step b p ≡ over → Ends b p
+ends : (b : Bool) (p : Token) → step b p ≡ over → Ends b p
 unfolding step_code
 ends b blank e = absurd (differ (onward b) over refl e)
 ends b comment e = absurd (differ (onward b) over refl e)
 ends b (word raw) e = absurd (differ (onward b) over refl e)
-ends b (quoted raw) e = absurd (differ (onward b) over refl e)
+ends b (quoted_string raw) e = absurd (differ (onward b) over refl e)
 ends true opening e = absurd (differ misplaced over refl e)
 ends false opening e = absurd (differ (onward true) over refl e)
 ends true closing e = absurd (differ (onward false) over refl e)
@@ -71,16 +71,16 @@ ends true line_end e = absurd (differ (onward true) over refl e)
 ends false line_end e = record { is_end = refl; no_mark = refl }
 
 -- a parenthesis that is misplaced
-record Misses (b : Bool) (p : Piece) : Type 0 where
+record Misses (b : Bool) (p : Token) : Type 0 where
   no_end : (is_line_end p && not b) ≡ false
   turns : (marks : List Bool) → take_turns b (cons_option (parenthesis p) marks) ≡ false
 
-misses : (b : Bool) (p : Piece) → step b p ≡ misplaced → Misses b p
+misses : (b : Bool) (p : Token) → step b p ≡ misplaced → Misses b p
 unfolding step_code xor
 misses b blank e = absurd (differ (onward b) misplaced refl e)
 misses b comment e = absurd (differ (onward b) misplaced refl e)
 misses b (word raw) e = absurd (differ (onward b) misplaced refl e)
-misses b (quoted raw) e = absurd (differ (onward b) misplaced refl e)
+misses b (quoted_string raw) e = absurd (differ (onward b) misplaced refl e)
 misses true opening e = record { no_end = refl; turns = λ marks. refl }
 misses false opening e = absurd (differ (onward true) misplaced refl e)
 misses true closing e = absurd (differ (onward false) misplaced refl e)
@@ -89,57 +89,57 @@ misses true line_end e = absurd (differ (onward true) misplaced refl e)
 misses false line_end e = absurd (differ over misplaced refl e)
 
 -- there is a first entry, perhaps an empty one
-pub record HasFirst (es : List (List Piece)) : Type 0 where
-  pub first : List Piece
-  pub others : List (List Piece)
+pub record HasFirst (es : List (List Token)) : Type 0 where
+  pub first : List Token
+  pub others : List (List Token)
   pub is : es ≡ first ∷ others
 
-with_first : (p : Piece) (es : List (List Piece)) → HasFirst es → HasFirst (before_first p es)
+with_first : (p : Token) (es : List (List Token)) → HasFirst es → HasFirst (before_first p es)
 with_first p es h = record { first = p ∷ h.first; others = h.others; is = ap (before_first p) h.is }
 
-pub has_first : (b : Bool) (ps : List Piece) → HasFirst (cut_entries b ps)
+pub has_first : (b : Bool) (ps : List Token) → HasFirst (cut_entries b ps)
 has_first b [] = record { first = []; others = []; is = refl }
-has_first b (p ∷ ps) = go (is_line_end p && not b) (has_first (open_behind b p) ps)
+has_first b (p ∷ ps) = go (is_line_end p && not b) (has_first (open_after b p) ps)
   where
-    go : (ending : Bool) → HasFirst (cut_entries (open_behind b p) ps)
-        → HasFirst (elim ending [ true ↦ (p ∷ []) ∷ cut_entries false ps | false ↦ before_first p (cut_entries (open_behind b p) ps) ])
+    go : (ending : Bool) → HasFirst (cut_entries (open_after b p) ps)
+        → HasFirst (elim ending [ true ↦ (p ∷ []) ∷ cut_entries false ps | false ↦ before_first p (cut_entries (open_after b p) ps) ])
     go true h = record { first = p ∷ []; others = cut_entries false ps; is = refl }
-    go false h = with_first p (cut_entries (open_behind b p) ps) h
+    go false h = with_first p (cut_entries (open_after b p) ps) h
 
-cut-on : (b : Bool) (p : Piece) (ps : List Piece) → (is_line_end p && not b) ≡ false → cut_entries b (p ∷ ps) ≡ before_first p (cut_entries (open_behind b p) ps)
+cut-on : (b : Bool) (p : Token) (ps : List Token) → (is_line_end p && not b) ≡ false → cut_entries b (p ∷ ps) ≡ before_first p (cut_entries (open_after b p) ps)
 cut-on b p ps h = rw (h, cut_entries) refl
 
-cut-off : (b : Bool) (p : Piece) (ps : List Piece) → (is_line_end p && not b) ≡ true → cut_entries b (p ∷ ps) ≡ (p ∷ []) ∷ cut_entries false ps
+cut-off : (b : Bool) (p : Token) (ps : List Token) → (is_line_end p && not b) ≡ true → cut_entries b (p ∷ ps) ≡ (p ∷ []) ∷ cut_entries false ps
 cut-off b p ps h = rw (h, cut_entries) refl
 
 -- an entry that a line end ends
-pub record EndedCut (b : Bool) (text : Octets) (ps : List Piece) (others : Octets) : Type 0 where
-  pub spelled : PiecesThen text ps others
-  pub cuts : (qs : List Piece) → cut_entries b (ps ++ qs) ≡ ps ∷ cut_entries false qs
+pub record EndedCut (b : Bool) (text : Octets) (ps : List Token) (others : Octets) : Type 0 where
+  pub spelled : TokensThen text ps others
+  pub cuts : (qs : List Token) → cut_entries b (ps ++ qs) ≡ ps ∷ cut_entries false qs
   pub turns : take_turns b (parentheses ps) ≡ true
 
--- an entry up to where no piece begins
-pub record UnendedCut (b : Bool) (text : Octets) (ps : List Piece) (now : Bool) (rest : Octets) : Type 0 where
-  pub spelled : PiecesThen text ps rest
-  pub at_end : piece_front rest ≡ None
+-- an entry up to where no token begins
+pub record UnendedCut (b : Bool) (text : Octets) (ps : List Token) (now : Bool) (rest : Octets) : Type 0 where
+  pub spelled : TokensThen text ps rest
+  pub at_end : token_front rest ≡ None
   pub cuts : cut_entries b ps ≡ ps ∷ []
   pub turns : take_turns b (parentheses ps) ≡ true
-  pub opens : fold open_behind b ps ≡ now
+  pub opens : fold open_after b ps ≡ now
 
--- the first entry of these pieces and of any behind them
-pub record WrongFirst (b : Bool) (ps : List Piece) : Type 0 where
-  pub first : List Piece
-  pub others : List (List Piece)
+-- the first entry of these tokens and of any after them
+pub record WrongFirst (b : Bool) (ps : List Token) : Type 0 where
+  pub first : List Token
+  pub others : List (List Token)
   pub cuts : cut_entries b ps ≡ first ∷ others
   pub turns : take_turns b (parentheses first) ≡ false
 
 -- an entry with a misplaced parenthesis
-pub record WrongCut (b : Bool) (text : Octets) (ps : List Piece) : Type 0 where
+pub record WrongCut (b : Bool) (text : Octets) (ps : List Token) : Type 0 where
   pub rest : Octets
-  pub spelled : PiecesThen text ps rest
-  pub wrong_first : (qs : List Piece) → WrongFirst b (ps ++ qs)
+  pub spelled : TokensThen text ps rest
+  pub wrong_first : (qs : List Token) → WrongFirst b (ps ++ qs)
 
-ended-on : (b now : Bool) (text others' others : Octets) (p : Piece) (ps : List Piece) → piece_front text ≡ Some (p, others') → Goes b p now
+ended-on : (b now : Bool) (text others' others : Octets) (p : Token) (ps : List Token) → token_front text ≡ Some (p, others') → Goes b p now
     → EndedCut now others' ps others → EndedCut b text (p ∷ ps) others
 ended-on b now text others' others p ps front g c =
     record {
@@ -148,7 +148,7 @@ ended-on b now text others' others p ps front g c =
       turns = g.turns (parentheses ps) ∙ c.turns;
     }
 
-unended-on : (b now last : Bool) (text others' rest : Octets) (p : Piece) (ps : List Piece) → piece_front text ≡ Some (p, others') → Goes b p now
+unended-on : (b now last : Bool) (text others' rest : Octets) (p : Token) (ps : List Token) → token_front text ≡ Some (p, others') → Goes b p now
     → UnendedCut now others' ps last rest → UnendedCut b text (p ∷ ps) last rest
 unended-on b now last text others' rest p ps front g c =
     record {
@@ -156,10 +156,10 @@ unended-on b now last text others' rest p ps front g c =
       at_end = c.at_end;
       cuts = cut-on b p ps g.no_end ∙ ap (λ x. before_first p (cut_entries x ps)) g.opens ∙ ap (before_first p) c.cuts;
       turns = g.turns (parentheses ps) ∙ c.turns;
-      opens = ap (λ x. fold open_behind x ps) g.opens ∙ c.opens;
+      opens = ap (λ x. fold open_after x ps) g.opens ∙ c.opens;
     }
 
-wrong-on : (b now : Bool) (text others' : Octets) (p : Piece) (ps : List Piece) → piece_front text ≡ Some (p, others') → Goes b p now
+wrong-on : (b now : Bool) (text others' : Octets) (p : Token) (ps : List Token) → token_front text ≡ Some (p, others') → Goes b p now
     → WrongCut now others' ps → WrongCut b text (p ∷ ps)
 wrong-on b now text others' p ps front g c =
     record {
@@ -188,7 +188,7 @@ outcome_open (ended o) = false
 outcome_open (unended b o) = b
 outcome_open wrong = false
 
-pub reads-ended : (b : Bool) (text : Octets) (ps : List Piece) (others : Octets) → Reads b text ps (ended others) → EndedCut b text ps others
+pub reads-ended : (b : Bool) (text : Octets) (ps : List Token) (others : Octets) → Reads b text ps (ended others) → EndedCut b text ps others
 unfolding outcome_code outcome_rest
 reads-ended b text [] others h = absurd (other_outcome (ended others) (unended b text) refl h.1)
 reads-ended b text (p ∷ ps) others h = go (step b p) refl h.2 (λ now. reads-ended now h.0 ps others)
@@ -207,12 +207,12 @@ reads-ended b text (p ∷ ps) others h = go (step b p) refl h.2 (λ now. reads-e
         })
     go (onward now) e k more = ended-on b now text h.0 others p ps h.1 (goes b p now e) (more now k)
 
-pub reads-unended : (b : Bool) (text : Octets) (ps : List Piece) (last : Bool) (rest : Octets) → Reads b text ps (unended last rest) → UnendedCut b text ps last rest
+pub reads-unended : (b : Bool) (text : Octets) (ps : List Token) (last : Bool) (rest : Octets) → Reads b text ps (unended last rest) → UnendedCut b text ps last rest
 unfolding outcome_code outcome_rest outcome_open
 reads-unended b text [] last rest h =
     record {
       spelled = ap outcome_rest (sym h.1);
-      at_end = subst (λ x. piece_front x ≡ None) (ap outcome_rest (sym h.1)) h.0;
+      at_end = subst (λ x. token_front x ≡ None) (ap outcome_rest (sym h.1)) h.0;
       cuts = refl;
       turns = refl;
       opens = ap outcome_open (sym h.1);
@@ -225,7 +225,7 @@ reads-unended b text (p ∷ ps) last rest h = go (step b p) refl h.2 (λ now. re
     go over e k more = absurd (other_outcome (unended last rest) (ended h.0) refl k.1)
     go (onward now) e k more = unended-on b now last text h.0 rest p ps h.1 (goes b p now e) (more now k)
 
-pub reads-wrong : (b : Bool) (text : Octets) (ps : List Piece) → Reads b text ps wrong → WrongCut b text ps
+pub reads-wrong : (b : Bool) (text : Octets) (ps : List Token) → Reads b text ps wrong → WrongCut b text ps
 unfolding outcome_code
 reads-wrong b text [] h = absurd (other_outcome wrong (unended b text) refl h.1)
 reads-wrong b text (p ∷ ps) h = go (step b p) refl h.2 (λ now. reads-wrong now h.0 ps)
@@ -239,7 +239,7 @@ reads-wrong b text (p ∷ ps) h = go (step b p) refl h.2 (λ now. reads-wrong no
           rest = h.0;
           spelled = (h.0, h.1, refl);
           wrong_first = λ qs.
-              let more_first = has_first (open_behind b p) qs in
+              let more_first = has_first (open_after b p) qs in
               record {
                 first = p ∷ more_first.first;
                 others = more_first.others;

@@ -1,37 +1,37 @@
--- An entry is read piece by piece: what the pieces so far and those to come give, all give.
+-- An entry is read token by token: what the tokens so far and those to come give, all give.
 use Rattle.std.proofs.Common.{◌≡◌, ℕ, ◌+◌, ◌≤◌, ◌<◌, Bool, true, false, cond, List, [], ◌∷◌, ◌++◌, length, refl, sym, ap, ◌∙◌, subst, arith, append_assoc, append-nil, Option, Some, None}
 use Rattle.std.specs.List.{filter, cons_option}
 use Rattle.dns_spec.specs.Names.{Octets}
 use Rattle.dns_spec.specs.DataText.{Word}
-use Rattle.dns_spec.specs.ZoneText.{Piece, piece_front, is_line_end, word_of}
-use Rattle.dns_spec.proofs.TextPieces.{front-shorter}
-use Rattle.dns_master.specs.EntryForm.{misplaced, over, onward, step, Outcome, ended, unended, wrong, Reads, piece_words, line_ends, EntryRead, IsWrong}
+use Rattle.dns_spec.specs.ZoneText.{Token, token_front, is_line_end, word_of}
+use Rattle.dns_spec.proofs.TextTokens.{front-shorter}
+use Rattle.dns_master.specs.EntryForm.{misplaced, over, onward, step, Outcome, ended, unended, wrong, Reads, token_words, line_ends, EntryRead, IsWrong}
 
 cons_option-append : {X : Type 0} (x : Option X) (xs ys : List X) → cons_option x (xs ++ ys) ≡ cons_option x xs ++ ys
 cons_option-append None xs ys = refl
 cons_option-append (Some x) xs ys = refl
 
-pub words-append : (ps qs : List Piece) → piece_words (ps ++ qs) ≡ piece_words ps ++ piece_words qs
+pub words-append : (ps qs : List Token) → token_words (ps ++ qs) ≡ token_words ps ++ token_words qs
 words-append [] qs = refl
 words-append (p ∷ ps) qs =
-    ap (cons_option (word_of p)) (words-append ps qs) ∙ cons_option-append (word_of p) (piece_words ps) (piece_words qs)
+    ap (cons_option (word_of p)) (words-append ps qs) ∙ cons_option-append (word_of p) (token_words ps) (token_words qs)
 
 cond-more : (b : Bool) (n m k : ℕ) → n ≡ m + k → cond b (1 + n) n ≡ cond b (1 + m) m + k
 cond-more true n m k e = omega (arith, e)
 cond-more false n m k e = e
 
-length-cond : (b : Bool) (p : Piece) (ps : List Piece) → length (cond b (p ∷ ps) ps) ≡ cond b (1 + length ps) (length ps)
+length-cond : (b : Bool) (p : Token) (ps : List Token) → length (cond b (p ∷ ps) ps) ≡ cond b (1 + length ps) (length ps)
 length-cond true p ps = omega arith
 length-cond false p ps = refl
 
-pub lines-append : (ps qs : List Piece) → line_ends (ps ++ qs) ≡ line_ends ps + line_ends qs
+pub lines-append : (ps qs : List Token) → line_ends (ps ++ qs) ≡ line_ends ps + line_ends qs
 lines-append [] qs = omega (arith)
 lines-append (p ∷ ps) qs =
     length-cond (is_line_end p) p (filter is_line_end (ps ++ qs))
     ∙ cond-more (is_line_end p) (line_ends (ps ++ qs)) (line_ends ps) (line_ends qs) (lines-append ps qs)
     ∙ ap (λ n. n + line_ends qs) (sym (length-cond (is_line_end p) p (filter is_line_end ps)))
 
-line_ends-one : (p : Piece) → line_ends (p ∷ []) ≤ 1
+line_ends-one : (p : Token) → line_ends (p ∷ []) ≤ 1
 line_ends-one p = go (is_line_end p)
   where
     go : (b : Bool) → length (cond b (p ∷ []) []) ≤ 1
@@ -39,66 +39,66 @@ line_ends-one p = go (is_line_end p)
     go false = omega arith
 
 -- each line end is an octet or more
-pub lines-shorter : (text others : Octets) (p : Piece) → piece_front text ≡ Some (p, others) → line_ends (p ∷ []) + length others ≤ length text
+pub lines-shorter : (text others : Octets) (p : Token) → token_front text ≡ Some (p, others) → line_ends (p ∷ []) + length others ≤ length text
 lines-shorter text others p e =
     let less : length others < length text = front-shorter text p others e in
     omega (arith, less, line_ends-one p)
 
 module _ (text : Octets) (before : List Word) where
-  -- the pieces so far, with what their words and line ends are, and what comes of those behind them
+  -- the tokens so far, with what their words and line ends are, and what comes of those after them
   pub record EntrySoFar (is_open : Bool) (rest : Octets) (words : List Word) (lines : ℕ) : Type 0 where
-    pub pieces : List Piece
-    pub whole : (ps : List Piece) (outcome : Outcome) → Reads is_open rest ps outcome → Reads false text (pieces ++ ps) outcome
-    pub same_words : words ≡ before ++ piece_words pieces
-    pub counted : lines ≡ line_ends pieces
+    pub tokens : List Token
+    pub whole : (ps : List Token) (outcome : Outcome) → Reads is_open rest ps outcome → Reads false text (tokens ++ ps) outcome
+    pub same_words : words ≡ before ++ token_words tokens
+    pub counted : lines ≡ line_ends tokens
 
   pub nothing-read : EntrySoFar false text before 0
-  nothing-read = record { pieces = []; whole = λ ps outcome h. h; same_words = sym (append-nil before); counted = refl }
+  nothing-read = record { tokens = []; whole = λ ps outcome h. h; same_words = sym (append-nil before); counted = refl }
 
-  -- a piece behind which the entry goes on
-  pub piece-read : (is_open now_open : Bool) (rest others : Octets) (p : Piece) (words words' : List Word) (lines lines' : ℕ)
-      → EntrySoFar is_open rest words lines → piece_front rest ≡ Some (p, others) → step is_open p ≡ onward now_open
-      → words' ≡ words ++ piece_words (p ∷ []) → lines' ≡ lines + line_ends (p ∷ [])
+  -- a token after which the entry goes on
+  pub token-read : (is_open now_open : Bool) (rest others : Octets) (p : Token) (words words' : List Word) (lines lines' : ℕ)
+      → EntrySoFar is_open rest words lines → token_front rest ≡ Some (p, others) → step is_open p ≡ onward now_open
+      → words' ≡ words ++ token_words (p ∷ []) → lines' ≡ lines + line_ends (p ∷ [])
       → EntrySoFar now_open others words' lines'
-  piece-read is_open now_open rest others p words words' lines lines' so front goes_on w l =
+  token-read is_open now_open rest others p words words' lines lines' so front goes_on w l =
       record {
-        pieces = so.pieces ++ p ∷ [];
+        tokens = so.tokens ++ p ∷ [];
         whole = λ ps outcome h.
-            subst (λ xs. Reads false text xs outcome) (sym (append_assoc so.pieces (p ∷ []) ps))
+            subst (λ xs. Reads false text xs outcome) (sym (append_assoc so.tokens (p ∷ []) ps))
             (so.whole (p ∷ ps) outcome (others, front, rw goes_on h));
-        same_words = w ∙ ap (λ x. x ++ piece_words (p ∷ [])) so.same_words
-            ∙ append_assoc before (piece_words so.pieces) (piece_words (p ∷ []))
-            ∙ ap (λ x. before ++ x) (sym (words-append so.pieces (p ∷ [])));
-        counted = l ∙ ap (λ n. n + line_ends (p ∷ [])) so.counted ∙ sym (lines-append so.pieces (p ∷ []));
+        same_words = w ∙ ap (λ x. x ++ token_words (p ∷ [])) so.same_words
+            ∙ append_assoc before (token_words so.tokens) (token_words (p ∷ []))
+            ∙ ap (λ x. before ++ x) (sym (words-append so.tokens (p ∷ [])));
+        counted = l ∙ ap (λ n. n + line_ends (p ∷ [])) so.counted ∙ sym (lines-append so.tokens (p ∷ []));
       }
 
-  -- the piece that ends the entry
-  pub entry-ended : (is_open : Bool) (rest others : Octets) (p : Piece) (words words' : List Word) (lines lines' : ℕ)
-      → EntrySoFar is_open rest words lines → piece_front rest ≡ Some (p, others) → step is_open p ≡ over
-      → words' ≡ words ++ piece_words (p ∷ []) → lines' ≡ lines + line_ends (p ∷ [])
+  -- the token that ends the entry
+  pub entry-ended : (is_open : Bool) (rest others : Octets) (p : Token) (words words' : List Word) (lines lines' : ℕ)
+      → EntrySoFar is_open rest words lines → token_front rest ≡ Some (p, others) → step is_open p ≡ over
+      → words' ≡ words ++ token_words (p ∷ []) → lines' ≡ lines + line_ends (p ∷ [])
       → EntryRead text before words' lines' (ended others)
   entry-ended is_open rest others p words words' lines lines' so front is_over w l =
       record {
-        pieces = so.pieces ++ p ∷ [];
+        tokens = so.tokens ++ p ∷ [];
         reads = so.whole (p ∷ []) (ended others) (others, front, rw is_over (refl, refl));
-        words = w ∙ ap (λ x. x ++ piece_words (p ∷ [])) so.same_words
-            ∙ append_assoc before (piece_words so.pieces) (piece_words (p ∷ []))
-            ∙ ap (λ x. before ++ x) (sym (words-append so.pieces (p ∷ [])));
-        counted = l ∙ ap (λ n. n + line_ends (p ∷ [])) so.counted ∙ sym (lines-append so.pieces (p ∷ []));
+        words = w ∙ ap (λ x. x ++ token_words (p ∷ [])) so.same_words
+            ∙ append_assoc before (token_words so.tokens) (token_words (p ∷ []))
+            ∙ ap (λ x. before ++ x) (sym (words-append so.tokens (p ∷ [])));
+        counted = l ∙ ap (λ n. n + line_ends (p ∷ [])) so.counted ∙ sym (lines-append so.tokens (p ∷ []));
       }
 
-  -- no piece begins
+  -- no token begins
   pub entry-unended : (is_open : Bool) (rest : Octets) (words : List Word) (lines : ℕ)
-      → EntrySoFar is_open rest words lines → piece_front rest ≡ None → EntryRead text before words lines (unended is_open rest)
+      → EntrySoFar is_open rest words lines → token_front rest ≡ None → EntryRead text before words lines (unended is_open rest)
   entry-unended is_open rest words lines so none =
       record {
-        pieces = so.pieces;
-        reads = subst (λ xs. Reads false text xs (unended is_open rest)) (append-nil so.pieces) (so.whole [] (unended is_open rest) (none, refl));
+        tokens = so.tokens;
+        reads = subst (λ xs. Reads false text xs (unended is_open rest)) (append-nil so.tokens) (so.whole [] (unended is_open rest) (none, refl));
         words = so.same_words;
         counted = so.counted;
       }
 
-  pub entry-wrong : (is_open : Bool) (rest others : Octets) (p : Piece) (words : List Word) (lines : ℕ)
-      → EntrySoFar is_open rest words lines → piece_front rest ≡ Some (p, others) → step is_open p ≡ misplaced → IsWrong text
+  pub entry-wrong : (is_open : Bool) (rest others : Octets) (p : Token) (words : List Word) (lines : ℕ)
+      → EntrySoFar is_open rest words lines → token_front rest ≡ Some (p, others) → step is_open p ≡ misplaced → IsWrong text
   entry-wrong is_open rest others p words lines so front is_wrong =
-      (so.pieces ++ p ∷ [], so.whole (p ∷ []) wrong (others, front, rw is_wrong (refl, refl)))
+      (so.tokens ++ p ∷ [], so.whole (p ∷ []) wrong (others, front, rw is_wrong (refl, refl)))

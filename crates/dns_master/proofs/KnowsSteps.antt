@@ -8,7 +8,8 @@ use Rattle.dns_spec.specs.NameText.{SpellsName}
 use Rattle.dns_spec.specs.DataText.{Word}
 use Rattle.dns_spec.specs.Records.{ResourceRecord}
 use Rattle.dns_spec.specs.ZoneText.{Entry}
-use Rattle.dns_spec.specs.Meaning.{Nothing, Sort, no_words, directive, owned, unowned, sort_of, sort_by_words, is_directive, Fields, fields, Answer, faulty, gives, OriginIs, NameIs, OneWord, OwnerBefore, TtlSays, nearest, directive_word, owner_word, ttl_word, is_record, IsRecord, RecordGives, SortGives}
+use Rattle.dns_spec.specs.FileFaults.{directive_words, no_owner, FileFault, bad_owner}
+use Rattle.dns_spec.specs.Meaning.{Nothing, Sort, no_words, directive, owned, unowned, sort_of, sort_by_words, is_directive, Fields, fields, EntryMeaning, faulty, gives, OriginIs, NameIs, OneWord, OwnerBefore, TtlSays, nearest, directive_word, owner_word, ttl_word, is_record, IsRecord, RecordGives, SortGives}
 use Rattle.dns_master.specs.RecordForm.{TtlOf, Inherited, LastOwner, SpelledName}
 use Rattle.dns_master.specs.ReaderForm.{last_owner, Knows, RecordTaken, EntryTaken}
 use Rattle.dns_master.specs.declared.state.Reader.{Reader}
@@ -29,13 +30,13 @@ otherwise f (inr h) = inr (h.0, f h.1)
 
 module _ (o : DomainName) (earlier : List Entry) (Owner : DomainName → Type 0) (f : Fields) (n owner : DomainName) (is : Owner n) (low : owner ≡ folded n)
     (twice : folded owner ≡ owner) where
-  owned_record : (answer : Answer) → (r : ResourceRecord) × IsRecord o earlier (λ m. m ≡ owner) f r × (answer ≡ gives (r ∷ []))
+  owned_record : (answer : EntryMeaning) → (r : ResourceRecord) × IsRecord o earlier (λ m. m ≡ owner) f r × (answer ≡ gives (r ∷ []))
       → (r : ResourceRecord) × IsRecord o earlier Owner f r × (answer ≡ gives (r ∷ []))
   owned_record answer (r, h, e) =
       (r, record { owner = (n, is, h.owner.2 ∙ ap folded h.owner.1 ∙ twice ∙ low); ttl = h.ttl; rtype = h.rtype; rdata = h.rdata }, e)
 
   -- what is given for the owner in lower case is given for the owner
-  pub given-owner : (code : ℕ) (answer : Answer) → RecordGives o earlier 8 (λ m. m ≡ owner) f answer → RecordGives o earlier code Owner f answer
+  pub given-owner : (code : FileFault) (answer : EntryMeaning) → RecordGives o earlier no_owner (λ m. m ≡ owner) f answer → RecordGives o earlier code Owner f answer
   given-owner code answer (inl h) = absurd (h.0 owner refl)
   given-owner code answer (inr h) =
       inr ((λ none. none n is), otherwise (otherwise (otherwise (otherwise (otherwise (otherwise (owned_record answer)))))) h.1)
@@ -64,8 +65,8 @@ module _ (o : DomainName) (earlier : List Entry) where
   abbrev OwnerAt : Sort → DomainName → Type 0
   OwnerAt s n = MatchOption (owner_word s) (OwnerBefore o earlier n) (λ w. NameIs o earlier w n)
 
-  -- what is known behind an entry of this sort
-  record Behind (s : Sort) (origin : DomainName) (owner : Option DomainName) (default_ttl stated_ttl : Option ℕ) (count : ℕ) : Type 0 where
+  -- what is known after an entry of this sort
+  record After (s : Sort) (origin : DomainName) (owner : Option DomainName) (default_ttl stated_ttl : Option ℕ) (count : ℕ) : Type 0 where
     origin_is : OriginAt s origin
     no_other : (n : DomainName) → OriginAt s n → n ≡ origin
     owner_is : MatchOption owner (Nothing (OwnerAt s)) (λ f. (n : DomainName) × OwnerAt s n × (f ≡ folded n))
@@ -73,9 +74,9 @@ module _ (o : DomainName) (earlier : List Entry) where
     stated_is : TtlOf (option_or (ttl_word s) (nearest ttl_word earlier)) stated_ttl
     count_is : count ≡ counted (counts_as_record s) (length (filter is_record earlier))
 
-  known-behind : (e : Entry) (origin : DomainName) (owner : Option DomainName) (default_ttl stated_ttl : Option ℕ) (count : ℕ)
-      → Behind (sort_of e) origin owner default_ttl stated_ttl count → Inherited o (e ∷ earlier) origin owner default_ttl stated_ttl count
-  known-behind e origin owner default_ttl stated_ttl count h =
+  known-after : (e : Entry) (origin : DomainName) (owner : Option DomainName) (default_ttl stated_ttl : Option ℕ) (count : ℕ)
+      → After (sort_of e) origin owner default_ttl stated_ttl count → Inherited o (e ∷ earlier) origin owner default_ttl stated_ttl count
+  known-after e origin owner default_ttl stated_ttl count h =
       record {
         origin_is = h.origin_is;
         no_other = h.no_other;
@@ -86,9 +87,9 @@ module _ (o : DomainName) (earlier : List Entry) where
       }
 
   known-of_sort : (e : Entry) (s : Sort) (origin : DomainName) (owner : Option DomainName) (default_ttl stated_ttl : Option ℕ) (count : ℕ) → sort_of e ≡ s
-      → Behind s origin owner default_ttl stated_ttl count → Inherited o (e ∷ earlier) origin owner default_ttl stated_ttl count
+      → After s origin owner default_ttl stated_ttl count → Inherited o (e ∷ earlier) origin owner default_ttl stated_ttl count
   known-of_sort e s origin owner default_ttl stated_ttl count is h =
-      known-behind e origin owner default_ttl stated_ttl count (subst (λ s. Behind s origin owner default_ttl stated_ttl count) (sym is) h)
+      known-after e origin owner default_ttl stated_ttl count (subst (λ s. After s origin owner default_ttl stated_ttl count) (sym is) h)
 
   module _ (e : Entry) (old new : Reader) (known : Knows o earlier old) where
     -- an entry without words
@@ -106,11 +107,11 @@ module _ (o : DomainName) (earlier : List Entry) where
     owner_taken : (owner : DomainName) (f : Fields) (t : RecordTaken o earlier owner f old new) → last_owner new.records.items ≡ Some owner
     owner_taken owner f t = ap last_owner t.records ∙ last_owner-push old.records.items t.taken ∙ ap Some t.owner_is
 
-    -- what behind a record is known, where its owner is the one of its sort
-    record_behind : (s : Sort) (owner : DomainName) (f : Fields) → directive_word (codes "$origin") s ≡ None → directive_word (codes "$ttl") s ≡ None → ttl_word s ≡ f.ttl
+    -- what after a record is known, where its owner is the one of its sort
+    record_after : (s : Sort) (owner : DomainName) (f : Fields) → directive_word (codes "$origin") s ≡ None → directive_word (codes "$ttl") s ≡ None → ttl_word s ≡ f.ttl
         → counts_as_record s ≡ true → (n : DomainName) → OwnerAt s n → owner ≡ folded n → (t : RecordTaken o earlier owner f old new)
-        → Behind s new.origin (last_owner new.records.items) new.default_ttl new.stated_ttl (length new.records.items)
-    record_behind s owner f no_origin no_ttl ttl counts n is low t =
+        → After s new.origin (last_owner new.records.items) new.default_ttl new.stated_ttl (length new.records.items)
+    record_after s owner f no_origin no_ttl ttl counts n is low t =
         record {
           origin_is = rw no_origin (rw t.origin_is known.origin_is);
           no_other = rw no_origin (λ m h. known.no_other m h ∙ sym t.origin_is);
@@ -126,8 +127,8 @@ module _ (o : DomainName) (earlier : List Entry) where
         record {
           taken = t.taken ∷ [];
           given = subst (λ s. SortGives o earlier s (gives (t.taken ∷ []))) (sym is)
-              (given-owner o earlier (NameIs o earlier w) (fields ws) n owner named low twice 7 (gives (t.taken ∷ [])) t.given);
-          known = known-of_sort e (owned w ws) _ _ _ _ _ is (record_behind (owned w ws) owner (fields ws) refl refl refl refl n named low t);
+              (given-owner o earlier (NameIs o earlier w) (fields ws) n owner named low twice bad_owner (gives (t.taken ∷ [])) t.given);
+          known = known-of_sort e (owned w ws) _ _ _ _ _ is (record_after (owned w ws) owner (fields ws) refl refl refl refl n named low t);
           records = t.records;
         }
 
@@ -137,8 +138,8 @@ module _ (o : DomainName) (earlier : List Entry) where
         record {
           taken = t.taken ∷ [];
           given = subst (λ s. SortGives o earlier s (gives (t.taken ∷ []))) (sym is)
-              (given-owner o earlier (OwnerBefore o earlier) (fields ws) n owner named low twice 8 (gives (t.taken ∷ [])) t.given);
-          known = known-of_sort e (unowned ws) _ _ _ _ _ is (record_behind (unowned ws) owner (fields ws) refl refl refl refl n named low t);
+              (given-owner o earlier (OwnerBefore o earlier) (fields ws) n owner named low twice no_owner (gives (t.taken ∷ [])) t.given);
+          known = known-of_sort e (unowned ws) _ _ _ _ _ is (record_after (unowned ws) owner (fields ws) refl refl refl refl n named low t);
           records = t.records;
         }
 
@@ -195,7 +196,7 @@ module _ (o : DomainName) (earlier : List Entry) where
 
   -- the words of `$ORIGIN` are none
   pub origin-fault : (old : Reader) → Knows o earlier old → (ws : List Word) → ((n : DomainName) → OneWord (λ w. SpelledName old.origin w n) ws → ⊥)
-      → SortGives o earlier (directive (codes "$origin") ws) (faulty 6)
+      → SortGives o earlier (directive (codes "$origin") ws) (faulty directive_words)
   origin-fault old known ws none = inl (no_origin ws none, refl)
     where
       no_origin : (ws : List Word) → ((n : DomainName) → OneWord (λ w. SpelledName old.origin w n) ws → ⊥) → Nothing (λ (n : DomainName). OneWord (λ w. NameIs o earlier w n) ws)
@@ -203,7 +204,7 @@ module _ (o : DomainName) (earlier : List Entry) where
       no_origin (w ∷ v ∷ ws) none n h = h
       no_origin (w ∷ []) none n h = none n (h.0, subst (λ m. SpellsName m w.raw n) (known.no_other h.1.0 h.1.1) h.1.2)
 
-  pub default-fault : (ws : List Word) → ((n : ℕ) → OneWord (λ w. TtlSays w n) ws → ⊥) → SortGives o earlier (directive (codes "$ttl") ws) (faulty 6)
+  pub default-fault : (ws : List Word) → ((n : ℕ) → OneWord (λ w. TtlSays w n) ws → ⊥) → SortGives o earlier (directive (codes "$ttl") ws) (faulty directive_words)
   default-fault ws none = inl (none, refl)
 
 -- the sort of an entry by its first octet and its words

@@ -9,7 +9,8 @@ use Rattle.dns_spec.specs.Names.{Octets, DomainName, folded}
 use Rattle.dns_spec.specs.Data.{lower_case}
 use Rattle.dns_spec.specs.DataText.{Word, Says}
 use Rattle.dns_spec.specs.ZoneText.{Entry}
-use Rattle.dns_spec.specs.Meaning.{Nothing, Fields, Answer, faulty, gives, OriginIs, TtlSays, ttl_in_force, TypeIs, DataIs, IsNoTtl, is_other_class, are_too_many, RecordGives}
+use Rattle.dns_spec.specs.FileFaults.{bad_data, bad_ttl, bad_type, no_owner, no_ttl, other_class, too_many_records}
+use Rattle.dns_spec.specs.Meaning.{Nothing, Fields, EntryMeaning, faulty, gives, OriginIs, TtlSays, ttl_in_force, TypeIs, DataIs, IsNoTtl, is_other_class, are_too_many, RecordGives}
 use Rattle.dns_spec.proofs.LoweredData.{lowered-twice}
 use Rattle.dns_spec.proofs.TypeWords.{one_type}
 use Rattle.dns_master.specs.RecordForm.{TtlOf}
@@ -35,9 +36,9 @@ pub copied-some : {T : Type 0} (x : Option (Bor T)) → is_some (option_copied x
 copied-some None = refl
 copied-some (Some x) = refl
 
-no_ttl : (w : Option Word) (m : Option ℕ) → TtlOf w m → m ≡ None → is_none w ≡ true
-no_ttl None m h e = refl
-no_ttl (Some w) m h e = absurd (none-some h.0 (sym e ∙ h.1))
+none_known : (w : Option Word) (m : Option ℕ) → TtlOf w m → m ≡ None → is_none w ≡ true
+none_known None m h e = refl
+none_known (Some w) m h e = absurd (none-some h.0 (sym e ∙ h.1))
 
 known_ttl : (w : Option Word) (m : Option ℕ) (n : ℕ) → TtlOf w m → m ≡ Some n → MatchOption w ⊥ (λ w. TtlSays w n)
 known_ttl None m n h e = none-some n (sym h ∙ e)
@@ -48,23 +49,23 @@ some_ttl None m n h e k = none-some n (sym h ∙ e)
 some_ttl (Some w) m n h e k = false≢true k
 
 module _ (o : DomainName) (earlier : List Entry) (owner : DomainName) (f : Fields) where
-  Gives : Answer → Type 0
-  Gives = RecordGives o earlier 8 (λ n. n ≡ owner) f
+  Gives : EntryMeaning → Type 0
+  Gives = RecordGives o earlier no_owner (λ n. n ≡ owner) f
 
   named : Nothing (λ (n : DomainName). n ≡ owner) → ⊥
   named none = none owner refl
 
-  pub ttl-fault : IsNoTtl f.ttl → RecordGives o earlier 8 (λ n. n ≡ owner) f (faulty 9)
+  pub ttl-fault : IsNoTtl f.ttl → RecordGives o earlier no_owner (λ n. n ≡ owner) f (faulty bad_ttl)
   ttl-fault h = inr (named, inl (h, refl))
 
-  pub class-fault : (stated : Option ℕ) → TtlOf f.ttl stated → is_other_class f.class ≡ true → RecordGives o earlier 8 (λ n. n ≡ owner) f (faulty 10)
+  pub class-fault : (stated : Option ℕ) → TtlOf f.ttl stated → is_other_class f.class ≡ true → RecordGives o earlier no_owner (λ n. n ≡ owner) f (faulty other_class)
   class-fault stated a h = inr (named, inr (ttl-stated f.ttl stated a, inl (h, refl)))
 
   is_in : is_other_class f.class ≡ false → is_other_class f.class ≡ true → ⊥
   is_in e h = false≢true (sym e ∙ h)
 
   pub type-fault : (stated : Option ℕ) → TtlOf f.ttl stated → is_other_class f.class ≡ false → Nothing (TypeIs f.others)
-      → RecordGives o earlier 8 (λ n. n ≡ owner) f (faulty 11)
+      → RecordGives o earlier no_owner (λ n. n ≡ owner) f (faulty bad_type)
   type-fault stated a b h = inr (named, inr (ttl-stated f.ttl stated a, inr (is_in b, inl (h, refl))))
 
   module _ (stated known : Option ℕ) (t : ℕ) (a : TtlOf f.ttl stated) (b : is_other_class f.class ≡ false) (c : TypeIs f.others t)
@@ -72,12 +73,12 @@ module _ (o : DomainName) (earlier : List Entry) (owner : DomainName) (f : Field
     typed : Nothing (TypeIs f.others) → ⊥
     typed none = none t c
 
-    pub no_ttl-fault : known ≡ None → RecordGives o earlier 8 (λ n. n ≡ owner) f (faulty 12)
+    pub no_ttl-fault : known ≡ None → RecordGives o earlier no_owner (λ n. n ≡ owner) f (faulty no_ttl)
     no_ttl-fault e =
-        inr (named, inr (ttl-stated f.ttl stated a, inr (is_in b, inr (typed, inl (no_ttl (ttl_in_force earlier f.ttl) known k e, refl)))))
+        inr (named, inr (ttl-stated f.ttl stated a, inr (is_in b, inr (typed, inl (none_known (ttl_in_force earlier f.ttl) known k e, refl)))))
 
     module _ (ttl : ℕ) (e : known ≡ Some ttl) (origin : DomainName) (is : OriginIs o earlier origin) (only : (n : DomainName) → OriginIs o earlier n → n ≡ origin) where
-      pub data-fault : Nothing (Says t (drop 1 f.others) origin) → RecordGives o earlier 8 (λ n. n ≡ owner) f (faulty 13)
+      pub data-fault : Nothing (Says t (drop 1 f.others) origin) → RecordGives o earlier no_owner (λ n. n ≡ owner) f (faulty bad_data)
       data-fault none =
           inr (
             named,
@@ -100,7 +101,7 @@ module _ (o : DomainName) (earlier : List Entry) (owner : DomainName) (f : Field
         told : Nothing (DataIs o earlier f.others) → ⊥
         told none = none d (t, c, (origin, is, said))
 
-        pub count-fault : are_too_many earlier ≡ true → RecordGives o earlier 8 (λ n. n ≡ owner) f (faulty 14)
+        pub count-fault : are_too_many earlier ≡ true → RecordGives o earlier no_owner (λ n. n ≡ owner) f (faulty too_many_records)
         count-fault h =
             inr (
               named,
@@ -120,7 +121,7 @@ module _ (o : DomainName) (earlier : List Entry) (owner : DomainName) (f : Field
             )
 
         pub record-given : folded owner ≡ owner → are_too_many earlier ≡ false
-            → RecordGives o earlier 8 (λ n. n ≡ owner) f (gives (record { owner = owner; ttl = ttl; rtype = t; rdata = d } ∷ []))
+            → RecordGives o earlier no_owner (λ n. n ≡ owner) f (gives (record { owner = owner; ttl = ttl; rtype = t; rdata = d } ∷ []))
         record-given low h =
             inr (
               named,

@@ -1,7 +1,9 @@
 -- How far a run goes, octet by octet and escape by escape.
-use Rattle.std.proofs.Common.{◌≡◌, ℕ, zero, suc, ◌+◌, ◌≤◌, Bool, true, false, [], ◌∷◌, length, drop, refl, ap, arith, Option, None, Some, ◌==◌}
+use Rattle.std.proofs.Common.{◌≡◌, ℕ, zero, suc, ◌+◌, ◌≤◌, Bool, true, false, [], ◌∷◌, length, drop, refl, ◌∙◌, ap, arith, Option, None, Some, ◌==◌}
+use Rattle.std.specs.Prelude.{if◌then◌else◌}
 use Rattle.dns_spec.specs.Names.{Octets}
-use Rattle.dns_spec.specs.ZoneText.{escape_behind, unit_left, run_length}
+use Rattle.dns_spec.specs.ZoneText.{escape_left, unit_left, run_length}
+use Rattle.dns_spec.proofs.Escapes.{counted_escape, escape-counted}
 
 module _ (by : ℕ → Bool) where
   -- the octets of an escape
@@ -26,19 +28,22 @@ module _ (by : ℕ → Bool) where
   pub run-end : (o : ℕ) (text : Octets) → (o == 92) ≡ false → by o ≡ false → run_length by 0 (o ∷ text) ≡ 0
   run-end o text e h = by_unit o text None (rw e (rw h refl))
 
+  unit_of : (o : ℕ) (text : Octets) → (o == 92) ≡ true → unit_left by o text ≡ escape_left text
+  unit_of o text e = rw e refl
+
   -- an escape
-  pub run-escape : (o : ℕ) (text : Octets) → (o == 92) ≡ true → (escape_behind text == 0) ≡ false → escape_behind text ≤ length text
-      → run_length by 0 (o ∷ text) ≡ 1 + escape_behind text + run_length by 0 (drop (escape_behind text) text)
+  pub run-escape : (o : ℕ) (text : Octets) → (o == 92) ≡ true → (counted_escape text == 0) ≡ false → counted_escape text ≤ length text
+      → run_length by 0 (o ∷ text) ≡ 1 + counted_escape text + run_length by 0 (drop (counted_escape text) text)
   run-escape o text e h fits =
-      let others : run_length by (escape_behind text) text ≡ escape_behind text + run_length by 0 (drop (escape_behind text) text) =
-      skipped (escape_behind text) text fits in
-      let all : run_length by 0 (o ∷ text) ≡ 1 + run_length by (escape_behind text) text =
-      by_unit o text (Some (escape_behind text)) (rw e (rw h refl)) in
+      let others : run_length by (counted_escape text) text ≡ counted_escape text + run_length by 0 (drop (counted_escape text) text) =
+      skipped (counted_escape text) text fits in
+      let all : run_length by 0 (o ∷ text) ≡ 1 + run_length by (counted_escape text) text =
+      by_unit o text (Some (counted_escape text)) (unit_of o text e ∙ ap (λ k. if k == 0 then None else Some k) (escape-counted text) ∙ rw h refl) in
       omega (arith, others, all)
 
   -- a backslash that begins no escape
-  pub run-no_escape : (o : ℕ) (text : Octets) → (o == 92) ≡ true → (escape_behind text == 0) ≡ true → run_length by 0 (o ∷ text) ≡ 0
-  run-no_escape o text e h = by_unit o text None (rw e (rw h refl))
+  pub run-no_escape : (o : ℕ) (text : Octets) → (o == 92) ≡ true → (counted_escape text == 0) ≡ true → run_length by 0 (o ∷ text) ≡ 0
+  run-no_escape o text e h = by_unit o text None (unit_of o text e ∙ ap (λ k. if k == 0 then None else Some k) (escape-counted text) ∙ rw h refl)
 
   pub run-none : (text : Octets) → length text ≡ 0 → run_length by 0 text ≡ 0
   unfolding run_length

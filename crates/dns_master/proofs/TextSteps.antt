@@ -1,4 +1,4 @@
--- What a text means from an entry on: what the entry gives, and what the text behind it means.
+-- What a text means from an entry on: what the entry gives, and what the text after it means.
 use Rattle.std.proofs.Common.{◌≡◌, ℕ, ◌+◌, ◌≤◌, ◌<◌, Bool, true, false, ◌||◌, ◌==◌, List, [], ◌∷◌, ◌++◌, length, take, drop, inl, inr, ◌⊎◌, refl, sym, ap, ◌∙◌, subst, arith, Option, Some, None}
 use Rattle.std.proofs.lemmas.Bool.{false≢true}
 use Rattle.std.proofs.lemmas.Option.{none-some}
@@ -7,141 +7,142 @@ use Rattle.std.specs.List.{flat_map, list_any}
 use Rattle.dns_spec.specs.Names.{Octets, DomainName}
 use Rattle.dns_spec.specs.DataText.{Word}
 use Rattle.dns_spec.specs.Records.{ResourceRecord}
-use Rattle.dns_spec.specs.ZoneText.{Piece, quoted, line_end, Entry, ended, piece_front, PiecesThen, is_blank, is_blank_piece, begins_blank, closed, line_feed_front, word_length, string_length, cut_entries, with_end, end_code, broken_code, is_open_at_end, take_turns, parentheses}
-use Rattle.dns_spec.specs.Meaning.{Answer, faulty, gives, Meaning, records, fault_at, behind, line_behind, SortGives, sort_of, sort_by_words, EntryGives, EntriesMean}
-use Rattle.dns_spec.proofs.TextPieces.{has_pieces, front-shorter}
-use Rattle.dns_master.specs.EntryForm.{Reads, unended, wrong, IsWrong, line_ends, piece_words, EntryRead, outcome_of, TextMeans}
+use Rattle.dns_spec.specs.ZoneText.{Token, quoted_string, line_end, Entry, ended, token_front, TokensThen, is_blank, is_blank_token, begins_blank, closed, line_feed_front, word_length, string_length, cut_entries, with_end, is_open_at_end, take_turns, parentheses, whole_text, extent_by, stop_fault, stop_at, Extent, beginning, in_string, in_token}
+use Rattle.dns_spec.specs.FileFaults.{bad_parenthesis, too_long, FileFault}
+use Rattle.dns_spec.specs.Meaning.{EntryMeaning, faulty, gives, Meaning, records, fault_at, after, line_after, SortGives, sort_of, sort_by_words, EntryGives, EntriesMean}
+use Rattle.dns_spec.proofs.TextTokens.{has_tokens, front-shorter}
+use Rattle.dns_master.specs.EntryForm.{Reads, unended, wrong, IsWrong, line_ends, token_words, EntryRead, outcome_of, TextMeans}
 use Rattle.dns_master.specs.EntryForm as form
 use Rattle.dns_master.proofs.EntryLoop.{lines-append}
 use Rattle.dns_master.proofs.EntryCuts.{EndedCut, HasFirst, has_first, reads-ended, reads-unended, reads-wrong}
 
-pieces-append : (text middle rest : Octets) (ps qs : List Piece) → PiecesThen text ps middle → PiecesThen middle qs rest → PiecesThen text (ps ++ qs) rest
-pieces-append text middle rest [] qs h k = subst (λ x. PiecesThen x qs rest) (sym h) k
-pieces-append text middle rest (p ∷ ps) qs h k = (h.0, h.1, pieces-append h.0 middle rest ps qs h.2 k)
+tokens-append : (text middle rest : Octets) (ps qs : List Token) → TokensThen text ps middle → TokensThen middle qs rest → TokensThen text (ps ++ qs) rest
+tokens-append text middle rest [] qs h k = subst (λ x. TokensThen x qs rest) (sym h) k
+tokens-append text middle rest (p ∷ ps) qs h k = (h.0, h.1, tokens-append h.0 middle rest ps qs h.2 k)
 
 -- an entry that nothing is wrong with by its place gives what its sort gives
-by_sort : (o : DomainName) (earlier : List Entry) (e : Entry) (answer : Answer) → take_turns false (parentheses e.pieces) ≡ true → e.end_fault ≡ None
+by_sort : (o : DomainName) (earlier : List Entry) (e : Entry) (answer : EntryMeaning) → take_turns false (parentheses e.tokens) ≡ true → e.end_fault ≡ None
     → SortGives o earlier (sort_of e) answer → EntryGives o earlier e answer
 by_sort o earlier e answer turns none h = rw turns (rw none h)
 
-by_end : (o : DomainName) (earlier : List Entry) (e : Entry) (code : ℕ) → take_turns false (parentheses e.pieces) ≡ true → e.end_fault ≡ Some code
+by_end : (o : DomainName) (earlier : List Entry) (e : Entry) (code : FileFault) → take_turns false (parentheses e.tokens) ≡ true → e.end_fault ≡ Some code
     → EntryGives o earlier e (faulty code)
 by_end o earlier e code turns some = rw turns (rw some refl)
 
-by_turns : (o : DomainName) (earlier : List Entry) (e : Entry) → take_turns false (parentheses e.pieces) ≡ false → EntryGives o earlier e (faulty 4)
+by_turns : (o : DomainName) (earlier : List Entry) (e : Entry) → take_turns false (parentheses e.tokens) ≡ false → EntryGives o earlier e (faulty bad_parenthesis)
 by_turns o earlier e turns = rw turns refl
 
-with_end-more : (goes_on : Bool) (rest : Octets) (ps : List Piece) (es : List (List Piece)) → HasFirst es
-    → with_end goes_on rest (ps ∷ es) ≡ ended ps ∷ with_end goes_on rest es
+with_end-more : (goes_on : Bool) (rest : Octets) (ps : List Token) (es : List (List Token)) → HasFirst es
+    → with_end (extent_by goes_on) rest (ps ∷ es) ≡ ended ps ∷ with_end (extent_by goes_on) rest es
 with_end-more goes_on rest ps es h =
-    ap (λ x. with_end goes_on rest (ps ∷ x)) h.is ∙ ap (λ x. ended ps ∷ with_end goes_on rest x) (sym h.is)
+    ap (λ x. with_end (extent_by goes_on) rest (ps ∷ x)) h.is ∙ ap (λ x. ended ps ∷ with_end (extent_by goes_on) rest x) (sym h.is)
 
 module _ (o : DomainName) (earlier : List Entry) (goes_on : Bool) (text : Octets) where
   -- an entry that a line end ends
-  module _ (ps : List Piece) (others : Octets) (reads : Reads false text ps (form.ended others)) where
-    cut_behind : (rest : Octets) (qs : List Piece) → with_end goes_on rest (cut_entries false (ps ++ qs)) ≡ ended ps ∷ with_end goes_on rest (cut_entries false qs)
-    cut_behind rest qs =
-        ap (with_end goes_on rest) ((reads-ended false text ps others reads).cuts qs) ∙ with_end-more goes_on rest ps (cut_entries false qs) (has_first false qs)
+  module _ (ps : List Token) (others : Octets) (reads : Reads false text ps (form.ended others)) where
+    cut_after : (rest : Octets) (qs : List Token) → with_end (extent_by goes_on) rest (cut_entries false (ps ++ qs)) ≡ ended ps ∷ with_end (extent_by goes_on) rest (cut_entries false qs)
+    cut_after rest qs =
+        ap (with_end (extent_by goes_on) rest) ((reads-ended false text ps others reads).cuts qs) ∙ with_end-more goes_on rest ps (cut_entries false qs) (has_first false qs)
 
     pub ended-gives : (rs : List ResourceRecord) → SortGives o earlier (sort_of (ended ps)) (gives rs)
-        → (later : Meaning) → TextMeans o (ended ps ∷ earlier) goes_on others later → TextMeans o earlier goes_on text (behind rs later)
+        → (later : Meaning) → TextMeans o (ended ps ∷ earlier) goes_on others later → TextMeans o earlier goes_on text (after rs later)
     ended-gives rs given later h =
         let c = reads-ended false text ps others reads in
         record {
-          pieces = ps ++ h.pieces;
+          tokens = ps ++ h.tokens;
           rest = h.rest;
-          spelled = pieces-append text others h.rest ps h.pieces c.spelled h.spelled;
+          spelled = tokens-append text others h.rest ps h.tokens c.spelled h.spelled;
           at_end = h.at_end;
-          meant = subst (λ es. EntriesMean o earlier es (behind rs later)) (sym (cut_behind h.rest h.pieces))
+          meant = subst (λ es. EntriesMean o earlier es (after rs later)) (sym (cut_after h.rest h.tokens))
               (gives rs, by_sort o earlier (ended ps) (gives rs) c.turns refl given, (later, h.meant, refl));
         }
 
-    pub ended-faulty : (code : ℕ) → SortGives o earlier (sort_of (ended ps)) (faulty code) → TextMeans o earlier goes_on text (fault_at code (line_behind earlier))
+    pub ended-faulty : (code : FileFault) → SortGives o earlier (sort_of (ended ps)) (faulty code) → TextMeans o earlier goes_on text (fault_at code (line_after earlier))
     ended-faulty code given =
         let c = reads-ended false text ps others reads in
-        let h = has_pieces others in
+        let h = has_tokens others in
         record {
-          pieces = ps ++ h.pieces;
+          tokens = ps ++ h.tokens;
           rest = h.rest;
-          spelled = pieces-append text others h.rest ps h.pieces c.spelled h.spelled;
+          spelled = tokens-append text others h.rest ps h.tokens c.spelled h.spelled;
           at_end = h.at_end;
-          meant = subst (λ es. EntriesMean o earlier es (fault_at code (line_behind earlier))) (sym (cut_behind h.rest h.pieces))
+          meant = subst (λ es. EntriesMean o earlier es (fault_at code (line_after earlier))) (sym (cut_after h.rest h.tokens))
               (faulty code, by_sort o earlier (ended ps) (faulty code) c.turns refl given, refl);
         }
 
-  -- an entry up to where no piece begins
-  module _ (ps : List Piece) (is_open : Bool) (rest : Octets) (reads : Reads false text ps (unended is_open rest)) where
+  -- an entry up to where no token begins
+  module _ (ps : List Token) (is_open : Bool) (rest : Octets) (reads : Reads false text ps (unended is_open rest)) where
     last_entry : Entry
-    last_entry = record { pieces = ps; end_fault = end_code goes_on (is_open_at_end ps) rest }
+    last_entry = record { tokens = ps; end_fault = stop_fault (extent_by goes_on) (is_open_at_end ps) (stop_at rest) }
 
-    same_end : end_code goes_on (is_open_at_end ps) rest ≡ end_code goes_on is_open rest
-    same_end = ap (λ x. end_code goes_on x rest) (reads-unended false text ps is_open rest reads).opens
+    same_end : stop_fault (extent_by goes_on) (is_open_at_end ps) (stop_at rest) ≡ stop_fault (extent_by goes_on) is_open (stop_at rest)
+    same_end = ap (λ x. stop_fault (extent_by goes_on) x (stop_at rest)) (reads-unended false text ps is_open rest reads).opens
 
     last_means : (m : Meaning) → EntriesMean o earlier (last_entry ∷ []) m → TextMeans o earlier goes_on text m
     unfolding last_entry
     last_means m h =
         let c = reads-unended false text ps is_open rest reads in
         record {
-          pieces = ps;
+          tokens = ps;
           rest = rest;
           spelled = c.spelled;
           at_end = c.at_end;
-          meant = subst (λ es. EntriesMean o earlier (with_end goes_on rest es) m) (sym c.cuts) h;
+          meant = subst (λ es. EntriesMean o earlier (with_end (extent_by goes_on) rest es) m) (sym c.cuts) h;
         }
 
-    pub unended-end : (code : ℕ) → end_code goes_on is_open rest ≡ Some code → TextMeans o earlier goes_on text (fault_at code (line_behind earlier))
+    pub unended-end : (code : FileFault) → stop_fault (extent_by goes_on) is_open (stop_at rest) ≡ Some code → TextMeans o earlier goes_on text (fault_at code (line_after earlier))
     unfolding last_entry
     unended-end code e =
-        last_means (fault_at code (line_behind earlier))
+        last_means (fault_at code (line_after earlier))
         (faulty code, by_end o earlier last_entry code (reads-unended false text ps is_open rest reads).turns (same_end ∙ e), refl)
 
-    pub unended-faulty : (code : ℕ) → end_code goes_on is_open rest ≡ None → SortGives o earlier (sort_of (ended ps)) (faulty code)
-        → TextMeans o earlier goes_on text (fault_at code (line_behind earlier))
+    pub unended-faulty : (code : FileFault) → stop_fault (extent_by goes_on) is_open (stop_at rest) ≡ None → SortGives o earlier (sort_of (ended ps)) (faulty code)
+        → TextMeans o earlier goes_on text (fault_at code (line_after earlier))
     unfolding last_entry
     unended-faulty code e given =
-        last_means (fault_at code (line_behind earlier))
+        last_means (fault_at code (line_after earlier))
         (faulty code, by_sort o earlier last_entry (faulty code) (reads-unended false text ps is_open rest reads).turns (same_end ∙ e) given, refl)
 
-    pub unended-gives : (rs : List ResourceRecord) → end_code goes_on is_open rest ≡ None → SortGives o earlier (sort_of (ended ps)) (gives rs)
-        → TextMeans o earlier goes_on text (behind rs (records []))
+    pub unended-gives : (rs : List ResourceRecord) → stop_fault (extent_by goes_on) is_open (stop_at rest) ≡ None → SortGives o earlier (sort_of (ended ps)) (gives rs)
+        → TextMeans o earlier goes_on text (after rs (records []))
     unfolding last_entry
     unended-gives rs e given =
-        last_means (behind rs (records []))
+        last_means (after rs (records []))
         (gives rs, by_sort o earlier last_entry (gives rs) (reads-unended false text ps is_open rest reads).turns (same_end ∙ e) given, (records [], refl, refl))
 
   -- a parenthesis that is misplaced
-  pub wrong-faulty : IsWrong text → TextMeans o earlier goes_on text (fault_at 4 (line_behind earlier))
+  pub wrong-faulty : IsWrong text → TextMeans o earlier goes_on text (fault_at bad_parenthesis (line_after earlier))
   wrong-faulty (ps, reads) =
       let c = reads-wrong false text ps reads in
-      let h = has_pieces c.rest in
-      let w = c.wrong_first h.pieces in
+      let h = has_tokens c.rest in
+      let w = c.wrong_first h.tokens in
       record {
-        pieces = ps ++ h.pieces;
+        tokens = ps ++ h.tokens;
         rest = h.rest;
-        spelled = pieces-append text c.rest h.rest ps h.pieces c.spelled h.spelled;
+        spelled = tokens-append text c.rest h.rest ps h.tokens c.spelled h.spelled;
         at_end = h.at_end;
-        meant = subst (λ es. EntriesMean o earlier (with_end goes_on h.rest es) (fault_at 4 (line_behind earlier))) (sym w.cuts)
+        meant = subst (λ es. EntriesMean o earlier (with_end (extent_by goes_on) h.rest es) (fault_at bad_parenthesis (line_after earlier))) (sym w.cuts)
             (first_wrong h.rest w.first w.others w.turns);
       }
     where
-      first_wrong : (rest : Octets) (first : List Piece) (others : List (List Piece)) → take_turns false (parentheses first) ≡ false
-          → EntriesMean o earlier (with_end goes_on rest (first ∷ others)) (fault_at 4 (line_behind earlier))
+      first_wrong : (rest : Octets) (first : List Token) (others : List (List Token)) → take_turns false (parentheses first) ≡ false
+          → EntriesMean o earlier (with_end (extent_by goes_on) rest (first ∷ others)) (fault_at bad_parenthesis (line_after earlier))
       first_wrong rest first [] turns =
-          (faulty 4, by_turns o earlier (record { pieces = first; end_fault = end_code goes_on (is_open_at_end first) rest }) turns, refl)
-      first_wrong rest first (second ∷ others) turns = (faulty 4, by_turns o earlier (ended first) turns, refl)
+          (faulty bad_parenthesis, by_turns o earlier (record { tokens = first; end_fault = stop_fault (extent_by goes_on) (is_open_at_end first) (stop_at rest) }) turns, refl)
+      first_wrong rest first (second ∷ others) turns = (faulty bad_parenthesis, by_turns o earlier (ended first) turns, refl)
 
--- the line behind an entry
-pub line-more : (ps : List Piece) (earlier : List Entry) → line_behind (ended ps ∷ earlier) ≡ line_behind earlier + line_ends ps
+-- the line after an entry
+pub line-more : (ps : List Token) (earlier : List Entry) → line_after (ended ps ∷ earlier) ≡ line_after earlier + line_ends ps
 line-more ps earlier =
-    let all : line_ends (ps ++ flat_map (λ (e : Entry). e.pieces) earlier) ≡ line_ends ps + line_ends (flat_map (λ (e : Entry). e.pieces) earlier) =
-    lines-append ps (flat_map (λ (e : Entry). e.pieces) earlier) in
+    let all : line_ends (ps ++ flat_map (λ (e : Entry). e.tokens) earlier) ≡ line_ends ps + line_ends (flat_map (λ (e : Entry). e.tokens) earlier) =
+    lines-append ps (flat_map (λ (e : Entry). e.tokens) earlier) in
     omega (arith, all)
 
--- whether the first piece is a blank, by the first octet
-FirstBlank : Bool → Option (Piece × Octets) → Type 0
-FirstBlank b front = MatchOption front (b ≡ false) (λ r. is_blank_piece r.0 ≡ b)
+-- whether the first token is a blank, by the first octet
+FirstBlank : Bool → Option (Token × Octets) → Type 0
+FirstBlank b front = MatchOption front (b ≡ false) (λ r. is_blank_token r.0 ≡ b)
 
-choose : (c b : Bool) (x y : Option (Piece × Octets)) → (c ≡ true → FirstBlank b x) → (c ≡ false → FirstBlank b y) → FirstBlank b (if c then x else y)
+choose : (c b : Bool) (x y : Option (Token × Octets)) → (c ≡ true → FirstBlank b x) → (c ≡ false → FirstBlank b y) → FirstBlank b (if c then x else y)
 unfolding FirstBlank
 choose true b x y f g = f refl
 choose false b x y f g = g refl
@@ -149,14 +150,14 @@ choose false b x y f g = g refl
 closed-blank : (b : Bool) (raw text : Octets) → b ≡ false → FirstBlank b (closed raw text)
 unfolding FirstBlank
 closed-blank b raw [] h = h
-closed-blank b raw (o ∷ text) h = choose (o == 34) b (Some (quoted raw, text)) None (λ _. sym h) (λ _. h)
+closed-blank b raw (o ∷ text) h = choose (o == 34) b (Some (quoted_string raw, text)) None (λ _. sym h) (λ _. h)
 
 line_feed-blank : (b : Bool) (text : Octets) → b ≡ false → FirstBlank b (line_feed_front text)
 unfolding FirstBlank
 line_feed-blank b [] h = h
 line_feed-blank b (o ∷ text) h = choose (o == 10) b (Some (line_end, text)) None (λ _. sym h) (λ _. h)
 
-first-blank : (o : ℕ) (text : Octets) → FirstBlank (is_blank o) (piece_front (o ∷ text))
+first-blank : (o : ℕ) (text : Octets) → FirstBlank (is_blank o) (token_front (o ∷ text))
 unfolding FirstBlank
 first-blank o text =
     choose (is_blank o) (is_blank o) _ _ (λ h. sym h) (λ h.
@@ -168,7 +169,7 @@ first-blank o text =
     choose (o == 13) (is_blank o) _ _ (λ _. line_feed-blank (is_blank o) text h) (λ _.
     choose (word_length (o ∷ text) == 0) (is_blank o) None _ (λ _. h) (λ _. sym h))))))))
 
-pub blank-front : (text others : Octets) (p : Piece) → piece_front text ≡ Some (p, others) → is_blank_piece p ≡ list_any is_blank (take 1 text)
+pub blank-front : (text others : Octets) (p : Token) → token_front text ≡ Some (p, others) → is_blank_token p ≡ list_any is_blank (take 1 text)
 unfolding FirstBlank
 blank-front [] others p e = absurd (none-some (p, others) e)
 blank-front (o ∷ text) others p e = subst (λ x. FirstBlank (is_blank o) x) e (first-blank o text) ∙ any-one (is_blank o)
@@ -177,7 +178,7 @@ blank-front (o ∷ text) others p e = subst (λ x. FirstBlank (is_blank o) x) e 
     any-one true = refl
     any-one false = refl
 
-pub none-front : (text : Octets) → piece_front text ≡ None → list_any is_blank (take 1 text) ≡ false
+pub none-front : (text : Octets) → token_front text ≡ None → list_any is_blank (take 1 text) ≡ false
 unfolding FirstBlank
 none-front [] e = refl
 none-front (o ∷ text) e = sym (any-one (is_blank o)) ∙ subst (λ x. FirstBlank (is_blank o) x) e (first-blank o text)
@@ -186,103 +187,111 @@ none-front (o ∷ text) e = sym (any-one (is_blank o)) ∙ subst (λ x. FirstBla
     any-one true = refl
     any-one false = refl
 
--- the pieces of an entry begin with a blank where the text does
-pub begins-blank : (b : Bool) (text : Octets) (ps : List Piece) (outcome : form.Outcome) → Reads b text ps outcome → begins_blank ps ≡ list_any is_blank (take 1 text)
+-- the tokens of an entry begin with a blank where the text does
+pub begins-blank : (b : Bool) (text : Octets) (ps : List Token) (outcome : form.Outcome) → Reads b text ps outcome → begins_blank ps ≡ list_any is_blank (take 1 text)
 begins-blank b text [] outcome h = sym (none-front text h.0)
 begins-blank b text (p ∷ ps) outcome h = blank-front text h.0 p h.1
 
-answer_records : Answer → List ResourceRecord
+answer_records : EntryMeaning → List ResourceRecord
 answer_records (faulty code) = []
 answer_records (gives rs) = rs
 
-is_faulty : Answer → Bool
+is_faulty : EntryMeaning → Bool
 is_faulty (faulty code) = true
 is_faulty (gives rs) = false
 
--- an entry without pieces, the last of a text, gives nothing
-meant-nothing : (o : DomainName) (earlier : List Entry) (later : Meaning) (answer : Answer) → answer ≡ gives []
-    → elim answer as (λ _. Type 0) [ faulty code ↦ later ≡ fault_at code (line_behind earlier) | gives rs ↦ (more : Meaning) × (more ≡ records []) × (later ≡ behind rs more) ]
+-- an entry without tokens, the last of a text, gives nothing
+meant-nothing : (o : DomainName) (earlier : List Entry) (later : Meaning) (answer : EntryMeaning) → answer ≡ gives []
+    → elim answer as (λ _. Type 0) [ faulty code ↦ later ≡ fault_at code (line_after earlier) | gives rs ↦ (more : Meaning) × (more ≡ records []) × (later ≡ after rs more) ]
     → later ≡ records []
 unfolding answer_records is_faulty
 meant-nothing o earlier later (faulty code) e h = absurd (false≢true (sym (ap is_faulty e)))
-meant-nothing o earlier later (gives rs) e h = h.2 ∙ ap (behind rs) h.1 ∙ ap (λ xs. behind xs (records [])) (ap answer_records e)
+meant-nothing o earlier later (gives rs) e h = h.2 ∙ ap (after rs) h.1 ∙ ap (λ xs. after xs (records [])) (ap answer_records e)
 
 pub empty-means : (o : DomainName) (earlier : List Entry) (later : Meaning) → TextMeans o earlier false [] later → later ≡ records []
-empty-means o earlier later h = go h.pieces h.rest h.spelled h.meant
+empty-means o earlier later h = go h.tokens h.rest h.spelled h.meant
   where
-    go : (ps : List Piece) (rest : Octets) → PiecesThen [] ps rest → EntriesMean o earlier (with_end false rest (cut_entries false ps)) later → later ≡ records []
+    go : (ps : List Token) (rest : Octets) → TokensThen [] ps rest → EntriesMean o earlier (with_end whole_text rest (cut_entries false ps)) later → later ≡ records []
     go [] rest e k =
-        let m = subst (λ x. EntriesMean o earlier (with_end false x (cut_entries false [])) later) (sym e) k in
+        let m = subst (λ x. EntriesMean o earlier (with_end whole_text x (cut_entries false [])) later) (sym e) k in
         meant-nothing o earlier later m.0 m.1 m.2
     go (p ∷ ps) rest e k = absurd (none-some (p, e.0) e.1)
 
 pub nothing-means : (o : DomainName) (earlier : List Entry) → TextMeans o earlier false [] (records [])
-nothing-means o earlier = record { pieces = []; rest = []; spelled = refl; at_end = refl; meant = (gives [], refl, (records [], refl, refl)) }
+nothing-means o earlier = record { tokens = []; rest = []; spelled = refl; at_end = refl; meant = (gives [], refl, (records [], refl, refl)) }
 
 -- the text goes on past its limit
-pub past-means : (o : DomainName) (earlier : List Entry) → TextMeans o earlier true [] (fault_at 15 (line_behind earlier))
-past-means o earlier = record { pieces = []; rest = []; spelled = refl; at_end = refl; meant = (faulty 15, refl, refl) }
+pub past-means : (o : DomainName) (earlier : List Entry) → TextMeans o earlier true [] (fault_at too_long (line_after earlier))
+past-means o earlier = record { tokens = []; rest = []; spelled = refl; at_end = refl; meant = (faulty too_long, refl, refl) }
+
+-- a text that can't go on is faulty
+stuck-faulty : (extent : Extent) (is_open in_a_string : Bool) (x y : Octets)
+    → stop_fault extent is_open (if in_a_string then in_string x else in_token y) ≡ None → ⊥
+stuck-faulty whole_text is_open true x y e = none-some _ (sym e)
+stuck-faulty whole_text is_open false x y e = none-some _ (sym e)
+stuck-faulty beginning is_open true x y e = none-some _ (sym e)
+stuck-faulty beginning is_open false x y e = none-some _ (sym e)
 
 -- where an entry without a line end ends without fault, the text is over
-pub over-at_end : (goes_on is_open : Bool) (rest : Octets) → end_code goes_on is_open rest ≡ None → (rest ≡ []) × (goes_on ≡ false)
-over-at_end goes_on is_open (o ∷ rest) e = absurd (none-some (broken_code goes_on (o ∷ rest)) (sym e))
-over-at_end true is_open [] e = absurd (none-some 15 (sym e))
+pub over-at_end : (goes_on is_open : Bool) (rest : Octets) → stop_fault (extent_by goes_on) is_open (stop_at rest) ≡ None → (rest ≡ []) × (goes_on ≡ false)
+over-at_end goes_on is_open (o ∷ rest) e = absurd (stuck-faulty (extent_by goes_on) is_open (o == 34) _ _ e)
+over-at_end true is_open [] e = absurd (none-some too_long (sym e))
 over-at_end false is_open [] e = (refl, refl)
 
-pub same_sort : (text : Octets) (ps : List Piece) (words : List Word) (outcome : form.Outcome) → Reads false text ps outcome → words ≡ [] ++ piece_words ps
+pub same_sort : (text : Octets) (ps : List Token) (words : List Word) (outcome : form.Outcome) → Reads false text ps outcome → words ≡ [] ++ token_words ps
     → sort_of (ended ps) ≡ sort_by_words (list_any is_blank (take 1 text)) words
 same_sort text ps words outcome h e =
-    ap (λ b. sort_by_words b (piece_words ps)) (begins-blank false text ps outcome h) ∙ ap (sort_by_words (list_any is_blank (take 1 text))) (sym e)
+    ap (λ b. sort_by_words b (token_words ps)) (begins-blank false text ps outcome h) ∙ ap (sort_by_words (list_any is_blank (take 1 text))) (sym e)
 
 module _ (o : DomainName) (earlier : List Entry) (goes_on : Bool) (text rest : Octets) (words : List Word) (lines : ℕ) (is_ended is_open : Bool)
     (read : EntryRead text [] words lines (outcome_of is_ended is_open rest)) where
   -- an entry that ends without fault, and what it gives
-  pub entry-means : (is_ended ≡ true) ⊎ (end_code goes_on is_open rest ≡ None) → (rs : List ResourceRecord) → SortGives o earlier (sort_of (ended read.pieces)) (gives rs)
-      → (later : Meaning) → TextMeans o (ended read.pieces ∷ earlier) goes_on rest later → TextMeans o earlier goes_on text (behind rs later)
+  pub entry-means : (is_ended ≡ true) ⊎ (stop_fault (extent_by goes_on) is_open (stop_at rest) ≡ None) → (rs : List ResourceRecord) → SortGives o earlier (sort_of (ended read.tokens)) (gives rs)
+      → (later : Meaning) → TextMeans o (ended read.tokens ∷ earlier) goes_on rest later → TextMeans o earlier goes_on text (after rs later)
   entry-means (inl e) rs given later h =
-      ended-gives o earlier goes_on text read.pieces rest (subst (λ b. Reads false text read.pieces (outcome_of b is_open rest)) e read.reads) rs given later h
+      ended-gives o earlier goes_on text read.tokens rest (subst (λ b. Reads false text read.tokens (outcome_of b is_open rest)) e read.reads) rs given later h
   entry-means (inr e) rs given later h = go is_ended read.reads
     where
-      go : (b : Bool) → Reads false text read.pieces (outcome_of b is_open rest) → TextMeans o earlier goes_on text (behind rs later)
-      go true reads = ended-gives o earlier goes_on text read.pieces rest reads rs given later h
+      go : (b : Bool) → Reads false text read.tokens (outcome_of b is_open rest) → TextMeans o earlier goes_on text (after rs later)
+      go true reads = ended-gives o earlier goes_on text read.tokens rest reads rs given later h
       go false reads =
           let over = over-at_end goes_on is_open rest e in
-          let empty = empty-means o (ended read.pieces ∷ earlier) later
-          (subst (λ b. TextMeans o (ended read.pieces ∷ earlier) b [] later) over.1 (subst (λ x. TextMeans o (ended read.pieces ∷ earlier) goes_on x later) over.0 h)) in
-          subst (λ m. TextMeans o earlier goes_on text (behind rs m)) (sym empty)
-          (unended-gives o earlier goes_on text read.pieces is_open rest reads rs e given)
+          let empty = empty-means o (ended read.tokens ∷ earlier) later
+          (subst (λ b. TextMeans o (ended read.tokens ∷ earlier) b [] later) over.1 (subst (λ x. TextMeans o (ended read.tokens ∷ earlier) goes_on x later) over.0 h)) in
+          subst (λ m. TextMeans o earlier goes_on text (after rs m)) (sym empty)
+          (unended-gives o earlier goes_on text read.tokens is_open rest reads rs e given)
 
   -- one whose words are at fault
-  pub entry-faulty : (is_ended ≡ true) ⊎ (end_code goes_on is_open rest ≡ None) → (code : ℕ) → SortGives o earlier (sort_of (ended read.pieces)) (faulty code)
-      → TextMeans o earlier goes_on text (fault_at code (line_behind earlier))
+  pub entry-faulty : (is_ended ≡ true) ⊎ (stop_fault (extent_by goes_on) is_open (stop_at rest) ≡ None) → (code : FileFault) → SortGives o earlier (sort_of (ended read.tokens)) (faulty code)
+      → TextMeans o earlier goes_on text (fault_at code (line_after earlier))
   entry-faulty (inl e) code given =
-      ended-faulty o earlier goes_on text read.pieces rest (subst (λ b. Reads false text read.pieces (outcome_of b is_open rest)) e read.reads) code given
+      ended-faulty o earlier goes_on text read.tokens rest (subst (λ b. Reads false text read.tokens (outcome_of b is_open rest)) e read.reads) code given
   entry-faulty (inr e) code given = go is_ended read.reads
     where
-      go : (b : Bool) → Reads false text read.pieces (outcome_of b is_open rest) → TextMeans o earlier goes_on text (fault_at code (line_behind earlier))
-      go true reads = ended-faulty o earlier goes_on text read.pieces rest reads code given
-      go false reads = unended-faulty o earlier goes_on text read.pieces is_open rest reads code e given
+      go : (b : Bool) → Reads false text read.tokens (outcome_of b is_open rest) → TextMeans o earlier goes_on text (fault_at code (line_after earlier))
+      go true reads = ended-faulty o earlier goes_on text read.tokens rest reads code given
+      go false reads = unended-faulty o earlier goes_on text read.tokens is_open rest reads code e given
 
   -- one that ends by a fault
-  pub entry-ends_faulty : is_ended ≡ false → (code : ℕ) → end_code goes_on is_open rest ≡ Some code → TextMeans o earlier goes_on text (fault_at code (line_behind earlier))
+  pub entry-ends_faulty : is_ended ≡ false → (code : FileFault) → stop_fault (extent_by goes_on) is_open (stop_at rest) ≡ Some code → TextMeans o earlier goes_on text (fault_at code (line_after earlier))
   entry-ends_faulty e code is =
-      unended-end o earlier goes_on text read.pieces is_open rest (subst (λ b. Reads false text read.pieces (outcome_of b is_open rest)) e read.reads) code is
+      unended-end o earlier goes_on text read.tokens is_open rest (subst (λ b. Reads false text read.tokens (outcome_of b is_open rest)) e read.reads) code is
 
-  pub entry-line : line_behind (ended read.pieces ∷ earlier) ≡ line_behind earlier + lines
-  entry-line = line-more read.pieces earlier ∙ ap (λ n. line_behind earlier + n) (sym read.counted)
+  pub entry-line : line_after (ended read.tokens ∷ earlier) ≡ line_after earlier + lines
+  entry-line = line-more read.tokens earlier ∙ ap (λ n. line_after earlier + n) (sym read.counted)
 
-pieces-shorter : (text rest : Octets) (ps : List Piece) → PiecesThen text ps rest → length rest ≤ length text
-pieces-shorter text rest [] h = let e : length text ≡ length rest = ap length h in omega (arith, e)
-pieces-shorter text rest (p ∷ ps) h =
+tokens-shorter : (text rest : Octets) (ps : List Token) → TokensThen text ps rest → length rest ≤ length text
+tokens-shorter text rest [] h = let e : length text ≡ length rest = ap length h in omega (arith, e)
+tokens-shorter text rest (p ∷ ps) h =
     let first : length h.0 < length text = front-shorter text p h.0 h.1 in
-    let more : length rest ≤ length h.0 = pieces-shorter h.0 rest ps h.2 in
+    let more : length rest ≤ length h.0 = tokens-shorter h.0 rest ps h.2 in
     omega (arith, first, more)
 
-ended-shorter : (text rest : Octets) (ps : List Piece) → EndedCut false text ps rest → length rest < length text
+ended-shorter : (text rest : Octets) (ps : List Token) → EndedCut false text ps rest → length rest < length text
 ended-shorter text rest [] c = let e = ap length (c.cuts []) in absurd (omega (arith, e))
 ended-shorter text rest (p ∷ ps) c =
     let first : length c.spelled.0 < length text = front-shorter text p c.spelled.0 c.spelled.1 in
-    let more : length rest ≤ length c.spelled.0 = pieces-shorter c.spelled.0 rest ps c.spelled.2 in
+    let more : length rest ≤ length c.spelled.0 = tokens-shorter c.spelled.0 rest ps c.spelled.2 in
     omega (arith, first, more)
 
 some-shorter : (text rest : Octets) → (text ≡ [] → ⊥) → rest ≡ [] → length rest < length text
@@ -291,7 +300,7 @@ some-shorter (o ∷ text) rest some e = let none : length rest ≡ 0 = ap length
 
 -- an entry that ends without fault has an octet or more
 pub entry-shorter : (goes_on : Bool) (text rest : Octets) (before words : List Word) (lines : ℕ) (is_ended is_open : Bool) → (text ≡ [] → ⊥)
-    → EntryRead text before words lines (outcome_of is_ended is_open rest) → (is_ended ≡ true) ⊎ (end_code goes_on is_open rest ≡ None) → length rest < length text
-entry-shorter goes_on text rest before words lines true is_open some read h = ended-shorter text rest read.pieces (reads-ended false text read.pieces rest read.reads)
+    → EntryRead text before words lines (outcome_of is_ended is_open rest) → (is_ended ≡ true) ⊎ (stop_fault (extent_by goes_on) is_open (stop_at rest) ≡ None) → length rest < length text
+entry-shorter goes_on text rest before words lines true is_open some read h = ended-shorter text rest read.tokens (reads-ended false text read.tokens rest read.reads)
 entry-shorter goes_on text rest before words lines false is_open some read (inl e) = absurd (false≢true e)
 entry-shorter goes_on text rest before words lines false is_open some read (inr e) = some-shorter text rest some (over-at_end goes_on is_open rest e).0

@@ -1,27 +1,31 @@
--- What a reader learns here: the number of each code.
+-- What a reader learns here: which fault each code is, and its number.
 use Rattle.std.specs.Prelude.{ℕ, ◌+◌, ◌==◌, if◌then◌else◌, Result, Ok, Err}
+use Rattle.dns_spec.specs.FileFaults.{FileFault, fault_code, bad_octet, bad_escape, unended_string, bad_parenthesis, unknown_directive, directive_words, bad_owner, no_owner, bad_ttl, other_class, bad_type, no_ttl, bad_data, too_many_records, too_long, unreadable, no_memory}
 use Rattle.dns_master.specs.declared.fault.ReadCode.{ReadCode}
 use Rattle.dns_master.specs.declared.fault.ReadFault.{ReadFault}
 use Rattle.dns_master.specs.declared.fault.ReadCode.TheVariants.{BadOctet, BadEscape, UnendedString, Parenthesis, UnknownDirective, DirectiveWords, BadOwner, NoOwner, BadTtl, OtherClass, BadType, NoTtl, BadData, TooManyRecords, TooLong, SourceFailed, NoMemory}
 
+abbrev pub fault_of : ReadCode → FileFault
+fault_of BadOctet = bad_octet
+fault_of BadEscape = bad_escape
+fault_of UnendedString = unended_string
+fault_of Parenthesis = bad_parenthesis
+fault_of UnknownDirective = unknown_directive
+fault_of DirectiveWords = directive_words
+fault_of BadOwner = bad_owner
+fault_of NoOwner = no_owner
+fault_of BadTtl = bad_ttl
+fault_of OtherClass = other_class
+fault_of BadType = bad_type
+fault_of NoTtl = no_ttl
+fault_of BadData = bad_data
+fault_of TooManyRecords = too_many_records
+fault_of TooLong = too_long
+fault_of SourceFailed = unreadable
+fault_of NoMemory = no_memory
+
 abbrev pub code_number : ReadCode → ℕ
-code_number BadOctet = 1
-code_number BadEscape = 2
-code_number UnendedString = 3
-code_number Parenthesis = 4
-code_number UnknownDirective = 5
-code_number DirectiveWords = 6
-code_number BadOwner = 7
-code_number NoOwner = 8
-code_number BadTtl = 9
-code_number OtherClass = 10
-code_number BadType = 11
-code_number NoTtl = 12
-code_number BadData = 13
-code_number TooManyRecords = 14
-code_number TooLong = 15
-code_number SourceFailed = 16
-code_number NoMemory = 17
+code_number code = fault_code (fault_of code)
 
 -- the count of a source's failures: one more exactly where that is the code
 abbrev pub failures_after_code : {A : Type 0} → ℕ → Result A ReadCode → ℕ

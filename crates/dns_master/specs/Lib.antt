@@ -1,5 +1,5 @@
 pub mod Codes
-pub mod PieceForm
+pub mod TokenForm
 pub mod EntryForm
 pub mod Steps
 pub mod RecordForm

@@ -6,7 +6,8 @@ use Rattle.dns_spec.specs.Names.{Octets, DomainName}
 use Rattle.dns_spec.specs.DataText.{Word}
 use Rattle.dns_spec.specs.Records.{ResourceRecord}
 use Rattle.dns_spec.specs.ZoneText.{Entry}
-use Rattle.dns_spec.specs.Meaning.{Fields, gives, RecordGives, SortGives, sort_of, Meaning, behind, line_behind}
+use Rattle.dns_spec.specs.FileFaults.{no_owner}
+use Rattle.dns_spec.specs.Meaning.{Fields, gives, RecordGives, SortGives, sort_of, Meaning, after, line_after}
 use Rattle.dns_master.specs.EntryForm.{TextMeans}
 use Rattle.dns_master.specs.RecordForm.{Inherited, TtlOf}
 use Rattle.dns_master.specs.declared.state.Reader.{Reader}
@@ -21,7 +22,7 @@ Knows o earlier r = Inherited o earlier r.origin (last_owner r.records.items) r.
 -- a record was taken, whose owner in lower case is this
 pub record RecordTaken (o : DomainName) (earlier : List Entry) (owner : DomainName) (f : Fields) (old new : Reader) : Type 0 where
   pub taken : ResourceRecord
-  pub given : RecordGives o earlier 8 (λ n. n ≡ owner) f (gives (taken ∷ []))
+  pub given : RecordGives o earlier no_owner (λ n. n ≡ owner) f (gives (taken ∷ []))
   pub owner_is : taken.owner ≡ owner
   pub origin_is : new.origin ≡ old.origin
   pub default_is : new.default_ttl ≡ old.default_ttl
@@ -35,11 +36,11 @@ pub record EntryTaken (o : DomainName) (earlier : List Entry) (e : Entry) (old n
   pub known : Knows o (e ∷ earlier) new
   pub records : new.records.items ≡ old.records.items ++ taken
 
--- an entry was taken, and a text is left: what that means behind the entry, the whole means with what the entry gives before it
+-- an entry was taken, and a text is left: what that means after the entry, the whole means with what the entry gives before it
 pub record EntryDone (o : DomainName) (earlier : List Entry) (goes_on : Bool) (text rest : Octets) (old new : Reader) : Type 0 where
   pub entry : Entry
   pub taken : List ResourceRecord
   pub known : Knows o (entry ∷ earlier) new
-  pub line_is : new.line ≡ line_behind (entry ∷ earlier)
+  pub line_is : new.line ≡ line_after (entry ∷ earlier)
   pub records : new.records.items ≡ old.records.items ++ taken
-  pub means : (later : Meaning) → TextMeans o (entry ∷ earlier) goes_on rest later → TextMeans o earlier goes_on text (behind taken later)
+  pub means : (later : Meaning) → TextMeans o (entry ∷ earlier) goes_on rest later → TextMeans o earlier goes_on text (after taken later)

@@ -18,7 +18,7 @@ SpelledName origin w n = IsTrue (not w.is_quoted) × SpellsName origin w.raw n
 abbrev pub NamedType : Word → ℕ → Type 0
 NamedType w t = IsTrue (not w.is_quoted) × NamesType w.raw t × IsTrue (is_zone_type t)
 
--- a word behind a reference is the only one, or there is not just one
+-- a word after a reference is the only one, or there is not just one
 abbrev pub OneWordIs : Option (Bor Word) → List Word → Type 0
 OneWordIs None [] = ⊤
 OneWordIs None (w ∷ []) = ⊥
@@ -35,7 +35,7 @@ abbrev pub LastOwner : DomainName → List Entry → Option DomainName → Type 
 LastOwner o earlier owner =
     MatchOption owner (Nothing (OwnerBefore o earlier)) (λ f. (n : DomainName) × OwnerBefore o earlier n × (f ≡ folded n))
 
--- What the entries so far give to those behind them: the origin, the owner and the TTLs in force, and how many records they are.
+-- What the entries so far give to those after them: the origin, the owner and the TTLs in force, and how many records they are.
 pub record Inherited (o : DomainName) (earlier : List Entry) (origin : DomainName) (owner : Option DomainName) (default_ttl stated_ttl : Option ℕ) (count : ℕ) : Type 0 where
   pub origin_is : OriginIs o earlier origin
   pub no_other : (n : DomainName) → OriginIs o earlier n → n ≡ origin

@@ -2,15 +2,15 @@
 ghost use Rattle.std.specs.Prelude.{◌≡◌, ◌≢◌, ◌+◌, ◌≤◌, ◌++◌, [], ◌∷◌, ◌⊎◌, true, false, Some, None, length, take, IfOk, IfErr, IfSome, OnOk};
 ghost use Rattle.std.specs.List.{list_any};
 ghost use Rattle.std.specs.Option.{option_map};
-ghost use Rattle.dns_spec.specs.ZoneText.{is_blank, begins_line_end, is_cut_short, stuck_code, end_code};
-ghost use Rattle.dns_master.specs.PieceForm.{shown_piece};
-ghost use Rattle.dns_master.specs.EntryForm.{EntryRead, IsWrong, outcome_of, step, piece_words, line_ends};
+ghost use Rattle.dns_spec.specs.ZoneText.{is_blank, begins_line_end, is_cut_short, extent_by, stop_at, stop_fault, string_fault, token_fault, unless_cut_short};
+ghost use Rattle.dns_master.specs.TokenForm.{shown_token};
+ghost use Rattle.dns_master.specs.EntryForm.{EntryRead, IsWrong, outcome_of, step, token_words, line_ends};
 ghost use Rattle.dns_master.specs.Steps.{shown_step};
-ghost use Rattle.dns_master.specs.Codes.{code_number};
+ghost use Rattle.dns_master.specs.Codes.{fault_of};
 
 use crate::fault::ReadCode;
-use crate::piece::{Piece, first_piece};
 use crate::run::{Run, is_blank};
+use crate::token::{Token, first_token};
 use dns_rdata::Word;
 
 /// Where the entry ends that a text begins with.
@@ -22,11 +22,11 @@ pub(crate) struct EntryEnd<'a> {
     pub(crate) is_ended: bool,
     /// Whether a parenthesis is open at its end.
     pub(crate) is_open: bool,
-    /// The text behind it, or from where no piece begins.
+    /// The text after it, or from where no token begins.
     pub(crate) rest: &'a [u8],
 }
 
-/// Reads the words of the entry that a text begins with, up to its end or to where no piece begins.
+/// Reads the words of the entry that a text begins with, up to its end or to where no token begins.
 ///
 /// `Parenthesis` where one is misplaced, `NoMemory` where no memory was found.
 pub(crate) fn read_entry<'a>(
@@ -42,11 +42,11 @@ pub(crate) fn read_entry<'a>(
     let mut lines = 0;
     let mut is_open = false;
     let mut rest = text;
-    'pieces: while let Some((piece, others)) = first_piece(rest) {
-        push_word(words, piece)?;
-        lines += line_ends(piece);
+    'tokens: while let Some((token, others)) = first_token(rest) {
+        push_word(words, token)?;
+        lines += line_ends(token);
         rest = others;
-        match step_behind(piece, is_open) {
+        match step_after(token, is_open) {
             Step::Misplaced => return Err(ReadCode::Parenthesis),
             Step::Over => return Ok(EntryEnd {
                 lines,
@@ -65,7 +65,7 @@ pub(crate) fn read_entry<'a>(
     })
 }
 
-// How reading an entry goes on behind a piece: not at all, since a parenthesis is misplaced, or since the entry has ended;
+// How reading an entry goes on after a token: not at all, since a parenthesis is misplaced, or since the entry has ended;
 // or inside parentheses or outside them.
 #[derive(Clone, Copy, Debug, PartialEq, Eq)]
 enum Step {
@@ -74,37 +74,37 @@ enum Step {
     Onward(bool),
 }
 
-fn step_behind(piece: Piece<'_>, is_open: bool) -> Step
-    ensures { shown_step result ≡ step is_open (shown_piece piece.entry) }
+fn step_after(token: Token<'_>, is_open: bool) -> Step
+    ensures { shown_step result ≡ step is_open (shown_token token.entry) }
 {
-    match piece {
-        Piece::Opening if is_open => Step::Misplaced,
-        Piece::Opening => Step::Onward(true),
-        Piece::Closing if is_open => Step::Onward(false),
-        Piece::Closing => Step::Misplaced,
-        Piece::LineEnd if !is_open => Step::Over,
+    match token {
+        Token::Opening if is_open => Step::Misplaced,
+        Token::Opening => Step::Onward(true),
+        Token::Closing if is_open => Step::Onward(false),
+        Token::Closing => Step::Misplaced,
+        Token::LineEnd if !is_open => Step::Over,
         _ => Step::Onward(is_open),
     }
 }
 
-// Pushes the word that a piece is.
-fn push_word<'a>(words: &mut Vec<Word<'a>>, piece: Piece<'a>) -> Result<(), ReadCode>
-    ensures ok { OnOk result (words.new.items ≡ words.old.items ++ piece_words (shown_piece piece.entry ∷ [])) }
+// Pushes the word that a token is.
+fn push_word<'a>(words: &mut Vec<Word<'a>>, token: Token<'a>) -> Result<(), ReadCode>
+    ensures ok { OnOk result (words.new.items ≡ words.old.items ++ token_words (shown_token token.entry ∷ [])) }
     ensures err { IfErr result (λ code. code ≡ ReadCode.NoMemory) }
 {
-    let word = match piece {
-        Piece::Word(raw) => Word { raw, quoted: false },
-        Piece::Quoted(raw) => Word { raw, quoted: true },
+    let word = match token {
+        Token::Word(raw) => Word { raw, quoted: false },
+        Token::Quoted(raw) => Word { raw, quoted: true },
         _ => return Ok(()),
     };
     words.push(word).map_err(|_| ReadCode::NoMemory)
 }
 
-fn line_ends(piece: Piece<'_>) -> u32
-    ensures { result ≡ line_ends (shown_piece piece.entry ∷ []) }
+fn line_ends(token: Token<'_>) -> u32
+    ensures { result ≡ line_ends (shown_token token.entry ∷ []) }
 {
-    match piece {
-        Piece::LineEnd => 1,
+    match token {
+        Token::LineEnd => 1,
         _ => 0,
     }
 }
@@ -118,8 +118,8 @@ pub(crate) fn begins_blank(text: &[u8]) -> bool
 
 /// Whether an entry may end as it does: it is ended by its line end, or by the end of a text that does not go on.
 pub(crate) fn check_end(end: &EntryEnd<'_>, goes_on: bool) -> Result<(), ReadCode>
-    ensures ok { OnOk result ((end.now.is_ended ≡ true) ⊎ (end_code goes_on end.now.is_open end.now.rest.now ≡ None)) }
-    ensures err { IfErr result (λ code. (end.now.is_ended ≡ false) × (end_code goes_on end.now.is_open end.now.rest.now ≡ Some (code_number code))) }
+    ensures ok { OnOk result ((end.now.is_ended ≡ true) ⊎ (stop_fault (extent_by goes_on) end.now.is_open (stop_at end.now.rest.now) ≡ None)) }
+    ensures err { IfErr result (λ code. (end.now.is_ended ≡ false) × (stop_fault (extent_by goes_on) end.now.is_open (stop_at end.now.rest.now) ≡ Some (fault_of code))) }
     ensures source { IfErr result (λ code. code ≢ ReadCode.SourceFailed) }
 {
     if end.is_ended {
@@ -133,7 +133,7 @@ pub(crate) fn check_end(end: &EntryEnd<'_>, goes_on: bool) -> Result<(), ReadCod
 
 // The fault of an entry that no line end ends: `goes_on` is whether the text goes on past its limit.
 fn end_fault(end: &EntryEnd<'_>, goes_on: bool) -> Option<ReadCode>
-    ensures value { option_map code_number result ≡ end_code goes_on end.now.is_open end.now.rest.now }
+    ensures value { option_map fault_of result ≡ stop_fault (extent_by goes_on) end.now.is_open (stop_at end.now.rest.now) }
     ensures source { IfSome result (λ code. code ≢ ReadCode.SourceFailed) }
 {
     let Some((first, others)) = end.rest.split_first() else {
@@ -148,22 +148,38 @@ fn end_fault(end: &EntryEnd<'_>, goes_on: bool) -> Option<ReadCode>
     };
     if *first == b'"' {
         let (_, place) = others.split_at(Run::String.length(others));
-        return Some(stuck_fault(goes_on, true, place));
+        return Some(unless_cut_short(goes_on, place, string_fault(place)));
     }
-    Some(stuck_fault(goes_on, false, end.rest))
+    Some(unless_cut_short(goes_on, end.rest, token_fault(end.rest)))
 }
 
-// The fault of a text that can't go on, in a string or where no piece begins.
-fn stuck_fault(goes_on: bool, in_string: bool, place: &[u8]) -> ReadCode
-    ensures value { code_number result ≡ stuck_code goes_on in_string place.now }
-    ensures source { result ≢ ReadCode.SourceFailed }
+// A fault at a place where the text can't go on, unless more octets than are looked at would be needed to tell.
+fn unless_cut_short(goes_on: bool, place: &[u8], fault: ReadCode) -> ReadCode
+    ensures value { fault_of result ≡ unless_cut_short (extent_by goes_on) place.now (fault_of fault) }
+    ensures source { fault ≢ ReadCode.SourceFailed → result ≢ ReadCode.SourceFailed }
 {
     if goes_on && is_cut_short(place) {
         return ReadCode::TooLong;
     }
-    if in_string && (place.is_empty() || begins_line_end(place)) {
+    fault
+}
+
+// The fault of a string that can't go on.
+fn string_fault(place: &[u8]) -> ReadCode
+    ensures value { fault_of result ≡ string_fault place.now }
+    ensures source { result ≢ ReadCode.SourceFailed }
+{
+    if place.is_empty() || begins_line_end(place) {
         return ReadCode::UnendedString;
     }
+    token_fault(place)
+}
+
+// The fault of a text with which no token begins.
+fn token_fault(place: &[u8]) -> ReadCode
+    ensures value { fault_of result ≡ token_fault place.now }
+    ensures source { result ≢ ReadCode.SourceFailed }
+{
     if place.first() == Some(&b'\\') {
         return ReadCode::BadEscape;
     }

@@ -2,7 +2,7 @@
 ghost use Rattle.std.specs.Prelude.{◌≡◌, [], ◌∷◌, take, drop, codes, MatchOption, MatchResult};
 ghost use Rattle.std.specs.List.{list_any};
 ghost use Rattle.std.specs.Option.{option_copied};
-ghost use Rattle.dns_spec.specs.Meaning.{Nothing, TypeIs, fields, class_behind, ttl_behind, is_ttl_word, is_class_word, is_word, is_other_class, is_zone_type, IsNoTtl};
+ghost use Rattle.dns_spec.specs.Meaning.{Nothing, TypeIs, fields, class_after, ttl_after, is_ttl_word, is_class_word, is_word, is_other_class, is_zone_type, IsNoTtl};
 ghost use Rattle.dns_master.specs.RecordForm.{TtlOf, NamedType};
 
 use crate::fault::ReadCode;
@@ -10,7 +10,7 @@ use crate::words::{is_word, read_ttl};
 use dns_rdata::{RType, Word};
 use std::marker::Model;
 
-/// The words of the TTL and the class, in either order and where they are stated, and the words behind them: the type and
+/// The words of the TTL and the class, in either order and where they are stated, and the words after them: the type and
 /// the data.
 #[derive(Debug, Drop)]
 pub(crate) struct Fields<'a, 'w> {
@@ -29,7 +29,7 @@ impl<'a, 'w> Model for Fields<'a, 'w> {
 }
 
 impl<'a, 'w> Fields<'a, 'w> {
-    /// The fields of the words behind the owner.
+    /// The fields of the words after the owner.
     pub(crate) fn of(words: &'a [Word<'w>]) -> Fields<'a, 'w>
         ensures { result ≡ fields words.now }
     {
@@ -41,10 +41,10 @@ impl<'a, 'w> Fields<'a, 'w> {
             };
         };
         if is_ttl_word(first) {
-            return Fields::behind_ttl(first, others);
+            return Fields::after_ttl(first, others);
         }
         if is_class_word(first) {
-            return Fields::behind_class(first, others);
+            return Fields::after_class(first, others);
         }
         Fields {
             ttl: None,
@@ -53,8 +53,8 @@ impl<'a, 'w> Fields<'a, 'w> {
         }
     }
 
-    fn behind_ttl(ttl: &'a Word<'w>, words: &'a [Word<'w>]) -> Fields<'a, 'w>
-        ensures { result ≡ class_behind ttl.now words.now }
+    fn after_ttl(ttl: &'a Word<'w>, words: &'a [Word<'w>]) -> Fields<'a, 'w>
+        ensures { result ≡ class_after ttl.now words.now }
     {
         let ttl = Some(ttl);
         let Some((first, others)) = words.split_first() else {
@@ -78,8 +78,8 @@ impl<'a, 'w> Fields<'a, 'w> {
         }
     }
 
-    fn behind_class(class: &'a Word<'w>, words: &'a [Word<'w>]) -> Fields<'a, 'w>
-        ensures { result ≡ ttl_behind class.now words.now }
+    fn after_class(class: &'a Word<'w>, words: &'a [Word<'w>]) -> Fields<'a, 'w>
+        ensures { result ≡ ttl_after class.now words.now }
     {
         let class = Some(class);
         let Some((first, others)) = words.split_first() else {
@@ -151,7 +151,7 @@ pub(crate) fn is_other_class(stated: Option<&Word<'_>>) -> bool
     stated.is_some_and(|word| !(is_word(b"in", word.raw) || is_word(b"class1", word.raw)))
 }
 
-/// The type that the first word names, and the words of the data behind it.
+/// The type that the first word names, and the words of the data after it.
 pub(crate) fn type_and_words<'a, 'w>(words: &'a [Word<'w>]) -> Option<(RType, &'a [Word<'w>])>
     ensures { MatchOption result (Nothing (TypeIs words.now)) (λ x. TypeIs words.now x.0.0 × (x.1.now ≡ drop 1 words.now)) }
 {

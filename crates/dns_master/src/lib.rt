@@ -5,12 +5,12 @@ mod directive;
 mod entry;
 mod fault;
 mod fields;
-mod piece;
 mod reader;
 mod record;
 mod run;
 mod source;
 mod state;
+mod token;
 mod words;
 
 pub use fault::{ReadCode, ReadFault};

@@ -6,8 +6,9 @@ ghost use Rattle.dns_spec.specs.Data.{Valid, lower_case};
 ghost use Rattle.dns_spec.specs.DataText.{Says};
 ghost use Rattle.dns_spec.specs.TypeText.{text_in_lower_case};
 ghost use Rattle.dns_spec.specs.ZoneText.{Entry};
-ghost use Rattle.dns_spec.specs.Meaning.{Nothing, TtlSays, gives, faulty, directive, owned, unowned, sort_of, sort_by_words, fields, RecordGives, SortGives, records, fault_at, line_behind, most_records};
-ghost use Rattle.dns_master.specs.Codes.{code_number, failures_after_read};
+ghost use Rattle.dns_spec.specs.FileFaults.{no_owner};
+ghost use Rattle.dns_spec.specs.Meaning.{Nothing, TtlSays, gives, faulty, directive, owned, unowned, sort_of, sort_by_words, fields, RecordGives, SortGives, records, fault_at, line_after, most_records};
+ghost use Rattle.dns_master.specs.Codes.{fault_of, failures_after_read};
 ghost use Rattle.dns_master.specs.EntryForm.{TextMeans};
 ghost use Rattle.dns_master.specs.SourceForm.{GivesMeaning};
 ghost use Rattle.dns_master.specs.ReaderForm.{Knows, RecordTaken, EntryTaken, EntryDone};
@@ -44,7 +45,7 @@ pub fn read_zone<R: Read>(
     requires { source.old.failures < 2 ^ 64 - 1 }
     ensures ok { IfOk result (λ found. GivesMeaning (R.remaining source.old.device) origin.now (records found.items)) }
     ensures fault { IfErr result (λ f. f.code ≢ ReadCode.SourceFailed → f.code ≢ ReadCode.NoMemory
-        → GivesMeaning (R.remaining source.old.device) origin.now (fault_at (code_number f.code) f.line)) }
+        → GivesMeaning (R.remaining source.old.device) origin.now (fault_at (fault_of f.code) f.line)) }
     ensures few { IfOk result (λ found. length found.items ≤ most_records) }
     ensures line { IfErr result (λ f. (f.code ≡ ReadCode.SourceFailed) ⊎ (f.code ≡ ReadCode.NoMemory) → f.line ≡ 0) }
     ensures counted { source.new.failures ≡ failures_after_read source.old.failures result }
@@ -68,7 +69,7 @@ fn read_entries(
     requires { length text.now ≤ 16777216 }
     ensures ok { IfOk result (λ found. TextMeans origin.now [] goes_on text.now (records found.items)) }
     ensures few { IfOk result (λ found. length found.items ≤ most_records) }
-    ensures err { IfErr result (λ f. f.code ≢ ReadCode.NoMemory → TextMeans origin.now [] goes_on text.now (fault_at (code_number f.code) f.line)) }
+    ensures err { IfErr result (λ f. f.code ≢ ReadCode.NoMemory → TextMeans origin.now [] goes_on text.now (fault_at (fault_of f.code) f.line)) }
     ensures source { IfErr result (λ f. f.code ≢ ReadCode.SourceFailed) }
     ensures memory { IfErr result (λ f. f.code ≡ ReadCode.NoMemory → f.line ≡ 0) }
 {
@@ -116,7 +117,7 @@ impl Reader {
         }
     }
 
-    // Takes the entry that a text begins with, and gives the text behind it.
+    // Takes the entry that a text begins with, and gives the text after it.
     fn take_entry<'a>(
         &mut self,
         text: &'a [u8],
@@ -125,12 +126,12 @@ impl Reader {
     ) -> Result<&'a [u8], ReadCode>
         requires some { text.now ≢ [] }
         requires fits { self.old.line + length text.now ≤ 16777217 }
-        ensures ok { IfOk result (λ rest. (o : DomainName) (earlier : List Entry) → Knows o earlier self.old → self.old.line ≡ line_behind earlier
+        ensures ok { IfOk result (λ rest. (o : DomainName) (earlier : List Entry) → Knows o earlier self.old → self.old.line ≡ line_after earlier
             → EntryDone o earlier goes_on text.now rest.now self.old self.new) }
         ensures shorter { IfOk result (λ rest. length rest.now < length text.now) }
         ensures lines { IfOk result (λ rest. self.new.line + length rest.now ≤ self.old.line + length text.now) }
         ensures err { IfErr result (λ code. code ≢ ReadCode.NoMemory → (o : DomainName) (earlier : List Entry) → Knows o earlier self.old
-            → TextMeans o earlier goes_on text.now (fault_at (code_number code) (line_behind earlier))) }
+            → TextMeans o earlier goes_on text.now (fault_at (fault_of code) (line_after earlier))) }
         ensures source { IfErr result (λ code. code ≢ ReadCode.SourceFailed) }
     {
         words.clear();
@@ -147,7 +148,7 @@ impl Reader {
             → EntryTaken o earlier e self.old self.new) }
         ensures line { OnOk result (self.new.line ≡ self.old.line) }
         ensures err { IfErr result (λ code. code ≢ ReadCode.NoMemory → (o : DomainName) (earlier : List Entry) → Knows o earlier self.old
-            → SortGives o earlier (sort_by_words is_blank_led words.now) (faulty (code_number code))) }
+            → SortGives o earlier (sort_by_words is_blank_led words.now) (faulty (fault_of code))) }
         ensures source { IfErr result (λ code. code ≢ ReadCode.SourceFailed) }
     {
         let Some((first, others)) = words.split_first() else {
@@ -162,13 +163,13 @@ impl Reader {
         self.take_owned(first, others)
     }
 
-    // Takes a directive: its name, and the words behind it.
+    // Takes a directive: its name, and the words after it.
     fn take_directive(&mut self, name: &[u8], words: &[Word<'_>]) -> Result<(), ReadCode>
         ensures ok { OnOk result ((o : DomainName) (earlier : List Entry) (e : Entry) → Knows o earlier self.old → sort_of e ≡ directive (text_in_lower_case name.now) words.now
             → EntryTaken o earlier e self.old self.new) }
         ensures line { OnOk result (self.new.line ≡ self.old.line) }
         ensures err { IfErr result (λ code. code ≢ ReadCode.NoMemory → (o : DomainName) (earlier : List Entry) → Knows o earlier self.old
-            → SortGives o earlier (directive (text_in_lower_case name.now) words.now) (faulty (code_number code))) }
+            → SortGives o earlier (directive (text_in_lower_case name.now) words.now) (faulty (fault_of code))) }
         ensures source { IfErr result (λ code. code ≢ ReadCode.SourceFailed) }
     {
         if is_word(b"$origin", name) {
@@ -186,7 +187,7 @@ impl Reader {
             → EntryTaken o earlier e self.old self.new) }
         ensures line { OnOk result (self.new.line ≡ self.old.line) }
         ensures err { IfErr result (λ code. (o : DomainName) (earlier : List Entry) → Knows o earlier self.old
-            → SortGives o earlier (directive (codes "$origin") words.now) (faulty (code_number code))) }
+            → SortGives o earlier (directive (codes "$origin") words.now) (faulty (fault_of code))) }
         ensures source { IfErr result (λ code. code ≢ ReadCode.SourceFailed) }
     {
         let Some(origin) = read_origin(words, &self.origin) else {
@@ -202,7 +203,7 @@ impl Reader {
             → EntryTaken o earlier e self.old self.new) }
         ensures line { OnOk result (self.new.line ≡ self.old.line) }
         ensures err { IfErr result (λ code. (o : DomainName) (earlier : List Entry) → Knows o earlier self.old
-            → SortGives o earlier (directive (codes "$ttl") words.now) (faulty (code_number code))) }
+            → SortGives o earlier (directive (codes "$ttl") words.now) (faulty (fault_of code))) }
         ensures source { IfErr result (λ code. code ≢ ReadCode.SourceFailed) }
     {
         let Some(ttl) = read_default_ttl(words) else {
@@ -212,13 +213,13 @@ impl Reader {
         Ok(())
     }
 
-    // Takes a record that states its owner: that word, and the words behind it.
+    // Takes a record that states its owner: that word, and the words after it.
     fn take_owned(&mut self, owner: &Word<'_>, words: &[Word<'_>]) -> Result<(), ReadCode>
         ensures ok { OnOk result ((o : DomainName) (earlier : List Entry) (e : Entry) → Knows o earlier self.old → sort_of e ≡ owned owner.now words.now
             → EntryTaken o earlier e self.old self.new) }
         ensures line { OnOk result (self.new.line ≡ self.old.line) }
         ensures err { IfErr result (λ code. code ≢ ReadCode.NoMemory → (o : DomainName) (earlier : List Entry) → Knows o earlier self.old
-            → SortGives o earlier (owned owner.now words.now) (faulty (code_number code))) }
+            → SortGives o earlier (owned owner.now words.now) (faulty (fault_of code))) }
         ensures source { IfErr result (λ code. code ≢ ReadCode.SourceFailed) }
     {
         let Some(mut owner) = read_name(owner, &self.origin) else {
@@ -234,7 +235,7 @@ impl Reader {
             → EntryTaken o earlier e self.old self.new) }
         ensures line { OnOk result (self.new.line ≡ self.old.line) }
         ensures err { IfErr result (λ code. code ≢ ReadCode.NoMemory → (o : DomainName) (earlier : List Entry) → Knows o earlier self.old
-            → SortGives o earlier (unowned words.now) (faulty (code_number code))) }
+            → SortGives o earlier (unowned words.now) (faulty (fault_of code))) }
         ensures source { IfErr result (λ code. code ≢ ReadCode.SourceFailed) }
     {
         let Some(last) = self.records.last() else {
@@ -244,13 +245,13 @@ impl Reader {
         self.take_record(owner, words)
     }
 
-    // Takes the record of an owner and of the words behind it.
+    // Takes the record of an owner and of the words after it.
     fn take_record(&mut self, owner: Name, words: &[Word<'_>]) -> Result<(), ReadCode>
         requires { folded owner ≡ owner }
         ensures ok { OnOk result ((o : DomainName) (earlier : List Entry) → Knows o earlier self.old → RecordTaken o earlier owner (fields words.now) self.old self.new) }
         ensures line { OnOk result (self.new.line ≡ self.old.line) }
         ensures err { IfErr result (λ code. code ≢ ReadCode.NoMemory → (o : DomainName) (earlier : List Entry) → Knows o earlier self.old
-            → RecordGives o earlier 8 (λ n. n ≡ owner) (fields words.now) (faulty (code_number code))) }
+            → RecordGives o earlier no_owner (λ n. n ≡ owner) (fields words.now) (faulty (fault_of code))) }
         ensures source { IfErr result (λ code. code ≢ ReadCode.SourceFailed) }
     {
         let fields = Fields::of(words);
@@ -259,15 +260,15 @@ impl Reader {
         push_record(&mut self.records, record)
     }
 
-    // The record of an owner and of the fields behind it.
+    // The record of an owner and of the fields after it.
     fn read_record(&self, owner: Name, fields: &Fields<'_, '_>) -> Result<Record, ReadCode>
         requires { folded owner ≡ owner }
-        ensures ok { IfOk result (λ r. (o : DomainName) (earlier : List Entry) → Knows o earlier self.now → RecordGives o earlier 8 (λ n. n ≡ owner) fields.now (gives (r ∷ []))) }
+        ensures ok { IfOk result (λ r. (o : DomainName) (earlier : List Entry) → Knows o earlier self.now → RecordGives o earlier no_owner (λ n. n ≡ owner) fields.now (gives (r ∷ []))) }
         ensures few { IfOk result (λ r. length self.now.records.items < most_records) }
         ensures owner { IfOk result (λ r. r.owner ≡ owner) }
         ensures ttl { IfOk result (λ r. IfSome fields.now.ttl (λ w. TtlSays w r.ttl)) }
         ensures err { IfErr result (λ code. code ≢ ReadCode.NoMemory → (o : DomainName) (earlier : List Entry) → Knows o earlier self.now
-            → RecordGives o earlier 8 (λ n. n ≡ owner) fields.now (faulty (code_number code))) }
+            → RecordGives o earlier no_owner (λ n. n ≡ owner) fields.now (faulty (fault_of code))) }
         ensures source { IfErr result (λ code. code ≢ ReadCode.SourceFailed) }
     {
         let Ok(stated) = stated_ttl(fields.ttl) else {
@@ -323,7 +324,7 @@ fn push_record(records: &mut Vec<Record>, last: Record) -> Result<(), ReadCode>
     records.push(last).map_err(|_| ReadCode::NoMemory)
 }
 
-// The TTL that was stated last, behind a record that states one or not.
+// The TTL that was stated last, after a record that states one or not.
 fn last_stated(is_stated: bool, ttl: u32, before: Option<u32>) -> Option<u32>
     ensures { result ≡ (if is_stated then Some ttl else before) }
 {

@@ -1,8 +1,9 @@
 //! Runs of octets: how far a word, a string, a blank or a comment goes (RFC 1035 5.1).
 ghost use Rattle.std.specs.Prelude.{◌≡◌, ◌==◌, ◌≤◌, not, length, drop};
 ghost use Rattle.std.specs.List.{prefix_len};
-ghost use Rattle.dns_spec.specs.ZoneText.{is_blank, is_word_octet, is_string_octet, digits_behind, escape_behind, run_length};
-ghost use Rattle.dns_master.specs.PieceForm.{by_itself};
+ghost use Rattle.dns_spec.specs.ZoneText.{is_blank, is_word_octet, is_string_octet, run_length};
+ghost use Rattle.dns_spec.proofs.Escapes.{counted_digits, counted_escape};
+ghost use Rattle.dns_master.specs.TokenForm.{by_itself};
 
 /// What a run is made of, beside escapes.
 #[derive(Clone, Copy, Debug, PartialEq, Eq)]
@@ -33,12 +34,12 @@ impl Run {
         let mut rest = text;
         'run: while let Some((first, others)) = rest.split_first() {
             if *first == b'\\' {
-                let behind = escape_behind(others);
-                if behind == 0 {
+                let escape = escape_length(others);
+                if escape == 0 {
                     break;
                 }
-                length += 1 + behind;
-                rest = others.split_at(behind).1;
+                length += 1 + escape;
+                rest = others.split_at(escape).1;
             } else {
                 if !self.has(*first) {
                     break;
@@ -63,17 +64,17 @@ fn is_string_octet(octet: u8) -> bool
     (octet == b'\t' || octet >= b' ' && octet <= b'~') && octet != b'"' && octet != b'\\'
 }
 
-// How many octets behind a backslash belong to its escape: one that is printable and no digit, or three digits up to 255.
+// How many octets after a backslash belong to its escape: one that is printable and no digit, or three digits up to 255.
 // 0 where it begins no escape.
-fn escape_behind(text: &[u8]) -> usize
-    ensures value { result ≡ escape_behind text.now }
+fn escape_length(text: &[u8]) -> usize
+    ensures value { result ≡ counted_escape text.now }
     ensures bound { result ≤ length text.now }
 {
     let Some(first) = text.first() else {
         return 0;
     };
     if first.is_ascii_digit() {
-        return digits_behind(text);
+        return digits_length(text);
     }
     if *first >= b' ' && *first <= b'~' {
         1
@@ -82,8 +83,8 @@ fn escape_behind(text: &[u8]) -> usize
     }
 }
 
-fn digits_behind(text: &[u8]) -> usize
-    ensures value { result ≡ digits_behind text.now }
+fn digits_length(text: &[u8]) -> usize
+    ensures value { result ≡ counted_digits text.now }
     ensures bound { result ≤ length text.now }
 {
     let Some(digits) = text.first_chunk::<3>() else {
@@ -97,8 +98,8 @@ fn digits_behind(text: &[u8]) -> usize
     if value < 256 { 3 } else { 0 }
 }
 
-/// The text behind its spaces and tabs.
-pub(crate) fn behind_blank(text: &[u8]) -> &[u8]
+/// The text after its spaces and tabs.
+pub(crate) fn after_blank(text: &[u8]) -> &[u8]
     ensures { result.now ≡ drop (prefix_len is_blank text.now) text.now }
 {
     let mut rest = text;
@@ -119,7 +120,7 @@ pub(crate) fn is_blank(octet: u8) -> bool
 }
 
 /// The text from its first LF on.
-pub(crate) fn behind_comment(text: &[u8]) -> &[u8]
+pub(crate) fn after_comment(text: &[u8]) -> &[u8]
     ensures { result.now ≡ drop (prefix_len (λ x. not (x == 10)) text.now) text.now }
 {
     let mut rest = text;

@@ -7,7 +7,7 @@ use crate::record::Record;
 use dns_name::Name;
 use std::alloc::Global;
 
-/// What the entries so far give to those behind them, and their records.
+/// What the entries so far give to those after them, and their records.
 #[derive(Drop)]
 pub(crate) struct Reader {
     pub(crate) alloc: Global,

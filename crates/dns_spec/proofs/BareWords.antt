@@ -51,11 +51,12 @@ bare_hex [] below = tt
 bare_hex (d ∷ ds) below = (agree_below_at (λ e. is_bare (digit_char e)) (λ e. true) 16 d refl below.0, bare_hex ds below.1)
 
 -- octet by octet
-plain_octet : (p : ℕ → Bool) (c : ℕ) (rest : Octets) → p c ≡ true → (c == 92) ≡ false → is_unbroken p false rest ≡ true → is_unbroken p false (c ∷ rest) ≡ true
-plain_octet p c rest h other behind = rw other (and_from _ _ h behind)
+plain_octet : (p : ℕ → Bool) (c : ℕ) (rest : Octets) → p c ≡ true → (c == 92) ≡ false → is_unbroken p rest ≡ true → is_unbroken p (c ∷ rest) ≡ true
+plain_octet p c [] h other after = h
+plain_octet p c (d ∷ rest) h other after = rw (other, is_unbroken) (and_from _ _ h after)
 
-escaped_octet : (p : ℕ → Bool) (x : ℕ) (rest : Octets) → is_ascii_graphic x ≡ true → is_unbroken p false rest ≡ true → is_unbroken p false (92 ∷ x ∷ rest) ≡ true
-escaped_octet p x rest h behind = and_from _ _ h behind
+escaped_octet : (p : ℕ → Bool) (x : ℕ) (rest : Octets) → is_ascii_graphic x ≡ true → is_unbroken p rest ≡ true → is_unbroken p (92 ∷ x ∷ rest) ≡ true
+escaped_octet p x rest h after = and_from _ _ h after
 
 pub no_backslash : (p : ℕ → Bool) (o : ℕ) → p 92 ≡ false → p o ≡ true → (o == 92) ≡ false
 no_backslash p o none h = elim (cases_Bool (o == 92)) [
@@ -63,24 +64,24 @@ no_backslash p o none h = elim (cases_Bool (o == 92)) [
   | inr other ↦ other
 ]
 
-pub bare_text : (x rest : Octets) → Bare x → is_unbroken is_bare false rest ≡ true → is_unbroken is_bare false (x ++ rest) ≡ true
-bare_text [] rest h behind = behind
-bare_text (o ∷ x) rest h behind = plain_octet is_bare o (x ++ rest) h.0 (no_backslash is_bare o refl h.0) (bare_text x rest h.1 behind)
+pub bare_text : (x rest : Octets) → Bare x → is_unbroken is_bare rest ≡ true → is_unbroken is_bare (x ++ rest) ≡ true
+bare_text [] rest h after = after
+bare_text (o ∷ x) rest h after = plain_octet is_bare o (x ++ rest) h.0 (no_backslash is_bare o refl h.0) (bare_text x rest h.1 after)
 
 -- a backslash and three digits
-digit_octet : (p : ℕ → Bool) (d : ℕ) (rest : Octets) → ((e : ℕ) → e < 10 → p (48 + e) ≡ true) → p 92 ≡ false → d < 10 → is_unbroken p false rest ≡ true
-    → is_unbroken p false ((48 + d) ∷ rest) ≡ true
-digit_octet p d rest digit none small behind = plain_octet p (48 + d) rest (digit d small) (no_backslash p (48 + d) none (digit d small)) behind
+digit_octet : (p : ℕ → Bool) (d : ℕ) (rest : Octets) → ((e : ℕ) → e < 10 → p (48 + e) ≡ true) → p 92 ≡ false → d < 10 → is_unbroken p rest ≡ true
+    → is_unbroken p ((48 + d) ∷ rest) ≡ true
+digit_octet p d rest digit none small after = plain_octet p (48 + d) rest (digit d small) (no_backslash p (48 + d) none (digit d small)) after
 
 graphic_digit : (d : ℕ) → d < 10 → is_ascii_graphic (48 + d) ≡ true
 graphic_digit d small = agree_below_at (λ e. is_ascii_graphic (48 + e)) (λ e. true) 10 d refl small
 
-digits_octet : (p : ℕ → Bool) (x : ℕ) (rest : Octets) → ((e : ℕ) → e < 10 → p (48 + e) ≡ true) → p 92 ≡ false → x < 256 → is_unbroken p false rest ≡ true
-    → is_unbroken p false (92 ∷ three_digits x ++ rest) ≡ true
-digits_octet p x rest digit none small behind =
+digits_octet : (p : ℕ → Bool) (x : ℕ) (rest : Octets) → ((e : ℕ) → e < 10 → p (48 + e) ≡ true) → p 92 ≡ false → x < 256 → is_unbroken p rest ≡ true
+    → is_unbroken p (92 ∷ three_digits x ++ rest) ≡ true
+digits_octet p x rest digit none small after =
     escaped_octet p (48 + x / 100) ((48 + x / 10 % 10) ∷ (48 + x % 10) ∷ rest) (graphic_digit (x / 100) (omega arith))
     (digit_octet p (x / 10 % 10) ((48 + x % 10) ∷ rest) digit none (omega arith)
-    (digit_octet p (x % 10) rest digit none (omega arith) behind))
+    (digit_octet p (x % 10) rest digit none (omega arith) after))
 
 bare_below_10 : (e : ℕ) → e < 10 → is_bare (48 + e) ≡ true
 bare_below_10 e small = agree_below_at (λ d. is_bare (48 + d)) (λ d. true) 10 e refl small
@@ -103,48 +104,48 @@ special_graphic : (x : ℕ) → x < 256 → is_special x ≡ true → is_ascii_g
 special_graphic x small special =
     follows (is_special x) (is_ascii_graphic x) (agree_below_at (λ o. not (is_special o) || is_ascii_graphic o) (λ o. true) 256 x refl small) special
 
-octet_unbroken : (x : ℕ) (rest : Octets) → x < 256 → is_unbroken is_bare false rest ≡ true → is_unbroken is_bare false (octet_text x ++ rest) ≡ true
+octet_unbroken : (x : ℕ) (rest : Octets) → x < 256 → is_unbroken is_bare rest ≡ true → is_unbroken is_bare (octet_text x ++ rest) ≡ true
 unfolding octet_text
-octet_unbroken x rest small behind = by_cases (cases_Bool (is_special x)) (cases_Bool (is_ascii_graphic x))
+octet_unbroken x rest small after = by_cases (cases_Bool (is_special x)) (cases_Bool (is_ascii_graphic x))
   where
     by_cases : (is_special x ≡ true) ⊎ (is_special x ≡ false) → (is_ascii_graphic x ≡ true) ⊎ (is_ascii_graphic x ≡ false)
-        → is_unbroken is_bare false (octet_text x ++ rest) ≡ true
-    by_cases (inl special) graphic = rw special (escaped_octet is_bare x rest (special_graphic x small special) behind)
+        → is_unbroken is_bare (octet_text x ++ rest) ≡ true
+    by_cases (inl special) graphic = rw special (escaped_octet is_bare x rest (special_graphic x small special) after)
     by_cases (inr other) (inl graphic) =
         let bare = graphic_bare x small other graphic in
-        rw (other, graphic) (plain_octet is_bare x rest bare (no_backslash is_bare x refl bare) behind)
-    by_cases (inr other) (inr none) = rw (other, none) (digits_octet is_bare x rest bare_below_10 refl small behind)
+        rw (other, graphic) (plain_octet is_bare x rest bare (no_backslash is_bare x refl bare) after)
+    by_cases (inr other) (inr none) = rw (other, none) (digits_octet is_bare x rest bare_below_10 refl small after)
 
-label_unbroken : (l rest : Octets) → Small l → is_unbroken is_bare false rest ≡ true → is_unbroken is_bare false (label_text l ++ rest) ≡ true
-label_unbroken [] rest small behind = behind
-label_unbroken (x ∷ l) rest small behind =
-    ap (is_unbroken is_bare false) (append_assoc (octet_text x) (label_text l) rest)
-    ∙ octet_unbroken x (label_text l ++ rest) (small_head x l small) (label_unbroken l rest (small_tail x l small) behind)
+label_unbroken : (l rest : Octets) → Small l → is_unbroken is_bare rest ≡ true → is_unbroken is_bare (label_text l ++ rest) ≡ true
+label_unbroken [] rest small after = after
+label_unbroken (x ∷ l) rest small after =
+    ap (is_unbroken is_bare) (append_assoc (octet_text x) (label_text l) rest)
+    ∙ octet_unbroken x (label_text l ++ rest) (small_head x l small) (label_unbroken l rest (small_tail x l small) after)
 
-pub labels_unbroken : (n : DomainName) → Each Small n → is_unbroken is_bare false (labels_text n) ≡ true
+pub labels_unbroken : (n : DomainName) → Each Small n → is_unbroken is_bare (labels_text n) ≡ true
 labels_unbroken [] small = refl
 labels_unbroken (l ∷ n) small =
-    ap (is_unbroken is_bare false) (append_assoc (label_text l) (46 ∷ []) (labels_text n))
-    ∙ label_unbroken l (46 ∷ labels_text n) small.0 (labels_unbroken n small.1)
+    ap (is_unbroken is_bare) (append_assoc (label_text l) (46 ∷ []) (labels_text n))
+    ∙ label_unbroken l (46 ∷ labels_text n) small.0 (plain_octet is_bare 46 (labels_text n) refl refl (labels_unbroken n small.1))
 
-string_octet_unbroken : (o : ℕ) (rest : Octets) → o < 256 → is_unbroken is_quotable false rest ≡ true
-    → is_unbroken is_quotable false (string_octet_text o ++ rest) ≡ true
-string_octet_unbroken o rest small behind = by_cases (cases_Bool (o == 34 || o == 92)) (cases_Bool (nat_le 32 o && nat_le o 126))
+string_octet_unbroken : (o : ℕ) (rest : Octets) → o < 256 → is_unbroken is_quotable rest ≡ true
+    → is_unbroken is_quotable (string_octet_text o ++ rest) ≡ true
+string_octet_unbroken o rest small after = by_cases (cases_Bool (o == 34 || o == 92)) (cases_Bool (nat_le 32 o && nat_le o 126))
   where
     by_cases : ((o == 34 || o == 92) ≡ true) ⊎ ((o == 34 || o == 92) ≡ false) → ((nat_le 32 o && nat_le o 126) ≡ true) ⊎ ((nat_le 32 o && nat_le o 126) ≡ false)
-        → is_unbroken is_quotable false (string_octet_text o ++ rest) ≡ true
+        → is_unbroken is_quotable (string_octet_text o ++ rest) ≡ true
     by_cases (inl special) shown =
         let graphic = follows (o == 34 || o == 92) (is_ascii_graphic o) (agree_below_at (λ x. not (x == 34 || x == 92) || is_ascii_graphic x) (λ x. true) 256 o refl small) special in
-        rw special (escaped_octet is_quotable o rest graphic behind)
+        rw special (escaped_octet is_quotable o rest graphic after)
     by_cases (inr other) (inl shown) =
         let test : is_quotable o ≡ true =
         follows (not (o == 34 || o == 92) && (nat_le 32 o && nat_le o 126)) (is_quotable o)
         (agree_below_at (λ x. not (not (x == 34 || x == 92) && (nat_le 32 x && nat_le x 126)) || is_quotable x) (λ x. true) 256 o refl small)
         (and_from _ _ (ap not other) shown)
         in
-        rw (other, shown) (plain_octet is_quotable o rest test (no_backslash is_quotable o refl test) behind)
-    by_cases (inr other) (inr none) = rw (other, none) (digits_octet is_quotable o rest quotable_below_10 refl small behind)
+        rw (other, shown) (plain_octet is_quotable o rest test (no_backslash is_quotable o refl test) after)
+    by_cases (inr other) (inr none) = rw (other, none) (digits_octet is_quotable o rest quotable_below_10 refl small after)
 
-pub string_unbroken : (s : Octets) → Small s → is_unbroken is_quotable false (flat_map string_octet_text s) ≡ true
+pub string_unbroken : (s : Octets) → Small s → is_unbroken is_quotable (flat_map string_octet_text s) ≡ true
 string_unbroken [] small = refl
 string_unbroken (o ∷ s) small = string_octet_unbroken o (flat_map string_octet_text s) (small_head o s small) (string_unbroken s (small_tail o s small))

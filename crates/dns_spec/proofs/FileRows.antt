@@ -8,9 +8,10 @@ use Rattle.dns_spec.specs.DataText.{Word, Says, hex_octets}
 use Rattle.dns_spec.specs.AddressText.{ipv6_groups}
 use Rattle.dns_spec.specs.Records.{ResourceRecord}
 use Rattle.dns_spec.specs.ZoneText.{Entry, run_length}
+use Rattle.dns_spec.specs.FileFaults.{bad_owner, no_owner}
 use Rattle.dns_spec.specs.Meaning.{gives, records, Means, TtlSays, NameIs, OwnerBefore, EntryGives, EntriesMean, fields}
 use Rattle.dns_spec.proofs.Examples.{hex, example, under, net_192, soa_of, strings_data}
-use Rattle.dns_spec.proofs.ReadTexts.{pieces_in, means, entry_in, earlier_in, left_in, is_plain, plain_octet, plain_label, plain_name, plain_string, record_given, given_then}
+use Rattle.dns_spec.proofs.ReadTexts.{tokens_in, means, entry_in, earlier_in, left_in, is_plain, plain_octet, plain_label, plain_name, plain_string, record_given, given_then}
 use mathlib.Core.Bool.{xor}
 
 abbrev pub small_file : Octets
@@ -178,7 +179,7 @@ spells_dotted = record {
     label : LabelThen (codes "a\\.b") (codes "a.b") []
     label = (codes "a", codes "\\.b", refl, plain_octet 97 refl, (codes "\\.", codes "b", refl, (refl, refl, lit≤ tt, lit≤ tt, inl (lit< tt)), plain_label (codes "b") refl))
 
--- the entry behind so many, and those before it, the nearest first
+-- the entry after so many, and those before it, the nearest first
 abbrev entry_at : ℕ → Entry
 entry_at = entry_in small_file
 
@@ -190,13 +191,13 @@ unfolding digits
 sixty = (refl, refl, lit≤ tt)
 
 at_origin : NameIs example (earlier 1) (bare (codes "@")) example
-unfolding pieces_in run_length
+unfolding tokens_in run_length
 at_origin = (refl, (example, refl, spells_origin))
 
 soa_given : EntryGives example (earlier 1) (entry_at 1) (gives (soa_record ∷ []))
-unfolding pieces_in run_length xor
+unfolding tokens_in run_length xor
 soa_given =
-    record_given example (earlier 1) 7 (NameIs example (earlier 1) (bare (codes "@")))
+    record_given example (earlier 1) bad_owner (NameIs example (earlier 1) (bare (codes "@")))
     (fields (bare (codes "SOA") ∷ bare (codes "ns") ∷ bare (codes "h") ∷ bare (codes "1") ∷ bare (codes "2") ∷ bare (codes "3") ∷ bare (codes "4") ∷ bare (codes "5") ∷ []))
     soa_record
     (record {
@@ -208,9 +209,9 @@ soa_given =
 
 -- without an owner of its own
 ns_given : EntryGives example (earlier 2) (entry_at 2) (gives (ns_record ∷ []))
-unfolding pieces_in run_length xor
+unfolding tokens_in run_length xor
 ns_given =
-    record_given example (earlier 2) 8 (OwnerBefore example (earlier 2)) (fields (bare (codes "NS") ∷ bare (codes "ns") ∷ [])) ns_record
+    record_given example (earlier 2) no_owner (OwnerBefore example (earlier 2)) (fields (bare (codes "NS") ∷ bare (codes "ns") ∷ [])) ns_record
     (record {
       owner = (example, at_origin, refl);
       ttl = sixty;
@@ -219,13 +220,13 @@ ns_given =
     }) refl refl
 
 ns_owner : NameIs example (earlier 3) (bare (codes "ns")) (under (codes "ns"))
-unfolding pieces_in run_length
+unfolding tokens_in run_length
 ns_owner = (refl, (example, refl, spells_ns))
 
 a_given : EntryGives example (earlier 3) (entry_at 3) (gives (a_record ∷ []))
-unfolding pieces_in run_length xor
+unfolding tokens_in run_length xor
 a_given =
-    record_given example (earlier 3) 7 (NameIs example (earlier 3) (bare (codes "ns"))) (fields (bare (codes "A") ∷ bare (codes "192.0.2.1") ∷ [])) a_record
+    record_given example (earlier 3) bad_owner (NameIs example (earlier 3) (bare (codes "ns"))) (fields (bare (codes "A") ∷ bare (codes "192.0.2.1") ∷ [])) a_record
     (record {
       owner = (under (codes "ns"), ns_owner, refl);
       ttl = sixty;
@@ -234,9 +235,9 @@ a_given =
     }) refl refl
 
 aaaa_given : EntryGives example (earlier 4) (entry_at 4) (gives (aaaa_record ∷ []))
-unfolding pieces_in run_length xor
+unfolding tokens_in run_length xor
 aaaa_given =
-    record_given example (earlier 4) 8 (OwnerBefore example (earlier 4)) (fields (bare (codes "AAAA") ∷ bare (codes "2001:DB8:0:0:1::1") ∷ [])) aaaa_record
+    record_given example (earlier 4) no_owner (OwnerBefore example (earlier 4)) (fields (bare (codes "AAAA") ∷ bare (codes "2001:DB8:0:0:1::1") ∷ [])) aaaa_record
     (record {
       owner = (under (codes "ns"), ns_owner, refl);
       ttl = sixty;
@@ -246,13 +247,13 @@ aaaa_given =
 
 -- relative to the new origin
 dotted_given : NameIs example (earlier 6) (bare (codes "a\\.b")) dotted_owner
-unfolding pieces_in run_length
+unfolding tokens_in run_length
 dotted_given = (refl, (deep, (example, refl, spells_deep), spells_dotted))
 
 txt_given : EntryGives example (earlier 6) (entry_at 6) (gives (txt_record ∷ []))
-unfolding pieces_in run_length xor digits
+unfolding tokens_in run_length xor digits
 txt_given =
-    record_given example (earlier 6) 7 (NameIs example (earlier 6) (bare (codes "a\\.b")))
+    record_given example (earlier 6) bad_owner (NameIs example (earlier 6) (bare (codes "a\\.b")))
     (fields (bare (codes "7") ∷ bare (codes "IN") ∷ bare (codes "TXT") ∷ bare (codes "hi") ∷ record { raw = codes "x;y"; is_quoted = true } ∷ [])) txt_record
     (record {
       owner = (dotted_owner, dotted_given, refl);
@@ -262,9 +263,9 @@ txt_given =
     }) refl refl
 
 unknown_given : EntryGives example (earlier 7) (entry_at 7) (gives (unknown_record ∷ []))
-unfolding pieces_in run_length xor digits
+unfolding tokens_in run_length xor digits
 unknown_given =
-    record_given example (earlier 7) 8 (OwnerBefore example (earlier 7))
+    record_given example (earlier 7) no_owner (OwnerBefore example (earlier 7))
     (fields (bare (codes "CLASS1") ∷ bare (codes "9") ∷ bare (codes "TYPE65280") ∷ bare (codes "\\#") ∷ bare (codes "3") ∷ bare (codes "AB") ∷ bare (codes "cdef") ∷ []))
     unknown_record
     (record {
@@ -276,22 +277,22 @@ unknown_given =
 
 -- the directives
 ttl_directive : EntryGives example (earlier 0) (entry_at 0) (gives [])
-unfolding pieces_in run_length xor
+unfolding tokens_in run_length xor
 ttl_directive = inr (λ none. none 60 sixty, refl)
 
 origin_directive : EntryGives example (earlier 5) (entry_at 5) (gives [])
-unfolding pieces_in run_length xor
+unfolding tokens_in run_length xor
 origin_directive = inr (λ none. none deep (refl, (example, refl, spells_deep)), refl)
 
 abbrev pub six_records : List ResourceRecord
 six_records = soa_record ∷ ns_record ∷ a_record ∷ aaaa_record ∷ txt_record ∷ unknown_record ∷ []
 
--- the entries behind so many
+-- the entries after so many
 abbrev left : ℕ → List Entry
 left = left_in small_file
 
 below_deep : EntriesMean example (earlier 5) (left 5) (records (drop 4 six_records))
-unfolding pieces_in run_length xor
+unfolding tokens_in run_length xor
 below_deep =
     given_then example (earlier 5) (entry_at 5) (left 6) [] (records (drop 4 six_records)) origin_directive
     (given_then example (earlier 6) (entry_at 6) (left 7) (txt_record ∷ []) (records (drop 5 six_records)) txt_given
@@ -299,7 +300,7 @@ below_deep =
     (given_then example (earlier 8) (entry_at 8) [] [] (records []) refl refl)))
 
 pub small_file_means : Means example small_file (records six_records)
-unfolding pieces_in run_length xor
+unfolding tokens_in run_length xor
 small_file_means =
     means small_file (records six_records) refl refl refl
     (given_then example (earlier 0) (entry_at 0) (left 1) [] (records six_records) ttl_directive

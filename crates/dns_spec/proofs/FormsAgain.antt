@@ -27,7 +27,7 @@ pub record FormSaid (f : WordForm) (origin : DomainName) (d back : Octets) : Typ
   pub front : Octets
   pub whole : d ≡ front ++ back
   pub word : SaysWord f origin (word_front f d).0 front
-  pub behind : (word_front f d).1 ≡ back
+  pub after : (word_front f d).1 ≡ back
   pub standing : Standing (word_front f d).0
 
 -- the words of forms say all data, they stand alone and are taken in whole, and the first is not the mark of the form for any data
@@ -42,9 +42,9 @@ none_said origin = record { said = refl; alone = refl; whole = tt; unmarked = re
 
 pub said_step : (f : WordForm) (fs : List WordForm) (origin : DomainName) (d back : Octets) → FormSaid f origin d back → WordsSaid fs origin back → WordsSaid (f ∷ fs) origin d
 said_step f fs origin d back s others = record {
-  said = (s.front, back, s.whole, s.word, subst (λ b. SaysForms fs origin (form_words fs b) back) (sym s.behind) others.said);
-  alone = and_from _ _ s.standing.alone (ap (λ b. list_all stands_alone (form_words fs b)) s.behind ∙ others.alone);
-  whole = (s.standing.whole, subst (λ b. Each TakenWhole (form_words fs b)) (sym s.behind) others.whole);
+  said = (s.front, back, s.whole, s.word, subst (λ b. SaysForms fs origin (form_words fs b) back) (sym s.after) others.said);
+  alone = and_from _ _ s.standing.alone (ap (λ b. list_all stands_alone (form_words fs b)) s.after ∙ others.alone);
+  whole = (s.standing.whole, subst (λ b. Each TakenWhole (form_words fs b)) (sym s.after) others.whole);
   unmarked = ap not s.standing.unmarked;
 }
 
@@ -59,7 +59,7 @@ number_front_said k origin d short inside small =
       front = x;
       whole = sym (take-append-drop k d);
       word = record { quotes = refl; said = number_said k x long small' };
-      behind = refl;
+      after = refl;
       standing = decimal_standing (number_of x) (omega (arith, most, number_of-below x small'));
     }
 
@@ -71,7 +71,7 @@ ipv4_front_said origin d inside small = record {
     quotes = refl;
     said = record { four = length-take-le 4 d inside; octets = small_test (take 4 d) (All-take (λ o. o < 256) 4 d small); spelled = refl };
   };
-  behind = refl;
+  after = refl;
   standing = ipv4_standing (take 4 d) (length-take-le 4 d inside) (All-take (λ o. o < 256) 4 d small);
 }
 
@@ -80,7 +80,7 @@ ipv6_front_said origin d inside small = record {
   front = take 16 d;
   whole = sym (take-append-drop 16 d);
   word = record { quotes = refl; said = ipv6_said (take 16 d) (length-take-le 16 d inside) (All-take (λ o. o < 256) 16 d small) };
-  behind = refl;
+  after = refl;
   standing = ipv6_standing (take 16 d) (length-take-le 16 d inside) (All-take (λ o. o < 256) 16 d small);
 }
 
@@ -110,7 +110,7 @@ name_front_said origin d n rest e ok whole small =
       front = wire n;
       whole = whole;
       word = subst (λ r. SaysWord name_word origin (name_front r).0 (wire n)) (sym e) said;
-      behind = ap (λ r. (name_front r).1) e;
+      after = ap (λ r. (name_front r).1) e;
       standing = subst (λ r. Standing (name_front r).0) (sym e) (name_standing n (small_labels n labels) (some_labels n ok));
     }
 
@@ -122,11 +122,11 @@ string_front_said origin k d inside small =
       front = k ∷ take k d;
       whole = ap (λ x. k ∷ x) (sym (take-append-drop k d));
       word = record { quotes = refl; said = subst (λ j. SaysString (quoted (take k d)).raw (j ∷ take k d)) long said };
-      behind = refl;
+      after = refl;
       standing = string_standing (take k d) (All-take (λ o. o < 256) k d (small_tail k d small));
     }
 
--- m numbers of k octets each, and what is behind them
+-- m numbers of k octets each, and what is after them
 pub numbers_said : (m k : ℕ) (fs : List WordForm) (origin : DomainName) (d : Octets) → k ≤ 8 → m * k ≤ length d → Small d → WordsSaid fs origin (drop (m * k) d)
     → WordsSaid (replicate m (number_word k) ++ fs) origin d
 numbers_said zero k fs origin d short inside small others =
@@ -139,17 +139,17 @@ numbers_said (suc m) k fs origin d short inside small others =
     (numbers_said m k fs origin (drop k d) short (omega (arith, inside, more, length-drop k d)) (All-drop (λ o. o < 256) k d small)
     (subst (WordsSaid fs origin) rest others))
 
--- what stands behind the first string
+-- what stands after the first string
 record StringsBehind (k : ℕ) (d : Octets) : Type 0 where
   inside : k ≤ length d
   others : are_strings 0 (drop k d) ≡ true
   count : string_count k d ≡ string_count 0 (drop k d)
 
-strings_behind : (k : ℕ) (d : Octets) → are_strings k d ≡ true → StringsBehind k d
-strings_behind zero d e = record { inside = omega arith; others = e; count = refl }
-strings_behind (suc k) [] e = absurd (false≢true e)
-strings_behind (suc k) (o ∷ d) e =
-    let s = strings_behind k d e in
+strings_after : (k : ℕ) (d : Octets) → are_strings k d ≡ true → StringsBehind k d
+strings_after zero d e = record { inside = omega arith; others = e; count = refl }
+strings_after (suc k) [] e = absurd (false≢true e)
+strings_after (suc k) (o ∷ d) e =
+    let s = strings_after k d e in
     record { inside = omega (arith, s.inside); others = s.others; count = s.count }
 
 pub strings_said : (n : ℕ) (origin : DomainName) (d : Octets) → string_count 0 d ≡ n → are_strings 0 d ≡ true → Small d
@@ -158,6 +158,6 @@ strings_said zero origin [] e strings small = none_said origin
 strings_said zero origin (k ∷ d) e strings small = absurd (omega (arith, e))
 strings_said (suc n) origin [] e strings small = absurd (omega (arith, e))
 strings_said (suc n) origin (k ∷ d) e strings small =
-    let s = strings_behind k d strings in
+    let s = strings_after k d strings in
     said_step string_word (replicate n string_word) origin (k ∷ d) (drop k d) (string_front_said origin k d s.inside small)
     (strings_said n origin (drop k d) (omega (arith, e, s.count)) s.others (All-drop (λ o. o < 256) k d (small_tail k d small)))

@@ -132,7 +132,7 @@ groups_again (g ∷ gs) small =
     ap groups_said t.whole ∙ ap (λ x. group_values (slice_split is_colon x)) (sym t.whole)
     ∙ ap group_values (parts_of g gs small) ∙ values_of (g ∷ gs) small
 
--- what is found behind a text without a gap
+-- what is found after a text without a gap
 abbrev before : Octets → Octets × Octets → Octets × Octets
 before w r = (w ++ r.0, r.1)
 
@@ -176,7 +176,7 @@ pub no_gap : (gs : List ℕ) → Groups gs → around_gap (groups_text gs) ≡ N
 no_gap [] small = refl
 no_gap (g ∷ gs) small = ap around_gap (sym (append-nil (groups_text (g ∷ gs)))) ∙ past_groups g gs [] small
 
-pub gap_behind : (gs : List ℕ) (rest : Octets) → Groups gs → around_gap (groups_text gs ++ 58 ∷ 58 ∷ rest) ≡ Some (groups_text gs, rest)
-gap_behind [] rest small = refl
-gap_behind (g ∷ gs) rest small =
+pub gap_after : (gs : List ℕ) (rest : Octets) → Groups gs → around_gap (groups_text gs ++ 58 ∷ 58 ∷ rest) ≡ Some (groups_text gs, rest)
+gap_after [] rest small = refl
+gap_after (g ∷ gs) rest small =
     past_groups g gs (58 ∷ 58 ∷ rest) small ∙ ap (λ f. Some (f, rest)) (append-nil (groups_text (g ∷ gs)))

@@ -21,8 +21,8 @@ unfolding hex_octets
 hex_again [] small = refl
 hex_again (o ∷ d) small =
     let here : o < 256 = small_head o d small in
-    let behind = hex_again d (small_tail o d small) in
-    rw (hex_digit (o / 16) (omega arith), hex_digit (o % 16) (omega arith), behind) (ap (λ x. Some (x ∷ d)) (digits_say o here))
+    let after = hex_again d (small_tail o d small) in
+    rw (hex_digit (o / 16) (omega arith), hex_digit (o % 16) (omega arith), after) (ap (λ x. Some (x ∷ d)) (digits_say o here))
 
 two_each : (d : Octets) → length (hex_text d) ≡ 2 * length d
 two_each [] = refl

@@ -9,7 +9,7 @@ use Rattle.std.specs.Int.{bytes_high_first}
 use Rattle.dns_spec.specs.Names.{Octets}
 use Rattle.dns_spec.specs.AddressText.{groups_said, filled_groups, eight_groups, groups_by, ipv6_groups, SaysIpv6, groups_of, groups_text, longest_run, longest_place, ipv6_text}
 use Rattle.dns_spec.proofs.SmallOctets.{Small, small_head, small_tail}
-use Rattle.dns_spec.proofs.GroupsAgain.{Groups, groups_again, no_gap, gap_behind}
+use Rattle.dns_spec.proofs.GroupsAgain.{Groups, groups_again, no_gap, gap_after}
 use Rattle.dns_spec.proofs.ZeroRuns.{longest, around_run, run_inside}
 
 pub groups_of-small : (d : Octets) → Small d → Groups (groups_of d)
@@ -63,7 +63,7 @@ gap_again front back gs run small small' some eight whole =
     let text = groups_text front ++ 58 ∷ 58 ∷ groups_text back in
     let room : nat_lt (length front + length back) 8 ≡ true = lt-ltb _ _ (omega (arith, eight, some)) in
     let zeros : 8 - (length front + length back) ≡ run = omega (arith, eight) in
-    ap (groups_by text) (gap_behind front (groups_text back) small)
+    ap (groups_by text) (gap_after front (groups_text back) small)
     ∙ ap (option_and_then (λ f. option_and_then (filled_groups f) (groups_said (groups_text back)))) (groups_again front small)
     ∙ ap (option_and_then (filled_groups front)) (groups_again back small')
     ∙ rw (room, zeros) (ap (λ x. Some x) whole)

@@ -55,13 +55,18 @@ mod MessageRows
 mod TextRows
 mod TypeRows
 mod DataRows
-pub mod TextPieces
+pub mod Escapes
+pub mod Beginnings
+pub mod TextTokens
 mod WordRows
 pub mod ReadWords
 pub mod PrintedLines
 pub mod ReadTexts
 pub mod PrintedMeaning
 pub mod PrintedZone
+pub mod BeginningsMean
+pub mod SomeMeaning
+mod TokenRows
 mod MeaningRows
 mod FileRows
 mod LimitRows
@@ -74,7 +79,7 @@ pub mod PassedChecks
 pub mod ItemSets
 pub mod OrderedReport
 pub mod ReadOctets
-pub mod ReadPieces
+pub mod ReadTokens
 pub mod ReadRecords
 pub mod SameRecords
 pub mod PrintedAgain

@@ -6,17 +6,18 @@ use Rattle.std.specs.List.{list_all, prefix_len, filter}
 use Rattle.std.proofs.lemmas.Bool.{and_parts, and_from, lt-ltb, le-leb, lt-leb}
 use Rattle.std.proofs.lemmas.List.{append_assoc, take_all, length-take, drop_all}
 use Rattle.dns_spec.specs.Names.{Octets}
-use Rattle.dns_spec.specs.ZoneText.{Piece, blank, word, line_end, most_octets, is_blank, piece_front, PiecesThen, run_length, Entry, ended, end_code, cut_entries, with_end}
-use Rattle.dns_spec.specs.Meaning.{no_words, SortGives, faulty, gives, fault_at, most_records, OriginIs, NameIs, IsRecord, is_record, line_behind, fields, EntryGives, EntriesMean, Means}
+use Rattle.dns_spec.specs.ZoneText.{Token, blank, word, line_end, most_octets, is_blank, token_front, TokensThen, run_length, Entry, ended, cut_entries, with_end, whole_text, beginning, extent_by, stop_fault, stop_at}
+use Rattle.dns_spec.specs.FileFaults.{bad_escape, bad_octet, bad_owner, too_long, too_many_records, FileFault}
+use Rattle.dns_spec.specs.Meaning.{no_words, SortGives, faulty, gives, fault_at, most_records, OriginIs, NameIs, IsRecord, is_record, line_after, fields, EntryGives, EntriesMean, Means}
 use Rattle.dns_spec.specs.Data.{cut, type_txt}
 use Rattle.dns_spec.specs.DataText.{Word, Says}
 use Rattle.dns_spec.specs.Records.{ResourceRecord}
 use Rattle.std.specs.Fmt.{digits}
 use mathlib.Core.Bool.{xor}
-use Rattle.dns_spec.proofs.ReadTexts.{pieces_in, pieces_spelled, is_plain, plain_string, record_given, record_but_count, given_then}
+use Rattle.dns_spec.proofs.ReadTexts.{tokens_in, tokens_spelled, is_plain, plain_string, record_given, record_but_count, given_then}
 use Rattle.dns_spec.proofs.Examples.{example}
 
--- blanks alone are one piece
+-- blanks alone are one token
 all_taken : (p : ℕ → Bool) (k : ℕ) (text : Octets) → list_all p text ≡ true → list_all p (take k text) ≡ true
 all_taken p zero text h = refl
 all_taken p (suc k) [] h = refl
@@ -26,24 +27,24 @@ all_before : (p : ℕ → Bool) (text : Octets) → list_all p text ≡ true →
 all_before p [] h = refl
 all_before p (o ∷ text) h = let parts = and_parts (p o) _ h in rw parts.0 (omega (arith, all_before p text parts.1))
 
-blanks_front : (text : Octets) → 0 < length text → list_all is_blank text ≡ true → piece_front text ≡ Some (blank, [])
+blanks_front : (text : Octets) → 0 < length text → list_all is_blank text ≡ true → token_front text ≡ Some (blank, [])
 blanks_front [] some h = absurd (omega (arith, some))
 blanks_front (o ∷ text) some h =
     let parts = and_parts (is_blank o) _ h in
     rw parts.0 (ap (λ k. Some (blank, drop k text)) (all_before is_blank text parts.1) ∙ ap (λ rest. Some (blank, rest)) (drop_all (length text) text (omega arith)))
 
 -- octet 16,777,217, where nothing else is at fault
-past_limit : (text : Octets) → most_octets < length text → list_all is_blank text ≡ true → Means example text (fault_at 15 1)
+past_limit : (text : Octets) → most_octets < length text → list_all is_blank text ≡ true → Means example text (fault_at too_long 1)
 past_limit text long blanks = (
-  with_end true [] (cut_entries false (blank ∷ [])),
+  with_end beginning [] (cut_entries false (blank ∷ [])),
   record {
-    pieces = blank ∷ [];
+    tokens = blank ∷ [];
     rest = [];
     spelled = ([], blanks_front (take most_octets text) some (all_taken is_blank most_octets text blanks), refl);
     at_end = refl;
-    entries = ap (λ b. with_end b [] (cut_entries false (blank ∷ []))) (sym (lt-ltb most_octets (length text) long));
+    entries = ap (λ b. with_end (extent_by b) [] (cut_entries false (blank ∷ []))) (sym (lt-ltb most_octets (length text) long));
   },
-  (faulty 15, refl, refl),
+  (faulty too_long, refl, refl),
 )
   where
     some : 0 < length (take most_octets text)
@@ -54,24 +55,24 @@ past_limit text long blanks = (
 abbrev line : Octets
 line = codes "@ 7 TXT a\n"
 
-abbrev line_pieces : List Piece
-line_pieces = word (codes "@") ∷ blank ∷ word (codes "7") ∷ blank ∷ word (codes "TXT") ∷ blank ∷ word (codes "a") ∷ line_end ∷ []
+abbrev line_tokens : List Token
+line_tokens = word (codes "@") ∷ blank ∷ word (codes "7") ∷ blank ∷ word (codes "TXT") ∷ blank ∷ word (codes "a") ∷ line_end ∷ []
 
 abbrev line_entry : Entry
-line_entry = ended line_pieces
+line_entry = ended line_tokens
 
--- so many lines, their pieces, what their pieces are cut into, their entries, and these as they come before another
+-- so many lines, their tokens, what their tokens are cut into, their entries, and these as they come before another
 lines : ℕ → Octets
 lines zero = []
 lines (suc n) = line ++ lines n
 
-pieces_of_lines : ℕ → List Piece
-pieces_of_lines zero = []
-pieces_of_lines (suc n) = line_pieces ++ pieces_of_lines n
+tokens_of_lines : ℕ → List Token
+tokens_of_lines zero = []
+tokens_of_lines (suc n) = line_tokens ++ tokens_of_lines n
 
-cut_lines : ℕ → List (List Piece)
+cut_lines : ℕ → List (List Token)
 cut_lines zero = [] ∷ []
-cut_lines (suc n) = line_pieces ∷ cut_lines n
+cut_lines (suc n) = line_tokens ∷ cut_lines n
 
 entries_of_lines : ℕ → List Entry
 entries_of_lines zero = ended [] ∷ []
@@ -86,25 +87,25 @@ unfolding lines
 length-lines zero = refl
 length-lines (suc n) = omega (arith, length-append line (lines n), length-lines n)
 
-joined : (text middle rest : Octets) (ps qs : List Piece) → PiecesThen text ps middle → PiecesThen middle qs rest → PiecesThen text (ps ++ qs) rest
-joined text middle rest [] qs h k = subst (λ t. PiecesThen t qs rest) (sym h) k
+joined : (text middle rest : Octets) (ps qs : List Token) → TokensThen text ps middle → TokensThen middle qs rest → TokensThen text (ps ++ qs) rest
+joined text middle rest [] qs h k = subst (λ t. TokensThen t qs rest) (sym h) k
 joined text middle rest (p ∷ ps) qs (others, e, h) k = (others, e, joined others middle rest ps qs h k)
 
-line_spelled : (text : Octets) → PiecesThen (line ++ text) line_pieces text
-unfolding pieces_in run_length
-line_spelled text = pieces_spelled 8 (line ++ text)
+line_spelled : (text : Octets) → TokensThen (line ++ text) line_tokens text
+unfolding tokens_in run_length
+line_spelled text = tokens_spelled 8 (line ++ text)
 
-lines_spelled : (n : ℕ) → PiecesThen (lines n) (pieces_of_lines n) []
-unfolding lines pieces_of_lines
+lines_spelled : (n : ℕ) → TokensThen (lines n) (tokens_of_lines n) []
+unfolding lines tokens_of_lines
 lines_spelled zero = refl
-lines_spelled (suc n) = joined (line ++ lines n) (lines n) [] line_pieces (pieces_of_lines n) (line_spelled (lines n)) (lines_spelled n)
+lines_spelled (suc n) = joined (line ++ lines n) (lines n) [] line_tokens (tokens_of_lines n) (line_spelled (lines n)) (lines_spelled n)
 
-lines_cut : (n : ℕ) → cut_entries false (pieces_of_lines n) ≡ cut_lines n
-unfolding pieces_of_lines cut_lines
+lines_cut : (n : ℕ) → cut_entries false (tokens_of_lines n) ≡ cut_lines n
+unfolding tokens_of_lines cut_lines
 lines_cut zero = refl
-lines_cut (suc n) = ap (λ es. line_pieces ∷ es) (lines_cut n)
+lines_cut (suc n) = ap (λ es. line_tokens ∷ es) (lines_cut n)
 
-lines_ended : (n : ℕ) → with_end false [] (cut_lines n) ≡ entries_of_lines n
+lines_ended : (n : ℕ) → with_end whole_text [] (cut_lines n) ≡ entries_of_lines n
 unfolding cut_lines entries_of_lines
 lines_ended zero = refl
 lines_ended (suc zero) = refl
@@ -121,7 +122,7 @@ unfolding earlier
 records_counted zero = refl
 records_counted (suc k) = ap suc (records_counted k)
 
-lines_counted : (k : ℕ) → line_behind (earlier k) ≡ suc k
+lines_counted : (k : ℕ) → line_after (earlier k) ≡ suc k
 unfolding earlier
 lines_counted zero = refl
 lines_counted (suc k) = omega (arith, lines_counted k)
@@ -153,38 +154,38 @@ is_line_record k = record {
 line_given : (k : ℕ) → k < most_records → EntryGives example (earlier k) line_entry (gives (line_record ∷ []))
 unfolding xor
 line_given k few =
-    record_given example (earlier k) 7 (NameIs example (earlier k) (bare (codes "@"))) (fields (bare (codes "7") ∷ bare (codes "TXT") ∷ bare (codes "a") ∷ [])) line_record
+    record_given example (earlier k) bad_owner (NameIs example (earlier k) (bare (codes "@"))) (fields (bare (codes "7") ∷ bare (codes "TXT") ∷ bare (codes "a") ∷ [])) line_record
     (is_line_record k) refl (ap (nat_le most_records) (records_counted k) ∙ lt-leb most_records k few)
 
-line_refused : (k : ℕ) → k ≡ most_records → EntryGives example (earlier k) line_entry (faulty 14)
+line_refused : (k : ℕ) → k ≡ most_records → EntryGives example (earlier k) line_entry (faulty too_many_records)
 unfolding xor
 line_refused k all =
-    record_but_count example (earlier k) 7 (NameIs example (earlier k) (bare (codes "@"))) (fields (bare (codes "7") ∷ bare (codes "TXT") ∷ bare (codes "a") ∷ [])) line_record
-    (faulty 14) (is_line_record k) refl
+    record_but_count example (earlier k) bad_owner (NameIs example (earlier k) (bare (codes "@"))) (fields (bare (codes "7") ∷ bare (codes "TXT") ∷ bare (codes "a") ∷ [])) line_record
+    (faulty too_many_records) (is_line_record k) refl
     (inl (ap (nat_le most_records) (records_counted k) ∙ le-leb most_records k (omega (arith, all)), refl))
 
-lines_mean : (n k : ℕ) → k + n ≡ most_records → EntriesMean example (earlier k) (entries_of_lines (suc n)) (fault_at 14 (suc most_records))
+lines_mean : (n k : ℕ) → k + n ≡ most_records → EntriesMean example (earlier k) (entries_of_lines (suc n)) (fault_at too_many_records (suc most_records))
 unfolding entries_of_lines earlier
 lines_mean zero k e =
     let all : k ≡ most_records = omega (arith, e) in
-    (faulty 14, line_refused k all, ap (λ l. fault_at 14 l) (sym (lines_counted k ∙ ap suc all)))
+    (faulty too_many_records, line_refused k all, ap (λ l. fault_at too_many_records l) (sym (lines_counted k ∙ ap suc all)))
 lines_mean (suc n) k e =
-    given_then example (earlier k) line_entry (entries_of_lines (suc n)) (line_record ∷ []) (fault_at 14 (suc most_records)) (line_given k (omega (arith, e)))
+    given_then example (earlier k) line_entry (entries_of_lines (suc n)) (line_record ∷ []) (fault_at too_many_records (suc most_records)) (line_given k (omega (arith, e)))
     (lines_mean n (suc k) (omega (arith, e)))
 
 -- so many lines of records, and one more
-many_lines : (n : ℕ) → n ≡ most_records → Means example (lines (suc n)) (fault_at 14 (suc most_records))
+many_lines : (n : ℕ) → n ≡ most_records → Means example (lines (suc n)) (fault_at too_many_records (suc most_records))
 unfolding earlier
 many_lines n all = (
   entries_of_lines (suc n),
   record {
-    pieces = pieces_of_lines (suc n);
+    tokens = tokens_of_lines (suc n);
     rest = [];
-    spelled = subst (λ t. PiecesThen t (pieces_of_lines (suc n)) []) (sym (take_all most_octets (lines (suc n)) within)) (lines_spelled (suc n));
+    spelled = subst (λ t. TokensThen t (tokens_of_lines (suc n)) []) (sym (take_all most_octets (lines (suc n)) within)) (lines_spelled (suc n));
     at_end = refl;
     entries =
-        sym (lines_ended (suc n)) ∙ ap (with_end false []) (sym (lines_cut (suc n)))
-        ∙ ap (λ b. with_end b [] (cut_entries false (pieces_of_lines (suc n)))) (sym (le-ltb most_octets (length (lines (suc n))) within));
+        sym (lines_ended (suc n)) ∙ ap (with_end whole_text []) (sym (lines_cut (suc n)))
+        ∙ ap (λ b. with_end (extent_by b) [] (cut_entries false (tokens_of_lines (suc n)))) (sym (le-ltb most_octets (length (lines (suc n))) within));
   },
   lines_mean n 0 (omega (arith, all)),
 )
@@ -193,11 +194,11 @@ many_lines n all = (
     within = omega (arith, length-lines (suc n), all)
 
 -- record 100,001
-one_record_too_many : Means example (lines 100001) (fault_at 14 100001)
+one_record_too_many : Means example (lines 100001) (fault_at too_many_records 100001)
 one_record_too_many = many_lines 100000 refl
 
 -- blanks, and then a text that begins with none
-blanks_then : (text rest : Octets) → 0 < length text → list_all is_blank text ≡ true → prefix_len is_blank rest ≡ 0 → piece_front (text ++ rest) ≡ Some (blank, rest)
+blanks_then : (text rest : Octets) → 0 < length text → list_all is_blank text ≡ true → prefix_len is_blank rest ≡ 0 → token_front (text ++ rest) ≡ Some (blank, rest)
 blanks_then [] rest some h none = absurd (omega (arith, some))
 blanks_then (o ∷ text) rest some h none =
     let parts = and_parts (is_blank o) _ h in
@@ -207,19 +208,19 @@ blanks_then (o ∷ text) rest some h none =
     before_rest [] h = none
     before_rest (x ∷ xs) h = let parts = and_parts (is_blank x) _ h in rw parts.0 (omega (arith, before_rest xs parts.1))
 
--- The octets at the limit stand behind blanks. Where no piece begins with them, they tell the fault.
-cut_at_limit : (text ends more : Octets) (code : ℕ) → length text + length ends ≡ most_octets → 0 < length text → 0 < length more → list_all is_blank text ≡ true
-    → prefix_len is_blank ends ≡ 0 → piece_front ends ≡ None → end_code true false ends ≡ Some code → Means example (text ++ (ends ++ more)) (fault_at code 1)
+-- The octets at the limit stand after blanks. Where no token begins with them, they tell the fault.
+cut_at_limit : (text ends more : Octets) (code : FileFault) → length text + length ends ≡ most_octets → 0 < length text → 0 < length more → list_all is_blank text ≡ true
+    → prefix_len is_blank ends ≡ 0 → token_front ends ≡ None → stop_fault beginning false (stop_at ends) ≡ Some code → Means example (text ++ (ends ++ more)) (fault_at code 1)
 cut_at_limit text ends more code full some goes_on blanks none at_end tells = (
-  with_end true ends (cut_entries false (blank ∷ [])),
+  with_end beginning ends (cut_entries false (blank ∷ [])),
   record {
-    pieces = blank ∷ [];
+    tokens = blank ∷ [];
     rest = ends;
-    spelled = subst (λ t. PiecesThen t (blank ∷ []) ends) (sym taken) (ends, blanks_then text ends some blanks none, refl);
+    spelled = subst (λ t. TokensThen t (blank ∷ []) ends) (sym taken) (ends, blanks_then text ends some blanks none, refl);
     at_end = at_end;
-    entries = ap (λ b. with_end b ends (cut_entries false (blank ∷ []))) (sym (lt-ltb most_octets _ long));
+    entries = ap (λ b. with_end (extent_by b) ends (cut_entries false (blank ∷ []))) (sym (lt-ltb most_octets _ long));
   },
-  (faulty code, told (end_code true false ends) tells, refl),
+  (faulty code, told (stop_fault beginning false (stop_at ends)) tells, refl),
 )
   where
     whole : text ++ (ends ++ more) ≡ (text ++ ends) ++ more
@@ -233,28 +234,28 @@ cut_at_limit text ends more code full some goes_on blanks none at_end tells = (
     long : most_octets < length (text ++ (ends ++ more))
     long = omega (arith, ap length whole, length-append (text ++ ends) more, length-append text ends, full, goes_on)
 
-    told : (o : Option ℕ) → o ≡ Some code → MatchOption o (SortGives example [] no_words (faulty code)) (λ c. faulty code ≡ faulty c)
+    told : (o : Option FileFault) → o ≡ Some code → MatchOption o (SortGives example [] no_words (faulty code)) (λ c. faulty code ≡ faulty c)
     told None e = cc
     told (Some c) e = cc
 
 -- an escape that the next octets might end, and one that they can't
-digit_at_limit : (text more : Octets) → length text + 2 ≡ most_octets → 0 < length more → list_all is_blank text ≡ true → Means example (text ++ 92 ∷ 51 ∷ more) (fault_at 15 1)
+digit_at_limit : (text more : Octets) → length text + 2 ≡ most_octets → 0 < length more → list_all is_blank text ≡ true → Means example (text ++ 92 ∷ 51 ∷ more) (fault_at too_long 1)
 unfolding run_length
-digit_at_limit text more full goes_on blanks = cut_at_limit text (92 ∷ 51 ∷ []) more 15 full (omega (arith, full)) goes_on blanks refl refl refl
+digit_at_limit text more full goes_on blanks = cut_at_limit text (92 ∷ 51 ∷ []) more too_long full (omega (arith, full)) goes_on blanks refl refl refl
 
-digit_and_letter : (text more : Octets) → length text + 3 ≡ most_octets → 0 < length more → list_all is_blank text ≡ true → Means example (text ++ 92 ∷ 49 ∷ 120 ∷ more) (fault_at 2 1)
+digit_and_letter : (text more : Octets) → length text + 3 ≡ most_octets → 0 < length more → list_all is_blank text ≡ true → Means example (text ++ 92 ∷ 49 ∷ 120 ∷ more) (fault_at bad_escape 1)
 unfolding run_length
-digit_and_letter text more full goes_on blanks = cut_at_limit text (92 ∷ 49 ∷ 120 ∷ []) more 2 full (omega (arith, full)) goes_on blanks refl refl refl
+digit_and_letter text more full goes_on blanks = cut_at_limit text (92 ∷ 49 ∷ 120 ∷ []) more bad_escape full (omega (arith, full)) goes_on blanks refl refl refl
 
-cr_at_limit : (text more : Octets) → length text + 1 ≡ most_octets → 0 < length more → list_all is_blank text ≡ true → Means example (text ++ 13 ∷ more) (fault_at 15 1)
-cr_at_limit text more full goes_on blanks = cut_at_limit text (13 ∷ []) more 15 full (omega (arith, full)) goes_on blanks refl refl refl
+cr_at_limit : (text more : Octets) → length text + 1 ≡ most_octets → 0 < length more → list_all is_blank text ≡ true → Means example (text ++ 13 ∷ more) (fault_at too_long 1)
+cr_at_limit text more full goes_on blanks = cut_at_limit text (13 ∷ []) more too_long full (omega (arith, full)) goes_on blanks refl refl refl
 
 -- an octet that isn't allowed, before the limit
-octet_at_limit : (text more : Octets) → length text + 1 ≡ most_octets → 0 < length more → list_all is_blank text ≡ true → Means example (text ++ 0 ∷ more) (fault_at 1 1)
+octet_at_limit : (text more : Octets) → length text + 1 ≡ most_octets → 0 < length more → list_all is_blank text ≡ true → Means example (text ++ 0 ∷ more) (fault_at bad_octet 1)
 unfolding run_length
-octet_at_limit text more full goes_on blanks = cut_at_limit text (0 ∷ []) more 1 full (omega (arith, full)) goes_on blanks refl refl refl
+octet_at_limit text more full goes_on blanks = cut_at_limit text (0 ∷ []) more bad_octet full (omega (arith, full)) goes_on blanks refl refl refl
 
 -- a string that isn't ended at the limit
-string_at_limit : (text more : Octets) → length text + 2 ≡ most_octets → 0 < length more → list_all is_blank text ≡ true → Means example (text ++ 34 ∷ 97 ∷ more) (fault_at 15 1)
+string_at_limit : (text more : Octets) → length text + 2 ≡ most_octets → 0 < length more → list_all is_blank text ≡ true → Means example (text ++ 34 ∷ 97 ∷ more) (fault_at too_long 1)
 unfolding run_length
-string_at_limit text more full goes_on blanks = cut_at_limit text (34 ∷ 97 ∷ []) more 15 full (omega (arith, full)) goes_on blanks refl refl refl
+string_at_limit text more full goes_on blanks = cut_at_limit text (34 ∷ 97 ∷ []) more too_long full (omega (arith, full)) goes_on blanks refl refl refl

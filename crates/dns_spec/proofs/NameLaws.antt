@@ -72,9 +72,9 @@ wire-injective (l ∷ n) [] p q e =
     absurd (omega arith)
 wire-injective (l ∷ n) (k ∷ m) p q e =
     let as_long : length l ≡ length k = cc in
-    let behind : l ++ wire n ≡ k ++ wire m = cc in
-    let first : l ≡ k = sym (take_at l (wire n) _ as_long) ∙ ap (take (length k)) behind ∙ take_at k (wire m) _ refl in
-    let rest : wire n ≡ wire m = sym (drop_at l (wire n) _ as_long) ∙ ap (drop (length k)) behind ∙ drop_at k (wire m) _ refl in
+    let after : l ++ wire n ≡ k ++ wire m = cc in
+    let first : l ≡ k = sym (take_at l (wire n) _ as_long) ∙ ap (take (length k)) after ∙ take_at k (wire m) _ refl in
+    let rest : wire n ≡ wire m = sym (drop_at l (wire n) _ as_long) ∙ ap (drop (length k)) after ∙ drop_at k (wire m) _ refl in
     let others : n ≡ m = wire-injective n m (is_name-tail l n p) (is_name-tail k m q) rest in
     cc
 

@@ -24,7 +24,7 @@ number_once k text d e few (n, small, said, is) (m, small', said', is') =
     let same = decimal_injective n m (omega (arith, small, most)) (omega (arith, small', most)) (sym said ∙ said') in
     is ∙ ap (bytes_high_first k) same ∙ sym is'
 
--- two runs of digits with a dot behind each
+-- two runs of digits with a dot after each
 digits_end : (ds es rest others : Octets) → AllDigits 10 ds → AllDigits 10 es → ds ++ 46 ∷ rest ≡ es ++ 46 ∷ others
     → (ds ≡ es) × (rest ≡ others)
 digits_end [] [] rest others h k e = (refl, cc)
@@ -37,8 +37,8 @@ digits_end (c ∷ ds) [] rest others (digit, h) k e =
 digits_end (c ∷ ds) (b ∷ es) rest others (digit, h) (digit', k) e =
     let head : c ≡ b = cc (e) in
     let tail : ds ++ 46 ∷ rest ≡ es ++ 46 ∷ others = cc (e) in
-    let behind = digits_end ds es rest others h k tail in
-    (ap₂ (λ z zs. z ∷ zs) head behind.0, behind.1)
+    let after = digits_end ds es rest others h k tail in
+    (ap₂ (λ z zs. z ∷ zs) head after.0, after.1)
 
 -- a text begins with one number in decimal and a dot
 pub number_then_dot : (a b : ℕ) (rest others : Octets) → a < 256 → b < 256 → decimal a ++ 46 ∷ rest ≡ decimal b ++ 46 ∷ others → (a ≡ b) × (rest ≡ others)

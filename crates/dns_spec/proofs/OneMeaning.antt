@@ -1,16 +1,16 @@
 -- A text means one thing.
-use Rattle.std.proofs.Common.{◌≡◌, ℕ, inl, inr, Bool, true, false, List, [], ◌∷◌, drop, length, take, Option, Some, None, refl, sym, ◌∙◌, ap, ap₂, subst, subst₂, arith, codes, IsTrue, nat_lt}
+use Rattle.std.proofs.Common.{◌≡◌, ℕ, inl, inr, Bool, true, false, List, [], ◌∷◌, drop, take, Option, Some, None, refl, sym, ◌∙◌, ap, ap₂, subst, subst₂, arith, codes}
 use Rattle.std.specs.Prelude.{MatchOption}
 use Rattle.std.specs.Bool.{MatchBool}
-use Rattle.std.specs.Option.{is_none}
 use Rattle.std.proofs.lemmas.Option.{none-some, some_pair_parts}
 use Rattle.std.proofs.lemmas.Fmt.{decimal_injective}
 use Rattle.dns_spec.specs.Names.{Octets, DomainName, folded, octets_equal}
 use Rattle.dns_spec.specs.NameText.{SpellsName}
 use Rattle.dns_spec.specs.DataText.{Word, Says}
 use Rattle.dns_spec.specs.Records.{ResourceRecord}
-use Rattle.dns_spec.specs.ZoneText.{Piece, most_octets, piece_front, PiecesThen, cut_entries, with_end, Entry, Entries, lexical_fault}
-use Rattle.dns_spec.specs.Meaning.{Answer, faulty, gives, Nothing, Unless, Sort, no_words, directive, owned, unowned, sort_of, directive_word, owner_word, OriginIs, NameIs, OwnerBefore, TtlSays, ttl_in_force, TtlIs, TypeIs, DataIs, IsRecord, Fields, fields, IsNoTtl, is_other_class, are_too_many, RecordGives, OneWord, DirectiveGives, SortGives, EntryGives, Meaning, fault_at, behind, line_behind, EntriesMean, Means}
+use Rattle.dns_spec.specs.ZoneText.{Token, most_octets, token_front, TokensThen, cut_entries, with_end, extent_of, Entry, Entries, lexical_fault}
+use Rattle.dns_spec.specs.FileFaults.{FileFault, unknown_directive, directive_words, bad_owner, no_owner}
+use Rattle.dns_spec.specs.Meaning.{EntryMeaning, faulty, gives, Nothing, Lowest, Sort, no_words, directive, owned, unowned, sort_of, directive_word, owner_word, OriginIs, NameIs, OwnerBefore, TtlSays, ttl_in_force, TtlIs, TypeIs, DataIs, IsRecord, Fields, fields, record_faults, RecordGives, OneWord, DirectiveSays, DirectiveGives, SortGives, EntryGives, Meaning, fault_at, after, line_after, EntriesMean, Means}
 use Rattle.dns_spec.proofs.OneName.{name_once}
 use Rattle.dns_spec.proofs.OneData.{data_once}
 use Rattle.dns_spec.proofs.TypeWords.{one_type}
@@ -26,14 +26,15 @@ by_bool true n m first second h k = first h k
 by_bool false n m first second h k = second h k
 
 -- an answer that holds is the only one
-abbrev Once : (Answer → Type 0) → Type 0
-Once P = (a b : Answer) → P a → P b → a ≡ b
+abbrev Once : (EntryMeaning → Type 0) → Type 0
+Once P = (a b : EntryMeaning) → P a → P b → a ≡ b
 
-unless_once : (code : ℕ) (Fault : Type 0) (P : Answer → Type 0) → Once P → Once (Unless code Fault P)
-unless_once code Fault P once a b (inl (f, e)) (inl (g, e')) = e ∙ sym e'
-unless_once code Fault P once a b (inl (f, e)) (inr (none, h)) = absurd (none f)
-unless_once code Fault P once a b (inr (none, h)) (inl (g, e)) = absurd (none g)
-unless_once code Fault P once a b (inr (none, h)) (inr (none', k)) = once a b h k
+lowest_once : (faults : List (FileFault × Type 0)) (P : EntryMeaning → Type 0) → Once P → Once (Lowest faults P)
+lowest_once [] P once a b h k = once a b h k
+lowest_once ((fault, Condition) ∷ higher) P once a b (inl (f, e)) (inl (g, e')) = e ∙ sym e'
+lowest_once ((fault, Condition) ∷ higher) P once a b (inl (f, e)) (inr (none, h)) = absurd (none f)
+lowest_once ((fault, Condition) ∷ higher) P once a b (inr (none, h)) (inl (g, e)) = absurd (none g)
+lowest_once ((fault, Condition) ∷ higher) P once a b (inr (none, h)) (inr (none', k)) = lowest_once higher P once a b h k
 
 -- what an entry takes over
 origin_once : (o : DomainName) (earlier : List Entry) (n m : DomainName) → OriginIs o earlier n → OriginIs o earlier m → n ≡ m
@@ -81,74 +82,50 @@ record_once o earlier Owner f r s one_owner h k =
     λ i. record { owner = owners i; ttl = ttls i; rtype = types i; rdata = rdata i }
 
 -- what an entry gives
-record_gives_once : (o : DomainName) (earlier : List Entry) (code : ℕ) (Owner : DomainName → Type 0) (f : Fields)
+record_gives_once : (o : DomainName) (earlier : List Entry) (code : FileFault) (Owner : DomainName → Type 0) (f : Fields)
     → ((n m : DomainName) → Owner n → Owner m → n ≡ m) → Once (RecordGives o earlier code Owner f)
-record_gives_once o earlier code Owner f one_owner = unless_once code (Nothing Owner) From9 from9
-  where
-    From14 : Answer → Type 0
-    From14 answer = (r : ResourceRecord) × IsRecord o earlier Owner f r × (answer ≡ gives (r ∷ []))
+record_gives_once o earlier code Owner f one_owner =
+    lowest_once (record_faults o earlier code Owner f) (λ given. (r : ResourceRecord) × IsRecord o earlier Owner f r × (given ≡ gives (r ∷ [])))
+    (λ a b h k. h.2 ∙ ap (λ r. gives (r ∷ [])) (record_once o earlier Owner f h.0 k.0 one_owner h.1 k.1) ∙ sym k.2)
 
-    from14 : Once From14
-    from14 a b h k = h.2 ∙ ap (λ r. gives (r ∷ [])) (record_once o earlier Owner f h.0 k.0 one_owner h.1 k.1) ∙ sym k.2
-
-    From13 : Answer → Type 0
-    From13 = Unless 14 (IsTrue (are_too_many earlier)) From14
-
-    From12 : Answer → Type 0
-    From12 = Unless 13 (Nothing (DataIs o earlier f.others)) From13
-
-    From11 : Answer → Type 0
-    From11 = Unless 12 (IsTrue (is_none (ttl_in_force earlier f.ttl))) From12
-
-    From10 : Answer → Type 0
-    From10 = Unless 11 (Nothing (TypeIs f.others)) From11
-
-    From9 : Answer → Type 0
-    From9 = Unless 9 (IsNoTtl f.ttl) (Unless 10 (IsTrue (is_other_class f.class)) From10)
-
-    from9 : Once From9
-    from9 =
-        unless_once 9 (IsNoTtl f.ttl) (Unless 10 (IsTrue (is_other_class f.class)) From10)
-        (unless_once 10 (IsTrue (is_other_class f.class)) From10
-        (unless_once 11 (Nothing (TypeIs f.others)) From11
-        (unless_once 12 (IsTrue (is_none (ttl_in_force earlier f.ttl))) From12
-        (unless_once 13 (Nothing (DataIs o earlier f.others)) From13
-        (unless_once 14 (IsTrue (are_too_many earlier)) From14 from14)))))
-
-given : (c : Answer) → Once (λ answer. answer ≡ c)
+given : (c : EntryMeaning) → Once (λ answer. answer ≡ c)
 given c a b h k = h ∙ sym k
+
+says_once : {A : Type 0} (P : A → Word → Type 0) (ws : List Word) → Once (DirectiveSays P ws)
+says_once {A} P ws =
+    lowest_once ((directive_words, Nothing (λ (v : A). OneWord (P v) ws)) ∷ []) (λ given. given ≡ gives []) (given (gives []))
 
 directive_gives_once : (o : DomainName) (earlier : List Entry) (name : Octets) (ws : List Word) → Once (DirectiveGives o earlier name ws)
 directive_gives_once o earlier name ws a b =
     by_bool (octets_equal name (codes "$origin")) a b
-    (unless_once 6 (Nothing (λ (n : DomainName). OneWord (λ w. NameIs o earlier w n) ws)) (λ answer. answer ≡ gives []) (given (gives [])) a b)
+    (says_once (λ n w. NameIs o earlier w n) ws a b)
     (by_bool (octets_equal name (codes "$ttl")) a b
-    (unless_once 6 (Nothing (λ (n : ℕ). OneWord (λ w. TtlSays w n) ws)) (λ answer. answer ≡ gives []) (given (gives [])) a b)
-    (given (faulty 5) a b))
+    (says_once (λ n w. TtlSays w n) ws a b)
+    (given (faulty unknown_directive) a b))
 
 sort_gives_once : (o : DomainName) (earlier : List Entry) (s : Sort) → Once (SortGives o earlier s)
 sort_gives_once o earlier no_words = given (gives [])
 sort_gives_once o earlier (directive name ws) = directive_gives_once o earlier name ws
-sort_gives_once o earlier (owned w ws) = record_gives_once o earlier 7 (NameIs o earlier w) (fields ws) (name_is_once o earlier w)
-sort_gives_once o earlier (unowned ws) = record_gives_once o earlier 8 (OwnerBefore o earlier) (fields ws) (owner_once o earlier)
+sort_gives_once o earlier (owned w ws) = record_gives_once o earlier bad_owner (NameIs o earlier w) (fields ws) (name_is_once o earlier w)
+sort_gives_once o earlier (unowned ws) = record_gives_once o earlier no_owner (OwnerBefore o earlier) (fields ws) (owner_once o earlier)
 
 entry_gives_once : (o : DomainName) (earlier : List Entry) (e : Entry) → Once (EntryGives o earlier e)
 entry_gives_once o earlier e a b =
     by_option (lexical_fault e) a b (sort_gives_once o earlier (sort_of e) a b) (λ code. given (faulty code) a b)
 
 -- what the entries mean from here, where this one gives that
-abbrev FromHere : DomainName → List Entry → Entry → List Entry → Meaning → Answer → Type 0
+abbrev pub FromHere : DomainName → List Entry → Entry → List Entry → Meaning → EntryMeaning → Type 0
 FromHere o earlier e es m answer =
     elim answer [
-      | faulty code ↦ m ≡ fault_at code (line_behind earlier)
-      | gives rs ↦ (later : Meaning) × EntriesMean o (e ∷ earlier) es later × (m ≡ behind rs later)
+      | faulty code ↦ m ≡ fault_at code (line_after earlier)
+      | gives rs ↦ (later : Meaning) × EntriesMean o (e ∷ earlier) es later × (m ≡ after rs later)
     ]
 
-from_here_once : (o : DomainName) (earlier : List Entry) (e : Entry) (es : List Entry) (m n : Meaning) (answer : Answer)
+from_here_once : (o : DomainName) (earlier : List Entry) (e : Entry) (es : List Entry) (m n : Meaning) (answer : EntryMeaning)
     → ((x y : Meaning) → EntriesMean o (e ∷ earlier) es x → EntriesMean o (e ∷ earlier) es y → x ≡ y)
     → FromHere o earlier e es m answer → FromHere o earlier e es n answer → m ≡ n
 from_here_once o earlier e es m n (faulty code) later h k = h ∙ sym k
-from_here_once o earlier e es m n (gives rs) later (x, h, is) (y, k, is') = is ∙ ap (behind rs) (later x y h k) ∙ sym is'
+from_here_once o earlier e es m n (gives rs) later (x, h, is) (y, k, is') = is ∙ ap (after rs) (later x y h k) ∙ sym is'
 
 entries_once : (o : DomainName) (earlier es : List Entry) (m n : Meaning) → EntriesMean o earlier es m → EntriesMean o earlier es n → m ≡ n
 entries_once o earlier [] m n h k = h ∙ sym k
@@ -156,23 +133,23 @@ entries_once o earlier (e ∷ es) m n (a, gives_a, h) (b, gives_b, k) =
     from_here_once o earlier e es m n b (entries_once o (e ∷ earlier) es)
     (subst (FromHere o earlier e es m) (entry_gives_once o earlier e a b gives_a gives_b) h) k
 
--- a text has one run of pieces up to where none begins
-pieces_once : (text : Octets) (ps qs : List Piece) (rest others : Octets) → PiecesThen text ps rest → PiecesThen text qs others
-    → piece_front rest ≡ None → piece_front others ≡ None → (ps ≡ qs) × (rest ≡ others)
-pieces_once text [] [] rest others h k end end' = (refl, sym h ∙ k)
-pieces_once text [] (q ∷ qs) rest others h (behind, e, k) end end' =
-    absurd (none-some (q, behind) (sym end ∙ ap piece_front (sym h) ∙ e))
-pieces_once text (p ∷ ps) [] rest others (behind, e, h) k end end' =
-    absurd (none-some (p, behind) (sym end' ∙ ap piece_front (sym k) ∙ e))
-pieces_once text (p ∷ ps) (q ∷ qs) rest others (x, e, h) (y, f, k) end end' =
+-- a text has one run of tokens up to where none begins
+tokens_once : (text : Octets) (ps qs : List Token) (rest others : Octets) → TokensThen text ps rest → TokensThen text qs others
+    → token_front rest ≡ None → token_front others ≡ None → (ps ≡ qs) × (rest ≡ others)
+tokens_once text [] [] rest others h k end end' = (refl, sym h ∙ k)
+tokens_once text [] (q ∷ qs) rest others h (after, e, k) end end' =
+    absurd (none-some (q, after) (sym end ∙ ap token_front (sym h) ∙ e))
+tokens_once text (p ∷ ps) [] rest others (after, e, h) k end end' =
+    absurd (none-some (p, after) (sym end' ∙ ap token_front (sym k) ∙ e))
+tokens_once text (p ∷ ps) (q ∷ qs) rest others (x, e, h) (y, f, k) end end' =
     let one = some_pair_parts p q x y (sym e ∙ f) in
-    let more = pieces_once x ps qs rest others h (subst (λ t. PiecesThen t qs others) (sym one.1) k) end end' in
+    let more = tokens_once x ps qs rest others h (subst (λ t. TokensThen t qs others) (sym one.1) k) end end' in
     (ap₂ (λ z zs. z ∷ zs) one.0 more.0, more.1)
 
 one_cut : (text : Octets) (es fs : List Entry) → Entries text es → Entries text fs → es ≡ fs
 one_cut text es fs h k =
-    let same = pieces_once (take most_octets text) h.pieces k.pieces h.rest k.rest h.spelled k.spelled h.at_end k.at_end in
-    h.entries ∙ ap₂ (λ rest ps. with_end (nat_lt most_octets (length text)) rest (cut_entries false ps)) same.1 same.0 ∙ sym k.entries
+    let same = tokens_once (take most_octets text) h.tokens k.tokens h.rest k.rest h.spelled k.spelled h.at_end k.at_end in
+    h.entries ∙ ap₂ (λ rest ps. with_end (extent_of text) rest (cut_entries false ps)) same.1 same.0 ∙ sym k.entries
 
 pub meaning_once : (o : DomainName) (text : Octets) (m n : Meaning) → Means o text m → Means o text n → m ≡ n
 meaning_once o text m n (es, h, is) (fs, k, is') =

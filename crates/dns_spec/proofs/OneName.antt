@@ -9,7 +9,7 @@ use Rattle.dns_spec.specs.Names.{Octets, DomainName, is_label}
 use Rattle.dns_spec.specs.NameText.{three_digits_value, SpellsOctet, LabelThen, TextSpells, SpellsName}
 use Rattle.dns_spec.specs.DataText.{SpellsStringOctet, SpellsString}
 
--- the octet whose spelling a text begins with, where it begins with one, and the text behind it
+-- the octet whose spelling a text begins with, where it begins with one, and the text after it
 digits_front : Octets → Option (ℕ × Octets)
 digits_front [] = None
 digits_front (a ∷ []) = None
@@ -88,8 +88,8 @@ label_once text [] rest (y ∷ l') rest' h (first, others, e, said, k) end end' 
 label_once text (x ∷ l) rest [] rest' (first, others, e, said, h) k end end' = absurd (not_ended text rest' first others x k end' e said)
 label_once text (x ∷ l) rest (y ∷ l') rest' (first, others, e, said, h) (first', others', e', said', k) end end' =
     let one = octet_once text first first' others others' x y e e' (inl said) (inl said') in
-    let behind = label_once others l rest l' rest' h (subst (λ t. LabelThen t l' rest') (sym one.1) k) end end' in
-    (ap₂ (λ z zs. z ∷ zs) one.0 behind.0, behind.1)
+    let after = label_once others l rest l' rest' h (subst (λ t. LabelThen t l' rest') (sym one.1) k) end end' in
+    (ap₂ (λ z zs. z ∷ zs) one.0 after.0, after.1)
 
 no_empty_label : (l : Octets) → [] ≡ l → is_label l ≡ true → ⊥
 no_empty_label l e h = false≢true (ap is_label e ∙ h)
@@ -121,8 +121,8 @@ spelled_once origin text (l ∷ n) (l' ∷ m) all all' (inr (others, h, e)) (inl
 spelled_once origin text (l ∷ n) (l' ∷ m) all all' (inr (others, h, e)) (inr (others', k, f)) =
     let one = label_once text l (46 ∷ others) l' (46 ∷ others') h k refl refl in
     let same : others ≡ others' = cc (one.1) in
-    let behind = spelled_once origin others n m (and_parts (is_label l) _ all).1 (and_parts (is_label l') _ all').1 e (subst (λ t. TextSpells origin t m) (sym same) f) in
-    ap₂ (λ z zs. z ∷ zs) one.0 behind
+    let after = spelled_once origin others n m (and_parts (is_label l) _ all).1 (and_parts (is_label l') _ all').1 e (subst (λ t. TextSpells origin t m) (sym same) f) in
+    ap₂ (λ z zs. z ∷ zs) one.0 after
 
 at_is_no_dot : (word : Octets) → word ≡ codes "@" → word ≡ codes "." → ⊥
 at_is_no_dot word e f = omega (arith, ap (λ t. get_or t 0 0) (sym e ∙ f))

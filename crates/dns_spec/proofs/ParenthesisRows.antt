@@ -8,9 +8,10 @@ use Rattle.dns_spec.specs.Data.{cut, type_txt}
 use Rattle.dns_spec.specs.DataText.{Word, Says}
 use Rattle.dns_spec.specs.Records.{ResourceRecord}
 use Rattle.dns_spec.specs.ZoneText.{run_length}
+use Rattle.dns_spec.specs.FileFaults.{bad_parenthesis, bad_owner}
 use Rattle.dns_spec.specs.Meaning.{faulty, gives, records, fault_at, Means, TtlSays, NameIs, EntryGives, fields}
 use Rattle.dns_spec.proofs.Examples.{example, under, strings_data}
-use Rattle.dns_spec.proofs.ReadTexts.{pieces_in, means, entry_in, earlier_in, left_in, is_plain, plain_name, plain_string, record_given, given_then}
+use Rattle.dns_spec.proofs.ReadTexts.{tokens_in, means, entry_in, earlier_in, left_in, is_plain, plain_name, plain_string, record_given, given_then}
 
 abbrev bare : Octets → Word
 bare cs = record { raw = cs; is_quoted = false }
@@ -29,7 +30,7 @@ sixty : TtlSays (bare (codes "60")) 60
 unfolding digits
 sixty = (refl, refl, lit≤ tt)
 
--- A parenthesis in a string is an octet of it, and one in a comment is nothing; the entry goes on behind the line end.
+-- A parenthesis in a string is an octet of it, and one in a comment is nothing; the entry goes on after the line end.
 abbrev two_lines : Octets
 two_lines = codes "v 60 TXT ( \"a)\" ; )\n\"b\" )\n"
 
@@ -49,9 +50,9 @@ quoted_said = record {
 }
 
 quoted_given : EntryGives example [] (entry_in two_lines 0) (gives (txt_of (codes "a)") (codes "b") ∷ []))
-unfolding pieces_in run_length xor
+unfolding tokens_in run_length xor
 quoted_given =
-    record_given example [] 7 (NameIs example [] (bare (codes "v")))
+    record_given example [] bad_owner (NameIs example [] (bare (codes "v")))
     (fields (bare (codes "60") ∷ bare (codes "TXT") ∷ in_quotes (codes "a)") ∷ in_quotes (codes "b") ∷ [])) (txt_of (codes "a)") (codes "b"))
     (record {
       owner = (under (codes "v"), (refl, (example, refl, spells_v)), refl);
@@ -61,7 +62,7 @@ quoted_given =
     }) refl refl
 
 two_lines_mean : Means example two_lines (records (txt_of (codes "a)") (codes "b") ∷ []))
-unfolding pieces_in run_length xor
+unfolding tokens_in run_length xor
 two_lines_mean =
     means two_lines (records (txt_of (codes "a)") (codes "b") ∷ [])) refl refl refl
     (given_then example [] (entry_in two_lines 0) (left_in two_lines 1) (txt_of (codes "a)") (codes "b") ∷ []) (records []) quoted_given
@@ -87,9 +88,9 @@ words_said = record {
 }
 
 words_given : EntryGives example [] (entry_in beside 0) (gives (txt_of (codes "a") (codes "b") ∷ []))
-unfolding pieces_in run_length xor
+unfolding tokens_in run_length xor
 words_given =
-    record_given example [] 7 (NameIs example [] (bare (codes "v")))
+    record_given example [] bad_owner (NameIs example [] (bare (codes "v")))
     (fields (bare (codes "60") ∷ bare (codes "TXT") ∷ bare (codes "a") ∷ bare (codes "b") ∷ [])) (txt_of (codes "a") (codes "b"))
     (record {
       owner = (under (codes "v"), (refl, (example, refl, spells_v)), refl);
@@ -99,16 +100,16 @@ words_given =
     }) refl refl
 
 beside_means : Means example beside (records (txt_of (codes "a") (codes "b") ∷ []))
-unfolding pieces_in run_length xor
+unfolding tokens_in run_length xor
 beside_means =
     means beside (records (txt_of (codes "a") (codes "b") ∷ [])) refl refl refl
     (given_then example [] (entry_in beside 0) [] (txt_of (codes "a") (codes "b") ∷ []) (records []) words_given refl)
 
 -- one that is closed and was not open, and one in another
-only_closed : Means example (codes "v 60 TXT a)") (fault_at 4 1)
-unfolding pieces_in run_length xor
-only_closed = means (codes "v 60 TXT a)") (fault_at 4 1) refl refl refl (faulty 4, refl, refl)
+only_closed : Means example (codes "v 60 TXT a)") (fault_at bad_parenthesis 1)
+unfolding tokens_in run_length xor
+only_closed = means (codes "v 60 TXT a)") (fault_at bad_parenthesis 1) refl refl refl (faulty bad_parenthesis, refl, refl)
 
-nested : Means example (codes "v 60 TXT ((a))") (fault_at 4 1)
-unfolding pieces_in run_length xor
-nested = means (codes "v 60 TXT ((a))") (fault_at 4 1) refl refl refl (faulty 4, refl, refl)
+nested : Means example (codes "v 60 TXT ((a))") (fault_at bad_parenthesis 1)
+unfolding tokens_in run_length xor
+nested = means (codes "v 60 TXT ((a))") (fault_at bad_parenthesis 1) refl refl refl (faulty bad_parenthesis, refl, refl)

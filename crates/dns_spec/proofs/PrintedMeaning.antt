@@ -17,44 +17,45 @@ use Rattle.dns_spec.specs.TypeText.{text_in_lower_case, numbered_type, type_text
 use Rattle.dns_spec.specs.DataText.{Word, Says}
 use Rattle.dns_spec.specs.WrittenText.{plain, written_words}
 use Rattle.dns_spec.specs.Records.{ResourceRecord}
-use Rattle.dns_spec.specs.ZoneText.{Piece, most_octets, PiecesThen, take_turns, cut_entries, begins_with, Entry, Entries, ended, with_end, lexical_fault}
+use Rattle.dns_spec.specs.ZoneText.{Token, most_octets, TokensThen, take_turns, cut_entries, begins_with, Entry, Entries, ended, with_end, lexical_fault, whole_text, extent_by}
+use Rattle.dns_spec.specs.FileFaults.{bad_owner, bad_parenthesis}
 use Rattle.dns_spec.specs.Meaning.{faulty, gives, no_words, directive, owned, unowned, sort_by_words, sort_of, Fields, fields, is_ttl_word, directive_word, is_record, OriginIs, NameIs, IsRecord, most_records, RecordGives, SortGives, EntryGives, records, EntriesMean, Means}
 use Rattle.dns_spec.specs.ZonePrinted.{IsReadRecord, HasZoneType, record_line}
 use Rattle.dns_spec.proofs.SortedOnce.{Each}
 use Rattle.dns_spec.proofs.WrittenNames.{name_spelled}
 use Rattle.dns_spec.proofs.SaidAgain.{entry_passes, data_said}
-use Rattle.dns_spec.proofs.PrintedLines.{line_pieces, line_pieces_read, line_cut, line_parentheses, line_words_again}
+use Rattle.dns_spec.proofs.PrintedLines.{line_tokens, line_pieces_read, line_cut, line_parentheses, line_words_again}
 use Rattle.dns_spec.proofs.ReadTexts.{record_given, given_then}
 
--- the pieces of the lines, one line behind the other
-lines_pieces : List ResourceRecord → List Piece
-lines_pieces [] = []
-lines_pieces (r ∷ rs) = line_pieces r ++ lines_pieces rs
+-- the tokens of the lines, one line after the other
+lines_tokens : List ResourceRecord → List Token
+lines_tokens [] = []
+lines_tokens (r ∷ rs) = line_tokens r ++ lines_tokens rs
 
-pieces_then : (ps qs : List Piece) (text middle rest : Octets) → PiecesThen text ps middle → PiecesThen middle qs rest → PiecesThen text (ps ++ qs) rest
-pieces_then [] qs text middle rest h k = subst (λ t. PiecesThen t qs rest) (sym h) k
-pieces_then (p ∷ ps) qs text middle rest (others, e, h) k = (others, e, pieces_then ps qs others middle rest h k)
+tokens_then : (ps qs : List Token) (text middle rest : Octets) → TokensThen text ps middle → TokensThen middle qs rest → TokensThen text (ps ++ qs) rest
+tokens_then [] qs text middle rest h k = subst (λ t. TokensThen t qs rest) (sym h) k
+tokens_then (p ∷ ps) qs text middle rest (others, e, h) k = (others, e, tokens_then ps qs others middle rest h k)
 
-lines_read : (rs : List ResourceRecord) → Each IsReadRecord rs → PiecesThen (flat_map record_line rs) (lines_pieces rs) []
-unfolding lines_pieces
+lines_read : (rs : List ResourceRecord) → Each IsReadRecord rs → TokensThen (flat_map record_line rs) (lines_tokens rs) []
+unfolding lines_tokens
 lines_read [] h = refl
 lines_read (r ∷ rs) h =
     let rest = flat_map record_line rs in
-    pieces_then (line_pieces r) (lines_pieces rs) (record_line r ++ rest) rest [] (line_pieces_read r rest h.0) (lines_read rs h.1)
+    tokens_then (line_tokens r) (lines_tokens rs) (record_line r ++ rest) rest [] (line_pieces_read r rest h.0) (lines_read rs h.1)
 
 abbrev line_entry : ResourceRecord → Entry
-line_entry r = ended (line_pieces r)
+line_entry r = ended (line_tokens r)
 
--- an entry for each line, and nothing behind the last
+-- an entry for each line, and nothing after the last
 abbrev lines_entries : List ResourceRecord → List Entry
 lines_entries rs = map line_entry rs ++ ended [] ∷ []
 
-lines_cut : (rs : List ResourceRecord) → cut_entries false (lines_pieces rs) ≡ map line_pieces rs ++ [] ∷ []
-unfolding lines_pieces
+lines_cut : (rs : List ResourceRecord) → cut_entries false (lines_tokens rs) ≡ map line_tokens rs ++ [] ∷ []
+unfolding lines_tokens
 lines_cut [] = refl
-lines_cut (r ∷ rs) = line_cut r (lines_pieces rs) ∙ ap (λ es. line_pieces r ∷ es) (lines_cut rs)
+lines_cut (r ∷ rs) = line_cut r (lines_tokens rs) ∙ ap (λ es. line_tokens r ∷ es) (lines_cut rs)
 
-lines_ended : (rs : List ResourceRecord) → with_end false [] (map line_pieces rs ++ [] ∷ []) ≡ lines_entries rs
+lines_ended : (rs : List ResourceRecord) → with_end whole_text [] (map line_tokens rs ++ [] ∷ []) ≡ lines_entries rs
 lines_ended [] = refl
 lines_ended (r ∷ []) = refl
 lines_ended (r ∷ s ∷ rs) = ap (λ es. line_entry r ∷ es) (lines_ended (s ∷ rs))
@@ -63,13 +64,13 @@ text_entries : (rs : List ResourceRecord) → Each IsReadRecord rs → length (f
     → Entries (flat_map record_line rs) (lines_entries rs)
 text_entries rs h short =
     let text = flat_map record_line rs in
-    let within = ap (λ goes_on. with_end goes_on [] (cut_entries false (lines_pieces rs))) (le-ltb most_octets (length text) short) in
+    let within = ap (λ goes_on. with_end (extent_by goes_on) [] (cut_entries false (lines_tokens rs))) (le-ltb most_octets (length text) short) in
     record {
-      pieces = lines_pieces rs;
+      tokens = lines_tokens rs;
       rest = [];
-      spelled = subst (λ t. PiecesThen t (lines_pieces rs) []) (sym (take_all most_octets text short)) (lines_read rs h);
+      spelled = subst (λ t. TokensThen t (lines_tokens rs) []) (sym (take_all most_octets text short)) (lines_read rs h);
       at_end = refl;
-      entries = sym (within ∙ ap (with_end false []) (lines_cut rs) ∙ lines_ended rs);
+      entries = sym (within ∙ ap (with_end whole_text []) (lines_cut rs) ∙ lines_ended rs);
     }
 
 -- the text of a name is no directive
@@ -96,13 +97,13 @@ name_begins ((x ∷ l) ∷ n) =
     ∙ octet_begins x (label_text l ++ 46 ∷ labels_text n)
 
 -- what the words of a line are
-abbrev words_behind : ResourceRecord → List Word
-words_behind r = plain (decimal r.ttl) ∷ plain (codes "IN") ∷ plain (type_text r.rtype) ∷ written_words r.rtype r.rdata
+abbrev words_after : ResourceRecord → List Word
+words_after r = plain (decimal r.ttl) ∷ plain (codes "IN") ∷ plain (type_text r.rtype) ∷ written_words r.rtype r.rdata
 
-line_sort : (r : ResourceRecord) → sort_of (line_entry r) ≡ owned (plain (name_text r.owner)) (words_behind r)
+line_sort : (r : ResourceRecord) → sort_of (line_entry r) ≡ owned (plain (name_text r.owner)) (words_after r)
 line_sort r =
     ap (sort_by_words false) (line_words_again r)
-    ∙ ap (λ d. if d then directive (text_in_lower_case (name_text r.owner)) (words_behind r) else owned (plain (name_text r.owner)) (words_behind r)) (name_begins r.owner)
+    ∙ ap (λ d. if d then directive (text_in_lower_case (name_text r.owner)) (words_after r) else owned (plain (name_text r.owner)) (words_after r)) (name_begins r.owner)
 
 digits_begin : (x : Octets) → 0 < length x → AllDigits 10 x → list_any is_ascii_digit (take 1 x) ≡ true
 digits_begin [] some digits = absurd (omega (arith, some))
@@ -120,11 +121,11 @@ line_fields r = record {
   others = plain (type_text r.rtype) ∷ written_words r.rtype r.rdata;
 }
 
-fields_are : (r : ResourceRecord) → IsReadRecord r → fields (words_behind r) ≡ line_fields r
+fields_are : (r : ResourceRecord) → IsReadRecord r → fields (words_after r) ≡ line_fields r
 fields_are r h = rw (ttl_begins r.ttl (omega (arith, h.ttl))) refl
 
 line_faultless : (r : ResourceRecord) → lexical_fault (line_entry r) ≡ None
-line_faultless r = ap (λ marks. if take_turns false marks then None else Some 4) (line_parentheses r)
+line_faultless r = ap (λ marks. if take_turns false marks then None else Some bad_parenthesis) (line_parentheses r)
 
 -- a type's word names it
 found_passes : {X : Type 0} (p : X → Bool) (xs : List X) (x : X) → find p xs ≡ Some x → p x ≡ true
@@ -132,8 +133,8 @@ found_passes p [] x e = absurd (none-some x e)
 found_passes p (y ∷ xs) x e = by_cases (cases_Bool (p y)) (found_passes p xs x)
   where
     by_cases : (p y ≡ true) ⊎ (p y ≡ false) → (find p xs ≡ Some x → p x ≡ true) → p x ≡ true
-    by_cases (inl here) behind = let f : Some y ≡ Some x = rw here at e in ap p (sym (same_Some y x f)) ∙ here
-    by_cases (inr other) behind = let f : find p xs ≡ Some x = rw other at e in behind f
+    by_cases (inl here) after = let f : Some y ≡ Some x = rw here at e in ap p (sym (same_Some y x f)) ∙ here
+    by_cases (inr other) after = let f : find p xs ≡ Some x = rw other at e in after f
 
 abbrev is_number : Option ℕ → ℕ → Bool
 is_number None n = false
@@ -180,11 +181,11 @@ line_given : (o : DomainName) (earlier : List Entry) (r : ResourceRecord) → Or
 line_given o earlier r origin h zone_type few =
     let answer = gives (r ∷ []) in
     let Owner = NameIs o earlier (plain (name_text r.owner)) in
-    let given : RecordGives o earlier 7 Owner (line_fields r) answer =
-    record_given o earlier 7 Owner (line_fields r) r (line_record o earlier r origin h zone_type) refl (lt-leb most_records (length (filter is_record earlier)) few)
+    let given : RecordGives o earlier bad_owner Owner (line_fields r) answer =
+    record_given o earlier bad_owner Owner (line_fields r) r (line_record o earlier r origin h zone_type) refl (lt-leb most_records (length (filter is_record earlier)) few)
     in
-    let by_words : SortGives o earlier (owned (plain (name_text r.owner)) (words_behind r)) answer =
-    subst (λ f. RecordGives o earlier 7 Owner f answer) (sym (fields_are r h)) given
+    let by_words : SortGives o earlier (owned (plain (name_text r.owner)) (words_after r)) answer =
+    subst (λ f. RecordGives o earlier bad_owner Owner f answer) (sym (fields_are r h)) given
     in
     let by_sort : SortGives o earlier (sort_of (line_entry r)) answer = subst (λ s. SortGives o earlier s answer) (sym (line_sort r)) by_words in
     subst (λ fault. MatchOption fault (SortGives o earlier (sort_of (line_entry r)) answer) (λ code. answer ≡ faulty code)) (sym (line_faultless r)) by_sort

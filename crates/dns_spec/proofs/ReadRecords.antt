@@ -10,7 +10,8 @@ use Rattle.dns_spec.specs.Data.{valid, lower_case}
 use Rattle.dns_spec.specs.DataText.{Word}
 use Rattle.dns_spec.specs.Records.{ResourceRecord}
 use Rattle.dns_spec.specs.ZoneText.{Entry, entry_words, begins_blank, lexical_fault}
-use Rattle.dns_spec.specs.Meaning.{Answer, faulty, gives, Sort, no_words, directive, owned, unowned, is_directive, sort_by_words, sort_of, directive_word, owner_word, is_record, OriginIs, NameIs, OwnerBefore, TtlSays, ttl_in_force, most_ttl, TtlIs, TypeIs, DataIs, is_zone_type, Fields, class_behind, ttl_behind, is_ttl_word, is_class_word, fields, IsRecord, most_records, are_too_many, RecordGives, DirectiveGives, SortGives, EntryGives, Meaning, records, fault_at, behind, EntriesMean, Means}
+use Rattle.dns_spec.specs.FileFaults.{too_many_records, FileFault, bad_owner, no_owner, unknown_directive, directive_words, bad_ttl, other_class, bad_type, no_ttl, bad_data}
+use Rattle.dns_spec.specs.Meaning.{EntryMeaning, faulty, gives, Sort, no_words, directive, owned, unowned, is_directive, sort_by_words, sort_of, directive_word, owner_word, is_record, OriginIs, NameIs, OwnerBefore, TtlSays, ttl_in_force, most_ttl, TtlIs, TypeIs, DataIs, is_zone_type, Fields, class_after, ttl_after, is_ttl_word, is_class_word, fields, IsRecord, most_records, are_too_many, RecordGives, DirectiveGives, SortGives, EntryGives, Meaning, records, fault_at, after, EntriesMean, Means}
 use Rattle.dns_spec.specs.ZonePrinted.{IsReadRecord, HasZoneType}
 use Rattle.dns_spec.proofs.FaultOrder.{folded_folded}
 use Rattle.dns_spec.proofs.SortedOnce.{Each}
@@ -20,7 +21,7 @@ use Rattle.dns_spec.proofs.LoweredData.{lowered_data, lowered-twice}
 use Rattle.dns_spec.proofs.TypeWords.{named_type-small}
 use Rattle.dns_spec.proofs.OneMeaning.{type_once}
 use Rattle.dns_spec.proofs.ReadOctets.{Octet, SmallName, SmallWord, name_small, folded_small, data_small}
-use Rattle.dns_spec.proofs.ReadPieces.{SmallEntry, entries_small, words_small}
+use Rattle.dns_spec.proofs.ReadTokens.{SmallEntry, entries_small, words_small}
 
 -- a record by the words of an entry of this sort
 abbrev IsRecordOf : DomainName → List Entry → Sort → ResourceRecord → Type 0
@@ -33,8 +34,8 @@ by_bool : {P Q R : Type 0} (b : Bool) → (P → R) → (Q → R) → MatchBool 
 by_bool true f g h = f h
 by_bool false f g h = g h
 
--- a fault or what comes behind it
-unless_holds : (Q : Answer → Type 0) → ((code : ℕ) → Q (faulty code)) → {Fault Others : Type 0} (code : ℕ) (answer : Answer) → (Others → Q answer)
+-- a fault or what comes after it
+unless_holds : (Q : EntryMeaning → Type 0) → ((code : FileFault) → Q (faulty code)) → {Fault Others : Type 0} (code : FileFault) (answer : EntryMeaning) → (Others → Q answer)
     → (Fault × (answer ≡ faulty code)) ⊎ ((Fault → ⊥) × Others) → Q answer
 unless_holds Q faults code answer others (inl (fault, e)) = subst Q (sym e) (faults code)
 unless_holds Q faults code answer others (inr (none, h)) = others h
@@ -42,7 +43,7 @@ unless_holds Q faults code answer others (inr (none, h)) = others h
 -- What holds of each record by the words of an entry holds of all that a text means. The entries of the text keep what `Kept` says.
 module _ (o : DomainName) (Kept : Entry → Type 0) (P : ResourceRecord → Type 0)
     (holds : (earlier : List Entry) (e : Entry) → Each Kept earlier → Kept e → (r : ResourceRecord) → IsRecordOf o earlier (sort_of e) r → P r) where
-  abbrev Given : Answer → Type 0
+  abbrev Given : EntryMeaning → Type 0
   Given (faulty code) = ⊤
   Given (gives rs) = Each P rs
 
@@ -50,43 +51,43 @@ module _ (o : DomainName) (Kept : Entry → Type 0) (P : ResourceRecord → Type
   Meant (records rs) = Each P rs
   Meant (fault_at code line) = ⊤
 
-  fault_given : (answer : Answer) (code : ℕ) → answer ≡ faulty code → Given answer
+  fault_given : (answer : EntryMeaning) (code : FileFault) → answer ≡ faulty code → Given answer
   fault_given answer code e = subst Given (sym e) tt
 
-  none_given : (answer : Answer) → answer ≡ gives [] → Given answer
+  none_given : (answer : EntryMeaning) → answer ≡ gives [] → Given answer
   none_given answer e = subst Given (sym e) tt
 
-  unless_given : {Fault Others : Type 0} (code : ℕ) (answer : Answer) → (Others → Given answer) → (Fault × (answer ≡ faulty code)) ⊎ ((Fault → ⊥) × Others)
+  unless_given : {Fault Others : Type 0} (code : FileFault) (answer : EntryMeaning) → (Others → Given answer) → (Fault × (answer ≡ faulty code)) ⊎ ((Fault → ⊥) × Others)
       → Given answer
   unless_given = unless_holds Given (λ code. tt)
 
-  record_given : (earlier : List Entry) (code : ℕ) (Owner : DomainName → Type 0) (f : Fields) (answer : Answer) → ((r : ResourceRecord) → IsRecord o earlier Owner f r → P r)
+  record_given : (earlier : List Entry) (code : FileFault) (Owner : DomainName → Type 0) (f : Fields) (answer : EntryMeaning) → ((r : ResourceRecord) → IsRecord o earlier Owner f r → P r)
       → RecordGives o earlier code Owner f answer → Given answer
   record_given earlier code Owner f answer each =
       unless_given code answer
-      (unless_given 9 answer
-      (unless_given 10 answer
-      (unless_given 11 answer
-      (unless_given 12 answer
-      (unless_given 13 answer
-      (unless_given 14 answer
+      (unless_given bad_ttl answer
+      (unless_given other_class answer
+      (unless_given bad_type answer
+      (unless_given no_ttl answer
+      (unless_given bad_data answer
+      (unless_given too_many_records answer
       (λ h. subst Given (sym h.2) (each h.0 h.1, tt))))))))
 
-  directive_given : (earlier : List Entry) (name : Octets) (ws : List Word) (answer : Answer) → DirectiveGives o earlier name ws answer → Given answer
+  directive_given : (earlier : List Entry) (name : Octets) (ws : List Word) (answer : EntryMeaning) → DirectiveGives o earlier name ws answer → Given answer
   directive_given earlier name ws answer =
-      by_bool (octets_equal name (codes "$origin")) (unless_given 6 answer (none_given answer))
-      (by_bool (octets_equal name (codes "$ttl")) (unless_given 6 answer (none_given answer)) (fault_given answer 5))
+      by_bool (octets_equal name (codes "$origin")) (unless_given directive_words answer (none_given answer))
+      (by_bool (octets_equal name (codes "$ttl")) (unless_given directive_words answer (none_given answer)) (fault_given answer unknown_directive))
 
-  sort_given : (earlier : List Entry) (s : Sort) (answer : Answer) → ((r : ResourceRecord) → IsRecordOf o earlier s r → P r) → SortGives o earlier s answer → Given answer
+  sort_given : (earlier : List Entry) (s : Sort) (answer : EntryMeaning) → ((r : ResourceRecord) → IsRecordOf o earlier s r → P r) → SortGives o earlier s answer → Given answer
   sort_given earlier no_words answer each h = none_given answer h
   sort_given earlier (directive name ws) answer each h = directive_given earlier name ws answer h
-  sort_given earlier (owned w ws) answer each h = record_given earlier 7 (NameIs o earlier w) (fields ws) answer each h
-  sort_given earlier (unowned ws) answer each h = record_given earlier 8 (OwnerBefore o earlier) (fields ws) answer each h
+  sort_given earlier (owned w ws) answer each h = record_given earlier bad_owner (NameIs o earlier w) (fields ws) answer each h
+  sort_given earlier (unowned ws) answer each h = record_given earlier no_owner (OwnerBefore o earlier) (fields ws) answer each h
 
-  entry_given : (earlier : List Entry) (e : Entry) (answer : Answer) → Each Kept earlier → Kept e → EntryGives o earlier e answer → Given answer
+  entry_given : (earlier : List Entry) (e : Entry) (answer : EntryMeaning) → Each Kept earlier → Kept e → EntryGives o earlier e answer → Given answer
   entry_given earlier e answer keeps kept = by_fault (lexical_fault e)
     where
-      by_fault : (fault : Option ℕ) → MatchOption fault (SortGives o earlier (sort_of e) answer) (λ code. answer ≡ faulty code) → Given answer
+      by_fault : (fault : Option FileFault) → MatchOption fault (SortGives o earlier (sort_of e) answer) (λ code. answer ≡ faulty code) → Given answer
       by_fault None h = sort_given earlier (sort_of e) answer (holds earlier e keeps kept) h
       by_fault (Some code) h = fault_given answer code h
 
@@ -94,16 +95,16 @@ module _ (o : DomainName) (Kept : Entry → Type 0) (P : ResourceRecord → Type
   each_joined [] ss h k = k
   each_joined (r ∷ rs) ss h k = (h.0, each_joined rs ss h.1 k)
 
-  behind_meant : (rs : List ResourceRecord) (later : Meaning) → Each P rs → Meant later → Meant (behind rs later)
-  behind_meant rs (records more) h k = each_joined rs more h k
-  behind_meant rs (fault_at code line) h k = tt
+  after_meant : (rs : List ResourceRecord) (later : Meaning) → Each P rs → Meant later → Meant (after rs later)
+  after_meant rs (records more) h k = each_joined rs more h k
+  after_meant rs (fault_at code line) h k = tt
 
   entries_meant : (earlier es : List Entry) (m : Meaning) → Each Kept earlier → Each Kept es → EntriesMean o earlier es m → Meant m
   entries_meant earlier [] m keeps kept h = subst Meant (sym h) tt
   entries_meant earlier (e ∷ es) m keeps kept (faulty code, given, h) = subst Meant (sym h) tt
   entries_meant earlier (e ∷ es) m keeps kept (gives rs, given, (later, h, is)) =
       subst Meant (sym is)
-      (behind_meant rs later (entry_given earlier e (gives rs) keeps kept.0 given) (entries_meant (e ∷ earlier) es later (kept.0, keeps) kept.1 h))
+      (after_meant rs later (entry_given earlier e (gives rs) keeps kept.0 given) (entries_meant (e ∷ earlier) es later (kept.0, keeps) kept.1 h))
 
   records_hold : (es : List Entry) (rs : List ResourceRecord) → Each Kept es → EntriesMean o [] es (records rs) → All P rs
   records_hold es rs kept h = all_each P rs (entries_meant [] es (records rs) tt kept h)
@@ -144,7 +145,7 @@ words_sort blank [] small = tt
 words_sort blank (w ∷ ws) small = sort_by blank _ _ small (sort_by (is_directive w) _ _ small.1 small)
 
 sort_small : (e : Entry) → SmallEntry e → SmallSort (sort_of e)
-sort_small e small = words_sort (begins_blank e.pieces) (entry_words e) (words_small e small)
+sort_small e small = words_sort (begins_blank e.tokens) (entry_words e) (words_small e small)
 
 abbrev SmallOption : Option Word → Type 0
 SmallOption None = Unit {0}
@@ -161,7 +162,7 @@ directive_small name (directive n (w ∷ ws)) small = go (octets_equal n name)
 directive_small name (owned w ws) small = tt
 directive_small name (unowned ws) small = tt
 
--- the words behind a TTL and a class are words of the record
+-- the words after a TTL and a class are words of the record
 abbrev SmallFields : Fields → Type 0
 SmallFields f = Each SmallWord f.others
 
@@ -169,11 +170,11 @@ fields_by : (b : Bool) (f g : Fields) → SmallFields f → SmallFields g → Sm
 fields_by true f g h k = h
 fields_by false f g h k = k
 
-class_small : (ttl : Word) (ws : List Word) → Each SmallWord ws → SmallFields (class_behind ttl ws)
+class_small : (ttl : Word) (ws : List Word) → Each SmallWord ws → SmallFields (class_after ttl ws)
 class_small ttl [] small = tt
 class_small ttl (w ∷ ws) small = fields_by (is_class_word w) _ _ small.1 small
 
-ttl_small : (class : Word) (ws : List Word) → Each SmallWord ws → SmallFields (ttl_behind class ws)
+ttl_small : (class : Word) (ws : List Word) → Each SmallWord ws → SmallFields (ttl_after class ws)
 ttl_small class [] small = tt
 ttl_small class (w ∷ ws) small = fields_by (is_ttl_word w) _ _ small.1 small
 
@@ -307,15 +308,15 @@ abbrev states_record : Sort → Bool
 states_record s = elim s as (λ _. Bool) [ no_words ↦ false | directive n ws ↦ false | owned w ws ↦ true | unowned ws ↦ true ]
 
 -- an entry that states a record gives one, if there is room for it, and another none
-abbrev Fits : Bool → ℕ → Answer → Type 0
+abbrev Fits : Bool → ℕ → EntryMeaning → Type 0
 Fits is_one count (faulty code) = ⊤
 Fits is_one count (gives rs) = (length rs ≡ cond is_one 1 0) × (length rs + count ≤ most_records)
 
-unless_fits : (is_one : Bool) (count : ℕ) {Fault Others : Type 0} (code : ℕ) (answer : Answer) → (Others → Fits is_one count answer)
+unless_fits : (is_one : Bool) (count : ℕ) {Fault Others : Type 0} (code : FileFault) (answer : EntryMeaning) → (Others → Fits is_one count answer)
     → (Fault × (answer ≡ faulty code)) ⊎ ((Fault → ⊥) × Others) → Fits is_one count answer
 unless_fits is_one count = unless_holds (Fits is_one count) (λ code. tt)
 
-none_fits : (count : ℕ) (answer : Answer) → count ≤ most_records → answer ≡ gives [] → Fits false count answer
+none_fits : (count : ℕ) (answer : EntryMeaning) → count ≤ most_records → answer ≡ gives [] → Fits false count answer
 none_fits count answer few e = subst (Fits false count) (sym e) (refl, omega (arith, few))
 
 room_left : (count : ℕ) → (nat_le most_records count ≡ true → ⊥) → 1 + count ≤ most_records
@@ -325,41 +326,41 @@ room_left count none = go (cases_lt count most_records)
     go (inl below) = omega (arith, below)
     go (inr full) = absurd (none (le-leb most_records count full))
 
-last_fits : (o : DomainName) (earlier : List Entry) (Owner : DomainName → Type 0) (f : Fields) (answer : Answer)
-    → (IsTrue (are_too_many earlier) × (answer ≡ faulty 14)) ⊎ ((IsTrue (are_too_many earlier) → ⊥) × ((r : ResourceRecord) × IsRecord o earlier Owner f r × (answer ≡ gives (r ∷ []))))
+last_fits : (o : DomainName) (earlier : List Entry) (Owner : DomainName → Type 0) (f : Fields) (answer : EntryMeaning)
+    → (IsTrue (are_too_many earlier) × (answer ≡ faulty too_many_records)) ⊎ ((IsTrue (are_too_many earlier) → ⊥) × ((r : ResourceRecord) × IsRecord o earlier Owner f r × (answer ≡ gives (r ∷ []))))
     → Fits true (counted earlier) answer
 last_fits o earlier Owner f answer (inl (many, e)) = subst (Fits true (counted earlier)) (sym e) tt
 last_fits o earlier Owner f answer (inr (none, (r, is, e))) = subst (Fits true (counted earlier)) (sym e) (refl, room_left (counted earlier) none)
 
-record_fits : (o : DomainName) (earlier : List Entry) (code : ℕ) (Owner : DomainName → Type 0) (f : Fields) (answer : Answer)
+record_fits : (o : DomainName) (earlier : List Entry) (code : FileFault) (Owner : DomainName → Type 0) (f : Fields) (answer : EntryMeaning)
     → RecordGives o earlier code Owner f answer → Fits true (counted earlier) answer
 record_fits o earlier code Owner f answer =
     unless_fits true (counted earlier) code answer
-    (unless_fits true (counted earlier) 9 answer
-    (unless_fits true (counted earlier) 10 answer
-    (unless_fits true (counted earlier) 11 answer
-    (unless_fits true (counted earlier) 12 answer
-    (unless_fits true (counted earlier) 13 answer (last_fits o earlier Owner f answer))))))
+    (unless_fits true (counted earlier) bad_ttl answer
+    (unless_fits true (counted earlier) other_class answer
+    (unless_fits true (counted earlier) bad_type answer
+    (unless_fits true (counted earlier) no_ttl answer
+    (unless_fits true (counted earlier) bad_data answer (last_fits o earlier Owner f answer))))))
 
-directive_fits : (o : DomainName) (earlier : List Entry) (name : Octets) (ws : List Word) (answer : Answer) → counted earlier ≤ most_records
+directive_fits : (o : DomainName) (earlier : List Entry) (name : Octets) (ws : List Word) (answer : EntryMeaning) → counted earlier ≤ most_records
     → DirectiveGives o earlier name ws answer → Fits false (counted earlier) answer
 directive_fits o earlier name ws answer few =
     let none = none_fits (counted earlier) answer few in
-    by_bool (octets_equal name (codes "$origin")) (unless_fits false (counted earlier) 6 answer none)
-    (by_bool (octets_equal name (codes "$ttl")) (unless_fits false (counted earlier) 6 answer none) (λ e. subst (Fits false (counted earlier)) (sym e) tt))
+    by_bool (octets_equal name (codes "$origin")) (unless_fits false (counted earlier) directive_words answer none)
+    (by_bool (octets_equal name (codes "$ttl")) (unless_fits false (counted earlier) directive_words answer none) (λ e. subst (Fits false (counted earlier)) (sym e) tt))
 
-sort_fits : (o : DomainName) (earlier : List Entry) (s : Sort) (answer : Answer) → counted earlier ≤ most_records → SortGives o earlier s answer
+sort_fits : (o : DomainName) (earlier : List Entry) (s : Sort) (answer : EntryMeaning) → counted earlier ≤ most_records → SortGives o earlier s answer
     → Fits (states_record s) (counted earlier) answer
 sort_fits o earlier no_words answer few h = none_fits (counted earlier) answer few h
 sort_fits o earlier (directive name ws) answer few h = directive_fits o earlier name ws answer few h
-sort_fits o earlier (owned w ws) answer few h = record_fits o earlier 7 (NameIs o earlier w) (fields ws) answer h
-sort_fits o earlier (unowned ws) answer few h = record_fits o earlier 8 (OwnerBefore o earlier) (fields ws) answer h
+sort_fits o earlier (owned w ws) answer few h = record_fits o earlier bad_owner (NameIs o earlier w) (fields ws) answer h
+sort_fits o earlier (unowned ws) answer few h = record_fits o earlier no_owner (OwnerBefore o earlier) (fields ws) answer h
 
-entry_fits : (o : DomainName) (earlier : List Entry) (e : Entry) (answer : Answer) → counted earlier ≤ most_records → EntryGives o earlier e answer
+entry_fits : (o : DomainName) (earlier : List Entry) (e : Entry) (answer : EntryMeaning) → counted earlier ≤ most_records → EntryGives o earlier e answer
     → Fits (is_record e) (counted earlier) answer
 entry_fits o earlier e answer few = go (lexical_fault e)
   where
-    go : (fault : Option ℕ) → MatchOption fault (SortGives o earlier (sort_of e) answer) (λ code. answer ≡ faulty code) → Fits (is_record e) (counted earlier) answer
+    go : (fault : Option FileFault) → MatchOption fault (SortGives o earlier (sort_of e) answer) (λ code. answer ≡ faulty code) → Fits (is_record e) (counted earlier) answer
     go None h = sort_fits o earlier (sort_of e) answer few h
     go (Some code) h = subst (Fits (is_record e) (counted earlier)) (sym h) tt
 
@@ -371,9 +372,9 @@ abbrev Few : ℕ → Meaning → Type 0
 Few count (records rs) = length rs + count ≤ most_records
 Few count (fault_at code line) = ⊤
 
-behind_few : (rs : List ResourceRecord) (later : Meaning) (count more : ℕ) → more ≡ length rs + count → Few more later → Few count (behind rs later)
-behind_few rs (records others) count more e few = omega (arith, e, few, length-append rs others)
-behind_few rs (fault_at code line) count more e few = tt
+after_few : (rs : List ResourceRecord) (later : Meaning) (count more : ℕ) → more ≡ length rs + count → Few more later → Few count (after rs later)
+after_few rs (records others) count more e few = omega (arith, e, few, length-append rs others)
+after_few rs (fault_at code line) count more e few = tt
 
 entries_few : (o : DomainName) (earlier es : List Entry) (m : Meaning) → counted earlier ≤ most_records → EntriesMean o earlier es m → Few (counted earlier) m
 entries_few o earlier [] m few h = let all : 0 + counted earlier ≤ most_records = omega (arith, few) in subst (Few (counted earlier)) (sym h) all
@@ -384,7 +385,7 @@ entries_few o earlier (e ∷ es) m few (gives rs, given, (later, h, is)) =
     counted_more (is_record e) e (filter is_record earlier) ∙ ap (λ n. n + counted earlier) (sym fits.0)
     in
     subst (Few (counted earlier)) (sym is)
-    (behind_few rs later (counted earlier) (counted (e ∷ earlier)) more (entries_few o (e ∷ earlier) es later (omega (arith, more, fits.1)) h))
+    (after_few rs later (counted earlier) (counted (e ∷ earlier)) more (entries_few o (e ∷ earlier) es later (omega (arith, more, fits.1)) h))
 
 pub records_few : (o : DomainName) (text : Octets) (rs : List ResourceRecord) → Means o text (records rs) → length rs ≤ most_records
 records_few o text rs (es, cut, h) = let few = entries_few o [] es (records rs) (omega arith) h in omega (arith, few)

@@ -1,4 +1,4 @@
--- Texts whose pieces are computed, words that spell themselves, and what makes a record of them.
+-- Texts whose tokens are computed, words that spell themselves, and what makes a record of them.
 use Rattle.std.proofs.Common.{◌≡◌, ◌≢◌, ℕ, zero, suc, inl, inr, Bool, true, false, ◌&&◌, not, ◌==◌, List, [], ◌∷◌, Option, Some, None, refl, sym, ◌∙◌, ap, subst, length, nat_lt, take, drop, reverse, get_or, IsTrue}
 use Rattle.std.specs.Prelude.{MatchOption}
 use Rattle.std.specs.List.{list_all}
@@ -8,35 +8,36 @@ use Rattle.dns_spec.specs.Names.{Octets, DomainName, is_name}
 use Rattle.dns_spec.specs.NameText.{SpellsOctet, LabelThen, SpellsName}
 use Rattle.dns_spec.specs.DataText.{Word, SpellsString}
 use Rattle.dns_spec.specs.Records.{ResourceRecord}
-use Rattle.dns_spec.specs.ZoneText.{Piece, most_octets, piece_front, PiecesThen, Entry, ended, cut_entries, with_end}
-use Rattle.dns_spec.specs.Meaning.{Answer, gives, Unless, IsRecord, Fields, TtlIs, TtlSays, IsNoTtl, is_other_class, are_too_many, RecordGives, EntryGives, Meaning, behind, EntriesMean, Means}
+use Rattle.dns_spec.specs.ZoneText.{Token, most_octets, token_front, TokensThen, Entry, ended, cut_entries, with_end, whole_text, extent_by}
+use Rattle.dns_spec.specs.FileFaults.{too_many_records, FileFault}
+use Rattle.dns_spec.specs.Meaning.{EntryMeaning, gives, Lowest, IsRecord, Fields, TtlIs, TtlSays, IsNoTtl, is_other_class, are_too_many, RecordGives, EntryGives, Meaning, after, EntriesMean, Means}
 use Rattle.dns_spec.proofs.Examples.{example}
 
--- at most n pieces of a text, and what is behind them
-abbrev pub before : Option (Piece × Octets) → (Octets → List Piece × Octets) → Octets → List Piece × Octets
+-- at most n tokens of a text, and what is after them
+abbrev pub before : Option (Token × Octets) → (Octets → List Token × Octets) → Octets → List Token × Octets
 before None more text = ([], text)
 before (Some r) more text = (r.0 ∷ (more r.1).0, (more r.1).1)
 
-unfoldable pub pieces_in : ℕ → Octets → List Piece × Octets
-pieces_in zero text = ([], text)
-pieces_in (suc n) text = before (piece_front text) (pieces_in n) text
+unfoldable pub tokens_in : ℕ → Octets → List Token × Octets
+tokens_in zero text = ([], text)
+tokens_in (suc n) text = before (token_front text) (tokens_in n) text
 
-pub pieces_spelled : (n : ℕ) (text : Octets) → PiecesThen text (pieces_in n text).0 (pieces_in n text).1
-unfolding pieces_in
-pieces_spelled zero text = refl
-pieces_spelled (suc n) text = by_front (piece_front text) refl (λ r. pieces_spelled n r.1)
+pub tokens_spelled : (n : ℕ) (text : Octets) → TokensThen text (tokens_in n text).0 (tokens_in n text).1
+unfolding tokens_in
+tokens_spelled zero text = refl
+tokens_spelled (suc n) text = by_front (token_front text) refl (λ r. tokens_spelled n r.1)
   where
-    by_front : (front : Option (Piece × Octets)) → piece_front text ≡ front
-        → ((r : Piece × Octets) → PiecesThen r.1 (pieces_in n r.1).0 (pieces_in n r.1).1)
-        → PiecesThen text (before front (pieces_in n) text).0 (before front (pieces_in n) text).1
+    by_front : (front : Option (Token × Octets)) → token_front text ≡ front
+        → ((r : Token × Octets) → TokensThen r.1 (tokens_in n r.1).0 (tokens_in n r.1).1)
+        → TokensThen text (before front (tokens_in n) text).0 (before front (tokens_in n) text).1
     by_front None e more = refl
     by_front (Some r) e more = (r.1, e, more r)
 
--- A text within its limit that has at most 99 pieces means what its entries mean.
+-- A text within its limit that has at most 99 tokens means what its entries mean.
 abbrev pub entries_of : Octets → List Entry
-entries_of text = with_end false (pieces_in 99 text).1 (cut_entries false (pieces_in 99 text).0)
+entries_of text = with_end whole_text (tokens_in 99 text).1 (cut_entries false (tokens_in 99 text).0)
 
--- the entry of a text behind so many, those before it, the nearest first, and those from it on
+-- the entry of a text after so many, those before it, the nearest first, and those from it on
 abbrev pub entry_in : Octets → ℕ → Entry
 entry_in text k = get_or (entries_of text) k (ended [])
 
@@ -46,16 +47,16 @@ earlier_in text k = reverse (take k (entries_of text))
 abbrev pub left_in : Octets → ℕ → List Entry
 left_in text k = drop k (entries_of text)
 
-pub means : (text : Octets) (m : Meaning) → take most_octets text ≡ text → nat_lt most_octets (length text) ≡ false → piece_front (pieces_in 99 text).1 ≡ None
+pub means : (text : Octets) (m : Meaning) → take most_octets text ≡ text → nat_lt most_octets (length text) ≡ false → token_front (tokens_in 99 text).1 ≡ None
     → EntriesMean example [] (entries_of text) m → Means example text m
 means text m all within at_end h = (
   entries_of text,
   record {
-    pieces = (pieces_in 99 text).0;
-    rest = (pieces_in 99 text).1;
-    spelled = subst (λ t. PiecesThen t (pieces_in 99 text).0 (pieces_in 99 text).1) (sym all) (pieces_spelled 99 text);
+    tokens = (tokens_in 99 text).0;
+    rest = (tokens_in 99 text).1;
+    spelled = subst (λ t. TokensThen t (tokens_in 99 text).0 (tokens_in 99 text).1) (sym all) (tokens_spelled 99 text);
     at_end = at_end;
-    entries = ap (λ b. with_end b (pieces_in 99 text).1 (cut_entries false (pieces_in 99 text).0)) (sym within);
+    entries = ap (λ b. with_end (extent_by b) (tokens_in 99 text).1 (cut_entries false (tokens_in 99 text).0)) (sym within);
   },
   h,
 )
@@ -106,9 +107,9 @@ ttl_known None n h none = h
 ttl_known (Some w) n h none = false≢true none
 
 -- a record is one but for how many there are
-pub record_but_count : (o : DomainName) (earlier : List Entry) (code : ℕ) (Owner : DomainName → Type 0) (f : Fields) (r : ResourceRecord) (answer : Answer)
+pub record_but_count : (o : DomainName) (earlier : List Entry) (code : FileFault) (Owner : DomainName → Type 0) (f : Fields) (r : ResourceRecord) (answer : EntryMeaning)
     → IsRecord o earlier Owner f r → is_other_class f.class ≡ false
-    → Unless 14 (IsTrue (are_too_many earlier)) (λ a. (s : ResourceRecord) × IsRecord o earlier Owner f s × (a ≡ gives (s ∷ []))) answer
+    → Lowest ((too_many_records, IsTrue (are_too_many earlier)) ∷ []) (λ a. (s : ResourceRecord) × IsRecord o earlier Owner f s × (a ≡ gives (s ∷ []))) answer
     → RecordGives o earlier code Owner f answer
 record_but_count o earlier code Owner f r answer h class rest =
     inr (
@@ -128,12 +129,12 @@ record_but_count o earlier code Owner f r answer h class rest =
       ),
     )
 
-pub record_given : (o : DomainName) (earlier : List Entry) (code : ℕ) (Owner : DomainName → Type 0) (f : Fields) (r : ResourceRecord)
+pub record_given : (o : DomainName) (earlier : List Entry) (code : FileFault) (Owner : DomainName → Type 0) (f : Fields) (r : ResourceRecord)
     → IsRecord o earlier Owner f r → is_other_class f.class ≡ false → are_too_many earlier ≡ false → RecordGives o earlier code Owner f (gives (r ∷ []))
 record_given o earlier code Owner f r h class few =
     record_but_count o earlier code Owner f r (gives (r ∷ [])) h class (inr (λ e. false≢true (sym few ∙ e), (r, h, refl)))
 
--- an entry gives records, and those behind it mean what they mean
+-- an entry gives records, and those after it mean what they mean
 pub given_then : (o : DomainName) (earlier : List Entry) (e : Entry) (es : List Entry) (rs : List ResourceRecord) (later : Meaning) → EntryGives o earlier e (gives rs)
-    → EntriesMean o (e ∷ earlier) es later → EntriesMean o earlier (e ∷ es) (behind rs later)
+    → EntriesMean o (e ∷ earlier) es later → EntriesMean o earlier (e ∷ es) (after rs later)
 given_then o earlier e es rs later given more = (gives rs, given, (later, more, refl))

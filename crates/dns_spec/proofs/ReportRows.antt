@@ -9,6 +9,7 @@ use Rattle.dns_spec.specs.DataText.{hex_octets}
 use Rattle.dns_spec.specs.WrittenText.{data_text}
 use Rattle.dns_spec.specs.Records.{ResourceRecord, HoldSameRecords, zone_of}
 use Rattle.dns_spec.specs.Checks.{faults}
+use Rattle.dns_spec.specs.FileFaults.{bad_ttl, bad_type}
 use Rattle.dns_spec.specs.Meaning.{records, fault_at}
 use Rattle.dns_spec.specs.ZonePrinted.{zone_text}
 use Rattle.dns_spec.specs.Report.{Options, Report, Reports, report_of_meaning, zone_report}
@@ -75,16 +76,16 @@ unfolding faults labels_from cut octet_text digits
 nothing_at_root = refl
 
 -- a fault of the file
-faulty_file : report_of_meaning printing example (fault_at 9 4) ≡ failed (codes "line 4: R09\n")
+faulty_file : report_of_meaning printing example (fault_at bad_ttl 4) ≡ failed (codes "line 4: R09\n")
 unfolding digits
 faulty_file = refl
 
 -- quiet alone tells no fault of the file either
-faulty_file_quietly : report_of_meaning quiet example (fault_at 9 4) ≡ failed []
+faulty_file_quietly : report_of_meaning quiet example (fault_at bad_ttl 4) ≡ failed []
 faulty_file_quietly = refl
 
 -- two digits of a code
-fault_of_two_digits : report_of_meaning no_options example (fault_at 11 7) ≡ failed (codes "line 7: R11\n")
+fault_of_two_digits : report_of_meaning no_options example (fault_at bad_type 7) ≡ failed (codes "line 7: R11\n")
 unfolding digits
 fault_of_two_digits = refl
 

@@ -70,8 +70,8 @@ pieces_said c origin [] (o ∷ d) xs counted h small = absurd (none-some xs h)
 pieces_said c origin (p ∷ ps) d xs counted h small =
     let f = cut_into p ps d xs h in
     let each = and_parts (is_counted p) (list_all is_counted ps) counted in
-    let behind = small_back (part_octets f.part) f.rest (subst Small (piece_whole p d f.part f.rest f.front) small) in
-    piece_said c origin p (flat_map (forms_in c) ps) d f.part f.rest each.0 f.front small (pieces_said c origin ps f.rest f.others each.1 f.more behind)
+    let after = small_back (part_octets f.part) f.rest (subst Small (piece_whole p d f.part f.rest f.front) small) in
+    piece_said c origin p (flat_map (forms_in c) ps) d f.part f.rest each.0 f.front small (pieces_said c origin ps f.rest f.others each.1 f.more after)
 
 -- such pieces have the same forms whatever the count
 one_form : (c e : ℕ) (p : Piece) → is_counted p ≡ true → forms_in c p ≡ forms_in e p
@@ -172,8 +172,8 @@ entry_passes p q (y ∷ xs) x e all = by_cases (cases_Bool (p y)) (λ f. entry_p
     parts = and_parts (q y) (list_all q xs) all
 
     by_cases : (p y ≡ true) ⊎ (p y ≡ false) → (find p xs ≡ Some x → q x ≡ true) → q x ≡ true
-    by_cases (inl here) behind = let f : Some y ≡ Some x = rw here at e in ap q (sym (same_Some y x f)) ∙ parts.0
-    by_cases (inr other) behind = let f : find p xs ≡ Some x = rw other at e in behind f
+    by_cases (inl here) after = let f : Some y ≡ Some x = rw here at e in ap q (sym (same_Some y x f)) ∙ parts.0
+    by_cases (inr other) after = let f : find p xs ≡ Some x = rw other at e in after f
 
 abbrev has_forms : TypeRow → Bool
 has_forms made = list_all is_counted made.pieces || are_strings_alone made.pieces

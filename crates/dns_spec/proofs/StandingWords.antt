@@ -34,7 +34,7 @@ pub record Standing (w : Word) : Type 0 where
   pub unmarked : is_unknown_mark w ≡ false
 
 bare_alone : (x : Octets) → 0 < length x → Bare x → stands_alone (plain x) ≡ true
-bare_alone x some bare = and_from _ _ (lt-ltb 0 (length x) some) (ap (is_unbroken is_bare false) (sym (append-nil x)) ∙ bare_text x [] bare refl)
+bare_alone x some bare = and_from _ _ (lt-ltb 0 (length x) some) (ap (is_unbroken is_bare) (sym (append-nil x)) ∙ bare_text x [] bare refl)
 
 bare_unmarked : (x : Octets) → Bare x → is_unknown_mark (plain x) ≡ false
 bare_unmarked [] bare = refl

@@ -8,9 +8,10 @@ use Rattle.dns_spec.specs.Data.{cut, type_txt}
 use Rattle.dns_spec.specs.DataText.{Word, Says}
 use Rattle.dns_spec.specs.Records.{ResourceRecord}
 use Rattle.dns_spec.specs.ZoneText.{run_length}
+use Rattle.dns_spec.specs.FileFaults.{bad_owner, no_owner}
 use Rattle.dns_spec.specs.Meaning.{gives, records, Means, TtlSays, NameIs, OwnerBefore, EntryGives, fields}
 use Rattle.dns_spec.proofs.Examples.{example, under}
-use Rattle.dns_spec.proofs.ReadTexts.{pieces_in, means, entry_in, earlier_in, left_in, is_plain, plain_name, plain_string, record_given, given_then}
+use Rattle.dns_spec.proofs.ReadTexts.{tokens_in, means, entry_in, earlier_in, left_in, is_plain, plain_name, plain_string, record_given, given_then}
 
 abbrev bare : Octets → Word
 bare cs = record { raw = cs; is_quoted = false }
@@ -52,18 +53,18 @@ unfolding digits
 seven = (refl, refl, lit≤ tt)
 
 -- An owner that is taken over keeps the origin under which it was stated; a TTL is that of `$TTL`, though a record
--- behind it states another.
+-- after it states another.
 abbrev first_file : Octets
 first_file = codes "$TTL 5\nw 7 TXT a\n$ORIGIN x\n TXT a\ny TXT a"
 
 w_owner : NameIs example (earlier_in first_file 1) (bare (codes "w")) (under (codes "w"))
-unfolding pieces_in run_length
+unfolding tokens_in run_length
 w_owner = (refl, (example, refl, spells_w))
 
 w_given : EntryGives example (earlier_in first_file 1) (entry_in first_file 1) (gives (txt_of (under (codes "w")) 7 ∷ []))
-unfolding pieces_in run_length xor
+unfolding tokens_in run_length xor
 w_given =
-    record_given example (earlier_in first_file 1) 7 (NameIs example (earlier_in first_file 1) (bare (codes "w"))) (fields (bare (codes "7") ∷ bare (codes "TXT") ∷ bare (codes "a") ∷ []))
+    record_given example (earlier_in first_file 1) bad_owner (NameIs example (earlier_in first_file 1) (bare (codes "w"))) (fields (bare (codes "7") ∷ bare (codes "TXT") ∷ bare (codes "a") ∷ []))
     (txt_of (under (codes "w")) 7)
     (record {
       owner = (under (codes "w"), w_owner, refl);
@@ -73,9 +74,9 @@ w_given =
     }) refl refl
 
 w_again : EntryGives example (earlier_in first_file 3) (entry_in first_file 3) (gives (txt_of (under (codes "w")) 5 ∷ []))
-unfolding pieces_in run_length xor
+unfolding tokens_in run_length xor
 w_again =
-    record_given example (earlier_in first_file 3) 8 (OwnerBefore example (earlier_in first_file 3)) (fields (bare (codes "TXT") ∷ bare (codes "a") ∷ [])) (txt_of (under (codes "w")) 5)
+    record_given example (earlier_in first_file 3) no_owner (OwnerBefore example (earlier_in first_file 3)) (fields (bare (codes "TXT") ∷ bare (codes "a") ∷ [])) (txt_of (under (codes "w")) 5)
     (record {
       owner = (under (codes "w"), w_owner, refl);
       ttl = five;
@@ -84,9 +85,9 @@ w_again =
     }) refl refl
 
 y_given : EntryGives example (earlier_in first_file 4) (entry_in first_file 4) (gives (txt_of (codes "y" ∷ under (codes "x")) 5 ∷ []))
-unfolding pieces_in run_length xor
+unfolding tokens_in run_length xor
 y_given =
-    record_given example (earlier_in first_file 4) 7 (NameIs example (earlier_in first_file 4) (bare (codes "y"))) (fields (bare (codes "TXT") ∷ bare (codes "a") ∷ []))
+    record_given example (earlier_in first_file 4) bad_owner (NameIs example (earlier_in first_file 4) (bare (codes "y"))) (fields (bare (codes "TXT") ∷ bare (codes "a") ∷ []))
     (txt_of (codes "y" ∷ under (codes "x")) 5)
     (record {
       owner = (codes "y" ∷ under (codes "x"), (refl, (under (codes "x"), (example, refl, spells_x), spells_y)), refl);
@@ -96,7 +97,7 @@ y_given =
     }) refl refl
 
 first_file_means : Means example first_file (records (txt_of (under (codes "w")) 7 ∷ txt_of (under (codes "w")) 5 ∷ txt_of (codes "y" ∷ under (codes "x")) 5 ∷ []))
-unfolding pieces_in run_length xor
+unfolding tokens_in run_length xor
 first_file_means =
     means first_file (records (txt_of (under (codes "w")) 7 ∷ txt_of (under (codes "w")) 5 ∷ txt_of (codes "y" ∷ under (codes "x")) 5 ∷ [])) refl refl refl
     (given_then example (earlier_in first_file 0) (entry_in first_file 0) (left_in first_file 1) [] _ (inr (λ none. none 5 five, refl))
@@ -110,9 +111,9 @@ abbrev second_file : Octets
 second_file = codes "w 5 TXT a\nw 7 TXT a\nv TXT a"
 
 w_5 : EntryGives example (earlier_in second_file 0) (entry_in second_file 0) (gives (txt_of (under (codes "w")) 5 ∷ []))
-unfolding pieces_in run_length xor
+unfolding tokens_in run_length xor
 w_5 =
-    record_given example (earlier_in second_file 0) 7 (NameIs example (earlier_in second_file 0) (bare (codes "w")))
+    record_given example (earlier_in second_file 0) bad_owner (NameIs example (earlier_in second_file 0) (bare (codes "w")))
     (fields (bare (codes "5") ∷ bare (codes "TXT") ∷ bare (codes "a") ∷ [])) (txt_of (under (codes "w")) 5)
     (record {
       owner = (under (codes "w"), (refl, (example, refl, spells_w)), refl);
@@ -122,9 +123,9 @@ w_5 =
     }) refl refl
 
 w_7 : EntryGives example (earlier_in second_file 1) (entry_in second_file 1) (gives (txt_of (under (codes "w")) 7 ∷ []))
-unfolding pieces_in run_length xor
+unfolding tokens_in run_length xor
 w_7 =
-    record_given example (earlier_in second_file 1) 7 (NameIs example (earlier_in second_file 1) (bare (codes "w")))
+    record_given example (earlier_in second_file 1) bad_owner (NameIs example (earlier_in second_file 1) (bare (codes "w")))
     (fields (bare (codes "7") ∷ bare (codes "TXT") ∷ bare (codes "a") ∷ [])) (txt_of (under (codes "w")) 7)
     (record {
       owner = (under (codes "w"), (refl, (example, refl, spells_w)), refl);
@@ -134,9 +135,9 @@ w_7 =
     }) refl refl
 
 v_7 : EntryGives example (earlier_in second_file 2) (entry_in second_file 2) (gives (txt_of (under (codes "v")) 7 ∷ []))
-unfolding pieces_in run_length xor
+unfolding tokens_in run_length xor
 v_7 =
-    record_given example (earlier_in second_file 2) 7 (NameIs example (earlier_in second_file 2) (bare (codes "v")))
+    record_given example (earlier_in second_file 2) bad_owner (NameIs example (earlier_in second_file 2) (bare (codes "v")))
     (fields (bare (codes "TXT") ∷ bare (codes "a") ∷ [])) (txt_of (under (codes "v")) 7)
     (record {
       owner = (under (codes "v"), (refl, (example, refl, spells_v)), refl);
@@ -146,7 +147,7 @@ v_7 =
     }) refl refl
 
 second_file_means : Means example second_file (records (txt_of (under (codes "w")) 5 ∷ txt_of (under (codes "w")) 7 ∷ txt_of (under (codes "v")) 7 ∷ []))
-unfolding pieces_in run_length xor
+unfolding tokens_in run_length xor
 second_file_means =
     means second_file (records (txt_of (under (codes "w")) 5 ∷ txt_of (under (codes "w")) 7 ∷ txt_of (under (codes "v")) 7 ∷ [])) refl refl refl
     (given_then example (earlier_in second_file 0) (entry_in second_file 0) (left_in second_file 1) (txt_of (under (codes "w")) 5 ∷ [])

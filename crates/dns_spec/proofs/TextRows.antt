@@ -1,7 +1,7 @@
 -- Names as they are written, computed from the definitions.
-use Rattle.std.specs.Prelude.{◌≡◌, [], ◌∷◌, codes}
+use Rattle.std.specs.Prelude.{◌≡◌, [], ◌∷◌, codes, Some, None}
 use mathlib.Core.Path.{refl}
-use Rattle.dns_spec.specs.NameText.{octet_text, name_text}
+use Rattle.dns_spec.specs.NameText.{escape_front, octet_text, name_text}
 use Rattle.dns_spec.proofs.Examples.{dotted}
 
 server : name_text (dotted (codes "ns.example")) ≡ codes "ns.example."
@@ -41,7 +41,20 @@ by_digits : name_text ((0 ∷ 32 ∷ 127 ∷ 255 ∷ []) ∷ []) ≡ codes "\\00
 unfolding octet_text
 by_digits = refl
 
--- the digit behind an octet's three is an octet of its own
-digit_behind : name_text ((9 ∷ 49 ∷ []) ∷ []) ≡ codes "\\0091."
+-- the digit after an octet's three is an octet of its own
+digit_after : name_text ((9 ∷ 49 ∷ []) ∷ []) ≡ codes "\\0091."
 unfolding octet_text
-digit_behind = refl
+digit_after = refl
+
+-- escapes, after their backslash: one octet, three digits, three digits past 255, and two digits
+escaped_dot : escape_front (codes ".b") ≡ Some (46, codes "b")
+escaped_dot = refl
+
+escaped_number : escape_front (codes "0461") ≡ Some (46, codes "1")
+escaped_number = refl
+
+number_past_255 : escape_front (codes "256") ≡ None
+number_past_255 = refl
+
+two_digits_only : escape_front (codes "04b") ≡ None
+two_digits_only = refl

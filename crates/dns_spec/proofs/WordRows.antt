@@ -48,7 +48,7 @@ by_digits = refl
 two_backslashes : stands_alone (plain (codes "a\\\\;b")) ≡ false
 two_backslashes = refl
 
--- a backslash escapes what comes behind the word
+-- a backslash escapes what comes after the word
 backslash_last : stands_alone (plain (codes "a\\")) ≡ false
 backslash_last = refl
 

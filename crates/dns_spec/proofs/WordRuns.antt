@@ -4,14 +4,16 @@ use Rattle.std.proofs.lemmas.Bool.{agree_below_at, cases_Bool, lt-ltb, not-true,
 use Rattle.std.specs.Char.{is_ascii_graphic, is_ascii_digit}
 use Rattle.std.specs.List.{flat_map}
 use Rattle.dns_spec.specs.Names.{Octets, DomainName}
-use Rattle.dns_spec.specs.NameText.{is_special, three_digits_value, three_digits, octet_text, label_text, labels_text, name_text}
+use Rattle.dns_spec.specs.NameText.{is_special, three_digits_value, three_digits, octet_text, label_text, labels_text, name_text, is_printable}
 use Rattle.dns_spec.specs.WrittenText.{string_octet_text, is_bare}
-use Rattle.dns_spec.specs.ZoneText.{is_printable, is_word_octet, is_string_octet, unit_left, run_length}
+use Rattle.dns_spec.specs.ZoneText.{is_word_octet, is_string_octet, escape_length, unit_left, run_length}
+use Rattle.std.specs.Prelude.{if◌then◌else◌}
 use Rattle.dns_spec.proofs.SortedOnce.{Each}
+use Rattle.dns_spec.proofs.Escapes.{escape-counted}
 use Rattle.dns_spec.proofs.SmallOctets.{Small, small_head, small_tail}
 use Rattle.dns_spec.proofs.BareWords.{Bare, no_backslash, graphic_bare, follows}
 
--- a run goes on over all of these octets, whatever stands behind them
+-- a run goes on over all of these octets, whatever stands after them
 abbrev pub Runs : (ℕ → Bool) → Octets → Type 0
 Runs p x = (rest : Octets) → run_length p 0 (x ++ rest) ≡ length x + run_length p 0 rest
 
@@ -35,7 +37,10 @@ unfolding run_length
 runs_escaped p x digit printable rest = run_step p 92 1 (x ∷ rest) unit ∙ omega arith
   where
     unit : unit_left p 92 (x ∷ rest) ≡ Some 1
-    unit = rw (digit, printable) refl
+    unit = ap (λ k. if k == 0 then None else Some k) long
+      where
+        long : escape_length (x ∷ rest) ≡ 1
+        long = escape-counted (x ∷ rest) ∙ rw (digit, printable) refl
 
 -- three digits with a backslash before them
 runs_code : (p : ℕ → Bool) (a b c : ℕ) → is_ascii_digit a ≡ true → is_ascii_digit b ≡ true → is_ascii_digit c ≡ true
@@ -44,7 +49,10 @@ unfolding run_length
 runs_code p a b c h k l small rest = run_step p 92 3 (a ∷ b ∷ c ∷ rest) unit ∙ omega arith
   where
     unit : unit_left p 92 (a ∷ b ∷ c ∷ rest) ≡ Some 3
-    unit = rw (h, k, l, small) refl
+    unit = ap (λ k. if k == 0 then None else Some k) long
+      where
+        long : escape_length (a ∷ b ∷ c ∷ rest) ≡ 3
+        long = escape-counted (a ∷ b ∷ c ∷ rest) ∙ rw (h, k, l, small) refl
 
 digit : (d : ℕ) → d < 10 → is_ascii_digit (48 + d) ≡ true
 digit d small = agree_below_at (λ e. is_ascii_digit (48 + e)) (λ e. true) 10 d refl small

@@ -64,15 +64,15 @@ zeros_first (g ∷ gs) = by_cases (zeros_first gs) (cases_Bool (is_zero g))
   where
     by_cases : take (prefix_len is_zero gs) gs ≡ replicate (prefix_len is_zero gs) 0 → (is_zero g ≡ true) ⊎ (is_zero g ≡ false)
         → take (prefix_len is_zero (g ∷ gs)) (g ∷ gs) ≡ replicate (prefix_len is_zero (g ∷ gs)) 0
-    by_cases behind (inl z) =
+    by_cases after (inl z) =
         let n = prefix_len is_zero gs in
         let one : 1 + n ≡ suc n = omega arith in
         rw z
-        (ap (λ k. take k (g ∷ gs)) one ∙ ap (λ x. x ∷ take n gs) (eqb-true g 0 z) ∙ ap (λ t. 0 ∷ t) behind
+        (ap (λ k. take k (g ∷ gs)) one ∙ ap (λ x. x ∷ take n gs) (eqb-true g 0 z) ∙ ap (λ t. 0 ∷ t) after
         ∙ ap (λ k. replicate k 0) (sym one))
-    by_cases behind (inr other) = rw other refl
+    by_cases after (inr other) = rw other refl
 
--- groups are those before the run, its zeros, and those behind it
+-- groups are those before the run, its zeros, and those after it
 pub around_run : (gs : List ℕ) (r : LongestRun gs)
     → (take (longest_place gs) gs ++ replicate (longest_run gs) 0) ++ drop (longest_place gs + longest_run gs) gs ≡ gs
 around_run gs r =

@@ -14,9 +14,10 @@ use Rattle.dns_spec.specs.TypeText.{NamesType}
 use Rattle.dns_spec.specs.Data.{cut, type_a, type_ns, type_cname, type_soa}
 use Rattle.dns_spec.specs.DataText.{Word, Says}
 use Rattle.dns_spec.specs.ZoneText.{Entry, run_length}
+use Rattle.dns_spec.specs.FileFaults.{bad_owner, bad_ttl, bad_type, no_ttl, FileFault}
 use Rattle.dns_spec.specs.Meaning.{faulty, gives, fault_at, Means, most_ttl, TtlSays, NameIs, EntryGives, EntriesMean, fields}
 use Rattle.dns_spec.proofs.Examples.{example, under, net_192, example_soa, server, address, alias}
-use Rattle.dns_spec.proofs.ReadTexts.{pieces_in, means, entry_in, earlier_in, left_in, is_plain, plain_octet, plain_label, plain_name, record_given, given_then}
+use Rattle.dns_spec.proofs.ReadTexts.{tokens_in, means, entry_in, earlier_in, left_in, is_plain, plain_octet, plain_label, plain_name, record_given, given_then}
 
 abbrev bare : Octets → Word
 bare cs = record { raw = cs; is_quoted = false }
@@ -40,7 +41,7 @@ last_three = codes "a.b.ent A 192.0.2.11\n" ++ codes "sub NS ns.sub\n" ++ codes 
 abbrev zone : Octets
 zone = first_three ++ fourth ++ fifth_and_sixth ++ seventh ++ last_three
 
--- the entry behind so many, and those before it, the nearest first
+-- the entry after so many, and those before it, the nearest first
 abbrev entry_at : ℕ → Entry
 entry_at = entry_in zone
 
@@ -64,7 +65,7 @@ spells_alias : SpellsName example (codes "alias") (under (codes "alias"))
 unfolding is_plain
 spells_alias = plain_name example (codes "alias") refl refl refl
 
--- one label, and what is behind it
+-- one label, and what is after it
 plain_front : (cs rest : Octets) → list_all is_plain cs ≡ true → LabelThen (cs ++ rest) cs rest
 plain_front [] rest h = refl
 plain_front (c ∷ cs) rest h =
@@ -211,9 +212,9 @@ address_10 = record {
 
 -- line by line
 soa_given : EntryGives example (earlier 1) (entry_at 1) (gives (example_soa ∷ []))
-unfolding pieces_in run_length xor
+unfolding tokens_in run_length xor
 soa_given =
-    record_given example (earlier 1) 7 (NameIs example (earlier 1) (bare (codes "@")))
+    record_given example (earlier 1) bad_owner (NameIs example (earlier 1) (bare (codes "@")))
     (fields (bare (codes "SOA") ∷ bare (codes "ns") ∷ bare (codes "hostmaster") ∷ bare (codes "1") ∷ bare (codes "7200") ∷ bare (codes "900") ∷ bare (codes "1209600") ∷ bare (codes "300") ∷ []))
     example_soa
     (record {
@@ -224,9 +225,9 @@ soa_given =
     }) refl refl
 
 ns_given : EntryGives example (earlier 2) (entry_at 2) (gives (server example (codes "ns") ∷ []))
-unfolding pieces_in run_length xor
+unfolding tokens_in run_length xor
 ns_given =
-    record_given example (earlier 2) 7 (NameIs example (earlier 2) (bare (codes "@"))) (fields (bare (codes "NS") ∷ bare (codes "ns") ∷ [])) (server example (codes "ns"))
+    record_given example (earlier 2) bad_owner (NameIs example (earlier 2) (bare (codes "@"))) (fields (bare (codes "NS") ∷ bare (codes "ns") ∷ [])) (server example (codes "ns"))
     (record {
       owner = (example, (refl, (example, refl, spells_origin)), refl);
       ttl = hour;
@@ -235,9 +236,9 @@ ns_given =
     }) refl refl
 
 a_given : EntryGives example (earlier 3) (entry_at 3) (gives (address (codes "ns") (net_192 1) ∷ []))
-unfolding pieces_in run_length xor
+unfolding tokens_in run_length xor
 a_given =
-    record_given example (earlier 3) 7 (NameIs example (earlier 3) (bare (codes "ns"))) (fields (bare (codes "A") ∷ bare (codes "192.0.2.1") ∷ []))
+    record_given example (earlier 3) bad_owner (NameIs example (earlier 3) (bare (codes "ns"))) (fields (bare (codes "A") ∷ bare (codes "192.0.2.1") ∷ []))
     (address (codes "ns") (net_192 1))
     (record {
       owner = (under (codes "ns"), (refl, (example, refl, spells_ns)), refl);
@@ -247,9 +248,9 @@ a_given =
     }) refl refl
 
 www_given : EntryGives example (earlier 4) (entry_at 4) (gives (address (codes "www") (net_192 10) ∷ []))
-unfolding pieces_in run_length xor
+unfolding tokens_in run_length xor
 www_given =
-    record_given example (earlier 4) 7 (NameIs example (earlier 4) (bare (codes "www"))) (fields (bare (codes "A") ∷ bare (codes "192.0.2.10") ∷ []))
+    record_given example (earlier 4) bad_owner (NameIs example (earlier 4) (bare (codes "www"))) (fields (bare (codes "A") ∷ bare (codes "192.0.2.10") ∷ []))
     (address (codes "www") (net_192 10))
     (record {
       owner = (under (codes "www"), (refl, (example, refl, spells_www)), refl);
@@ -259,9 +260,9 @@ www_given =
     }) refl refl
 
 alias_given : EntryGives example (earlier 5) (entry_at 5) (gives (alias (codes "alias") (codes "www") ∷ []))
-unfolding pieces_in run_length xor
+unfolding tokens_in run_length xor
 alias_given =
-    record_given example (earlier 5) 7 (NameIs example (earlier 5) (bare (codes "alias"))) (fields (bare (codes "CNAME") ∷ bare (codes "www") ∷ []))
+    record_given example (earlier 5) bad_owner (NameIs example (earlier 5) (bare (codes "alias"))) (fields (bare (codes "CNAME") ∷ bare (codes "www") ∷ []))
     (alias (codes "alias") (codes "www"))
     (record {
       owner = (under (codes "alias"), (refl, (example, refl, spells_alias)), refl);
@@ -270,20 +271,20 @@ alias_given =
       rdata = (type_cname, (refl, inl refl, refl), (example, refl, www_said));
     }) refl refl
 
--- a fault behind the first lines is that of the text
-behind_three : (es : List Entry) (code line : ℕ) → EntriesMean example (earlier 3) es (fault_at code line)
+-- a fault after the first lines is that of the text
+after_three : (es : List Entry) (code : FileFault) (line : ℕ) → EntriesMean example (earlier 3) es (fault_at code line)
     → EntriesMean example [] (entry_at 0 ∷ entry_at 1 ∷ entry_at 2 ∷ es) (fault_at code line)
-unfolding pieces_in run_length xor
-behind_three es code line h =
+unfolding tokens_in run_length xor
+after_three es code line h =
     given_then example [] (entry_at 0) (entry_at 1 ∷ entry_at 2 ∷ es) [] (fault_at code line) (inr (λ none. none 3600 hour, refl))
     (given_then example (earlier 1) (entry_at 1) (entry_at 2 ∷ es) (example_soa ∷ []) (fault_at code line) soa_given
     (given_then example (earlier 2) (entry_at 2) es (server example (codes "ns") ∷ []) (fault_at code line) ns_given h))
 
-behind_six : (es : List Entry) (code line : ℕ) → EntriesMean example (earlier 6) es (fault_at code line)
+after_six : (es : List Entry) (code : FileFault) (line : ℕ) → EntriesMean example (earlier 6) es (fault_at code line)
     → EntriesMean example [] (entry_at 0 ∷ entry_at 1 ∷ entry_at 2 ∷ entry_at 3 ∷ entry_at 4 ∷ entry_at 5 ∷ es) (fault_at code line)
-unfolding pieces_in run_length xor
-behind_six es code line h =
-    behind_three (entry_at 3 ∷ entry_at 4 ∷ entry_at 5 ∷ es) code line
+unfolding tokens_in run_length xor
+after_six es code line h =
+    after_three (entry_at 3 ∷ entry_at 4 ∷ entry_at 5 ∷ es) code line
     (given_then example (earlier 3) (entry_at 3) (entry_at 4 ∷ entry_at 5 ∷ es) (address (codes "ns") (net_192 1) ∷ []) (fault_at code line) a_given
     (given_then example (earlier 4) (entry_at 4) (entry_at 5 ∷ es) (address (codes "www") (net_192 10) ∷ []) (fault_at code line) www_given
     (given_then example (earlier 5) (entry_at 5) es (alias (codes "alias") (codes "www") ∷ []) (fault_at code line) alias_given h)))
@@ -297,12 +298,12 @@ no_number_1h n few e =
 abbrev with_unit : Octets
 with_unit = first_three ++ codes "ns 1h A 192.0.2.1\n" ++ fifth_and_sixth ++ seventh ++ last_three
 
-with_unit_means : Means example with_unit (fault_at 9 4)
-unfolding pieces_in run_length xor
+with_unit_means : Means example with_unit (fault_at bad_ttl 4)
+unfolding tokens_in run_length xor
 with_unit_means =
-    means with_unit (fault_at 9 4) refl refl refl
-    (behind_three (left_in with_unit 3) 9 4 (
-      faulty 9,
+    means with_unit (fault_at bad_ttl 4) refl refl refl
+    (after_three (left_in with_unit 3) bad_ttl 4 (
+      faulty bad_ttl,
       inr (λ none. none (under (codes "ns")) (refl, (example, refl, spells_ns)), inl (λ n h. no_number_1h n h.2 h.1, refl)),
       refl,
     ))
@@ -315,12 +316,12 @@ no_type_text t (inr e) = omega (arith, ap (λ w. get_or w 1 0) e.1)
 abbrev with_text : Octets
 with_text = first_three ++ fourth ++ fifth_and_sixth ++ codes "*.w TEXT \"any\"\n" ++ last_three
 
-with_text_means : Means example with_text (fault_at 11 7)
-unfolding pieces_in run_length xor
+with_text_means : Means example with_text (fault_at bad_type 7)
+unfolding tokens_in run_length xor
 with_text_means =
-    means with_text (fault_at 11 7) refl refl refl
-    (behind_six (left_in with_text 6) 11 7 (
-      faulty 11,
+    means with_text (fault_at bad_type 7) refl refl refl
+    (after_six (left_in with_text 6) bad_type 7 (
+      faulty bad_type,
       inr (
         λ none. none (under (codes "*.w")) (refl, (example, refl, spells_wildcard)),
         inr (λ none. none, inr (false≢true, inl (λ t h. no_type_text t h.1, refl))),
@@ -333,11 +334,11 @@ abbrev without_ttl : Octets
 without_ttl =
     codes "@ SOA ns hostmaster 1 7200 900 1209600 300\n" ++ codes "@ NS ns\n" ++ fourth ++ fifth_and_sixth ++ seventh ++ last_three
 
-without_ttl_means : Means example without_ttl (fault_at 12 1)
-unfolding pieces_in run_length xor
+without_ttl_means : Means example without_ttl (fault_at no_ttl 1)
+unfolding tokens_in run_length xor
 without_ttl_means =
-    means without_ttl (fault_at 12 1) refl refl refl (
-      faulty 12,
+    means without_ttl (fault_at no_ttl 1) refl refl refl (
+      faulty no_ttl,
       inr (
         λ none. none example (refl, (example, refl, spells_origin)),
         inr (λ none. none, inr (false≢true, inr (λ none. none type_soa (refl, inl refl, refl), inl (refl, refl)))),

@@ -25,19 +25,22 @@ is_group text = nat_lt 0 (length text) && nat_le (length text) 4 && list_all is_
 
 abbrev pub group_values : List Octets → Option (List ℕ)
 group_values [] = Some []
-group_values (text ∷ texts) = if is_group text then option_map (λ gs. digits_value 16 text ∷ gs) (group_values texts) else None
+group_values (text ∷ texts) =
+    if is_group text
+    then option_map (λ gs. digits_value 16 text ∷ gs) (group_values texts) else None
 
 -- groups with colons between, perhaps none at all
 abbrev pub groups_said : Octets → Option (List ℕ)
 groups_said [] = Some []
 groups_said (c ∷ text) = group_values (slice_split (λ o. o == 58) (c ∷ text))
 
--- what stands before the first `::` of a text, and what stands behind it
+-- what stands before the first `::` of a text, and what stands after it
 abbrev pub around_gap : Octets → Option (Octets × Octets)
 around_gap [] = None
 around_gap (c ∷ []) = None
 around_gap (c ∷ d ∷ text) =
-    if c == 58 && d == 58 then Some ([], text) else option_map (λ r. (c ∷ r.0, r.1)) (around_gap (d ∷ text))
+    if c == 58 && d == 58 then Some ([], text)
+    else option_map (λ r. (c ∷ r.0, r.1)) (around_gap (d ∷ text))
 
 abbrev pub eight_groups : List ℕ → Option (List ℕ)
 eight_groups gs = if length gs == 8 then Some gs else None
@@ -45,13 +48,17 @@ eight_groups gs = if length gs == 8 then Some gs else None
 -- zero groups in the place of `::`, one at least
 abbrev pub filled_groups : List ℕ → List ℕ → Option (List ℕ)
 filled_groups front back =
-    if nat_lt (length front + length back) 8 then Some (front ++ replicate (8 - (length front + length back)) 0 ++ back) else None
+    if nat_lt (length front + length back) 8
+    then Some (front ++ replicate (8 - (length front + length back)) 0 ++ back) else None
 
--- RFC 4291 2.2, forms 1 and 2: eight groups, or fewer with `::` once for the zero groups that are left out. No text of
--- groups has a second `::`, since no group is empty.
+-- RFC 4291 2.2, forms 1 and 2: eight groups, or fewer with `::` once for the zero groups that are
+-- left out. No text of groups has a second `::`, since no group is empty.
 abbrev pub groups_by : Octets → Option (Octets × Octets) → Option (List ℕ)
 groups_by text None = option_and_then eight_groups (groups_said text)
-groups_by text (Some r) = option_and_then (λ front. option_and_then (filled_groups front) (groups_said r.1)) (groups_said r.0)
+groups_by text (Some r) =
+    option_and_then
+    (λ front. option_and_then (filled_groups front) (groups_said r.1))
+    (groups_said r.0)
 
 unfoldable pub ipv6_groups : Octets → Option (List ℕ)
 ipv6_groups text = groups_by text (around_gap text)
@@ -89,4 +96,5 @@ abbrev pub ipv6_text : Octets → Octets
 ipv6_text d =
     let gs = groups_of d in
     if nat_lt (longest_run gs) 2 then groups_text gs
-    else groups_text (take (longest_place gs) gs) ++ 58 ∷ 58 ∷ groups_text (drop (longest_place gs + longest_run gs) gs)
+    else groups_text (take (longest_place gs) gs)
+    ++ 58 ∷ 58 ∷ groups_text (drop (longest_place gs + longest_run gs) gs)

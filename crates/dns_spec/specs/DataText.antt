@@ -1,4 +1,5 @@
--- What a reader learns here: which data the words of a record spell, type by type, and in the form that serves any type.
+-- What a reader learns here: which data the words of a record spell, type by type, and in the form
+-- that serves any type.
 use Rattle.std.specs.Prelude.{◌≡◌, ℕ, ◌+◌, ◌*◌, ◌%◌, ◌^◌, ◌<◌, ◌≤◌, ◌⊎◌, max, Bool, true, false, ◌&&◌, ◌||◌, not, List, [], ◌∷◌, ◌++◌, length, replicate, nat_lt, ◌==◌, IsTrue, if◌then◌else◌, codes, decimal, MatchOption}
 use Rattle.std.specs.Prelude.{Option, None, Some}
 use Rattle.std.specs.Bool.{MatchBool}
@@ -11,7 +12,8 @@ use Rattle.dns_spec.specs.NameText.{SpellsOctet, SpellsName}
 use Rattle.dns_spec.specs.Data.{numbers, ipv4, ipv6, Piece, fixed, domain, string, strings, anything, TypeRow, row_of, Valid, lower_case}
 use Rattle.dns_spec.specs.AddressText.{SaysIpv4, SaysIpv6}
 
--- RFC 1035 5.1: a word as it is spelled, without the quotation marks where it stands in them; its escapes are not undone
+-- RFC 1035 5.1: a word as it is spelled, without the quotation marks where it stands in them; its
+-- escapes are not undone
 pub record Word : Type 0 where
   pub raw : Octets
   pub is_quoted : Bool
@@ -32,13 +34,15 @@ SpellsStringOctet text x = SpellsOctet text x ⊎ ((text ≡ codes ".") × (x �
 abbrev pub SpellsString : Octets → Octets → Type 0
 SpellsString text [] = text ≡ []
 SpellsString text (x ∷ s) =
-    (first : Octets) × (others : Octets) × (text ≡ first ++ others) × SpellsStringOctet first x × SpellsString others s
+    (first : Octets) × (others : Octets) × (text ≡ first ++ others)
+    × SpellsStringOctet first x × SpellsString others s
 
--- RFC 1035 3.3: a character-string has at most 255 octets, and stands behind its length
+-- RFC 1035 3.3: a character-string has at most 255 octets, and stands after its length
 abbrev pub SaysString : Octets → Octets → Type 0
 SaysString text d = (s : Octets) × (length s ≤ 255) × SpellsString text s × (d ≡ length s ∷ s)
 
--- What a word of a record's data is: a number of so many octets, an address, a domain name, or a character-string.
+-- What a word of a record's data is: a number of so many octets, an address, a domain name, or a
+-- character-string.
 pub data WordForm : Type 0 where
   number_word : ℕ → WordForm
   ipv4_word : WordForm
@@ -65,16 +69,17 @@ pub record SaysWord (form : WordForm) (origin : DomainName) (w : Word) (d : Octe
   pub quotes : IsTrue (may_be_quoted form || not w.is_quoted)
   pub said : SaysForm form origin w.raw d
 
--- the words spell the data one behind the other, as many words as forms
+-- the words spell the data one after the other, as many words as forms
 abbrev pub SaysForms : List WordForm → DomainName → List Word → Octets → Type 0
 SaysForms [] origin [] d = d ≡ []
 SaysForms [] origin (w ∷ ws) d = ⊥
 SaysForms (f ∷ fs) origin [] d = ⊥
 SaysForms (f ∷ fs) origin (w ∷ ws) d =
-    (front : Octets) × (back : Octets) × (d ≡ front ++ back) × SaysWord f origin w front × SaysForms fs origin ws back
+    (front : Octets) × (back : Octets) × (d ≡ front ++ back)
+    × SaysWord f origin w front × SaysForms fs origin ws back
 
--- The words of a piece of data, where the record has k words of data in all. RFC 1035 3.3.14: strings, which stand alone
--- in TXT, are as many as there are words, and one at least.
+-- The words of a piece of data, where the record has k words of data in all. RFC 1035 3.3.14:
+-- strings, which stand alone in TXT, are as many as there are words, and one at least.
 abbrev pub forms_in : ℕ → Piece → List WordForm
 forms_in k (fixed (numbers m octets)) = replicate m (number_word octets)
 forms_in k (fixed ipv4) = ipv4_word ∷ []
@@ -97,7 +102,8 @@ unfoldable pub hex_octets : Octets → Option Octets
 hex_octets [] = Some []
 hex_octets (h ∷ []) = None
 hex_octets (h ∷ l ∷ text) =
-    if is_ascii_hexdigit h && is_ascii_hexdigit l then option_map (λ d. (16 * digit_value h + digit_value l) ∷ d) (hex_octets text)
+    if is_ascii_hexdigit h && is_ascii_hexdigit l
+    then option_map (λ d. (16 * digit_value h + digit_value l) ∷ d) (hex_octets text)
     else None
 
 -- an unquoted word of an even number of octets, two or more
@@ -105,9 +111,11 @@ abbrev pub is_hex_word : Word → Bool
 is_hex_word w = not w.is_quoted && nat_lt 0 (length w.raw) && length w.raw % 2 == 0
 
 abbrev pub SaysHex : List Word → Octets → Type 0
-SaysHex ws d = IsTrue (list_all is_hex_word ws) × (hex_octets (flat_map (λ (w : Word). w.raw) ws) ≡ Some d)
+SaysHex ws d =
+    IsTrue (list_all is_hex_word ws) × (hex_octets (flat_map (λ (w : Word). w.raw) ws) ≡ Some d)
 
--- RFC 3597 section 5: behind `\#` come the length of the data, without zeros in front (in this product), and its octets
+-- RFC 3597 section 5: after `\#` come the length of the data, without zeros in front (in this
+-- product), and its octets
 abbrev pub SaysUnknown : List Word → Octets → Type 0
 SaysUnknown [] d = ⊥
 SaysUnknown (w ∷ ws) d = IsTrue (not w.is_quoted) × (w.raw ≡ decimal (length d)) × SaysHex ws d
@@ -116,13 +124,15 @@ SaysUnknown (w ∷ ws) d = IsTrue (not w.is_quoted) × (w.raw ≡ decimal (lengt
 abbrev pub is_unknown_mark : Word → Bool
 is_unknown_mark w = not w.is_quoted && octets_equal w.raw (92 ∷ codes "#")
 
--- RFC 3597 section 5: where the first word is the unquoted `\#`, the words are that form, for every type
+-- RFC 3597 section 5: where the first word is the unquoted `\#`, the words are that form, for every
+-- type
 abbrev pub SaysAsSpelled : ℕ → DomainName → List Word → Octets → Type 0
 SaysAsSpelled t origin [] d = SaysTyped t origin [] d
 SaysAsSpelled t origin (w ∷ ws) d =
     MatchBool (is_unknown_mark w) (SaysUnknown ws d) (SaysTyped t origin (w ∷ ws) d)
 
--- The words spell, relative to the origin, data of the type; d is that data with its names in lower case.
+-- The words spell, relative to the origin, data of the type; d is that data with its names in lower
+-- case.
 pub record Says (t : ℕ) (ws : List Word) (origin : DomainName) (d : Octets) : Type 0 where
   pub as_spelled : Octets
   pub said : SaysAsSpelled t origin ws as_spelled

@@ -6,6 +6,7 @@ pub mod TypeText
 pub mod AddressText
 pub mod DataText
 pub mod WrittenText
+pub mod FileFaults
 pub mod ZoneText
 pub mod Records
 pub mod Meaning

@@ -1,7 +1,8 @@
--- What a reader learns here: which records the text of a zone file means, or which fault it has, and on which line.
+-- What a reader learns here: which records the text of a zone file means, or which fault it has,
+-- and on which line.
 --
--- What an entry takes over from those before it is found by looking back: `earlier` are the entries before it, the nearest
--- first.
+-- What an entry takes over from those before it is found by looking back: `earlier` are the entries
+-- before it, the nearest first.
 use Rattle.std.specs.Prelude.{◌≡◌, ℕ, ◌+◌, ◌≤◌, ◌⊎◌, Bool, true, false, ◌&&◌, ◌||◌, not, List, [], ◌∷◌, ◌++◌, length, take, drop, nat_le, ◌==◌, IsTrue, if◌then◌else◌, codes, decimal, MatchOption}
 use Rattle.std.specs.Prelude.{Option, None, Some}
 use Rattle.std.specs.Bool.{MatchBool}
@@ -13,7 +14,8 @@ use Rattle.dns_spec.specs.NameText.{SpellsName}
 use Rattle.dns_spec.specs.TypeText.{text_in_lower_case, NamesType}
 use Rattle.dns_spec.specs.DataText.{Word, Says}
 use Rattle.dns_spec.specs.Records.{ResourceRecord}
-use Rattle.dns_spec.specs.ZoneText.{Entry, Entries, begins_with, is_line_end, begins_blank, entry_words, lexical_fault}
+use Rattle.dns_spec.specs.FileFaults.{FileFault, unknown_directive, directive_words, bad_owner, no_owner, bad_ttl, other_class, bad_type, no_ttl, bad_data, too_many_records}
+use Rattle.dns_spec.specs.ZoneText.{Extent, extent_of, most_octets, Entry, EntriesOf, begins_with, is_line_end, begins_blank, entry_words, lexical_fault}
 
 -- RFC 2181 section 8: a TTL is at most 2^31 - 1 seconds
 abbrev pub most_ttl : ℕ
@@ -23,18 +25,21 @@ most_ttl = 2147483647
 abbrev pub most_records : ℕ
 most_records = 100000
 
--- What an entry gives: a fault by its code, or records, one at most.
-pub data Answer : Type 0 where
-  faulty : ℕ → Answer
-  gives : List ResourceRecord → Answer
+-- What an entry means: a fault, or records, one at most.
+pub data EntryMeaning : Type 0 where
+  faulty : FileFault → EntryMeaning
+  gives : List ResourceRecord → EntryMeaning
 
 -- where nothing is such
 abbrev pub Nothing : {A : Type 0} → (A → Type 0) → Type 0
 Nothing {A} P = (v : A) → P v → ⊥
 
--- The code is told where its fault is there; else what comes behind decides. Faults in a row, by rising code, tell the lowest.
-abbrev pub Unless : ℕ → Type 0 → (Answer → Type 0) → Answer → Type 0
-Unless code Fault others answer = (Fault × (answer ≡ faulty code)) ⊎ ((Fault → ⊥) × others answer)
+-- Faults by rising code, each with its condition: the entry has the lowest whose condition holds;
+-- where none does, it means what `Faultless` says.
+abbrev pub Lowest : List (FileFault × Type 0) → (EntryMeaning → Type 0) → EntryMeaning → Type 0
+Lowest [] Faultless given = Faultless given
+Lowest ((fault, Condition) ∷ higher) Faultless given =
+    (Condition × (given ≡ faulty fault)) ⊎ ((Condition → ⊥) × Lowest higher Faultless given)
 
 -- RFC 1035 5.1: what an entry is. Words are compared in lower case.
 pub data Sort : Type 0 where
@@ -53,12 +58,14 @@ sort_by_words blank (w ∷ ws) =
     else if is_directive w then directive (text_in_lower_case w.raw) ws
     else owned w ws
 
--- An entry without words is nothing. One that begins with a blank is a record without an owner of its own; else one whose
--- first word begins with `$` is a directive; else the first word is the owner of a record.
+-- An entry without words is nothing. One that begins with a blank is a record without an owner of
+-- its own; else one whose first word begins with `$` is a directive; else the first word is the
+-- owner of a record.
 abbrev pub sort_of : Entry → Sort
-sort_of e = sort_by_words (begins_blank e.pieces) (entry_words e)
+sort_of e = sort_by_words (begins_blank e.tokens) (entry_words e)
 
--- RFC 1035 5.1: behind the owner come a TTL and a class, in either order, where they are stated; then the type and the data
+-- RFC 1035 5.1: after the owner come a TTL and a class, in either order, where they are stated;
+-- then the type and the data
 pub record Fields : Type 0 where
   pub ttl : Option Word
   pub class : Option Word
@@ -81,26 +88,27 @@ is_class_word w =
 abbrev pub is_class_in : Word → Bool
 is_class_in w = is_word (codes "in") w.raw || is_word (codes "class1") w.raw
 
-abbrev pub class_behind : Word → List Word → Fields
-class_behind ttl [] = record { ttl = Some ttl; class = None; others = [] }
-class_behind ttl (w ∷ ws) =
+abbrev pub class_after : Word → List Word → Fields
+class_after ttl [] = record { ttl = Some ttl; class = None; others = [] }
+class_after ttl (w ∷ ws) =
     if is_class_word w then record { ttl = Some ttl; class = Some w; others = ws }
     else record { ttl = Some ttl; class = None; others = w ∷ ws }
 
-abbrev pub ttl_behind : Word → List Word → Fields
-ttl_behind class [] = record { ttl = None; class = Some class; others = [] }
-ttl_behind class (w ∷ ws) =
+abbrev pub ttl_after : Word → List Word → Fields
+ttl_after class [] = record { ttl = None; class = Some class; others = [] }
+ttl_after class (w ∷ ws) =
     if is_ttl_word w then record { ttl = Some w; class = Some class; others = ws }
     else record { ttl = None; class = Some class; others = w ∷ ws }
 
 abbrev pub fields : List Word → Fields
 fields [] = record { ttl = None; class = None; others = [] }
 fields (w ∷ ws) =
-    if is_ttl_word w then class_behind w ws
-    else if is_class_word w then ttl_behind w ws
+    if is_ttl_word w then class_after w ws
+    else if is_class_word w then ttl_after w ws
     else record { ttl = None; class = None; others = w ∷ ws }
 
--- the first word of a directive of this name; below it, the word that states an owner, and the one that states a TTL
+-- the first word of a directive of this name; below it, the word that states an owner, and the one
+-- that states a TTL
 abbrev pub directive_word : Octets → Sort → Option Word
 directive_word name no_words = None
 directive_word name (directive n []) = None
@@ -121,14 +129,19 @@ ttl_word (owned w ws) = (fields ws).ttl
 ttl_word (unowned ws) = (fields ws).ttl
 
 abbrev pub is_record : Entry → Bool
-is_record e = elim (sort_of e) [ no_words ↦ false | directive n ws ↦ false | owned w ws ↦ true | unowned ws ↦ true ]
+is_record e = elim (sort_of e) [
+  | no_words ↦ false
+  | directive n ws ↦ false
+  | owned w ws ↦ true
+  | unowned ws ↦ true
+]
 
 abbrev pub nearest : (Sort → Option Word) → List Entry → Option Word
 nearest word_of [] = None
 nearest word_of (e ∷ earlier) = option_or (word_of (sort_of e)) (nearest word_of earlier)
 
--- RFC 1035 5.1: the origin is that of the last `$ORIGIN` before, which is relative to the origin before it; else that of
--- the file
+-- RFC 1035 5.1: the origin is that of the last `$ORIGIN` before, which is relative to the origin
+-- before it; else that of the file
 abbrev pub OriginIs : DomainName → List Entry → DomainName → Type 0
 OriginIs o [] n = n ≡ o
 OriginIs o (e ∷ earlier) n =
@@ -137,43 +150,50 @@ OriginIs o (e ∷ earlier) n =
 
 -- an unquoted word spells a name, relative to the origin in force
 abbrev pub NameIs : DomainName → List Entry → Word → DomainName → Type 0
-NameIs o earlier w n = IsTrue (not w.is_quoted) × ((m : DomainName) × OriginIs o earlier m × SpellsName m w.raw n)
+NameIs o earlier w n =
+    IsTrue (not w.is_quoted) × ((m : DomainName) × OriginIs o earlier m × SpellsName m w.raw n)
 
--- RFC 1035 5.1: a record that doesn't state an owner has that of the nearest record before that states one
+-- RFC 1035 5.1: a record that doesn't state an owner has that of the nearest record before that
+-- states one
 abbrev pub OwnerBefore : DomainName → List Entry → DomainName → Type 0
 OwnerBefore o [] n = ⊥
-OwnerBefore o (e ∷ earlier) n = MatchOption (owner_word (sort_of e)) (OwnerBefore o earlier n) (λ w. NameIs o earlier w n)
+OwnerBefore o (e ∷ earlier) n =
+    MatchOption (owner_word (sort_of e)) (OwnerBefore o earlier n) (λ w. NameIs o earlier w n)
 
 -- a TTL in decimal, without zeros in front (in this product)
 abbrev pub TtlSays : Word → ℕ → Type 0
 TtlSays w n = IsTrue (not w.is_quoted) × (w.raw ≡ decimal n) × (n ≤ most_ttl)
 
--- RFC 2308 section 4: a record that doesn't state a TTL has that of the last `$TTL` before; without one, RFC 1035 5.1, the last
--- that a record before states
+-- RFC 2308 section 4: a record that doesn't state a TTL has that of the last `$TTL` before; without
+-- one, RFC 1035 5.1, the last that a record before states
 abbrev pub ttl_in_force : List Entry → Option Word → Option Word
 ttl_in_force earlier stated =
-    option_or stated (option_or (nearest (directive_word (codes "$ttl")) earlier) (nearest ttl_word earlier))
+    option_or stated
+    (option_or (nearest (directive_word (codes "$ttl")) earlier) (nearest ttl_word earlier))
 
 abbrev pub TtlIs : List Entry → Option Word → ℕ → Type 0
 TtlIs earlier stated n = MatchOption (ttl_in_force earlier stated) ⊥ (λ w. TtlSays w n)
 
--- All types but those that no zone has: 0, and those of questions and of what a message says of itself, RFC 6895 3.1; and,
--- in this product, the types of DNSSEC and DNAME.
+-- All types but those that no zone has: 0, and those of questions and of what a message says of
+-- itself, RFC 6895 3.1; and, in this product, the types of DNSSEC and DNAME.
 abbrev pub is_zone_type : ℕ → Bool
-is_zone_type t = not (t == 0 || (nat_le 128 t && nat_le t 255) || list_any (λ u. t == u) (39 ∷ 41 ∷ 43 ∷ 46 ∷ 47 ∷ 48 ∷ 50 ∷ 51 ∷ []))
+is_zone_type t =
+    not (t == 0 || (nat_le 128 t && nat_le t 255)
+    || list_any (λ u. t == u) (39 ∷ 41 ∷ 43 ∷ 46 ∷ 47 ∷ 48 ∷ 50 ∷ 51 ∷ []))
 
 -- the first of these words names the type
 abbrev pub TypeIs : List Word → ℕ → Type 0
 TypeIs [] t = ⊥
 TypeIs (w ∷ ws) t = IsTrue (not w.is_quoted) × NamesType w.raw t × IsTrue (is_zone_type t)
 
--- the words behind the type say the data
+-- the words after the type say the data
 abbrev pub DataIs : DomainName → List Entry → List Word → Octets → Type 0
 DataIs o earlier ws d =
     (t : ℕ) × TypeIs ws t × ((m : DomainName) × OriginIs o earlier m × Says t (drop 1 ws) m d)
 
 -- What a record is: its owner in lower case, its TTL, type and data.
-pub record IsRecord (o : DomainName) (earlier : List Entry) (Owner : DomainName → Type 0) (f : Fields) (r : ResourceRecord) : Type 0 where
+pub record IsRecord (o : DomainName) (earlier : List Entry) (Owner : DomainName → Type 0)
+    (f : Fields) (r : ResourceRecord) : Type 0 where
   pub owner : (n : DomainName) × Owner n × (r.owner ≡ folded n)
   pub ttl : TtlIs earlier f.ttl r.ttl
   pub rtype : TypeIs f.others r.rtype
@@ -190,18 +210,26 @@ is_other_class (Some w) = not (is_class_in w)
 abbrev pub are_too_many : List Entry → Bool
 are_too_many earlier = nat_le most_records (length (filter is_record earlier))
 
--- The faults of a record by rising code: `R07`, its owner is no name, or `R08`, no record before has one; `R09`, its TTL; `R10`,
--- its class; `R11`, its type; `R12`, no TTL is known; `R13`, its data; `R14`, there are too many records. Else it is a record.
-abbrev pub RecordGives : DomainName → List Entry → ℕ → (DomainName → Type 0) → Fields → Answer → Type 0
-RecordGives o earlier owner_code Owner f =
-    Unless owner_code (Nothing Owner)
-    (Unless 9 (IsNoTtl f.ttl)
-    (Unless 10 (IsTrue (is_other_class f.class))
-    (Unless 11 (Nothing (TypeIs f.others))
-    (Unless 12 (IsTrue (is_none (ttl_in_force earlier f.ttl)))
-    (Unless 13 (Nothing (DataIs o earlier f.others))
-    (Unless 14 (IsTrue (are_too_many earlier))
-    (λ answer. (r : ResourceRecord) × IsRecord o earlier Owner f r × (answer ≡ gives (r ∷ [])))))))))
+-- The faults of a record: `R07`, its owner is no name, or `R08`, no record before has one; `R09`,
+-- its TTL; `R10`, its class; `R11`, its type; `R12`, no TTL is known; `R13`, its data; `R14`, there
+-- are too many records.
+abbrev pub record_faults : DomainName → List Entry → FileFault → (DomainName → Type 0) → Fields
+    → List (FileFault × Type 0)
+record_faults o earlier owner_fault Owner f =
+    (owner_fault, Nothing Owner)
+    ∷ (bad_ttl, IsNoTtl f.ttl)
+    ∷ (other_class, IsTrue (is_other_class f.class))
+    ∷ (bad_type, Nothing (TypeIs f.others))
+    ∷ (no_ttl, IsTrue (is_none (ttl_in_force earlier f.ttl)))
+    ∷ (bad_data, Nothing (DataIs o earlier f.others))
+    ∷ (too_many_records, IsTrue (are_too_many earlier))
+    ∷ []
+
+abbrev pub RecordGives : DomainName → List Entry → FileFault → (DomainName → Type 0) → Fields
+    → EntryMeaning → Type 0
+RecordGives o earlier owner_fault Owner f =
+    Lowest (record_faults o earlier owner_fault Owner f)
+    (λ given. (r : ResourceRecord) × IsRecord o earlier Owner f r × (given ≡ gives (r ∷ [])))
 
 -- a directive has one word
 abbrev pub OneWord : (Word → Type 0) → List Word → Type 0
@@ -210,53 +238,63 @@ OneWord P (w ∷ []) = P w
 OneWord P (w ∷ v ∷ ws) = ⊥
 
 -- `R06`: the words of a directive are not its own
-abbrev pub OriginGives : DomainName → List Entry → List Word → Answer → Type 0
-OriginGives o earlier ws =
-    Unless 6 (Nothing (λ (n : DomainName). OneWord (λ w. NameIs o earlier w n) ws)) (λ answer. answer ≡ gives [])
-
-abbrev pub TtlGives : List Word → Answer → Type 0
-TtlGives ws = Unless 6 (Nothing (λ (n : ℕ). OneWord (λ w. TtlSays w n) ws)) (λ answer. answer ≡ gives [])
+abbrev pub DirectiveSays : {A : Type 0} → (A → Word → Type 0) → List Word → EntryMeaning → Type 0
+DirectiveSays {A} P ws =
+    Lowest ((directive_words, Nothing (λ (v : A). OneWord (P v) ws)) ∷ [])
+    (λ given. given ≡ gives [])
 
 -- RFC 1035 5.1, RFC 2308 section 4; `R05`: another directive
-abbrev pub DirectiveGives : DomainName → List Entry → Octets → List Word → Answer → Type 0
-DirectiveGives o earlier name ws answer =
-    MatchBool (octets_equal name (codes "$origin")) (OriginGives o earlier ws answer)
-    (MatchBool (octets_equal name (codes "$ttl")) (TtlGives ws answer) (answer ≡ faulty 5))
+abbrev pub DirectiveGives : DomainName → List Entry → Octets → List Word → EntryMeaning → Type 0
+DirectiveGives o earlier name ws given =
+    MatchBool (octets_equal name (codes "$origin"))
+    (DirectiveSays (λ n w. NameIs o earlier w n) ws given)
+    (MatchBool (octets_equal name (codes "$ttl"))
+    (DirectiveSays (λ n w. TtlSays w n) ws given)
+    (given ≡ faulty unknown_directive))
 
-abbrev pub SortGives : DomainName → List Entry → Sort → Answer → Type 0
-SortGives o earlier no_words answer = answer ≡ gives []
-SortGives o earlier (directive name ws) answer = DirectiveGives o earlier name ws answer
-SortGives o earlier (owned w ws) answer = RecordGives o earlier 7 (NameIs o earlier w) (fields ws) answer
-SortGives o earlier (unowned ws) answer = RecordGives o earlier 8 (OwnerBefore o earlier) (fields ws) answer
+abbrev pub SortGives : DomainName → List Entry → Sort → EntryMeaning → Type 0
+SortGives o earlier no_words given = given ≡ gives []
+SortGives o earlier (directive name ws) given = DirectiveGives o earlier name ws given
+SortGives o earlier (owned w ws) given =
+    RecordGives o earlier bad_owner (NameIs o earlier w) (fields ws) given
+SortGives o earlier (unowned ws) given =
+    RecordGives o earlier no_owner (OwnerBefore o earlier) (fields ws) given
 
 -- what an entry gives: its fault by place, else what its words give
-abbrev pub EntryGives : DomainName → List Entry → Entry → Answer → Type 0
-EntryGives o earlier e answer =
-    MatchOption (lexical_fault e) (SortGives o earlier (sort_of e) answer) (λ code. answer ≡ faulty code)
+abbrev pub EntryGives : DomainName → List Entry → Entry → EntryMeaning → Type 0
+EntryGives o earlier e given =
+    MatchOption (lexical_fault e) (SortGives o earlier (sort_of e) given)
+    (λ fault. given ≡ faulty fault)
 
--- What a text means: its records in order, or a fault by its code and line.
+-- What a text means: its records in order, or a fault and its line.
 pub data Meaning : Type 0 where
   records : List ResourceRecord → Meaning
-  fault_at : ℕ → ℕ → Meaning
+  fault_at : FileFault → ℕ → Meaning
 
-abbrev pub behind : List ResourceRecord → Meaning → Meaning
-behind rs (records more) = records (rs ++ more)
-behind rs (fault_at code line) = fault_at code line
+abbrev pub after : List ResourceRecord → Meaning → Meaning
+after rs (records more) = records (rs ++ more)
+after rs (fault_at fault line) = fault_at fault line
 
 -- the line on which an entry begins, counted from 1
-abbrev pub line_behind : List Entry → ℕ
-line_behind earlier = 1 + length (filter is_line_end (flat_map (λ (e : Entry). e.pieces) earlier))
+abbrev pub line_after : List Entry → ℕ
+line_after earlier = 1 + length (filter is_line_end (flat_map (λ (e : Entry). e.tokens) earlier))
 
 -- the first faulty entry decides
 abbrev pub EntriesMean : DomainName → List Entry → List Entry → Meaning → Type 0
 EntriesMean o earlier [] m = m ≡ records []
 EntriesMean o earlier (e ∷ es) m =
-    (answer : Answer) × EntryGives o earlier e answer
-    × elim answer [
-      | faulty code ↦ m ≡ fault_at code (line_behind earlier)
-      | gives rs ↦ (later : Meaning) × EntriesMean o (e ∷ earlier) es later × (m ≡ behind rs later)
+    (given : EntryMeaning) × EntryGives o earlier e given
+    × elim given [
+      | faulty fault ↦ m ≡ fault_at fault (line_after earlier)
+      | gives rs ↦ (later : Meaning) × EntriesMean o (e ∷ earlier) es later × (m ≡ after rs later)
     ]
+
+-- What octets mean after the entries before them. They are all that is left of a text, or a
+-- beginning of it, which is read as one that goes on.
+abbrev pub OctetsMean : DomainName → List Entry → Extent → Octets → Meaning → Type 0
+OctetsMean o earlier extent octets m =
+    (es : List Entry) × EntriesOf extent octets es × EntriesMean o earlier es m
 
 -- What a text means as the file of a zone with this origin (RFC 1035 section 5).
 abbrev pub Means : DomainName → Octets → Meaning → Type 0
-Means o text m = (es : List Entry) × Entries text es × EntriesMean o [] es m
+Means o text m = OctetsMean o [] (extent_of text) (take most_octets text) m

@@ -1,37 +1,64 @@
 -- What a reader learns here: which name a word of a zone file spells, and how a name is written.
-use Rattle.std.specs.Prelude.{◌≡◌, ◌≢◌, ℕ, ◌+◌, ◌-◌, ◌*◌, ◌/◌, ◌%◌, ◌<◌, ◌≤◌, ◌⊎◌, Bool, ◌==◌, if◌then◌else◌, [], ◌∷◌, ◌++◌, codes, IsTrue}
+use Rattle.std.specs.Prelude.{◌≡◌, ◌≢◌, ℕ, ◌+◌, ◌-◌, ◌*◌, ◌/◌, ◌%◌, ◌<◌, ◌≤◌, ◌⊎◌, Bool, ◌&&◌, ◌==◌, nat_le, nat_lt, if◌then◌else◌, [], ◌∷◌, ◌++◌, codes, IsTrue}
+use Rattle.std.specs.Prelude.{Option, None, Some}
 use Rattle.std.specs.List.{flat_map, list_any}
-use Rattle.std.specs.Char.{is_ascii_graphic, IsAsciiDigit, IsNotAsciiDigit}
+use Rattle.std.specs.Char.{is_ascii_graphic, is_ascii_digit, IsAsciiDigit, IsNotAsciiDigit}
 use Rattle.dns_spec.specs.Names.{Octets, DomainName, is_name}
 
 -- the number that three decimal digits spell
 abbrev pub three_digits_value : ℕ → ℕ → ℕ → ℕ
 three_digits_value a b c = 100 * (a - 48) + 10 * (b - 48) + (c - 48)
 
--- RFC 1035 5.1: an octet is spelled as itself, if it is no dot and no backslash; as `\X`, where X is no digit (and,
--- in this product, printable); or as `\DDD`, three decimal digits.
+-- RFC 1035 5.1: an octet is spelled as itself, if it is no dot and no backslash; as `\X`, where X
+-- is no digit (and, in this product, printable); or as `\DDD`, three decimal digits.
 abbrev pub SpellsOctet : Octets → ℕ → Type 0
 SpellsOctet (a ∷ []) x = (a ≡ x) × (a ≢ 46) × (a ≢ 92)
 SpellsOctet (e ∷ a ∷ []) x = (e ≡ 92) × (a ≡ x) × (32 ≤ a) × (a ≤ 126) × IsNotAsciiDigit a
 SpellsOctet (e ∷ a ∷ b ∷ c ∷ []) x =
-    (e ≡ 92) × IsAsciiDigit a × IsAsciiDigit b × IsAsciiDigit c × (three_digits_value a b c ≡ x) × (x < 256)
+    (e ≡ 92) × IsAsciiDigit a × IsAsciiDigit b × IsAsciiDigit c
+    × (three_digits_value a b c ≡ x) × (x < 256)
 SpellsOctet _ x = ⊥
+
+abbrev pub is_printable : ℕ → Bool
+is_printable o = nat_le 32 o && nat_le o 126
+
+-- three decimal digits up to 255 at the beginning of a text: the octet of that number, and the text
+-- after them
+abbrev pub digits_front : Octets → Option (ℕ × Octets)
+digits_front [] = None
+digits_front (a ∷ []) = None
+digits_front (a ∷ b ∷ []) = None
+digits_front (a ∷ b ∷ c ∷ text) =
+    if is_ascii_digit a && is_ascii_digit b && is_ascii_digit c
+    && nat_lt (three_digits_value a b c) 256
+    then Some (three_digits_value a b c, text) else None
+
+-- RFC 1035 5.1: after a backslash, the octet that its escape stands for, and the text after that.
+-- One that is printable and no digit stands for itself, three digits for the octet of their number;
+-- else the backslash begins no escape.
+abbrev pub escape_front : Octets → Option (ℕ × Octets)
+escape_front [] = None
+escape_front (a ∷ text) =
+    if is_ascii_digit a then digits_front (a ∷ text)
+    else if is_printable a then Some (a, text) else None
 
 -- the text spells the octets of a label, one after another, and then comes `rest`
 abbrev pub LabelThen : Octets → Octets → Octets → Type 0
 LabelThen text [] rest = text ≡ rest
 LabelThen text (x ∷ l) rest =
-    (first : Octets) × (others : Octets) × (text ≡ first ++ others) × SpellsOctet first x × LabelThen others l rest
+    (first : Octets) × (others : Octets) × (text ≡ first ++ others)
+    × SpellsOctet first x × LabelThen others l rest
 
--- RFC 1035 5.1: the text spells the first label, and either ends there, so that the labels of the origin follow; or
--- has a dot, and then spells the other labels. Nothing behind a dot is the root.
+-- RFC 1035 5.1: the text spells the first label, and either ends there, so that the labels of the
+-- origin follow; or has a dot, and then spells the other labels. Nothing after a dot is the root.
 abbrev pub TextSpells : DomainName → Octets → DomainName → Type 0
 TextSpells origin text [] = text ≡ []
 TextSpells origin text (l ∷ n) =
     (LabelThen text l [] × (n ≡ origin))
     ⊎ ((others : Octets) × LabelThen text l (46 ∷ others) × TextSpells origin others n)
 
--- RFC 1035 5.1: a word spells a name, relative to the origin. `@` alone is the origin, and `.` alone the root.
+-- RFC 1035 5.1: a word spells a name, relative to the origin. `@` alone is the origin, and `.`
+-- alone the root.
 pub record SpellsName (origin : DomainName) (word : Octets) (n : DomainName) : Type 0 where
   pub spelled : ((word ≡ codes "@") × (n ≡ origin))
       ⊎ (((word ≡ codes ".") × (n ≡ []))
@@ -47,7 +74,9 @@ three_digits x = (48 + x / 100) ∷ (48 + x / 10 % 10) ∷ (48 + x % 10) ∷ []
 
 -- RFC 1035 5.1: an octet of a label is written as itself, as `\X` or as `\DDD`
 unfoldable pub octet_text : ℕ → Octets
-octet_text x = if is_special x then 92 ∷ x ∷ [] else (if is_ascii_graphic x then x ∷ [] else 92 ∷ three_digits x)
+octet_text x =
+    if is_special x then 92 ∷ x ∷ []
+    else (if is_ascii_graphic x then x ∷ [] else 92 ∷ three_digits x)
 
 abbrev pub label_text : Octets → Octets
 label_text = flat_map octet_text

@@ -5,6 +5,7 @@ use Rattle.dns_spec.specs.Names.{Octets, DomainName, folded}
 use Rattle.dns_spec.specs.NameText.{label_text, name_text}
 use Rattle.dns_spec.specs.Records.{ZoneContents, zone_of, zone_serial}
 use Rattle.dns_spec.specs.Checks.{Fault, faults}
+use Rattle.dns_spec.specs.FileFaults.{FileFault, fault_code}
 use Rattle.dns_spec.specs.Meaning.{Meaning, records, fault_at, Means}
 use Rattle.dns_spec.specs.ZonePrinted.{zone_text}
 
@@ -25,8 +26,8 @@ abbrev pub two_digits : ℕ → Octets
 two_digits n = (48 + n / 10) ∷ (48 + n % 10) ∷ []
 
 -- a fault of the file, on the line where its entry begins
-abbrev pub line_report : ℕ → ℕ → Octets
-line_report code line = codes "line " ++ decimal line ++ codes ": R" ++ two_digits code ++ codes "\n"
+abbrev pub line_report : FileFault → ℕ → Octets
+line_report fault line = codes "line " ++ decimal line ++ codes ": R" ++ two_digits (fault_code fault) ++ codes "\n"
 
 -- a fault of the zone
 abbrev pub fault_report : Fault → Octets
@@ -60,7 +61,7 @@ zone_report options z = report_of_faults options z (faults z)
 
 abbrev pub report_of_meaning : Options → DomainName → Meaning → Report
 report_of_meaning options o (records rs) = zone_report options (zone_of o rs)
-report_of_meaning options o (fault_at code line) = failing options (line_report code line)
+report_of_meaning options o (fault_at fault line) = failing options (line_report fault line)
 
 -- What is reported of a text as the file of a zone with this origin.
 abbrev pub Reports : DomainName → Octets → Options → Report → Type 0

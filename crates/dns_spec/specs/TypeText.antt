@@ -1,4 +1,5 @@
--- What a reader learns here: which type a word of a zone file names, and by which word a type is written.
+-- What a reader learns here: which type a word of a zone file names, and by which word a type is
+-- written.
 use Rattle.std.specs.Prelude.{◌≡◌, ℕ, ◌<◌, ◌⊎◌, ◌++◌, map, codes, Option, Some}
 use Rattle.std.specs.Option.{option_map, unwrap_or}
 use Rattle.std.specs.List.{find}
@@ -13,7 +14,9 @@ text_in_lower_case = map to_ascii_lowercase
 -- RFC 1035 3.2.2 and 5.1: the type of the table that has the word as its name, in any case
 abbrev pub row_by_mnemonic : Octets → Option TypeRow
 row_by_mnemonic word =
-    find (λ (row : TypeRow). octets_equal (text_in_lower_case word) (text_in_lower_case row.mnemonic)) type_table
+    find
+    (λ (row : TypeRow). octets_equal (text_in_lower_case word) (text_in_lower_case row.mnemonic))
+    type_table
 
 abbrev pub type_by_mnemonic : Octets → Option ℕ
 type_by_mnemonic word = option_map (λ (row : TypeRow). row.number) (row_by_mnemonic word)
@@ -25,7 +28,8 @@ numbered_type t = codes "TYPE" ++ decimal t
 -- a word names a type of 16 bits: by the name in the table, or by its number, in any case
 abbrev pub NamesType : Octets → ℕ → Type 0
 NamesType word t =
-    (type_by_mnemonic word ≡ Some t) ⊎ ((t < 65536) × (text_in_lower_case word ≡ text_in_lower_case (numbered_type t)))
+    (type_by_mnemonic word ≡ Some t)
+    ⊎ ((t < 65536) × (text_in_lower_case word ≡ text_in_lower_case (numbered_type t)))
 
 -- RFC 3597 5: a type is written by its name, or by its number where it has none
 abbrev pub type_text : ℕ → Octets

@@ -12,7 +12,8 @@ use Rattle.dns_spec.specs.DataText.{Word, WordForm, number_word, ipv4_word, ipv6
 abbrev pub plain : Octets → Word
 plain text = record { raw = text; is_quoted = false }
 
--- RFC 1035 5.1: in quotation marks `"` and `\` have a backslash, and octets that are not printable are `\DDD`
+-- RFC 1035 5.1: in quotation marks `"` and `\` have a backslash, and octets that are not printable
+-- are `\DDD`
 abbrev pub string_octet_text : ℕ → Octets
 string_octet_text o =
     if o == 34 || o == 92 then 92 ∷ o ∷ []
@@ -42,7 +43,7 @@ hex_words (o ∷ d) = plain (hex_text (o ∷ d)) ∷ []
 abbrev pub unknown_words : Octets → List Word
 unknown_words d = plain (92 ∷ codes "#") ∷ plain (decimal (length d)) ∷ hex_words d
 
--- The word that data begins with, as it is written, and the data behind it.
+-- The word that data begins with, as it is written, and the data after it.
 abbrev pub name_front : Option (DomainName × Octets) → Word × Octets
 name_front None = (plain [], [])
 name_front (Some (n, d)) = (plain (name_text n), d)
@@ -59,7 +60,8 @@ abbrev pub form_words : List WordForm → Octets → List Word
 form_words [] d = []
 form_words (f ∷ fs) d = (word_front f d).0 ∷ form_words fs (word_front f d).1
 
--- how many character-strings stand in the data (RFC 1035 3.3), where k octets of the one at hand are still to come
+-- how many character-strings stand in the data (RFC 1035 3.3), where k octets of the one at hand
+-- are still to come
 abbrev pub string_count : ℕ → Octets → ℕ
 string_count k [] = 0
 string_count zero (k ∷ d) = 1 + string_count k d
@@ -69,8 +71,8 @@ abbrev pub words_by : Option (List WordForm) → Octets → List Word
 words_by None d = unknown_words d
 words_by (Some fs) d = form_words fs d
 
--- The words of data of a type, which is valid for it: those of its forms, or for a type without a mnemonic those of
--- the form for data of any type.
+-- The words of data of a type, which is valid for it: those of its forms, or for a type without a
+-- mnemonic those of the form for data of any type.
 abbrev pub written_words : ℕ → Octets → List Word
 written_words t d = words_by (forms_of t (string_count 0 d)) d
 
@@ -78,14 +80,19 @@ written_words t d = words_by (forms_of t (string_count 0 d)) d
 unfoldable pub data_text : ℕ → Octets → Octets
 data_text t d = join_with_byte 32 (map word_text (written_words t d))
 
--- RFC 1035 5.1: each octet of a text is one that p takes, or a printable one with a backslash before it; the flag says
--- whether one stands before the text
-abbrev pub is_unbroken : (ℕ → Bool) → Bool → Octets → Bool
-is_unbroken p escaped [] = not escaped
-is_unbroken p true (c ∷ text) = is_ascii_graphic c && is_unbroken p false text
-is_unbroken p false (c ∷ text) = (c == 92 || p c) && is_unbroken p (c == 92) text
+-- RFC 1035 5.1: a text is of octets that p takes, and of escapes: a backslash, which p doesn't
+-- take, with a printable octet
+abbrev pub is_unbroken : (ℕ → Bool) → Octets → Bool
+is_unbroken p [] = true
+is_unbroken p (c ∷ []) = p c
+is_unbroken p (c ∷ d ∷ text) =
+    elim (c == 92) [
+      | true ↦ is_ascii_graphic d && is_unbroken p text
+      | false ↦ p c && is_unbroken p (d ∷ text)
+    ]
 
--- RFC 1035 5.1: octets that by themselves neither end a word out of quotation marks nor escape another
+-- RFC 1035 5.1: octets that by themselves neither end a word out of quotation marks nor escape
+-- another
 abbrev pub is_bare : ℕ → Bool
 is_bare c = is_ascii_graphic c && not (list_any (λ s. c == s) (codes "\"();\\"))
 
@@ -96,5 +103,5 @@ is_quotable c = nat_le 32 c && nat_le c 126 && not (list_any (λ s. c == s) (cod
 -- the text of a word is one word, with nothing in it that ends it
 abbrev pub stands_alone : Word → Bool
 stands_alone w =
-    if w.is_quoted then is_unbroken is_quotable false w.raw
-    else nat_lt 0 (length w.raw) && is_unbroken is_bare false w.raw
+    if w.is_quoted then is_unbroken is_quotable w.raw
+    else nat_lt 0 (length w.raw) && is_unbroken is_bare w.raw

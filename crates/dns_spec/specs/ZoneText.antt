@@ -1,31 +1,30 @@
--- What a reader learns here: of which pieces the text of a zone file is made, which entries it has, and where it is at
--- fault before any word of it is read.
-use Rattle.std.specs.Prelude.{◌≡◌, ℕ, zero, suc, ◌+◌, Bool, true, false, ◌&&◌, ◌||◌, not, List, [], ◌∷◌, length, take, drop, nat_le, nat_lt, ◌==◌, if◌then◌else◌, codes, fold}
+-- What a reader learns here: of which tokens the text of a zone file is made, which entries it has,
+-- and where it is at fault before any word of it is read.
+use Rattle.std.specs.Prelude.{◌≡◌, ℕ, zero, suc, ◌+◌, ◌-◌, Bool, true, false, ◌&&◌, ◌||◌, not, List, [], ◌∷◌, length, take, drop, nat_lt, ◌==◌, if◌then◌else◌, codes, fold}
 use Rattle.std.specs.Prelude.{Option, None, Some}
 use Rattle.std.specs.Option.{unwrap_or}
 use Rattle.std.specs.Bool.{xor}
 use Rattle.std.specs.List.{list_any, prefix_len, filter_map}
 use Rattle.std.specs.Char.{is_ascii_graphic, is_ascii_digit}
 use Rattle.dns_spec.specs.Names.{Octets}
-use Rattle.dns_spec.specs.NameText.{three_digits_value}
+use Rattle.dns_spec.specs.NameText.{is_printable, escape_front}
 use Rattle.dns_spec.specs.DataText.{Word}
+use Rattle.dns_spec.specs.FileFaults.{FileFault, bad_octet, bad_escape, unended_string, bad_parenthesis, too_long}
 
 -- A text has at most so many octets (in this product).
 abbrev pub most_octets : ℕ
 most_octets = 16777216
 
--- RFC 1035 5.1: what a text is made of. A word and a quoted string keep their spelling, without the quotation marks.
-pub data Piece : Type 0 where
-  blank : Piece
-  comment : Piece
-  word : Octets → Piece
-  quoted : Octets → Piece
-  opening : Piece
-  closing : Piece
-  line_end : Piece
-
-abbrev pub is_printable : ℕ → Bool
-is_printable o = nat_le 32 o && nat_le o 126
+-- RFC 1035 5.1: what a text is made of. A word and a quoted string keep their spelling, without the
+-- quotation marks.
+pub data Token : Type 0 where
+  blank : Token
+  comment : Token
+  word : Octets → Token
+  quoted_string : Octets → Token
+  opening : Token
+  closing : Token
+  line_end : Token
 
 abbrev pub is_blank : ℕ → Bool
 is_blank o = o == 32 || o == 9
@@ -38,30 +37,21 @@ is_word_octet o = is_ascii_graphic o && not (list_any (λ s. o == s) (codes "\"(
 abbrev pub is_string_octet : ℕ → Bool
 is_string_octet o = (is_printable o || o == 9) && not (list_any (λ s. o == s) (codes "\"\\"))
 
--- RFC 1035 5.1: how many octets behind a backslash belong to its escape: one that is printable and no digit, or three
--- decimal digits up to 255. 0 where it begins no escape.
-abbrev pub digits_behind : Octets → ℕ
-digits_behind [] = 0
-digits_behind (a ∷ []) = 0
-digits_behind (a ∷ b ∷ []) = 0
-digits_behind (a ∷ b ∷ c ∷ text) =
-    if is_ascii_digit a && is_ascii_digit b && is_ascii_digit c && nat_lt (three_digits_value a b c) 256 then 3 else 0
+-- how many octets after the backslash at hand belong to its escape, 0 where it begins none
+abbrev pub escape_length : Octets → ℕ
+escape_length text = elim (escape_front text) [ None ↦ 0 | Some r ↦ length text - length r.1 ]
 
-abbrev pub escape_behind : Octets → ℕ
-escape_behind [] = 0
-escape_behind (a ∷ text) = if is_ascii_digit a then digits_behind (a ∷ text) else if is_printable a then 1 else 0
-
--- Behind the backslash at hand: whether it begins an escape, and then how many octets of that are still to come.
 abbrev pub escape_left : Octets → Option ℕ
-escape_left text = if escape_behind text == 0 then None else Some (escape_behind text)
+escape_left text = if escape_length text == 0 then None else Some (escape_length text)
 
--- Whether an octet goes on with a word or a string, which has such octets and escapes, and then how many octets of its escape
--- are still to come.
+-- Whether an octet goes on with a word or a string, which has such octets and escapes, and then how
+-- many octets of its escape are still to come.
 abbrev pub unit_left : (ℕ → Bool) → ℕ → Octets → Option ℕ
-unit_left by_itself o text = if o == 92 then escape_left text else if by_itself o then Some 0 else None
+unit_left by_itself o text =
+    if o == 92 then escape_left text else if by_itself o then Some 0 else None
 
--- how many octets of a word or a string stand at the beginning of a text, where k octets of the escape at hand are still to
--- come
+-- how many octets of a word or a string stand at the beginning of a text, where k octets of the
+-- escape at hand are still to come
 unfoldable pub run_length : (ℕ → Bool) → ℕ → Octets → ℕ
 run_length by_itself k [] = 0
 run_length by_itself (suc k) (o ∷ text) = 1 + run_length by_itself k text
@@ -76,28 +66,30 @@ word_length text = run_length is_word_octet 0 text
 abbrev pub string_length : Octets → ℕ
 string_length text = run_length is_string_octet 0 text
 
--- behind a quotation mark: the string up to the next one, and the text behind that
-abbrev pub closed : Octets → Octets → Option (Piece × Octets)
+-- after a quotation mark: the string up to the next one, and the text after that
+abbrev pub closed : Octets → Octets → Option (Token × Octets)
 closed raw [] = None
-closed raw (o ∷ text) = if o == 34 then Some (quoted raw, text) else None
+closed raw (o ∷ text) = if o == 34 then Some (quoted_string raw, text) else None
 
-abbrev pub quoted_front : Octets → Option (Piece × Octets)
+abbrev pub quoted_front : Octets → Option (Token × Octets)
 quoted_front text = closed (take (string_length text) text) (drop (string_length text) text)
 
-abbrev pub word_front : Octets → Option (Piece × Octets)
-word_front text =
-    if word_length text == 0 then None else Some (word (take (word_length text) text), drop (word_length text) text)
+abbrev pub unquoted_front : Octets → Option (Token × Octets)
+unquoted_front text =
+    if word_length text == 0 then None
+    else Some (word (take (word_length text) text), drop (word_length text) text)
 
--- behind CR
-abbrev pub line_feed_front : Octets → Option (Piece × Octets)
+-- after CR
+abbrev pub line_feed_front : Octets → Option (Token × Octets)
 line_feed_front [] = None
 line_feed_front (o ∷ text) = if o == 10 then Some (line_end, text) else None
 
--- RFC 1035 5.1: the piece that a text begins with, by its first octet, and the text behind it. A blank is the longest run of
--- spaces and tabs, a word the longest run of its octets; a comment goes on to the end of its line, whatever it holds.
-abbrev pub piece_front : Octets → Option (Piece × Octets)
-piece_front [] = None
-piece_front (o ∷ text) =
+-- RFC 1035 5.1: the token that a text begins with, by its first octet, and the text after it. A
+-- blank is the longest run of spaces and tabs, a word the longest run of its octets; a comment goes
+-- on to the end of its line, whatever it holds.
+abbrev pub token_front : Octets → Option (Token × Octets)
+token_front [] = None
+token_front (o ∷ text) =
     if is_blank o then Some (blank, drop (prefix_len is_blank text) text)
     else if o == 59 then Some (comment, drop (prefix_len (λ x. not (x == 10)) text) text)
     else if o == 34 then quoted_front text
@@ -105,48 +97,49 @@ piece_front (o ∷ text) =
     else if o == 41 then Some (closing, text)
     else if o == 10 then Some (line_end, text)
     else if o == 13 then line_feed_front text
-    else word_front (o ∷ text)
+    else unquoted_front (o ∷ text)
 
--- The text begins with these pieces, one behind the other, and then comes `rest`.
-abbrev pub PiecesThen : Octets → List Piece → Octets → Type 0
-PiecesThen text [] rest = text ≡ rest
-PiecesThen text (p ∷ ps) rest = (others : Octets) × (piece_front text ≡ Some (p, others)) × PiecesThen others ps rest
+-- The text begins with these tokens, one after the other, and then comes `rest`.
+abbrev pub TokensThen : Octets → List Token → Octets → Type 0
+TokensThen text [] rest = text ≡ rest
+TokensThen text (p ∷ ps) rest =
+    (others : Octets) × (token_front text ≡ Some (p, others)) × TokensThen others ps rest
 
 -- an open parenthesis, or a close one
-abbrev pub parenthesis : Piece → Option Bool
+abbrev pub parenthesis : Token → Option Bool
 parenthesis blank = None
 parenthesis comment = None
 parenthesis (word raw) = None
-parenthesis (quoted raw) = None
+parenthesis (quoted_string raw) = None
 parenthesis opening = Some true
 parenthesis closing = Some false
 parenthesis line_end = None
 
-abbrev pub is_line_end : Piece → Bool
+abbrev pub is_line_end : Token → Bool
 is_line_end blank = false
 is_line_end comment = false
 is_line_end (word raw) = false
-is_line_end (quoted raw) = false
+is_line_end (quoted_string raw) = false
 is_line_end opening = false
 is_line_end closing = false
 is_line_end line_end = true
 
--- whether a parenthesis is open behind a piece, where one was or was not before it
-abbrev pub open_behind : Bool → Piece → Bool
-open_behind was_open p = unwrap_or (parenthesis p) was_open
+-- whether a parenthesis is open after a token, where one was or was not before it
+abbrev pub open_after : Bool → Token → Bool
+open_after was_open p = unwrap_or (parenthesis p) was_open
 
-abbrev pub before_first : Piece → List (List Piece) → List (List Piece)
+abbrev pub before_first : Token → List (List Token) → List (List Token)
 before_first p [] = []
 before_first p (e ∷ es) = (p ∷ e) ∷ es
 
--- RFC 1035 5.1: parentheses group words over line ends, so an entry goes up to its first line end outside them. What is
--- left behind the last such line end is the last of these lists.
-abbrev pub cut_entries : Bool → List Piece → List (List Piece)
+-- RFC 1035 5.1: parentheses group words over line ends, so an entry goes up to its first line end
+-- outside them. What is left after the last such line end is the last of these lists.
+abbrev pub cut_entries : Bool → List Token → List (List Token)
 cut_entries is_open [] = [] ∷ []
 cut_entries is_open (p ∷ ps) =
     elim (is_line_end p && not is_open) [
       | true ↦ (p ∷ []) ∷ cut_entries false ps
-      | false ↦ before_first p (cut_entries (open_behind is_open p) ps)
+      | false ↦ before_first p (cut_entries (open_after is_open p) ps)
     ]
 
 -- parentheses do not nest (in this product), so that open ones and close ones take turns
@@ -154,11 +147,11 @@ abbrev pub take_turns : Bool → List Bool → Bool
 take_turns is_open [] = true
 take_turns is_open (opens ∷ marks) = xor opens is_open && take_turns opens marks
 
-abbrev pub parentheses : List Piece → List Bool
+abbrev pub parentheses : List Token → List Bool
 parentheses = filter_map parenthesis
 
-abbrev pub is_open_at_end : List Piece → Bool
-is_open_at_end ps = fold open_behind false ps
+abbrev pub is_open_at_end : List Token → Bool
+is_open_at_end ps = fold open_after false ps
 
 abbrev pub begins_line_end : Octets → Bool
 begins_line_end [] = false
@@ -177,77 +170,114 @@ abbrev pub begins_with : ℕ → Octets → Bool
 begins_with x [] = false
 begins_with x (o ∷ text) = o == x
 
--- The code of where a string, or a text that begins with no piece, can't go on. The octets from there are all that is
--- looked at; the text may go on behind them. `R15`: it goes on past its limit, and more than that would be needed. `R03`:
--- a string isn't ended on its line. `R02`: a backslash begins no escape. `R01`: an octet isn't allowed.
-abbrev pub stuck_code : Bool → Bool → Octets → ℕ
-stuck_code goes_on in_string place =
-    if goes_on && is_cut_short place then 15
-    else if in_string && (length place == 0 || begins_line_end place) then 3
-    else if begins_with 92 place then 2
-    else 1
+-- How much of a text is looked at: all of it, or a beginning, after which it goes on.
+pub data Extent : Type 0 where
+  whole_text : Extent
+  beginning : Extent
 
--- where the text can't go on: in a string, or where no piece begins
-abbrev pub broken_code : Bool → Octets → ℕ
-broken_code goes_on [] = 0
-broken_code goes_on (o ∷ text) =
-    if o == 34 then stuck_code goes_on true (drop (string_length text) text) else stuck_code goes_on false (o ∷ text)
+abbrev pub extent_by : Bool → Extent
+extent_by goes_on = if goes_on then beginning else whole_text
 
--- What ends an entry that isn't ended by a line end, if that is a fault: `R15`, the text goes on past its limit; `R04`, it
--- ends inside parentheses; or a piece that is wrong.
-abbrev pub end_code : Bool → Bool → Octets → Option ℕ
-end_code goes_on is_open [] = if goes_on then Some 15 else if is_open then Some 4 else None
-end_code goes_on is_open (o ∷ rest) = Some (broken_code goes_on (o ∷ rest))
+-- no more of a text than its limit is looked at
+abbrev pub extent_of : Octets → Extent
+extent_of text = extent_by (nat_lt most_octets (length text))
 
--- An entry: its pieces, and the code of what ends it, where that is a fault.
+-- Why no token begins: the text is over; or it can't go on, in a string or where a token should
+-- begin, with the octets from there on.
+pub data Stop : Type 0 where
+  text_over : Stop
+  in_string : Octets → Stop
+  in_token : Octets → Stop
+
+abbrev pub stop_at : Octets → Stop
+stop_at [] = text_over
+stop_at (o ∷ text) =
+    if o == 34 then in_string (drop (string_length text) text) else in_token (o ∷ text)
+
+-- `R02`: a backslash begins no escape. `R01`: an octet isn't allowed.
+abbrev pub token_fault : Octets → FileFault
+token_fault place = if begins_with 92 place then bad_escape else bad_octet
+
+-- `R03`: the string isn't ended on its line; or its next octets are wrong.
+abbrev pub string_fault : Octets → FileFault
+string_fault place =
+    if length place == 0 || begins_line_end place then unended_string else token_fault place
+
+-- `R15`: the text goes on past its limit, and more of it would be needed to tell.
+abbrev pub unless_cut_short : Extent → Octets → FileFault → FileFault
+unless_cut_short whole_text place fault = fault
+unless_cut_short beginning place fault = if is_cut_short place then too_long else fault
+
+-- The fault of an entry that isn't ended by a line end, inside parentheses or outside them: `R15`,
+-- the text goes on past its limit; `R04`, it ends inside parentheses; or a token that is wrong.
+abbrev pub stop_fault : Extent → Bool → Stop → Option FileFault
+stop_fault whole_text is_open text_over = if is_open then Some bad_parenthesis else None
+stop_fault beginning is_open text_over = Some too_long
+stop_fault extent is_open (in_string place) =
+    Some (unless_cut_short extent place (string_fault place))
+stop_fault extent is_open (in_token place) =
+    Some (unless_cut_short extent place (token_fault place))
+
+-- An entry: its tokens, and what is wrong with its end, if anything is.
 pub record Entry : Type 0 where
-  pub pieces : List Piece
-  pub end_fault : Option ℕ
+  pub tokens : List Token
+  pub end_fault : Option FileFault
 
-abbrev pub ended : List Piece → Entry
-ended ps = record { pieces = ps; end_fault = None }
+abbrev pub ended : List Token → Entry
+ended ps = record { tokens = ps; end_fault = None }
 
-abbrev pub with_end : Bool → Octets → List (List Piece) → List Entry
-with_end goes_on rest [] = []
-with_end goes_on rest (ps ∷ []) = record { pieces = ps; end_fault = end_code goes_on (is_open_at_end ps) rest } ∷ []
-with_end goes_on rest (ps ∷ qs ∷ es) = ended ps ∷ with_end goes_on rest (qs ∷ es)
+abbrev pub unended : Extent → Octets → List Token → Entry
+unended extent rest ps =
+    record { tokens = ps; end_fault = stop_fault extent (is_open_at_end ps) (stop_at rest) }
 
--- The entries of a text, of which no more than its limit is looked at: its pieces up to where none begins, cut into entries.
-pub record Entries (text : Octets) (es : List Entry) : Type 0 where
-  pub pieces : List Piece
+-- the last entry is ended by no line end, but by `rest`
+abbrev pub with_end : Extent → Octets → List (List Token) → List Entry
+with_end extent rest [] = []
+with_end extent rest (ps ∷ []) = unended extent rest ps ∷ []
+with_end extent rest (ps ∷ qs ∷ es) = ended ps ∷ with_end extent rest (qs ∷ es)
+
+-- The entries of octets that are all of a text, or a beginning of one: their tokens up to where
+-- none begins, cut into entries.
+pub record EntriesOf (extent : Extent) (octets : Octets) (es : List Entry) : Type 0 where
+  pub tokens : List Token
   pub rest : Octets
-  pub spelled : PiecesThen (take most_octets text) pieces rest
-  pub at_end : piece_front rest ≡ None
-  pub entries : es ≡ with_end (nat_lt most_octets (length text)) rest (cut_entries false pieces)
+  pub spelled : TokensThen octets tokens rest
+  pub at_end : token_front rest ≡ None
+  pub entries : es ≡ with_end extent rest (cut_entries false tokens)
 
--- The first fault of an entry by its place, before any word of it is read: `R04`, a parenthesis in a parenthesis or a close
--- one without an open one; else what ends it.
-abbrev pub lexical_fault : Entry → Option ℕ
-lexical_fault e = if take_turns false (parentheses e.pieces) then e.end_fault else Some 4
+-- The entries of a text, of which no more than its limit is looked at.
+abbrev pub Entries : Octets → List Entry → Type 0
+Entries text es = EntriesOf (extent_of text) (take most_octets text) es
 
-abbrev pub word_of : Piece → Option Word
+-- The first fault of an entry by its place, before any word of it is read: `R04`, a parenthesis in
+-- a parenthesis or a close one without an open one; else what ends it.
+abbrev pub lexical_fault : Entry → Option FileFault
+lexical_fault e =
+    if take_turns false (parentheses e.tokens) then e.end_fault else Some bad_parenthesis
+
+abbrev pub word_of : Token → Option Word
 word_of blank = None
 word_of comment = None
 word_of (word raw) = Some (record { raw = raw; is_quoted = false })
-word_of (quoted raw) = Some (record { raw = raw; is_quoted = true })
+word_of (quoted_string raw) = Some (record { raw = raw; is_quoted = true })
 word_of opening = None
 word_of closing = None
 word_of line_end = None
 
 -- the words of an entry, in order
 abbrev pub entry_words : Entry → List Word
-entry_words e = filter_map word_of e.pieces
+entry_words e = filter_map word_of e.tokens
 
-abbrev pub is_blank_piece : Piece → Bool
-is_blank_piece blank = true
-is_blank_piece comment = false
-is_blank_piece (word raw) = false
-is_blank_piece (quoted raw) = false
-is_blank_piece opening = false
-is_blank_piece closing = false
-is_blank_piece line_end = false
+abbrev pub is_blank_token : Token → Bool
+is_blank_token blank = true
+is_blank_token comment = false
+is_blank_token (word raw) = false
+is_blank_token (quoted_string raw) = false
+is_blank_token opening = false
+is_blank_token closing = false
+is_blank_token line_end = false
 
 -- whether the entry begins with a space or a tab
-abbrev pub begins_blank : List Piece → Bool
+abbrev pub begins_blank : List Token → Bool
 begins_blank [] = false
-begins_blank (p ∷ ps) = is_blank_piece p
+begins_blank (p ∷ ps) = is_blank_token p

@@ -1,8 +1,8 @@
 //! Laws of the text of names.
 
-ghost use Rattle.std.specs.Prelude.{◌≡◌, ◌<◌, All, IsTrue};
+ghost use Rattle.std.specs.Prelude.{◌≡◌, ℕ, ◌<◌, ◌++◌, ◌∷◌, ◌↔◌, Some, All, IsTrue};
 ghost use Rattle.dns_spec.specs.Names.{Octets, DomainName, is_name};
-ghost use Rattle.dns_spec.specs.NameText.{name_text, SpellsName};
+ghost use Rattle.dns_spec.specs.NameText.{name_text, SpellsName, SpellsOctet, escape_front};
 
 /// What is written for a name is read back as that name, whatever the origin (RFC 1035 5.1).
 pub fn written_name_is_read_back()
@@ -12,5 +12,13 @@ pub fn written_name_is_read_back()
 
 /// A word spells at most one name, relative to an origin.
 pub fn word_spells_one_name()
-    ensures { (origin : DomainName) (word : Octets) (n m : DomainName) → SpellsName origin word n → SpellsName origin word m → n ≡ m }
+    ensures { (origin : DomainName) (word : Octets) (n m : DomainName)
+        → SpellsName origin word n → SpellsName origin word m → n ≡ m }
+{}
+
+/// What the octets after a backslash stand for is the octet that they spell with it in a name, and
+/// nothing else is (RFC 1035 5.1).
+pub fn escape_stands_for_what_it_spells()
+    ensures { (text : Octets) (x : ℕ) (rest : Octets) → (escape_front text ≡ Some (x, rest))
+        ↔ ((e : Octets) × (text ≡ e ++ rest) × SpellsOctet (92 ∷ e) x) }
 {}

@@ -4,6 +4,7 @@ use Rattle.std.specs.Prelude.{IfErr}
 use Rattle.dns_spec.specs.Names.{Octets, DomainName, folded}
 use Rattle.dns_spec.specs.Records.{ResourceRecord, ZoneContents, records_equal, distinct, zone_of, ordered_zone}
 use Rattle.dns_spec.specs.Checks.{Fault, faults}
+use Rattle.dns_spec.specs.FileFaults.{FileFault}
 use Rattle.dns_spec.specs.Meaning.{Meaning, records, fault_at}
 use Rattle.dns_spec.specs.Report.{Options, Report, failing, passing, line_report, fault_report, report_of_faults, zone_report, report_of_meaning}
 use Rattle.dns_spec.proofs.FaultOrder.{folded_folded}
@@ -32,7 +33,7 @@ same_zone : (o : DomainName) (rs : List ResourceRecord) → zone_of (folded o) r
 same_zone o rs = ap (λ n. record { origin = n; records = distinct records_equal rs }) (folded_folded o)
 
 -- a fault of the file
-pub fault_checked : (known : Option Octets) (o p : DomainName) (options : Options) (code line : ℕ) (result : Result Bool Stop) (old new : Option Octets)
+pub fault_checked : (known : Option Octets) (o p : DomainName) (options : Options) (code : FileFault) (line : ℕ) (result : Result Bool Stop) (old new : Option Octets)
     → p ≡ folded o → GivesMeaning known p (fault_at code line)
     → WrittenAs (failing options (line_report code line)) result old new → CheckedAs known o options result old new
 fault_checked known o p options code line result old new e means written =

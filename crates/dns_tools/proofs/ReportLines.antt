@@ -3,6 +3,7 @@ use Rattle.std.proofs.Common.{◌≡◌, ℕ, suc, ◌+◌, ◌<◌, List, [], �
 use Rattle.std.proofs.Math.Seq.{drop-cons}
 use Rattle.dns_spec.specs.Names.{Octets}
 use Rattle.dns_spec.specs.NameText.{name_text}
+use Rattle.dns_spec.specs.FileFaults.{FileFault, fault_code}
 use Rattle.dns_spec.specs.Records.{ZoneContents, zone_serial}
 use Rattle.dns_spec.specs.Checks.{Fault}
 use Rattle.dns_spec.specs.Report.{two_digits, line_report, fault_report, bare_name_text, loaded_report}
@@ -14,9 +15,10 @@ three_parts_behind : (a b c d : Octets) → a ++ (b ++ (c ++ (d ++ []))) ≡ a +
 three_parts_behind a b c d = simp (append_assoc, append-nil)
 
 -- the line of a fault of the file
-pub line_parts : (line code : Octets) (l n : ℕ) → line ≡ decimal l → code ≡ two_digits n
-    → codes "line " ++ (line ++ (codes ": R" ++ (code ++ (codes "\n" ++ [])))) ≡ line_report n l
-line_parts line code l n e f = rw (e, f) (five_parts (codes "line ") (decimal l) (codes ": R") (two_digits n) (codes "\n"))
+pub line_parts : (line code : Octets) (l : ℕ) (fault : FileFault) → line ≡ decimal l → code ≡ two_digits (fault_code fault)
+    → codes "line " ++ (line ++ (codes ": R" ++ (code ++ (codes "\n" ++ [])))) ≡ line_report fault l
+line_parts line code l fault e f =
+    rw (e, f) (five_parts (codes "line ") (decimal l) (codes ": R") (two_digits (fault_code fault)) (codes "\n"))
 
 -- the line of a fault of the zone, behind its owner
 pub fault_parts : (code : Octets) (f : Fault) → code ≡ two_digits f.code

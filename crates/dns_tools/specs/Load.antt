@@ -8,7 +8,7 @@ use Rattle.dns_master.specs.SourceForm.{GivesMeaning}
 use Rattle.dns_master.specs.declared.fault.ReadCode.{ReadCode}
 use Rattle.dns_master.specs.declared.fault.ReadCode.TheVariants.{SourceFailed as FileFailed, NoMemory as NoMemoryForFile}
 use Rattle.dns_master.specs.declared.fault.ReadFault.{ReadFault}
-use Rattle.dns_master.specs.Codes.{code_number, failures_after_read}
+use Rattle.dns_master.specs.Codes.{code_number, fault_of, failures_after_read}
 use Rattle.dns_tools.specs.declared.load.LoadFault.{LoadFault}
 use Rattle.dns_tools.specs.declared.load.LoadFault.TheVariants.{Read, Refused, NoMemory as NoMemoryForZone}
 use Rattle.dns_tools.specs.declared.fault.FaultWord.{FaultWord}
@@ -26,7 +26,7 @@ LoadedAs known o (Ok zone) =
     (rs : List ResourceRecord) × GivesMeaning known (folded o) (records rs) × (is_unserved o rs ≡ false) × (zone ≡ listed_zone o rs)
 LoadedAs known o (Err Refused) = (rs : List ResourceRecord) × GivesMeaning known (folded o) (records rs) × (is_unserved o rs ≡ true)
 LoadedAs known o (Err (Read fault)) =
-    fault.code ≢ FileFailed → fault.code ≢ NoMemoryForFile → GivesMeaning known (folded o) (fault_at (code_number fault.code) fault.line)
+    fault.code ≢ FileFailed → fault.code ≢ NoMemoryForFile → GivesMeaning known (folded o) (fault_at (fault_of fault.code) fault.line)
 LoadedAs known o (Err NoMemoryForZone) = ⊤
 
 -- what is said of a fault of the file on a line, by its code

@@ -2,7 +2,7 @@
 ghost use Rattle.std.specs.Prelude.{◌≡◌, ◌<◌, ◌-◌, ◌^◌, ◌&&◌, not};
 ghost use Rattle.std.specs.List.{flat_map};
 ghost use Rattle.dns_spec.specs.Report.{line_report, fault_report, failing, passing};
-ghost use Rattle.dns_master.specs.Codes.{code_number};
+ghost use Rattle.dns_master.specs.Codes.{fault_of};
 ghost use Rattle.dns_tools.specs.Checked.{options_of, WrittenAs, CheckedAs};
 ghost use Rattle.dns_tools.specs.Stops.{source_failures_after, sink_failures_after};
 
@@ -69,7 +69,7 @@ fn report_read_fault<W: Write>(
     sink: &mut Tally<W>,
 ) -> Result<bool, Stop>
     requires { sink.old.failures < 2 ^ 64 - 1 }
-    ensures written { WrittenAs (failing (options_of flags) (line_report (code_number fault.now.code) fault.now.line)) result (W.contents sink.old.device) (W.contents sink.new.device) }
+    ensures written { WrittenAs (failing (options_of flags) (line_report (fault_of fault.now.code) fault.now.line)) result (W.contents sink.old.device) (W.contents sink.new.device) }
     ensures sink { sink.new.failures ≡ sink_failures_after sink.old.failures result }
 {
     if !is_silent(flags) {

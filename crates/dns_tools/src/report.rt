@@ -4,7 +4,7 @@ ghost use Rattle.std.specs.List.{flat_map};
 ghost use Rattle.std.specs.Io.KnownBytes.{Appends};
 ghost use Rattle.dns_spec.specs.Report.{two_digits, line_report, fault_report, loaded_report};
 ghost use Rattle.dns_name.specs.Counted.{failures_after, AppendsBeginning};
-ghost use Rattle.dns_master.specs.Codes.{code_number};
+ghost use Rattle.dns_master.specs.Codes.{fault_of};
 
 use dns_master::ReadFault;
 use dns_name::{SinkFailed, Tally};
@@ -18,8 +18,8 @@ pub(crate) fn write_read_fault<W: Write>(
     sink: &mut Tally<W>,
 ) -> Result<(), SinkFailed>
     requires { sink.old.failures < 2 ^ 64 - 1 }
-    ensures ok { OnOk result (Appends (W.contents sink.old.device) (W.contents sink.new.device) (line_report (code_number fault.now.code) fault.now.line)) }
-    ensures err { OnErr result (AppendsBeginning (W.contents sink.old.device) (W.contents sink.new.device) (line_report (code_number fault.now.code) fault.now.line)) }
+    ensures ok { OnOk result (Appends (W.contents sink.old.device) (W.contents sink.new.device) (line_report (fault_of fault.now.code) fault.now.line)) }
+    ensures err { OnErr result (AppendsBeginning (W.contents sink.old.device) (W.contents sink.new.device) (line_report (fault_of fault.now.code) fault.now.line)) }
     ensures counted { sink.new.failures ≡ failures_after sink.old.failures result }
 {
     let mut digits = Buffer::new();

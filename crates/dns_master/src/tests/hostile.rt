@@ -6,7 +6,7 @@ use dns_name::{Name, Tally};
 use std::alloc::Global;
 use std::test::Fail;
 
-// A beginning, and what is repeated behind it so often; then the fault.
+// A beginning, and what is repeated after it so often; then the fault.
 type Hostile<'a> = (&'a [u8], &'a [u8], usize, (u8, u32));
 
 const FILES: [Hostile<'static>; 29] = [
@@ -47,7 +47,7 @@ fn files_that_are_written_to_do_harm(rt: HostRuntime) -> Result<(), Fail> {
         let mut text = repeated(rt.alloc(), begin, 1)?;
         text.extend_from_slice(repeated(rt.alloc(), piece, times)?.as_slice())?;
         let told = fault(rt.alloc(), text.as_slice())?;
-        assert_eq!(rt; told, wanted, "at {piece:?} behind {begin:?}");
+        assert_eq!(rt; told, wanted, "at {piece:?} after {begin:?}");
     }
     Ok(())
 }

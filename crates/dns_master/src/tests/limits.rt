@@ -8,7 +8,7 @@ const MOST_OCTETS: usize = 16_777_216;
 
 const RECORD: &[u8] = b"a A 192.0.2.1\n";
 
-// The last octets up to the limit, on the second line; then those behind it, and the fault.
+// The last octets up to the limit, on the second line; then those after it, and the fault.
 type Limit<'a> = (&'a [u8], &'a [u8], (u8, u32));
 
 const LIMITS: [Limit<'static>; 33] = [
@@ -93,7 +93,7 @@ fn records_and(alloc: Global, last: &[u8]) -> Result<(u8, u32), Fail> {
 }
 
 #[test]
-fn what_stands_behind_100000_records(rt: HostRuntime) -> Result<(), Fail> {
+fn what_stands_after_100000_records(rt: HostRuntime) -> Result<(), Fail> {
     let rows: [Row<'_>; 11] = [
         (b"", (0, 0)),
         (b"\n; a A 192.0.2.1\n$TTL 1\n$ORIGIN .\n", (0, 0)),

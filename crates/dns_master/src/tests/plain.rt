@@ -4,5 +4,5 @@
 //! octets in a label and 256 in all, since its texts are short.
 
 mod judge;
-mod pieces;
 mod sweep;
+mod tokens;

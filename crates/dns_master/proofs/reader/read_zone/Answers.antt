@@ -1,7 +1,7 @@
 use Rattle.std.proofs.Common.{rules, ◌≡◌, ◌≢◌, [], length, take, nat_lt, ap, ◌∙◌, min}
 use Rattle.std.proofs.lemmas.List.{take_min}
 use Rattle.dns_spec.specs.Meaning.{Meaning, records, fault_at}
-use Rattle.dns_master.specs.Codes.{code_number}
+use Rattle.dns_master.specs.Codes.{fault_of}
 use Rattle.dns_master.specs.EntryForm.{TextMeans}
 use Rattle.dns_master.specs.SourceForm.{GivesMeaning}
 use Rattle.dns_master.specs.declared.fault.ReadFault.{ReadFault}
@@ -34,7 +34,7 @@ returns-clause-fault g c =
     → GivesMeaning (g.R.Read.remaining c.args.source.now.device) c.args.origin.now m =
     λ m h. known-means (g.R.Read.remaining c.args.source.now.device) c.args.origin.now c.in-Ok.text.items c.split_at.result.0.now _ m
     c.in-Ok.ensures.ok front (ap (nat_lt 16777216) size') h in
-    let all : (f : ReadFault) → (f.code ≢ NoMemory → TextMeans c.args.origin.now [] (nat_lt 16777216 c.len-goes_on.result) c.split_at.result.0.now (fault_at (code_number f.code) f.line))
-    → f.code ≢ SourceFailed → f.code ≢ NoMemory → GivesMeaning (g.R.Read.remaining c.args.source.now.device) c.args.origin.now (fault_at (code_number f.code) f.line) =
-    λ f h source memory. told (fault_at (code_number f.code) f.line) (h memory) in
+    let all : (f : ReadFault) → (f.code ≢ NoMemory → TextMeans c.args.origin.now [] (nat_lt 16777216 c.len-goes_on.result) c.split_at.result.0.now (fault_at (fault_of f.code) f.line))
+    → f.code ≢ SourceFailed → f.code ≢ NoMemory → GivesMeaning (g.R.Read.remaining c.args.source.now.device) c.args.origin.now (fault_at (fault_of f.code) f.line) =
+    λ f h source memory. told (fault_at (fault_of f.code) f.line) (h memory) in
     IfErr-map c.read_entries.result all c.read_entries.ensures.err

@@ -1,6 +1,6 @@
 //! What the words of an entry say.
 
-use super::pieces::{PlainWord, Stop};
+use super::tokens::{PlainWord, Stop};
 use std::alloc::{AllocError, Global};
 
 /// A record of type A: the octets of its owner, its TTL and its address.
@@ -161,7 +161,7 @@ impl Known {
     }
 }
 
-// Puts a label behind its length; false where it is empty.
+// Puts a label after its length; false where it is empty.
 fn end_label(octets: &mut Vec<u8>, label: &mut Vec<u8>) -> Result<bool, Stop> {
     octets.push(u8::try_from(label.len()).unwrap_or(0))?;
     octets.extend_from_slice(label.as_slice())?;

@@ -2,14 +2,14 @@
 
 use super::super::reading::example;
 use super::judge::Meant;
-use super::pieces::{Stop, plain_meaning};
+use super::tokens::{Stop, plain_meaning};
 use crate::{ReadFault, Record, read_zone};
 use dns_name::{Name, Tally};
 use std::alloc::{AllocError, Global};
 use std::process::Abort;
 use std::test::Fail;
 
-// Single octets: what pieces begin and end with.
+// Single octets: what tokens begin and end with.
 const OCTETS: [&[u8]; 10] = [
     b" ", b"\n", b"(", b")", b"\"", b";", b"\\", b"1", b"a", b"\r",
 ];

@@ -1,6 +1,6 @@
 use Rattle.std.proofs.Common.{rules, ap, ◌∙◌}
 use Rattle.dns_spec.specs.Records.{ZoneContents}
-use Rattle.dns_master.specs.Codes.{code_number}
+use Rattle.dns_master.specs.Codes.{fault_of}
 use Rattle.dns_zone.specs.declared.fault.BuildFault.TheVariants.{Faults}
 use Rattle.dns_tools.specs.Checked.{options_of}
 use Rattle.dns_tools.proofs.CheckedZone.{fault_checked, zone_checked, told_as, faults_checked}
@@ -8,7 +8,7 @@ use Rattle.dns_tools.proofs.check.check_zone.Goals as goal
 
 pub returns-in_default-clause-report : goal.returns-in_default-clause-report
 returns-in_default-clause-report g c =
-    fault_checked _ c.args.origin.now _ (options_of c.args.flags) (code_number c.in-Err.fault.code) c.in-Err.fault.line _ _ _ c.fold-origin.ensures
+    fault_checked _ c.args.origin.now _ (options_of c.args.flags) (fault_of c.in-Err.fault.code) c.in-Err.fault.line _ _ _ c.fold-origin.ensures
     (c.in-Err.ensures.fault c.in_default.not-SourceFailed c.in_default.not-NoMemory) c.report_read_fault.ensures.written
 
 pub returns-in-Ok-build-clause-report : goal.returns-in-Ok-build-clause-report

@@ -1,6 +1,6 @@
 use Rattle.std.proofs.Common.{◌≡◌, ◌+◌, length}
 use Rattle.dns_spec.specs.ZoneText.{run_length}
-use Rattle.dns_master.specs.PieceForm.{by_itself}
+use Rattle.dns_master.specs.TokenForm.{by_itself}
 use Rattle.dns_master.proofs.run.Run.length.Given as goal
 
 -- the octets so far, and those of the run that the rest begins with, are those of the whole

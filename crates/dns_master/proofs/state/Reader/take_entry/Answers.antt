@@ -1,7 +1,7 @@
 use Rattle.std.proofs.Common.{◌≡◌, ◌+◌, subst, sym, ap, ◌∙◌}
 use Rattle.dns_spec.specs.ZoneText.{ended}
 use Rattle.dns_spec.specs.Meaning.{Sort, SortGives, sort_of, sort_by_words, faulty}
-use Rattle.dns_master.specs.Codes.{code_number}
+use Rattle.dns_master.specs.Codes.{fault_of}
 use Rattle.dns_master.specs.EntryForm.{EntryRead, outcome_of}
 use Rattle.dns_master.proofs.Told.{fault_told}
 use Rattle.dns_master.proofs.TextSteps.{wrong-faulty, same_sort, entry-means, entry-faulty, entry-ends_faulty, entry-line, entry-shorter}
@@ -19,30 +19,30 @@ returns-in_err-check_end-clause-err c =
     let read = subst (λ before. EntryRead c.args.text.now before c.read_entry.new.words.items c.in_ok-end.end.lines (outcome_of c.in_ok-end.end.is_ended c.in_ok-end.end.is_open c.in_ok-end.end.rest.now))
     c.clear.ensures.items c.in_ok-end.ensures.ok in
     entry-ends_faulty o earlier c.args.goes_on c.args.text.now c.in_ok-end.end.rest.now _ _ c.in_ok-end.end.is_ended c.in_ok-end.end.is_open read
-    c.in_err-check_end.ensures.err.0 (code_number c.in_err-check_end.field-0.0) c.in_err-check_end.ensures.err.1)
+    c.in_err-check_end.ensures.err.0 (fault_of c.in_err-check_end.field-0.0) c.in_err-check_end.ensures.err.1)
 
 pub returns-in_err-take_words-clause-err : goal.returns-in_err-take_words-clause-err
 returns-in_err-take_words-clause-err c =
     fault_told c.from_residual-in_err-take_words.result c.in_err-take_words.field-0.0 _ c.from_residual-in_err-take_words.ensures.1 (λ other o earlier known.
     let read = subst (λ before. EntryRead c.args.text.now before c.read_entry.new.words.items c.in_ok-end.end.lines (outcome_of c.in_ok-end.end.is_ended c.in_ok-end.end.is_open c.in_ok-end.end.rest.now))
     c.clear.ensures.items c.in_ok-end.ensures.ok in
-    let sort : sort_of (ended read.pieces) ≡ sort_by_words c.begins_blank.result c.as_slice.result.now =
-    same_sort c.args.text.now read.pieces c.read_entry.new.words.items _ read.reads read.words
+    let sort : sort_of (ended read.tokens) ≡ sort_by_words c.begins_blank.result c.as_slice.result.now =
+    same_sort c.args.text.now read.tokens c.read_entry.new.words.items _ read.reads read.words
     ∙ ap (λ b. sort_by_words b c.read_entry.new.words.items) (sym c.begins_blank.ensures) ∙ ap (sort_by_words c.begins_blank.result) (sym c.as_slice.ensures.value) in
     entry-faulty o earlier c.args.goes_on c.args.text.now c.in_ok-end.end.rest.now _ _ c.in_ok-end.end.is_ended c.in_ok-end.end.is_open read
-    c.in_ok-check_end.ensures.ok (code_number c.in_err-take_words.field-0.0)
-    (subst (λ (s : Sort). SortGives o earlier s (faulty (code_number c.in_err-take_words.field-0.0))) (sym sort) (c.in_err-take_words.ensures.err other o earlier known)))
+    c.in_ok-check_end.ensures.ok (fault_of c.in_err-take_words.field-0.0)
+    (subst (λ (s : Sort). SortGives o earlier s (faulty (fault_of c.in_err-take_words.field-0.0))) (sym sort) (c.in_err-take_words.ensures.err other o earlier known)))
 
 pub returns-clause-ok : goal.returns-clause-ok
 returns-clause-ok c = λ o earlier known line.
     let read = subst (λ before. EntryRead c.args.text.now before c.read_entry.new.words.items c.in_ok-end.end.lines (outcome_of c.in_ok-end.end.is_ended c.in_ok-end.end.is_open c.in_ok-end.end.rest.now))
     c.clear.ensures.items c.in_ok-end.ensures.ok in
-    let sort : sort_of (ended read.pieces) ≡ sort_by_words c.begins_blank.result c.as_slice.result.now =
-    same_sort c.args.text.now read.pieces c.read_entry.new.words.items _ read.reads read.words
+    let sort : sort_of (ended read.tokens) ≡ sort_by_words c.begins_blank.result c.as_slice.result.now =
+    same_sort c.args.text.now read.tokens c.read_entry.new.words.items _ read.reads read.words
     ∙ ap (λ b. sort_by_words b c.read_entry.new.words.items) (sym c.begins_blank.ensures) ∙ ap (sort_by_words c.begins_blank.result) (sym c.as_slice.ensures.value) in
-    let done = c.in_ok-take_words.ensures.ok o earlier (ended read.pieces) known sort in
+    let done = c.in_ok-take_words.ensures.ok o earlier (ended read.tokens) known sort in
     record {
-      entry = ended read.pieces;
+      entry = ended read.tokens;
       taken = done.taken;
       known = done.known;
       line_is = ap (λ n. n + c.in_ok-end.end.lines) (c.in_ok-take_words.ensures.line ∙ line)

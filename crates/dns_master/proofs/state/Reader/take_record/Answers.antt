@@ -3,8 +3,9 @@ use Rattle.std.specs.Option.{is_some}
 use Rattle.dns_spec.specs.Names.{DomainName}
 use Rattle.dns_spec.specs.ZoneText.{Entry}
 use Rattle.dns_spec.specs.Records.{ResourceRecord}
+use Rattle.dns_spec.specs.FileFaults.{no_owner}
 use Rattle.dns_spec.specs.Meaning.{Fields, RecordGives, TtlSays, fields, faulty, gives}
-use Rattle.dns_master.specs.Codes.{code_number}
+use Rattle.dns_master.specs.Codes.{fault_of}
 use Rattle.dns_master.specs.ReaderForm.{Knows, RecordTaken}
 use Rattle.dns_master.proofs.Told.{fault_told, OnOk-map}
 use Rattle.dns_master.proofs.RecordSteps.{last-stated, copied-some}
@@ -12,7 +13,7 @@ use Rattle.dns_master.proofs.state.Reader.take_record.Goals as goal
 
 pub returns-in_err-record-clause-err : goal.returns-in_err-record-clause-err
 returns-in_err-record-clause-err c = fault_told c.from_residual.result c.in_err-record.field-0.0 _ c.from_residual.ensures.1 (λ other o earlier known.
-    subst (λ (f : Fields). RecordGives o earlier 8 (λ n. n ≡ c.args.owner) f (faulty (code_number c.in_err-record.field-0.0))) c.of-fields.ensures
+    subst (λ (f : Fields). RecordGives o earlier no_owner (λ n. n ≡ c.args.owner) f (faulty (fault_of c.in_err-record.field-0.0))) c.of-fields.ensures
     (c.in_err-record.ensures.err other o earlier known))
 
 pub returns-clause-ok : goal.returns-clause-ok
@@ -40,7 +41,7 @@ returns-clause-ok c =
     }) =
     λ grown o earlier known. record {
       taken = c.in_ok-record.record;
-      given = subst (λ (f : Fields). RecordGives o earlier 8 (λ n. n ≡ c.args.owner) f (gives (c.in_ok-record.record ∷ []))) c.of-fields.ensures
+      given = subst (λ (f : Fields). RecordGives o earlier no_owner (λ n. n ≡ c.args.owner) f (gives (c.in_ok-record.record ∷ []))) c.of-fields.ensures
           (c.in_ok-record.ensures.ok o earlier known);
       owner_is = c.in_ok-record.ensures.owner;
       origin_is = refl;

@@ -4,8 +4,9 @@ use Rattle.std.specs.Option.{option_copied, option_map}
 use Rattle.dns_spec.specs.Names.{DomainName, folded}
 use Rattle.dns_spec.specs.Records.{ResourceRecord}
 use Rattle.dns_spec.specs.ZoneText.{Entry}
+use Rattle.dns_spec.specs.FileFaults.{no_owner}
 use Rattle.dns_spec.specs.Meaning.{RecordGives, faulty, OwnerBefore, unowned, sort_of, fields}
-use Rattle.dns_master.specs.Codes.{code_number}
+use Rattle.dns_master.specs.Codes.{fault_of}
 use Rattle.dns_master.specs.declared.fault.ReadCode.{ReadCode}
 use Rattle.dns_master.specs.declared.fault.ReadCode.TheVariants.{NoMemory}
 use Rattle.dns_master.specs.RecordForm.{LastOwner}
@@ -42,10 +43,10 @@ returns-clause-ok c =
 pub returns-clause-err : goal.returns-clause-err
 returns-clause-err c =
     let all : (code : ReadCode) → (code ≢ NoMemory → (o : DomainName) (earlier : List Entry) → Knows o earlier c.args.self.now
-    → RecordGives o earlier 8 (λ n. n ≡ c.copied-owner.result) (fields c.args.words.now) (faulty (code_number code)))
+    → RecordGives o earlier no_owner (λ n. n ≡ c.copied-owner.result) (fields c.args.words.now) (faulty (fault_of code)))
     → code ≢ NoMemory → (o : DomainName) (earlier : List Entry) → Knows o earlier c.args.self.now
-    → RecordGives o earlier 8 (OwnerBefore o earlier) (fields c.args.words.now) (faulty (code_number code)) =
+    → RecordGives o earlier no_owner (OwnerBefore o earlier) (fields c.args.words.now) (faulty (fault_of code)) =
     λ code told other o earlier known.
     let last = subst (LastOwner o earlier) (copied_is c) known.owner_is in
-    given-owner o earlier (OwnerBefore o earlier) (fields c.args.words.now) last.0 c.copied-owner.result last.1 last.2 (low c) 8 _ (told other o earlier known) in
+    given-owner o earlier (OwnerBefore o earlier) (fields c.args.words.now) last.0 c.copied-owner.result last.1 last.2 (low c) no_owner _ (told other o earlier known) in
     IfErr-map _ all c.take_record.ensures.err

@@ -1,4 +1,4 @@
-//! The pieces of a text, octet by octet, and its entries.
+//! The tokens of a text, octet by octet, and its entries.
 
 use super::judge::{Known, Meant};
 use std::alloc::{AllocError, AllocFailed, Global};
@@ -33,16 +33,16 @@ impl From<AllocError> for Stop {
 // Where the reading stands.
 #[derive(Clone, Copy, PartialEq, Eq)]
 enum Place {
-    // Between pieces.
+    // Between tokens.
     Between,
     InWord,
     InString,
     InComment,
-    // Behind a carriage return: whether in a string.
+    // After a carriage return: whether in a string.
     Return(bool),
-    // Behind a backslash: whether in a string.
+    // After a backslash: whether in a string.
     Backslash(bool),
-    // Behind one digit or two of an escape, which say this number: whether in a string, and how many are still to come.
+    // After one digit or two of an escape, which say this number: whether in a string, and how many are still to come.
     Digits(bool, u32, u32),
 }
 
@@ -113,7 +113,7 @@ impl Lexer {
         }
     }
 
-    // Between pieces each octet begins one.
+    // Between tokens each octet begins one.
     fn between(&mut self, octet: u8) -> Result<Result<(), u8>, Stop> {
         match octet {
             b' ' | b'\t' => {}
@@ -171,7 +171,7 @@ impl Lexer {
         Ok(())
     }
 
-    // Behind a backslash.
+    // After a backslash.
     fn escape(&mut self, in_string: bool, octet: u8) -> Result<Result<(), u8>, Stop> {
         match octet {
             b'0'..=b'9' => {
@@ -187,7 +187,7 @@ impl Lexer {
         Ok(Ok(()))
     }
 
-    // Behind the first digit of an escape.
+    // After the first digit of an escape.
     fn digit(
         &mut self,
         in_string: bool,

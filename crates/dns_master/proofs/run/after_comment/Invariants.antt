@@ -1,8 +1,8 @@
 use Rattle.std.proofs.Common.{◌≡◌, ◌==◌, not, length, drop}
 use Rattle.std.specs.List.{prefix_len}
-use Rattle.dns_master.proofs.run.behind_comment.Given as goal
+use Rattle.dns_master.proofs.run.after_comment.Given as goal
 
--- what is behind the rest's octets is what is behind those of the whole
+-- what is after the rest's octets is what is after those of the whole
 abbrev pub invariant-octets : goal.invariant-octets
 invariant-octets l = drop (prefix_len (λ x. not (x == 10)) l.rest) l.rest ≡ drop (prefix_len (λ x. not (x == 10)) l.text) l.text
 

@@ -1,17 +1,17 @@
--- Every text is made of pieces, up to a place where none begins.
+-- Every text is made of tokens, up to a place where none begins.
 use Rattle.std.proofs.Common.{◌≡◌, ℕ, zero, suc, ◌-◌, ◌<◌, Bool, true, false, not, List, [], ◌∷◌, length, drop, take, refl, sym, subst, arith, Option, Some, None, ◌==◌}
 use Rattle.std.specs.Prelude.{⊤, if◌then◌else◌, MatchOption}
 use Rattle.std.proofs.lemmas.List.{length-drop}
 use Rattle.std.proofs.lemmas.Bool.{eqb-true, false_from_ne_true}
 use Rattle.std.specs.List.{prefix_len}
 use Rattle.dns_spec.specs.Names.{Octets}
-use Rattle.dns_spec.specs.ZoneText.{Piece, blank, comment, word, quoted, opening, closing, line_end, is_blank, string_length, word_length, closed, quoted_front, line_feed_front, piece_front, PiecesThen}
+use Rattle.dns_spec.specs.ZoneText.{Token, blank, comment, word, quoted_string, opening, closing, line_end, is_blank, string_length, word_length, closed, quoted_front, line_feed_front, token_front, TokensThen}
 
--- what comes behind the piece is shorter than so many octets
-Shorter : ℕ → Option (Piece × Octets) → Type 0
+-- what comes after the token is shorter than so many octets
+Shorter : ℕ → Option (Token × Octets) → Type 0
 Shorter n front = MatchOption front ⊤ (λ r. length r.1 < n)
 
-either : (b : Bool) (n : ℕ) (x y : Option (Piece × Octets)) → Shorter n x → Shorter n y → Shorter n (if b then x else y)
+either : (b : Bool) (n : ℕ) (x y : Option (Token × Octets)) → Shorter n x → Shorter n y → Shorter n (if b then x else y)
 unfolding Shorter
 either true n x y hx hy = hx
 either false n x y hx hy = hy
@@ -22,7 +22,7 @@ dropped k n text h = let e : length (drop k text) ≡ length text - k = length-d
 closed-shorter : (n : ℕ) (raw text : Octets) → length text < n → Shorter n (closed raw text)
 unfolding Shorter
 closed-shorter n raw [] h = tt
-closed-shorter n raw (o ∷ text) h = either (o == 34) n (Some (quoted raw, text)) None (omega (arith, h)) tt
+closed-shorter n raw (o ∷ text) h = either (o == 34) n (Some (quoted_string raw, text)) None (omega (arith, h)) tt
 
 line_feed-shorter : (n : ℕ) (text : Octets) → length text < n → Shorter n (line_feed_front text)
 unfolding Shorter
@@ -38,7 +38,7 @@ unfolding Shorter
 word-shorter zero o text = tt
 word-shorter (suc k) o text = rw (not_zero k) (dropped k (length (o ∷ text)) text (omega arith))
 
-shorter : (text : Octets) → Shorter (length text) (piece_front text)
+shorter : (text : Octets) → Shorter (length text) (token_front text)
 unfolding Shorter
 shorter [] = tt
 shorter (o ∷ text) =
@@ -53,29 +53,29 @@ shorter (o ∷ text) =
     (either (o == 13) n (line_feed_front text) _ (line_feed-shorter n text less)
     (word-shorter (word_length (o ∷ text)) o text)))))))
 
--- a piece has an octet or more
-pub front-shorter : (text : Octets) (p : Piece) (others : Octets) → piece_front text ≡ Some (p, others) → length others < length text
+-- a token has an octet or more
+pub front-shorter : (text : Octets) (p : Token) (others : Octets) → token_front text ≡ Some (p, others) → length others < length text
 unfolding Shorter
 front-shorter text p others e = subst (Shorter (length text)) e (shorter text)
 
--- the pieces of a text
-pub record HasPieces (text : Octets) : Type 0 where
-  pub pieces : List Piece
+-- the tokens of a text
+pub record HasTokens (text : Octets) : Type 0 where
+  pub tokens : List Token
   pub rest : Octets
-  pub spelled : PiecesThen text pieces rest
-  pub at_end : piece_front rest ≡ None
+  pub spelled : TokensThen text tokens rest
+  pub at_end : token_front rest ≡ None
 
-with_front : (text : Octets) (front : Option (Piece × Octets)) → front ≡ piece_front text
-    → ((others : Octets) → length others < length text → HasPieces others) → HasPieces text
-with_front text None e more = record { pieces = []; rest = text; spelled = refl; at_end = sym e }
+with_front : (text : Octets) (front : Option (Token × Octets)) → front ≡ token_front text
+    → ((others : Octets) → length others < length text → HasTokens others) → HasTokens text
+with_front text None e more = record { tokens = []; rest = text; spelled = refl; at_end = sym e }
 with_front text (Some r) e more =
-    let behind = more r.1 (front-shorter text r.0 r.1 (sym e)) in
-    record { pieces = r.0 ∷ behind.pieces; rest = behind.rest; spelled = (r.1, sym e, behind.spelled); at_end = behind.at_end }
+    let after = more r.1 (front-shorter text r.0 r.1 (sym e)) in
+    record { tokens = r.0 ∷ after.tokens; rest = after.rest; spelled = (r.1, sym e, after.spelled); at_end = after.at_end }
 
-pieces-within : (n : ℕ) (text : Octets) → length text < n → HasPieces text
-pieces-within zero text h = absurd (omega (arith, h))
-pieces-within (suc n) text h =
-    with_front text (piece_front text) refl (λ others less. pieces-within n others (omega (arith, less, h)))
+tokens-within : (n : ℕ) (text : Octets) → length text < n → HasTokens text
+tokens-within zero text h = absurd (omega (arith, h))
+tokens-within (suc n) text h =
+    with_front text (token_front text) refl (λ others less. tokens-within n others (omega (arith, less, h)))
 
-pub has_pieces : (text : Octets) → HasPieces text
-has_pieces text = pieces-within (suc (length text)) text (omega arith)
+pub has_tokens : (text : Octets) → HasTokens text
+has_tokens text = tokens-within (suc (length text)) text (omega arith)

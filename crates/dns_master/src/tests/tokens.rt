@@ -1,4 +1,4 @@
-//! Faults of pieces: `R01` to `R04`, by their place.
+//! Faults of tokens: `R01` to `R04`, by their place.
 
 use super::reading::{Row, judge};
 use std::test::Fail;

@@ -1,9 +1,9 @@
 use Rattle.std.proofs.Common.{◌≡◌, length, drop}
 use Rattle.std.specs.List.{prefix_len}
 use Rattle.dns_spec.specs.ZoneText.{is_blank}
-use Rattle.dns_master.proofs.run.behind_blank.Given as goal
+use Rattle.dns_master.proofs.run.after_blank.Given as goal
 
--- what is behind the rest's blanks is what is behind those of the whole
+-- what is after the rest's blanks is what is after those of the whole
 abbrev pub invariant-blanks : goal.invariant-blanks
 invariant-blanks l = drop (prefix_len is_blank l.rest) l.rest ≡ drop (prefix_len is_blank l.text) l.text
 

@@ -1,0 +1,119 @@
+-- Escapes: what one stands for is what it spells in a name, and how long one is.
+use Rattle.std.proofs.Common.{◌≡◌, ℕ, ◌-◌, ◌<◌, ◌≤◌, ◌⊎◌, inl, inr, Bool, true, false, cond, ◌&&◌, nat_le, nat_lt, Option, Some, None, [], ◌∷◌, ◌++◌, length, refl, sym, ◌∙◌, ap, subst, arith}
+use Rattle.std.specs.Prelude.{◌↔◌}
+use Rattle.std.proofs.lemmas.Bool.{and_parts, and_from, leb-true, le-leb, ltb-true, lt-ltb, cases_lt, cases_Bool, false≢true}
+use Rattle.std.proofs.lemmas.Option.{none-some, some_pair_parts}
+use Rattle.std.specs.Char.{is_ascii_digit, IsAsciiDigit, IsNotAsciiDigit}
+use Rattle.dns_spec.specs.Names.{Octets}
+use Rattle.dns_spec.specs.NameText.{three_digits_value, SpellsOctet, is_printable, digits_front, escape_front}
+use Rattle.dns_spec.specs.ZoneText.{escape_length}
+
+are_digits : ℕ → ℕ → ℕ → Bool
+are_digits a b c = is_ascii_digit a && is_ascii_digit b && is_ascii_digit c && nat_lt (three_digits_value a b c) 256
+
+-- how many octets the escape has, case by case
+abbrev pub counted_digits : Octets → ℕ
+counted_digits [] = 0
+counted_digits (a ∷ []) = 0
+counted_digits (a ∷ b ∷ []) = 0
+counted_digits (a ∷ b ∷ c ∷ text) =
+    cond (is_ascii_digit a && is_ascii_digit b && is_ascii_digit c && nat_lt (three_digits_value a b c) 256) 3 0
+
+abbrev pub counted_escape : Octets → ℕ
+counted_escape [] = 0
+counted_escape (a ∷ text) = cond (is_ascii_digit a) (counted_digits (a ∷ text)) (cond (is_printable a) 1 0)
+
+abbrev front_length : Octets → Option (ℕ × Octets) → ℕ
+front_length text front = elim front as (λ _. ℕ) [ None ↦ 0 | Some r ↦ length text - length r.1 ]
+
+digits-counted : (text : Octets) → front_length text (digits_front text) ≡ counted_digits text
+digits-counted [] = refl
+digits-counted (a ∷ []) = refl
+digits-counted (a ∷ b ∷ []) = refl
+digits-counted (a ∷ b ∷ c ∷ text) = go (is_ascii_digit a && is_ascii_digit b && is_ascii_digit c && nat_lt (three_digits_value a b c) 256)
+  where
+    go : (t : Bool) → front_length (a ∷ b ∷ c ∷ text) (cond t (Some (three_digits_value a b c, text)) None) ≡ cond t 3 0
+    go true = omega arith
+    go false = refl
+
+pub escape-counted : (text : Octets) → escape_length text ≡ counted_escape text
+escape-counted [] = refl
+escape-counted (a ∷ text) = go (is_ascii_digit a) (is_printable a)
+  where
+    go : (d p : Bool) → front_length (a ∷ text) (cond d (digits_front (a ∷ text)) (cond p (Some (a, text)) None))
+        ≡ cond d (counted_digits (a ∷ text)) (cond p 1 0)
+    go true p = digits-counted (a ∷ text)
+    go false true = omega arith
+    go false false = refl
+
+-- what an escape stands for is what it spells in a name
+abbrev pub Spelled : Octets → ℕ → Octets → Type 0
+Spelled text x rest = (e : Octets) × (text ≡ e ++ rest) × SpellsOctet (92 ∷ e) x
+
+digit-true : (a : ℕ) → is_ascii_digit a ≡ true → IsAsciiDigit a
+digit-true a h = let p = and_parts (nat_le 48 a) (nat_le a 57) h in (leb-true 48 a p.0, leb-true a 57 p.1)
+
+digit-from : (a : ℕ) → IsAsciiDigit a → is_ascii_digit a ≡ true
+digit-from a h = and_from _ _ (le-leb 48 a h.0) (le-leb a 57 h.1)
+
+front-spelled : (text : Octets) (x : ℕ) (rest : Octets) → digits_front text ≡ Some (x, rest) → Spelled text x rest
+front-spelled [] x rest e = absurd (none-some (x, rest) e)
+front-spelled (a ∷ []) x rest e = absurd (none-some (x, rest) e)
+front-spelled (a ∷ b ∷ []) x rest e = absurd (none-some (x, rest) e)
+front-spelled (a ∷ b ∷ c ∷ text) x rest e = go (is_ascii_digit a && is_ascii_digit b && is_ascii_digit c && nat_lt (three_digits_value a b c) 256) refl e
+  where
+    go : (t : Bool) → (is_ascii_digit a && is_ascii_digit b && is_ascii_digit c && nat_lt (three_digits_value a b c) 256) ≡ t
+        → cond {A = Option (ℕ × Octets)} t (Some (three_digits_value a b c, text)) None ≡ Some (x, rest) → Spelled (a ∷ b ∷ c ∷ text) x rest
+    go false are e = absurd (none-some (x, rest) e)
+    go true are e =
+        let all = and_parts (is_ascii_digit a && is_ascii_digit b && is_ascii_digit c) (nat_lt (three_digits_value a b c) 256) are in
+        let third = and_parts (is_ascii_digit a && is_ascii_digit b) (is_ascii_digit c) all.0 in
+        let both = and_parts (is_ascii_digit a) (is_ascii_digit b) third.0 in
+        let same = some_pair_parts (three_digits_value a b c) x text rest e in
+        let small : three_digits_value a b c < 256 = ltb-true (three_digits_value a b c) 256 all.1 in
+        (a ∷ b ∷ c ∷ [], ap (λ t. a ∷ b ∷ c ∷ t) same.1, (refl, digit-true a both.0, digit-true b both.1, digit-true c third.1, same.0, subst (λ n. n < 256) same.0 small))
+
+not-digit : (a : ℕ) → is_ascii_digit a ≡ false → IsNotAsciiDigit a
+not-digit a h = by_cases (cases_lt a 48) (cases_lt 57 a)
+  where
+    by_cases : (a < 48) ⊎ (48 ≤ a) → (57 < a) ⊎ (a ≤ 57) → IsNotAsciiDigit a
+    by_cases (inl low) high = inl low
+    by_cases (inr low) (inl high) = inr high
+    by_cases (inr low) (inr high) = absurd (false≢true (sym h ∙ digit-from a (low, high)))
+
+no-digit : (a : ℕ) → IsNotAsciiDigit a → is_ascii_digit a ≡ false
+no-digit a h = elim (cases_Bool (is_ascii_digit a)) [
+  | inl is ↦ absurd (outside (digit-true a is) h)
+  | inr none ↦ none
+]
+  where
+    outside : IsAsciiDigit a → IsNotAsciiDigit a → ⊥
+    outside d (inl low) = omega (arith, d.0, low)
+    outside d (inr high) = omega (arith, d.1, high)
+
+escape-spelled : (text : Octets) (x : ℕ) (rest : Octets) → escape_front text ≡ Some (x, rest) → Spelled text x rest
+escape-spelled [] x rest e = absurd (none-some (x, rest) e)
+escape-spelled (a ∷ text) x rest e = go (is_ascii_digit a) (is_printable a) refl refl e
+  where
+    go : (d p : Bool) → is_ascii_digit a ≡ d → is_printable a ≡ p
+        → cond {A = Option (ℕ × Octets)} d (digits_front (a ∷ text)) (cond p (Some (a, text)) None) ≡ Some (x, rest) → Spelled (a ∷ text) x rest
+    go true p digit printable e = front-spelled (a ∷ text) x rest e
+    go false false digit printable e = absurd (none-some (x, rest) e)
+    go false true digit printable e =
+        let same = some_pair_parts a x text rest e in
+        let range = and_parts (nat_le 32 a) (nat_le a 126) printable in
+        (a ∷ [], ap (λ t. a ∷ t) same.1, (refl, same.0, leb-true 32 a range.0, leb-true a 126 range.1, not-digit a digit))
+
+spelled-escape : (e : Octets) (x : ℕ) (rest : Octets) → SpellsOctet (92 ∷ e) x → escape_front (e ++ rest) ≡ Some (x, rest)
+spelled-escape [] x rest (is, no_dot, no_slash) = absurd (no_slash refl)
+spelled-escape (a ∷ []) x rest (slash, is, low, high, other) =
+    rw (no-digit a other, le-leb 32 a low, le-leb a 126 high) (ap (λ y. Some (y, rest)) is)
+spelled-escape (a ∷ b ∷ []) x rest h = absurd h
+spelled-escape (a ∷ b ∷ c ∷ []) x rest (slash, h, k, l, is, small) =
+    let low : three_digits_value a b c < 256 = subst (λ n. n < 256) (sym is) small in
+    rw (digit-from a h, digit-from b k, digit-from c l, lt-ltb (three_digits_value a b c) 256 low) (ap (λ y. Some (y, rest)) is)
+spelled-escape (a ∷ b ∷ c ∷ d ∷ e) x rest h = absurd h
+
+pub escape_spells : (text : Octets) (x : ℕ) (rest : Octets) → (escape_front text ≡ Some (x, rest)) ↔ Spelled text x rest
+escape_spells text x rest =
+    (escape-spelled text x rest, λ h. ap escape_front h.1 ∙ spelled-escape h.0 x rest h.2)
