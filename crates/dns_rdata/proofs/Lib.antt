@@ -11,8 +11,6 @@ pub mod FormWords
 pub mod WordsLoop
 pub mod NameFronts
 pub mod PartLemmas
-pub mod Beginnings
-pub mod WrittenLoop
 pub mod SpacedWords
 pub mod NumberSpelled
 pub mod WrittenPieces

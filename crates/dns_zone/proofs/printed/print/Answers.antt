@@ -1,17 +1,19 @@
-use Rattle.std.proofs.Common.{subst}
+use Rattle.std.proofs.Common.{rules, subst}
 use Rattle.std.specs.Io.KnownBytes.{Appends}
 use Rattle.dns_name.specs.Counted.{AppendsBeginning}
 use Rattle.dns_spec.proofs.PrintedZone.{printed_moves, zone_means}
 use Rattle.dns_zone.proofs.PrintedRecords.{text_of_ordered}
 use Rattle.dns_zone.proofs.printed.print.Goals as goal
 
-pub returns-in-Ok-clause-ok : goal.returns-in-Ok-clause-ok
-returns-in-Ok-clause-ok g c =
-    subst (Appends _ _) (text_of_ordered c.args.zone.now c.records.result.now c.records.ensures.records c.records.ensures.built.ordered) c.in-Ok.ensures.ok
+pub returns-in-Ok-clause-writes : goal.returns-in-Ok-clause-writes
+returns-in-Ok-clause-writes g c =
+    let text = text_of_ordered c.args.zone.now c.records.result.now c.records.ensures.records c.records.ensures.built.ordered in
+    record { ok = subst (Appends _ _) text c.in-Ok.ensures.ok; err = search rules; counted = search rules }
 
-pub returns-in-Err-clause-err : goal.returns-in-Err-clause-err
-returns-in-Err-clause-err g c =
-    subst (AppendsBeginning _ _) (text_of_ordered c.args.zone.now c.records.result.now c.records.ensures.records c.records.ensures.built.ordered) c.in-Err.ensures.err
+pub returns-in-Err-clause-writes : goal.returns-in-Err-clause-writes
+returns-in-Err-clause-writes g c =
+    let text = text_of_ordered c.args.zone.now c.records.result.now c.records.ensures.records c.records.ensures.built.ordered in
+    record { ok = search rules; err = subst (AppendsBeginning _ _) text c.in-Err.ensures.err; counted = search rules }
 
 pub returns-in-Ok-clause-meaning : goal.returns-in-Ok-clause-meaning
 returns-in-Ok-clause-meaning g c = λ types short o.
