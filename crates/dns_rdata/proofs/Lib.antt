@@ -12,6 +12,8 @@ pub mod WordsLoop
 pub mod NameFronts
 pub mod PartLemmas
 pub mod SpacedWords
-pub mod NumberSpelled
+pub mod BigNumbers
+pub mod PartsLoop
+pub mod SoaData
 pub mod WrittenPieces
 pub mod LoweredInPlace

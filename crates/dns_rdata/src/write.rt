@@ -14,14 +14,15 @@ ghost use Rattle.dns_rdata.specs.WrittenForm.{spaced, form_rest, piece_words, pi
 use crate::hex::hex_digits;
 use crate::ipv4::text_of_ipv4;
 use crate::ipv6_text::text_of_ipv6;
-use crate::number::number_text;
 use crate::parts::{Part, first_name};
 use crate::rdata::Rdata;
 use crate::rtype::RType;
 use crate::string::text_of_string;
 use crate::table::{Fixed, NumberSize, Piece, row_of_type};
 use arrayvec::ArrayVec;
+use byteorder::{BigEndian, ByteOrder};
 use dns_name::{Name, SinkFailed, Tally};
+use itoa::Buffer;
 use std::io::Write;
 
 // Words have one space between.
@@ -141,21 +142,21 @@ fn write_number<'a, W: Write>(
     ensures rest { IfOk result (λ rest. rest.now ≡ (word_front (number_word (size_of size)) octets.now).1) }
 {
     let (number, rest) = octets.split_at(size.octets());
-    let text = number_text(number_of(number));
-    sink.write_parts(&[before, text.as_slice()])?;
+    let mut digits = Buffer::new();
+    let text = digits.format(number_of(size, number)).as_bytes();
+    sink.write_parts(&[before, text])?;
     Ok(rest)
 }
 
-// The number that octets spell, the most significant first (RFC 1035 2.3.2).
-fn number_of(octets: &[u8]) -> u32
-    requires { length octets.now ≤ 4 }
+// The number that the octets of its size spell, the most significant first (RFC 1035 2.3.2).
+fn number_of(size: NumberSize, octets: &[u8]) -> u32
+    requires { length octets.now ≡ size_of size }
     ensures { result ≡ number_of octets.now }
 {
-    let mut number = 0;
-    'octets: for octet in octets {
-        number = 256 * number + u32::from(*octet);
+    match size {
+        NumberSize::Two => u32::from(BigEndian::read_u16(octets)),
+        NumberSize::Four => BigEndian::read_u32(octets),
     }
-    number
 }
 
 fn write_ipv4<'a, W: Write>(
@@ -265,8 +266,9 @@ fn write_unknown<W: Write>(octets: &[u8], sink: &mut Tally<W>) -> Result<(), Sin
     requires few_failures { sink.old.failures < 2 ^ 64 - 1 }
     ensures { Writes W.contents sink.old sink.new result (spaced [] (unknown_words octets.now)) }
 {
-    let length = number_text(octets.len() as u32);
-    sink.write_parts(&[b"\\# ", length.as_slice()])?;
+    let mut digits = Buffer::new();
+    let length = digits.format(octets.len() as u32).as_bytes();
+    sink.write_parts(&[b"\\# ", length])?;
     write_hex_word(octets, sink)
 }
 

@@ -21,6 +21,12 @@ use std::io::Write;
 #[derive(Clone, Copy, Debug, PartialEq, Eq)]
 pub struct PrintFault;
 
+impl From<SinkFailed> for PrintFault {
+    fn from(_failed: SinkFailed) -> PrintFault {
+        PrintFault
+    }
+}
+
 /// Writes the canonical text of a zone: each record on a line of its own with its owner, TTL, class, type and data, the
 /// SOA first and the others in canonical order (RFC 1035 5.1, 5.2, RFC 4034 6.1, 6.3).
 ///
@@ -35,10 +41,8 @@ pub fn print<W: Write>(zone: &Zone, sink: &mut Tally<W>) -> Result<(), PrintFaul
         → (o : DomainName) → Means o (zone_text zone.now) (records (printed_records zone.now)) }
     ensures same_records { IsPermutation zone.now.records (printed_records zone.now) }
 {
-    match write_records(zone.records(), sink) {
-        Ok(()) => Ok(()),
-        Err(SinkFailed) => Err(PrintFault),
-    }
+    write_records(zone.records(), sink)?;
+    Ok(())
 }
 
 // The SOA first, then the others in order.

@@ -17,12 +17,12 @@ returns-in_err-write_parts g c = record {
   ok = search rules;
   err =
       OnErr-always c.from_residual.result
-      (subst (AppendsBeginning _ _) (marked c.as_slice.result.now _ (spaced space (hex_words c.args.octets.now)) (c.as_slice.ensures.value ∙ c.number_text-length.ensures))
+      (subst (AppendsBeginning _ _) (marked c.as_bytes-length.result.now _ (spaced space (hex_words c.args.octets.now)) (c.as_bytes-length.ensures.value ∙ c.format.ensures.text))
       (beginning_of_first _ _ _ _ c.in_err-write_parts.ensures.err));
   counted = search rules;
 }
 
 pub returns : goal.returns
 returns g c =
-    Writes-same (marked c.as_slice.result.now _ (spaced space (hex_words c.args.octets.now)) (c.as_slice.ensures.value ∙ c.number_text-length.ensures))
+    Writes-same (marked c.as_bytes-length.result.now _ (spaced space (hex_words c.args.octets.now)) (c.as_bytes-length.ensures.value ∙ c.format.ensures.text))
     (Writes-after _ _ c.in_ok-write_parts.ensures.ok c.in_ok-write_parts.ensures.counted c.write_hex_word.ensures)

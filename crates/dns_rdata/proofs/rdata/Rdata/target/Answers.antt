@@ -1,8 +1,8 @@
 use Rattle.std.proofs.Common.{◌∷◌, sym, ap, ◌∙◌, subst}
 use Rattle.dns_spec.specs.Data.{first_name}
 use Rattle.dns_rdata.specs.Parts.{part_for, IsLent}
-use Rattle.dns_zone.proofs.PartsLoop.{walked, none_left}
-use Rattle.dns_zone.proofs.target.target.Goals as goal
+use Rattle.dns_rdata.proofs.PartsLoop.{walked, none_left}
+use Rattle.dns_rdata.proofs.rdata.Rdata.target.Goals as goal
 
 pub from_octets-requires : goal.from_octets-requires
 from_octets-requires c =
