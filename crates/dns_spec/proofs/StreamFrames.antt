@@ -69,6 +69,7 @@ cut_frame (a ∷ []) low e =
     let ha : a < 256 = All-head (λ o. o < 256) a [] low in
     inr (record {
       message = replicate (a * 256) 0;
+      short = omega (arith, length_zeros (a * 256), ha);
       missing = 0 ∷ replicate (a * 256) 0;
       whole = ap (λ n. octets16 n ++ replicate (a * 256) 0) (length_zeros (a * 256) ∙ omega arith) ∙ ap (λ z. z ++ replicate (a * 256) 0) (two_octets a 0 ha (omega arith));
       some = omega arith;
@@ -92,6 +93,7 @@ cut_frame (a ∷ b ∷ x) low e = go (nat_le (2 + n) (length (a ∷ b ∷ x))) r
         let len : length (x ++ zeros) ≡ a * 256 + b = length-append x zeros ∙ omega (arith, length_zeros (n - length x), short, value) in
         inr (record {
           message = x ++ zeros;
+          short = omega (arith, len, ha, hb);
           missing = zeros;
           whole = ap (λ k. octets16 k ++ (x ++ zeros)) len ∙ ap (λ z. z ++ (x ++ zeros)) (two_octets a b ha hb);
           some = omega arith;

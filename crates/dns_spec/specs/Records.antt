@@ -14,7 +14,7 @@ pub record ResourceRecord : Type 0 where
   pub rtype : ℕ
   pub rdata : Octets
 
--- equal in owner, type, data and TTL (RFC 2181 section 5)
+-- equal in owner, type, data (RFC 2181 section 5) and, in this product, TTL
 abbrev pub records_equal : ResourceRecord → ResourceRecord → Bool
 records_equal r s = same r.owner s.owner && r.rtype == s.rtype && octets_equal r.rdata s.rdata && r.ttl == s.ttl
 

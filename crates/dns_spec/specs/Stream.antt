@@ -1,5 +1,5 @@
 -- What a reader learns here: which messages a stream holds, each after its length, and what is written in reply to them.
-use Rattle.std.specs.Prelude.{◌≡◌, ℕ, zero, suc, ◌+◌, ◌<◌, Bool, List, [], ◌∷◌, ◌++◌, length, take, drop, nat_le, if◌then◌else◌}
+use Rattle.std.specs.Prelude.{◌≡◌, ℕ, zero, suc, ◌+◌, ◌^◌, ◌<◌, Bool, List, [], ◌∷◌, ◌++◌, length, take, drop, nat_le, if◌then◌else◌}
 use Rattle.std.specs.Prelude.{Option, None, Some}
 use Rattle.std.specs.List.{flat_map}
 use Rattle.dns_spec.specs.Names.{Octets}
@@ -32,6 +32,7 @@ after_frames (suc k) x = elim (first_frame x) [ None ↦ x | Some r ↦ after_fr
 -- The octets are a beginning of a frame, not empty and not whole: a stream that ends with them was cut.
 pub record IsCutFrame (x : Octets) : Type 0 where
   pub message : Octets
+  pub short : length message < 2 ^ 16
   pub missing : Octets
   pub whole : frame message ≡ x ++ missing
   pub some : 0 < length x

@@ -100,7 +100,7 @@ is_bare c = is_ascii_graphic c && not (list_any (λ s. c == s) (codes "\"();\\")
 abbrev pub is_quotable : ℕ → Bool
 is_quotable c = nat_le 32 c && nat_le c 126 && not (list_any (λ s. c == s) (codes "\"\\"))
 
--- the text of a word is one word, with nothing in it that ends it
+-- Nothing in the text of a word ends it. Whether its escapes are escapes is not asked here.
 abbrev pub stands_alone : Word → Bool
 stands_alone w =
     if w.is_quoted then is_unbroken is_quotable w.raw

@@ -39,7 +39,7 @@ pub fn one_zone_has_one_text()
 {}
 
 /// Two files of one zone that mean the same records, in another order and with doubles or without, have one report: the
-/// faults, the line of a zone that passes, and where it is asked for the canonical text.
+/// faults, the lines of a zone that passes, and where it is asked for the canonical text.
 pub fn files_of_one_zone_have_one_report()
     ensures { (o : DomainName) (t u : Octets) (rs ss : List ResourceRecord) → Means (folded o) t (records rs) → Means (folded o) u (records ss)
         → HoldSameRecords rs ss → (options : Options) (report : Report) → Reports o t options report ↔ Reports o u options report }

@@ -1,4 +1,5 @@
-//! Laws of reading: what `name_at` computes, and that a place spells at most one name.
+//! Laws of reading: what `name_at` and `message_at` compute, and that a place spells at most one name, and octets one
+//! message.
 
 ghost use Rattle.std.specs.Prelude.{◌≡◌, ℕ, ◌≤◌, Some, ◌↔◌, length};
 ghost use Rattle.dns_spec.specs.Names.{Octets, DomainName};

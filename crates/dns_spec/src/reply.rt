@@ -49,7 +49,7 @@ pub fn items_are_record_sets()
         → (q : DomainName) (t : ℕ) → All (λ (i : Item). IsSetAt i.records) (items z q t) }
 {}
 
-/// What is kept of a list of sets fits where nothing does.
+/// What is kept of a list of sets fits, if a reply without any set does.
 pub fn kept_sets_fit()
     ensures { (size_of : List Item → ℕ) (limit : ℕ) (sets : List Item) → size_of [] ≤ limit
         → size_of (kept size_of limit sets) ≤ limit }
@@ -86,7 +86,7 @@ pub fn plain_kept_sets_stop_at_the_first_that_does_not_fit()
         → kept (plain_size q) limit sets ≡ fitting (plain_size q) limit [] sets }
 {}
 
-/// What a datagram is as a query depends on its first 512 octets alone: a question ends before them.
+/// What a datagram is as a query depends on its first 512 octets alone: a question ends by octet 271.
 pub fn first_512_octets_are_read()
     ensures { (d : Octets) → query_read d ≡ query_read (take 512 d) }
 {}

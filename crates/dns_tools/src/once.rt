@@ -13,10 +13,10 @@ use dns_name::{SinkFailed, Tally};
 use std::alloc::{AllocError, Global};
 use std::io::{Read, Write};
 
-// The octets of the greatest datagram, and their digits.
-const MOST_OCTETS: usize = 65_535;
+/// The octets of the greatest message, and their digits.
+pub(crate) const MOST_OCTETS: usize = 65_535;
 
-const MOST_DIGITS: usize = 131_070;
+pub(crate) const MOST_DIGITS: usize = 131_070;
 
 // The octets of the greatest reply, and the length of the line that tells it.
 const MOST_REPLY: usize = 512;
@@ -26,7 +26,7 @@ const MOST_ANSWER: usize = 1_025;
 // How many octets of answers are gathered before they are written, and how many are read at once.
 const ANSWERS: usize = 65_536;
 
-const PIECE: usize = 65_536;
+pub(crate) const PIECE: usize = 65_536;
 
 /// Answers each line of the source by one line of the sink, and tells whether each line was a message.
 ///
@@ -208,8 +208,8 @@ fn answer(
     true
 }
 
-// Spells the octets of a message in front of the buffer, and answers how many they are. `None` for other lines.
-fn octets_of(line: &[u8], datagram: &mut [u8]) -> Option<usize>
+/// Spells the octets of a message in front of the buffer, and answers how many they are. `None` for other lines.
+pub(crate) fn octets_of(line: &[u8], datagram: &mut [u8]) -> Option<usize>
     requires { length line.now ≤ 2 * length datagram.old + 1 }
     ensures some { IfSome result (λ len. decode_of line.now ≡ Ok (take len datagram.new)) }
     ensures within { IfSome result (λ len. len ≤ length datagram.new) }

@@ -4,5 +4,6 @@ mod fault;
 mod host;
 mod load;
 mod long;
+mod message;
 mod once;
 mod words;

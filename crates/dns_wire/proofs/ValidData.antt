@@ -77,12 +77,12 @@ table_bounded = (refl, (refl, (refl, (refl, (refl, (refl, (refl, (refl, (refl, (
 
 row_bounded : (t : ℕ) (rows : List TypeRow) → EachBounded rows → bounded (unwrap_or (find (λ (row : TypeRow). row.number == t) rows) other_type).pieces ≡ true
 unfolding EachBounded bounded names_among
-row_bounded t [] e = refl
-row_bounded t (row ∷ rows) e = go (row.number == t) (row_bounded t rows e.1)
+row_bounded t [] bounds = refl
+row_bounded t (row ∷ others) bounds = go (row.number == t) (row_bounded t others bounds.1)
   where
-    go : (x : Bool) → bounded (unwrap_or (find (λ (r : TypeRow). r.number == t) rows) other_type).pieces ≡ true
-        → bounded (unwrap_or (if x then Some row else find (λ (r : TypeRow). r.number == t) rows) other_type).pieces ≡ true
-    go true f = e.0
+    go : (x : Bool) → bounded (unwrap_or (find (λ (r : TypeRow). r.number == t) others) other_type).pieces ≡ true
+        → bounded (unwrap_or (if x then Some row else find (λ (r : TypeRow). r.number == t) others) other_type).pieces ≡ true
+    go true f = bounds.0
     go false f = f
 
 short_data : (b : Octets) (ps : List Piece) (i e : ℕ) (d : Octets) → bounded ps ≡ true → e - i ≤ 65535 → PiecesAt b ps i e d → length d ≤ 65535

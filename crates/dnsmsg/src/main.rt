@@ -1,0 +1,29 @@
+//! A printer of messages: `dnsmsg` prints the message that the first line of standard input is, in hexadecimal digits.
+#![tactic(auto)]
+
+use dns_name::Tally;
+use dns_tools::{FaultWord, exit_status, finish, given_words, run_message, told};
+use std::io::{self, BufWriter};
+use std::process::ExitCode;
+use std::rt::Env;
+
+fn main(rt: HostRuntime) -> ExitCode {
+    ExitCode::from(match print(&rt) {
+        Ok(status) => status,
+        Err(word) => told(&rt, word),
+    })
+}
+
+// Prints the message of standard input, and gives the status for it. There are no words.
+fn print<R: Env + Input + Print + AllocGlobal>(rt: &R) -> Result<u8, FaultWord> {
+    let alloc = rt.alloc();
+    if !given_words(rt)?.is_empty() {
+        return Err(FaultWord::Usage);
+    }
+    let output = BufWriter::new(alloc, io::writer(rt)).map_err(|_| FaultWord::NoMemory)?;
+    let (mut source, mut sink) = (Tally::new(rt.reader()), Tally::new(output));
+    let outcome = run_message(alloc, &mut source, &mut sink);
+    let outcome = finish(outcome, sink.into_inner());
+    outcome?;
+    Ok(exit_status(&outcome))
+}
