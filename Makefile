@@ -4,8 +4,8 @@ PREFIX ?= /usr/local
 
 # Builds the programs, checks two zones in examples/, and asks the server about one of them.
 run: programs
-	examples/check crates/zonecheck/out/zonecheck
-	examples/ask crates/zoneserve/out/zoneserve
+	tools/check crates/zonecheck/out/zonecheck
+	tools/ask crates/zoneserve/out/zoneserve
 
 # Proves and builds each program, to crates/NAME/out/NAME, and runs it once.
 programs:
@@ -21,16 +21,17 @@ install: programs
 test:
 	rt ci
 
-# Runs zonecheck on wrong words, on files that can't be read, and on outputs that take nothing. It is no part of the gate.
+# Runs the programs on wrong words, on files that can't be read, on faulty files, and on outputs that take nothing. It is
+# no part of the gate.
 misuse: programs
-	examples/misuse crates/zonecheck/out/zonecheck
+	tools/misuse crates/zonecheck/out/zonecheck crates/zoneserve/out/zoneserve
 
 # Refuses each program each of its allocations in turn. It proves nothing, and is no part of the gate.
 memory:
-	examples/refuse-memory zonecheck
-	examples/refuse-memory zoneserve
+	tools/refuse-memory zonecheck
+	tools/refuse-memory zoneserve
 
 # Times how data is read and written, and measures the checker. It tells no pass or fail, and is no part of the gate.
 bench:
-	examples/bench
-	examples/bench-checker
+	tools/bench
+	tools/bench-checker
