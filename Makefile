@@ -1,6 +1,11 @@
-.PHONY: run programs install test misuse memory bench
+.PHONY: run programs built install uninstall clean package examples docs-check test misuse memory bench
 
 PREFIX ?= /usr/local
+NAMES = zonecheck zoneserve
+PROGRAMS = $(foreach name,$(NAMES),crates/$(name)/out/$(name))
+PAGES = $(wildcard man/*.1)
+DOC = $(DESTDIR)$(PREFIX)/share/doc/mitrehyssop
+COMPLETIONS = $(DESTDIR)$(PREFIX)/share/bash-completion/completions
 
 # Builds the programs, checks two zones in examples/, and asks the server about one of them.
 run: programs
@@ -12,11 +17,39 @@ programs:
 	cd crates/zonecheck && rt run -- example ../../examples/example.zone
 	cd crates/zoneserve && rt run -- once example ../../examples/example.zone </dev/null
 
-# Installs the programs and the manual page below PREFIX, or below DESTDIR where a package is made.
-install: programs
-	install -d "$(DESTDIR)$(PREFIX)/bin" "$(DESTDIR)$(PREFIX)/share/man/man1"
-	install -m 755 crates/zonecheck/out/zonecheck crates/zoneserve/out/zoneserve "$(DESTDIR)$(PREFIX)/bin"
-	install -m 644 man/zonecheck.1 "$(DESTDIR)$(PREFIX)/share/man/man1"
+# Builds the programs where one is missing, or older than a source.
+built:
+	@tools/is-built $(PROGRAMS) || $(MAKE) programs
+
+# Installs what is built below PREFIX, or below DESTDIR where a package is made.
+install: built
+	install -d "$(DESTDIR)$(PREFIX)/bin" "$(DESTDIR)$(PREFIX)/share/man/man1" "$(DOC)/examples" "$(COMPLETIONS)"
+	install -m 755 $(PROGRAMS) "$(DESTDIR)$(PREFIX)/bin"
+	install -m 644 $(PAGES) "$(DESTDIR)$(PREFIX)/share/man/man1"
+	install -m 644 README.md LICENSE-MIT LICENSE-APACHE docs/*.md "$(DOC)"
+	cp examples/* "$(DOC)/examples"
+	for name in $(NAMES); do install -m 644 tools/completion "$(COMPLETIONS)/$$name"; done
+
+uninstall:
+	rm -f $(foreach name,$(NAMES),"$(DESTDIR)$(PREFIX)/bin/$(name)" "$(COMPLETIONS)/$(name)")
+	rm -f $(foreach page,$(PAGES),"$(DESTDIR)$(PREFIX)/share/man/man1/$(notdir $(page))")
+	rm -rf "$(DOC)"
+
+# Takes away what was built, proofs that are kept too: the next build proves all.
+clean:
+	rm -rf crates/*/out out
+
+# Makes out/mitrehyssop_VERSION_ARCH.deb of what is built.
+package: built
+	tools/package
+
+# Compares each zone of examples/ with its canonical text.
+examples: built
+	tools/examples crates/zonecheck/out/zonecheck
+
+# Runs the commands of the documents and compares what they print.
+docs-check: built
+	tools/docs-check $(PROGRAMS)
 
 test:
 	rt ci
@@ -31,7 +64,7 @@ memory:
 	tools/refuse-memory zonecheck
 	tools/refuse-memory zoneserve
 
-# Times how data is read and written, and measures the checker. It tells no pass or fail, and is no part of the gate.
+# Times how data is read and written, and measures the checker. It decides nothing, and is no part of the gate.
 bench:
 	tools/bench
 	tools/bench-checker
