@@ -47,9 +47,10 @@ package: built
 examples: built
 	tools/examples crates/zonecheck/out/zonecheck
 
-# Runs the commands of the documents and compares what they print.
+# Runs the commands of the documents and compares what they print, and tries the remedies of docs/CODES.md.
 docs-check: built
 	tools/docs-check $(PROGRAMS)
+	tools/remedies crates/zonecheck/out/zonecheck
 
 test:
 	rt ci
