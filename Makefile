@@ -23,10 +23,11 @@ built:
 
 # Installs what is built below PREFIX, or below DESTDIR where a package is made.
 install: built
-	install -d "$(DESTDIR)$(PREFIX)/bin" "$(DESTDIR)$(PREFIX)/share/man/man1" "$(DOC)/examples" "$(COMPLETIONS)"
+	install -d "$(DESTDIR)$(PREFIX)/bin" "$(DESTDIR)$(PREFIX)/share/man/man1" "$(DOC)/docs" "$(DOC)/examples" "$(COMPLETIONS)"
 	install -m 755 $(PROGRAMS) "$(DESTDIR)$(PREFIX)/bin"
 	install -m 644 $(PAGES) "$(DESTDIR)$(PREFIX)/share/man/man1"
-	install -m 644 README.md LICENSE-MIT LICENSE-APACHE docs/*.md "$(DOC)"
+	install -m 644 README.md LICENSE-MIT LICENSE-APACHE "$(DOC)"
+	install -m 644 docs/*.md "$(DOC)/docs"
 	cp examples/* "$(DOC)/examples"
 	for name in $(NAMES); do install -m 644 tools/completion "$(COMPLETIONS)/$$name"; done
 
