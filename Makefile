@@ -48,10 +48,12 @@ package: built
 examples: built
 	tools/examples crates/zonecheck/out/zonecheck
 
-# Runs the commands of the documents and compares what they print, and tries the remedies of docs/CODES.md.
+# Runs the commands of the documents and compares what they print, and tries the remedies of docs/CODES.md and
+# the script of units.
 docs-check: built
 	tools/docs-check $(PROGRAMS)
 	tools/remedies crates/zonecheck/out/zonecheck
+	tools/test-units crates/zonecheck/out/zonecheck
 
 test:
 	rt ci
