@@ -5,6 +5,7 @@ NAMES = zonecheck zoneserve
 PROGRAMS = $(foreach name,$(NAMES),crates/$(name)/out/$(name))
 PAGES = $(wildcard man/*.1)
 DOC = $(DESTDIR)$(PREFIX)/share/doc/mitrehyssop
+SHARE = $(DESTDIR)$(PREFIX)/share/mitrehyssop
 COMPLETIONS = $(DESTDIR)$(PREFIX)/share/bash-completion/completions
 
 # Builds the programs, checks two zones in examples/, and asks the server about one of them.
@@ -21,20 +22,22 @@ programs:
 built:
 	@tools/is-built $(PROGRAMS) || $(MAKE) programs
 
-# Installs what is built below PREFIX, or below DESTDIR where a package is made.
+# Installs what is built below PREFIX, or below DESTDIR where a package is made. The examples lie beside the documents by a link,
+# since small systems keep no documents, and scripts use them.
 install: built
-	install -d "$(DESTDIR)$(PREFIX)/bin" "$(DESTDIR)$(PREFIX)/share/man/man1" "$(DOC)/docs" "$(DOC)/examples" "$(COMPLETIONS)"
+	install -d "$(DESTDIR)$(PREFIX)/bin" "$(DESTDIR)$(PREFIX)/share/man/man1" "$(DOC)/docs" "$(SHARE)/examples" "$(COMPLETIONS)"
 	install -m 755 $(PROGRAMS) "$(DESTDIR)$(PREFIX)/bin"
 	install -m 644 $(PAGES) "$(DESTDIR)$(PREFIX)/share/man/man1"
 	install -m 644 README.md LICENSE-MIT LICENSE-APACHE "$(DOC)"
 	install -m 644 docs/*.md "$(DOC)/docs"
-	cp examples/* "$(DOC)/examples"
+	cp examples/* "$(SHARE)/examples"
+	ln -sfn ../../mitrehyssop/examples "$(DOC)/examples"
 	for name in $(NAMES); do install -m 644 tools/completion "$(COMPLETIONS)/$$name"; done
 
 uninstall:
 	rm -f $(foreach name,$(NAMES),"$(DESTDIR)$(PREFIX)/bin/$(name)" "$(COMPLETIONS)/$(name)")
 	rm -f $(foreach page,$(PAGES),"$(DESTDIR)$(PREFIX)/share/man/man1/$(notdir $(page))")
-	rm -rf "$(DOC)"
+	rm -rf "$(DOC)" "$(SHARE)"
 
 # Takes away what was built, proofs that are kept too: the next build proves all.
 clean:
