@@ -1,4 +1,3 @@
-pub mod Told
 pub mod RunLemmas
 pub mod EntryLoop
 pub mod RecordSteps

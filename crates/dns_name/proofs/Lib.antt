@@ -1,5 +1,6 @@
 pub mod OrderLemmas
-pub mod Pieces
+pub mod Results
 pub mod TextLemmas
 pub mod WireLemmas
 pub mod WrittenLemmas
+pub mod WritesLemmas

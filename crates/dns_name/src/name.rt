@@ -8,7 +8,8 @@ ghost use Rattle.std.specs.Cmp.Lexicographic.{slice_cmp};
 ghost use Rattle.std.specs.Ordering.{ordering_then};
 ghost use Rattle.std.specs.Iterator.{YieldsFirst, item_count};
 ghost use Rattle.arrayvec.specs.ArrayVec.{array_vec_len};
-ghost use Rattle.dns_spec.specs.Names.{is_name, wire, folded, same, at_or_below, names_equal, label_order, name_order};
+ghost use Rattle.dns_spec.specs.Names.{is_name, wire, folded, same, at_or_below, below, names_equal, label_order, name_order};
+ghost use Rattle.dns_spec.specs.Checks.{first_is_asterisk};
 ghost use Rattle.dns_name.specs.TextForm.{Appended};
 ghost use Rattle.dns_name.specs.WireForm.{labels_of, IsWireForm};
 
@@ -152,6 +153,25 @@ impl Name {
             suffix = rest;
         }
         same_octets(suffix, target)
+    }
+
+    /// Whether the name is below `ancestor`: at or below it, and not the same name (RFC 1034 3.1).
+    pub fn below(&self, ancestor: &Name) -> bool
+        ensures { result ≡ below self.now ancestor.now }
+    {
+        self.label_count() > ancestor.label_count() && self.at_or_below(ancestor)
+    }
+
+    /// Whether the name is a wildcard: whether its first label is `*` alone (RFC 4592 2.1.1).
+    ///
+    /// `*.example.` is one, and `a.*.example.` and `**.example.` are none.
+    pub fn is_wildcard(&self) -> bool
+        ensures { result ≡ first_is_asterisk self.now }
+    {
+        match self.labels().next() {
+            Some(label) => label.octets() == b"*".as_slice(),
+            None => false,
+        }
     }
 
     /// Which of two names comes first in the canonical order (RFC 4034 6.1).

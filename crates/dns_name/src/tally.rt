@@ -1,7 +1,7 @@
 ghost use Rattle.std.specs.Prelude.{◌≡◌, ◌+◌, ◌-◌, ◌^◌, ◌<◌, length, IfOk, OnOk, OnErr, is_ok, if◌then◌else◌};
 ghost use Rattle.std.specs.Io.{ReadsAtMost, WritesAtMost};
-ghost use Rattle.std.specs.Io.KnownBytes.{Appends, ReadConsumes, WriteAppends};
-ghost use Rattle.dns_name.specs.Counted.{failures_after, joined, AppendsBeginning};
+ghost use Rattle.std.specs.Io.KnownBytes.{ReadConsumes, WriteAppends};
+ghost use Rattle.dns_name.specs.Counted.{Writes, failures_after, joined};
 
 use std::io::{Read, Write};
 use std::marker::Model;
@@ -106,9 +106,7 @@ impl<T: Write> Tally<T> {
     /// is tried after it.
     pub fn write_all(&mut self, text: &[u8]) -> Result<(), SinkFailed>
         requires { self.old.failures < 2 ^ 64 - 1 }
-        ensures ok { OnOk result (Appends (T.contents self.old.device) (T.contents self.new.device) text.now) }
-        ensures err { OnErr result (AppendsBeginning (T.contents self.old.device) (T.contents self.new.device) text.now) }
-        ensures counted { self.new.failures ≡ failures_after self.old.failures result }
+        ensures { Writes T.contents self.old self.new result text.now }
     {
         let mut written = 0;
         'pieces: while written < text.len() {
@@ -121,9 +119,7 @@ impl<T: Write> Tally<T> {
     /// after it.
     pub fn write_parts(&mut self, parts: &[&[u8]]) -> Result<(), SinkFailed>
         requires { self.old.failures < 2 ^ 64 - 1 }
-        ensures ok { OnOk result (Appends (T.contents self.old.device) (T.contents self.new.device) (joined parts.now)) }
-        ensures err { OnErr result (AppendsBeginning (T.contents self.old.device) (T.contents self.new.device) (joined parts.now)) }
-        ensures counted { self.new.failures ≡ failures_after self.old.failures result }
+        ensures { Writes T.contents self.old self.new result (joined parts.now) }
     {
         'parts: for part in parts {
             self.write_all(*part)?;

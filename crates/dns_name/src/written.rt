@@ -1,10 +1,9 @@
 //! Names as they are written in zone files (RFC 1035 5.1).
 ghost use Rattle.std.specs.Prelude.{◌≡◌, ◌+◌, ◌-◌, ◌*◌, ◌^◌, ◌<◌, ◌≤◌, ◌++◌, length, OnOk, OnErr};
-ghost use Rattle.std.specs.Io.KnownBytes.{Appends};
 ghost use Rattle.arrayvec.specs.ArrayVec.{array_vec_len};
 ghost use Rattle.dns_spec.specs.NameText.{is_special, octet_text, label_text, name_text};
 ghost use Rattle.dns_spec.specs.Report.{bare_name_text};
-ghost use Rattle.dns_name.specs.Counted.{failures_after, AppendsBeginning};
+ghost use Rattle.dns_name.specs.Counted.{Writes};
 
 use crate::name::Name;
 use crate::tally::{SinkFailed, Tally};
@@ -24,9 +23,7 @@ impl Name {
     /// Where the writer fails, a beginning of the text was written, and the failure is counted.
     pub fn write_text<W: Write>(&self, sink: &mut Tally<W>) -> Result<(), SinkFailed>
         requires { sink.old.failures < 2 ^ 64 - 1 }
-        ensures ok { OnOk result (Appends (W.contents sink.old.device) (W.contents sink.new.device) (name_text self.now)) }
-        ensures err { OnErr result (AppendsBeginning (W.contents sink.old.device) (W.contents sink.new.device) (name_text self.now)) }
-        ensures counted { sink.new.failures ≡ failures_after sink.old.failures result }
+        ensures { Writes W.contents sink.old sink.new result (name_text self.now) }
     {
         sink.write_all(self.text().as_slice())
     }
@@ -37,9 +34,7 @@ impl Name {
     /// text was written, and the failure is counted.
     pub fn write_bare_text<W: Write>(&self, sink: &mut Tally<W>) -> Result<(), SinkFailed>
         requires { sink.old.failures < 2 ^ 64 - 1 }
-        ensures ok { OnOk result (Appends (W.contents sink.old.device) (W.contents sink.new.device) (bare_name_text self.now)) }
-        ensures err { OnErr result (AppendsBeginning (W.contents sink.old.device) (W.contents sink.new.device) (bare_name_text self.now)) }
-        ensures counted { sink.new.failures ≡ failures_after sink.old.failures result }
+        ensures { Writes W.contents sink.old sink.new result (bare_name_text self.now) }
     {
         sink.write_all(self.bare_text().as_slice())
     }

@@ -11,9 +11,9 @@ pub mod FormWords
 pub mod WordsLoop
 pub mod NameFronts
 pub mod PartLemmas
-pub mod Beginnings
-pub mod WrittenLoop
 pub mod SpacedWords
-pub mod NumberSpelled
+pub mod BigNumbers
+pub mod PartsLoop
+pub mod SoaData
 pub mod WrittenPieces
 pub mod LoweredInPlace

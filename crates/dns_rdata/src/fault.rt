@@ -1,6 +1,10 @@
 //! Why words or octets are no data of a type.
 ghost use Rattle.std.specs.Prelude.{◌≡◌};
 ghost use Rattle.dns_rdata.specs.RdataFault.{fault_code};
+ghost use Rattle.dns_rdata.specs.declared.fault.RdataFault.TheVariants.{BadName, NoMemory};
+
+use dns_name::NameFault;
+use std::alloc::AllocError;
 
 /// Why words or octets are no data of a type.
 #[derive(Clone, Copy, Debug, PartialEq, Eq)]
@@ -29,5 +33,22 @@ impl RdataFault {
         ensures { result ≡ fault_code self }
     {
         self as u8
+    }
+}
+
+/// A word whose text is none of a name, whatever its fault.
+impl From<NameFault> for RdataFault {
+    ghost from_gives = { λ _ fault. fault ≡ BadName };
+
+    fn from(_fault: NameFault) -> RdataFault {
+        RdataFault::BadName
+    }
+}
+
+impl From<AllocError> for RdataFault {
+    ghost from_gives = { λ _ fault. fault ≡ NoMemory };
+
+    fn from(_error: AllocError) -> RdataFault {
+        RdataFault::NoMemory
     }
 }

@@ -4,8 +4,9 @@ ghost use Rattle.dns_spec.specs.Names.{Octets};
 ghost use Rattle.dns_spec.specs.AddressText.{SaysIpv4, ipv4_text};
 ghost use Rattle.dns_rdata.specs.AddressForm.{OctetThen};
 
-use crate::number::{number_text, read_number};
+use crate::number::read_number;
 use arrayvec::ArrayVec;
+use itoa::Buffer;
 
 /// The text of an IPv4 address has at most 15 octets.
 pub(crate) const MOST_IPV4_OCTETS: usize = 15;
@@ -45,8 +46,8 @@ fn push_octet(text: &mut ArrayVec<u8, MOST_IPV4_OCTETS>, octet: u8)
     ensures text { text.new.items ≡ text.old.items ++ decimal octet }
     ensures short { length text.new.items ≤ length text.old.items + 3 }
 {
-    let number = number_text(u32::from(octet));
-    let digits = number.as_slice();
+    let mut number = Buffer::new();
+    let digits = number.format(u32::from(octet)).as_bytes();
     'digits: for digit in digits {
         text.push(*digit);
     }

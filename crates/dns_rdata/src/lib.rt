@@ -12,6 +12,7 @@ mod rdata;
 mod read;
 mod rtype;
 mod set;
+mod soa;
 mod string;
 mod table;
 mod typed;

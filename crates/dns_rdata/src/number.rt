@@ -1,11 +1,6 @@
 //! Numbers in the text of zone files.
-ghost use Rattle.std.specs.Prelude.{◌≡◌, ◌↔◌, ℕ, ◌<◌, ◌≤◌, ◌^◌, Some, decimal, SomeIff, length, ◌+◌, ◌++◌};
+ghost use Rattle.std.specs.Prelude.{◌≡◌, ◌↔◌, ℕ, ◌<◌, ◌≤◌, ◌^◌, Some, decimal, SomeIff};
 ghost use Rattle.std.specs.Str.Parse.{AllDigits, digits_value};
-
-use arrayvec::ArrayVec;
-
-/// The decimal text of a number of 32 bits has at most 10 octets.
-pub(crate) const MOST_NUMBER_OCTETS: usize = 10;
 
 /// The number, of at most `most`, that a word says in decimal: `0`, or digits that begin with 1 to 9.
 ///
@@ -38,24 +33,4 @@ fn number_of_digits(digits: &[u8]) -> Option<u32>
             .checked_add(u32::from(*digit - b'0'))?;
     }
     Some(number)
-}
-
-/// The text of a number in plain decimal, as in `65280`.
-pub(crate) fn number_text(number: u32) -> ArrayVec<u8, MOST_NUMBER_OCTETS>
-    ensures { result.items ≡ decimal number }
-{
-    let mut text = ArrayVec::new();
-    push_decimal(&mut text, number);
-    text
-}
-
-// Adds the decimal text of a number.
-fn push_decimal(text: &mut ArrayVec<u8, MOST_NUMBER_OCTETS>, number: u32)
-    requires { length text.old.items + length (decimal number) ≤ 10 }
-    ensures { text.new.items ≡ text.old.items ++ decimal number }
-{
-    if number >= 10 {
-        push_decimal(text, number / 10);
-    }
-    text.push(b'0' + (number % 10) as u8);
 }

@@ -1,7 +1,7 @@
 //! Data of records (RFC 1035 3.2.1): octets without compression, names in lower case.
 ghost use Rattle.std.specs.Prelude.{◌≡◌, ◌≤◌, All, false, length, map, IsTrue, IfOk, MatchResult, if◌then◌else◌};
 ghost use Rattle.std.specs.Option.{is_some};
-ghost use Rattle.dns_spec.specs.Data.{valid, Valid, parts, lower_case, part_folded, joined, piece_front};
+ghost use Rattle.dns_spec.specs.Data.{valid, Valid, parts, target, lower_case, part_folded, joined, piece_front};
 ghost use Rattle.dns_rdata.specs.TypeRows.{piece_of};
 ghost use Rattle.dns_rdata.specs.Parts.{AreCut, HasName, LowersFront, parts_left};
 
@@ -9,6 +9,7 @@ use crate::fault::RdataFault;
 use crate::parts::{Part, Parts, are_cut, first_part};
 use crate::rtype::RType;
 use crate::table::{Piece, pieces_of_type};
+use dns_name::Name;
 use std::alloc::{AllocError, Global};
 use std::marker::Model;
 
@@ -48,10 +49,8 @@ impl Rdata {
         if !is_valid(rtype, octets) {
             return Err(RdataFault::NotOfType);
         }
-        match copied(alloc, octets) {
-            Ok(octets) => Ok(data_of(rtype, octets)),
-            Err(_) => Err(RdataFault::NoMemory),
-        }
+        let octets = copied(alloc, octets)?;
+        Ok(data_of(rtype, octets))
     }
 
     /// The data that octets are, in the memory that they have: `NotOfType` where `from_wire` tells it.
@@ -84,6 +83,21 @@ impl Rdata {
         ensures count { length result ≤ 3 }
     {
         Parts::new(rtype, octets)
+    }
+
+    /// The first name in valid data: of NS the server, of CNAME the alias's own name, of MX the exchange
+    /// (RFC 1035 3.3.1, 3.3.9, 3.3.11).
+    pub fn target(rtype: RType, octets: &[u8]) -> Option<Name>
+        requires { Valid rtype.0 octets.now }
+        ensures { result ≡ target rtype.0 octets.now }
+    {
+        let mut parts = Rdata::parts(rtype, octets);
+        'parts: while let Some(part) = parts.next() {
+            if let Part::Name(octets) = part {
+                return Some(Name::from_octets(octets));
+            }
+        }
+        None
     }
 }
 

@@ -1,9 +1,8 @@
 //! Types of records.
-ghost use Rattle.std.specs.Prelude.{◌≡◌, ◌≢◌, ℕ, ◌-◌, ◌^◌, ◌<◌, MatchOption, OnOk, OnErr};
-ghost use Rattle.std.specs.Io.KnownBytes.{Appends};
+ghost use Rattle.std.specs.Prelude.{◌≡◌, ◌≢◌, ℕ, ◌-◌, ◌^◌, ◌<◌, MatchOption};
 ghost use Rattle.dns_spec.specs.Data.{compresses};
 ghost use Rattle.dns_spec.specs.TypeText.{NamesType, text_in_lower_case, numbered_type, type_text};
-ghost use Rattle.dns_name.specs.Counted.{failures_after, AppendsBeginning};
+ghost use Rattle.dns_name.specs.Counted.{Writes};
 
 use crate::number::read_number;
 use crate::table::{row_of_mnemonic, row_of_type, same_text};
@@ -66,9 +65,7 @@ impl RType {
     /// Where the device fails, a beginning of that was written.
     pub fn write_text<W: Write>(self, sink: &mut Tally<W>) -> Result<(), SinkFailed>
         requires { sink.old.failures < 2 ^ 64 - 1 }
-        ensures ok { OnOk result (Appends (W.contents sink.old.device) (W.contents sink.new.device) (type_text self.0)) }
-        ensures err { OnErr result (AppendsBeginning (W.contents sink.old.device) (W.contents sink.new.device) (type_text self.0)) }
-        ensures counted { sink.new.failures ≡ failures_after sink.old.failures result }
+        ensures { Writes W.contents sink.old sink.new result (type_text self.0) }
     {
         match row_of_type(self) {
             Some(row) => sink.write_all(row.mnemonic),
@@ -92,9 +89,7 @@ fn read_numbered(word: &[u8]) -> Option<RType>
 
 fn write_numbered<W: Write>(number: u16, sink: &mut Tally<W>) -> Result<(), SinkFailed>
     requires { sink.old.failures < 2 ^ 64 - 1 }
-    ensures ok { OnOk result (Appends (W.contents sink.old.device) (W.contents sink.new.device) (numbered_type number)) }
-    ensures err { OnErr result (AppendsBeginning (W.contents sink.old.device) (W.contents sink.new.device) (numbered_type number)) }
-    ensures counted { sink.new.failures ≡ failures_after sink.old.failures result }
+    ensures { Writes W.contents sink.old sink.new result (numbered_type number) }
 {
     sink.write_all(b"TYPE")?;
     let mut digits = Buffer::new();

@@ -46,15 +46,11 @@ pub(crate) fn typed_octets(
     ensures fault { IfErr result (λ fault. fault ≢ RdataFault.NoMemory → (d : Octets) → SaysTyped rtype.0 origin.now words.now d → ⊥) }
 {
     let row = row_of_type(rtype).ok_or(RdataFault::BadHex)?;
-    let Ok(forms) = forms_of(alloc, row.pieces, words.len()) else {
-        return Err(RdataFault::NoMemory);
-    };
+    let forms = forms_of(alloc, row.pieces, words.len())?;
     if forms.len() != words.len() {
         return Err(RdataFault::WordCount);
     }
-    let Ok(mut octets) = Vec::with_capacity(alloc, USUAL_OCTETS) else {
-        return Err(RdataFault::NoMemory);
-    };
+    let mut octets = Vec::with_capacity(alloc, USUAL_OCTETS)?;
     append_words(forms.as_slice(), words, origin, &mut octets)?;
     Ok(octets)
 }
@@ -211,7 +207,7 @@ fn append_name(text: &[u8], origin: &Name, octets: &mut Vec<u8>) -> Result<(), R
     ensures ok { OnOk result (AppendsOnly (SaysName origin.now text.now) octets.old.items octets.new.items) }
     ensures fault { IfErr result (λ fault. fault ≢ RdataFault.NoMemory → (d : Octets) → SaysName origin.now text.now d → ⊥) }
 {
-    let name = Name::read_text(text, origin).map_err(|_| RdataFault::BadName)?;
+    let name = Name::read_text(text, origin)?;
     append(octets, name.octets())
 }
 
@@ -229,7 +225,6 @@ fn append(octets: &mut Vec<u8>, piece: &[u8]) -> Result<(), RdataFault>
     ensures ok { OnOk result (octets.new.items ≡ octets.old.items ++ piece.now) }
     ensures fault { IfErr result (λ fault. fault ≡ RdataFault.NoMemory) }
 {
-    octets
-        .extend_from_slice(piece)
-        .map_err(|_| RdataFault::NoMemory)
+    octets.extend_from_slice(piece)?;
+    Ok(())
 }

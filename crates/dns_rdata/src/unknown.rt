@@ -65,9 +65,10 @@ fn append_word(word: &Word<'_>, octets: &mut Vec<u8>) -> Result<(), RdataFault>
     if word.quoted || word.raw.is_empty() {
         return Err(RdataFault::BadHex);
     }
-    match append_hex(word.raw, octets) {
-        Ok(true) => Ok(()),
-        Ok(false) => Err(RdataFault::BadHex),
-        Err(_) => Err(RdataFault::NoMemory),
+    let said = append_hex(word.raw, octets)?;
+    if said {
+        Ok(())
+    } else {
+        Err(RdataFault::BadHex)
     }
 }

@@ -1,13 +1,12 @@
 //! Data as it is written in zone files (RFC 1035 5.1, RFC 3597 5).
-ghost use Rattle.std.specs.Prelude.{◌≡◌, ◌≤◌, ◌<◌, ◌-◌, ◌*◌, ◌^◌, ◌++◌, [], ◌∷◌, length, replicate, IfOk, OnOk, OnErr, IsTrue};
+ghost use Rattle.std.specs.Prelude.{◌≡◌, ◌≤◌, ◌<◌, ◌-◌, ◌*◌, ◌^◌, ◌++◌, [], ◌∷◌, length, replicate, IfOk, IsTrue};
 ghost use Rattle.std.specs.Option.{is_some};
 ghost use Rattle.std.specs.List.{flat_map};
-ghost use Rattle.std.specs.Io.KnownBytes.{Appends};
 ghost use Rattle.dns_spec.specs.Names.{name_of};
 ghost use Rattle.dns_spec.specs.Data.{Valid, number_of, piece_front, string_front, are_strings};
 ghost use Rattle.dns_spec.specs.DataText.{number_word, ipv4_word, ipv6_word, name_word, string_word};
 ghost use Rattle.dns_spec.specs.WrittenText.{hex_text, hex_words, unknown_words, word_front, form_words, string_count, data_text};
-ghost use Rattle.dns_name.specs.Counted.{failures_after, AppendsBeginning};
+ghost use Rattle.dns_name.specs.Counted.{Writes};
 ghost use Rattle.dns_rdata.specs.TypeRows.{size_of, piece_of, pieces_in};
 ghost use Rattle.dns_rdata.specs.Parts.{AreCut};
 ghost use Rattle.dns_rdata.specs.WrittenForm.{spaced, form_rest, piece_words, piece_rest, pieces_words, have_words};
@@ -15,14 +14,15 @@ ghost use Rattle.dns_rdata.specs.WrittenForm.{spaced, form_rest, piece_words, pi
 use crate::hex::hex_digits;
 use crate::ipv4::text_of_ipv4;
 use crate::ipv6_text::text_of_ipv6;
-use crate::number::number_text;
 use crate::parts::{Part, first_name};
 use crate::rdata::Rdata;
 use crate::rtype::RType;
 use crate::string::text_of_string;
 use crate::table::{Fixed, NumberSize, Piece, row_of_type};
 use arrayvec::ArrayVec;
+use byteorder::{BigEndian, ByteOrder};
 use dns_name::{Name, SinkFailed, Tally};
+use itoa::Buffer;
 use std::io::Write;
 
 // Words have one space between.
@@ -46,9 +46,7 @@ impl Rdata {
     ) -> Result<(), SinkFailed>
         requires valid { Valid rtype.0 octets.now }
         requires few_failures { sink.old.failures < 2 ^ 64 - 1 }
-        ensures ok { OnOk result (Appends (W.contents sink.old.device) (W.contents sink.new.device) (data_text rtype.0 octets.now)) }
-        ensures err { OnErr result (AppendsBeginning (W.contents sink.old.device) (W.contents sink.new.device) (data_text rtype.0 octets.now)) }
-        ensures counted { sink.new.failures ≡ failures_after sink.old.failures result }
+        ensures { Writes W.contents sink.old sink.new result (data_text rtype.0 octets.now) }
     {
         match row_of_type(rtype) {
             Some(row) => write_pieces(row.pieces, octets, sink),
@@ -66,9 +64,8 @@ fn write_pieces<W: Write>(
     requires cut { AreCut pieces.now octets.now }
     requires words { IsTrue (have_words (pieces_in pieces.now)) }
     requires few_failures { sink.old.failures < 2 ^ 64 - 1 }
-    ensures ok { OnOk result (Appends (W.contents sink.old.device) (W.contents sink.new.device) (spaced [] (pieces_words (pieces_in pieces.now) octets.now))) }
-    ensures err { OnErr result (AppendsBeginning (W.contents sink.old.device) (W.contents sink.new.device) (spaced [] (pieces_words (pieces_in pieces.now) octets.now))) }
-    ensures counted { sink.new.failures ≡ failures_after sink.old.failures result }
+    ensures { Writes W.contents sink.old sink.new result
+        (spaced [] (pieces_words (pieces_in pieces.now) octets.now)) }
 {
     let mut before: &[u8] = b"";
     let mut rest = octets;
@@ -89,10 +86,9 @@ fn write_piece<'a, W: Write>(
 ) -> Result<&'a [u8], SinkFailed>
     requires piece { IsTrue (is_some (piece_front (piece_of piece) octets.now)) }
     requires few_failures { sink.old.failures < 2 ^ 64 - 1 }
-    ensures ok { OnOk result (Appends (W.contents sink.old.device) (W.contents sink.new.device) (spaced before.now (piece_words (piece_of piece) octets.now))) }
+    ensures writes { Writes W.contents sink.old sink.new result
+        (spaced before.now (piece_words (piece_of piece) octets.now)) }
     ensures rest { IfOk result (λ rest. rest.now ≡ piece_rest (piece_of piece) octets.now) }
-    ensures err { OnErr result (AppendsBeginning (W.contents sink.old.device) (W.contents sink.new.device) (spaced before.now (piece_words (piece_of piece) octets.now))) }
-    ensures counted { sink.new.failures ≡ failures_after sink.old.failures result }
 {
     match piece {
         Piece::Fixed(Fixed::Numbers { count, size }) => {
@@ -117,10 +113,9 @@ fn write_numbers<'a, W: Write>(
 ) -> Result<&'a [u8], SinkFailed>
     requires long { count * size_of size ≤ length octets.now }
     requires few_failures { sink.old.failures < 2 ^ 64 - 1 }
-    ensures ok { OnOk result (Appends (W.contents sink.old.device) (W.contents sink.new.device) (spaced before.now (form_words (replicate count (number_word (size_of size))) octets.now))) }
+    ensures writes { Writes W.contents sink.old sink.new result
+        (spaced before.now (form_words (replicate count (number_word (size_of size))) octets.now)) }
     ensures rest { IfOk result (λ rest. rest.now ≡ form_rest (replicate count (number_word (size_of size))) octets.now) }
-    ensures err { OnErr result (AppendsBeginning (W.contents sink.old.device) (W.contents sink.new.device) (spaced before.now (form_words (replicate count (number_word (size_of size))) octets.now))) }
-    ensures counted { sink.new.failures ≡ failures_after sink.old.failures result }
 {
     let mut left = count;
     let mut before = before;
@@ -142,27 +137,26 @@ fn write_number<'a, W: Write>(
 ) -> Result<&'a [u8], SinkFailed>
     requires long { size_of size ≤ length octets.now }
     requires few_failures { sink.old.failures < 2 ^ 64 - 1 }
-    ensures ok { OnOk result (Appends (W.contents sink.old.device) (W.contents sink.new.device) (spaced before.now (form_words (number_word (size_of size) ∷ []) octets.now))) }
+    ensures writes { Writes W.contents sink.old sink.new result
+        (spaced before.now (form_words (number_word (size_of size) ∷ []) octets.now)) }
     ensures rest { IfOk result (λ rest. rest.now ≡ (word_front (number_word (size_of size)) octets.now).1) }
-    ensures err { OnErr result (AppendsBeginning (W.contents sink.old.device) (W.contents sink.new.device) (spaced before.now (form_words (number_word (size_of size) ∷ []) octets.now))) }
-    ensures counted { sink.new.failures ≡ failures_after sink.old.failures result }
 {
     let (number, rest) = octets.split_at(size.octets());
-    let text = number_text(number_of(number));
-    sink.write_parts(&[before, text.as_slice()])?;
+    let mut digits = Buffer::new();
+    let text = digits.format(number_of(size, number)).as_bytes();
+    sink.write_parts(&[before, text])?;
     Ok(rest)
 }
 
-// The number that octets spell, the most significant first (RFC 1035 2.3.2).
-fn number_of(octets: &[u8]) -> u32
-    requires { length octets.now ≤ 4 }
+// The number that the octets of its size spell, the most significant first (RFC 1035 2.3.2).
+fn number_of(size: NumberSize, octets: &[u8]) -> u32
+    requires { length octets.now ≡ size_of size }
     ensures { result ≡ number_of octets.now }
 {
-    let mut number = 0;
-    'octets: for octet in octets {
-        number = 256 * number + u32::from(*octet);
+    match size {
+        NumberSize::Two => u32::from(BigEndian::read_u16(octets)),
+        NumberSize::Four => BigEndian::read_u32(octets),
     }
-    number
 }
 
 fn write_ipv4<'a, W: Write>(
@@ -172,10 +166,9 @@ fn write_ipv4<'a, W: Write>(
 ) -> Result<&'a [u8], SinkFailed>
     requires long { 4 ≤ length octets.now }
     requires few_failures { sink.old.failures < 2 ^ 64 - 1 }
-    ensures ok { OnOk result (Appends (W.contents sink.old.device) (W.contents sink.new.device) (spaced before.now (form_words (ipv4_word ∷ []) octets.now))) }
+    ensures writes { Writes W.contents sink.old sink.new result
+        (spaced before.now (form_words (ipv4_word ∷ []) octets.now)) }
     ensures rest { IfOk result (λ rest. rest.now ≡ (word_front ipv4_word octets.now).1) }
-    ensures err { OnErr result (AppendsBeginning (W.contents sink.old.device) (W.contents sink.new.device) (spaced before.now (form_words (ipv4_word ∷ []) octets.now))) }
-    ensures counted { sink.new.failures ≡ failures_after sink.old.failures result }
 {
     let (address, rest) = octets.split_at(4);
     let Ok(address) = <[u8; 4]>::try_from(address) else {
@@ -193,10 +186,9 @@ fn write_ipv6<'a, W: Write>(
 ) -> Result<&'a [u8], SinkFailed>
     requires long { 16 ≤ length octets.now }
     requires few_failures { sink.old.failures < 2 ^ 64 - 1 }
-    ensures ok { OnOk result (Appends (W.contents sink.old.device) (W.contents sink.new.device) (spaced before.now (form_words (ipv6_word ∷ []) octets.now))) }
+    ensures writes { Writes W.contents sink.old sink.new result
+        (spaced before.now (form_words (ipv6_word ∷ []) octets.now)) }
     ensures rest { IfOk result (λ rest. rest.now ≡ (word_front ipv6_word octets.now).1) }
-    ensures err { OnErr result (AppendsBeginning (W.contents sink.old.device) (W.contents sink.new.device) (spaced before.now (form_words (ipv6_word ∷ []) octets.now))) }
-    ensures counted { sink.new.failures ≡ failures_after sink.old.failures result }
 {
     let (address, rest) = octets.split_at(16);
     let Ok(address) = <[u8; 16]>::try_from(address) else {
@@ -214,10 +206,9 @@ fn write_name<'a, W: Write>(
 ) -> Result<&'a [u8], SinkFailed>
     requires name { IsTrue (is_some (name_of octets.now)) }
     requires few_failures { sink.old.failures < 2 ^ 64 - 1 }
-    ensures ok { OnOk result (Appends (W.contents sink.old.device) (W.contents sink.new.device) (spaced before.now (form_words (name_word ∷ []) octets.now))) }
+    ensures writes { Writes W.contents sink.old sink.new result
+        (spaced before.now (form_words (name_word ∷ []) octets.now)) }
     ensures rest { IfOk result (λ rest. rest.now ≡ (word_front name_word octets.now).1) }
-    ensures err { OnErr result (AppendsBeginning (W.contents sink.old.device) (W.contents sink.new.device) (spaced before.now (form_words (name_word ∷ []) octets.now))) }
-    ensures counted { sink.new.failures ≡ failures_after sink.old.failures result }
 {
     let Some((Part::Name(name), rest)) = first_name(octets) else {
         unreachable!();
@@ -235,10 +226,9 @@ fn write_string<'a, W: Write>(
 ) -> Result<&'a [u8], SinkFailed>
     requires string { IsTrue (is_some (string_front octets.now)) }
     requires few_failures { sink.old.failures < 2 ^ 64 - 1 }
-    ensures ok { OnOk result (Appends (W.contents sink.old.device) (W.contents sink.new.device) (spaced before.now (form_words (string_word ∷ []) octets.now))) }
+    ensures writes { Writes W.contents sink.old sink.new result
+        (spaced before.now (form_words (string_word ∷ []) octets.now)) }
     ensures rest { IfOk result (λ rest. rest.now ≡ (word_front string_word octets.now).1) }
-    ensures err { OnErr result (AppendsBeginning (W.contents sink.old.device) (W.contents sink.new.device) (spaced before.now (form_words (string_word ∷ []) octets.now))) }
-    ensures counted { sink.new.failures ≡ failures_after sink.old.failures result }
 {
     let Some((length, others)) = octets.split_first() else {
         unreachable!();
@@ -257,10 +247,9 @@ fn write_strings<'a, W: Write>(
 ) -> Result<&'a [u8], SinkFailed>
     requires strings { IsTrue (are_strings 0 octets.now) }
     requires few_failures { sink.old.failures < 2 ^ 64 - 1 }
-    ensures ok { OnOk result (Appends (W.contents sink.old.device) (W.contents sink.new.device) (spaced before.now (form_words (replicate (string_count 0 octets.now) string_word) octets.now))) }
+    ensures writes { Writes W.contents sink.old sink.new result
+        (spaced before.now (form_words (replicate (string_count 0 octets.now) string_word) octets.now)) }
     ensures rest { IfOk result (λ rest. rest.now ≡ form_rest (replicate (string_count 0 octets.now) string_word) octets.now) }
-    ensures err { OnErr result (AppendsBeginning (W.contents sink.old.device) (W.contents sink.new.device) (spaced before.now (form_words (replicate (string_count 0 octets.now) string_word) octets.now))) }
-    ensures counted { sink.new.failures ≡ failures_after sink.old.failures result }
 {
     let mut before = before;
     let mut rest = octets;
@@ -275,21 +264,18 @@ fn write_strings<'a, W: Write>(
 fn write_unknown<W: Write>(octets: &[u8], sink: &mut Tally<W>) -> Result<(), SinkFailed>
     requires short { length octets.now ≤ 65535 }
     requires few_failures { sink.old.failures < 2 ^ 64 - 1 }
-    ensures ok { OnOk result (Appends (W.contents sink.old.device) (W.contents sink.new.device) (spaced [] (unknown_words octets.now))) }
-    ensures err { OnErr result (AppendsBeginning (W.contents sink.old.device) (W.contents sink.new.device) (spaced [] (unknown_words octets.now))) }
-    ensures counted { sink.new.failures ≡ failures_after sink.old.failures result }
+    ensures { Writes W.contents sink.old sink.new result (spaced [] (unknown_words octets.now)) }
 {
-    let length = number_text(octets.len() as u32);
-    sink.write_parts(&[b"\\# ", length.as_slice()])?;
+    let mut digits = Buffer::new();
+    let length = digits.format(octets.len() as u32).as_bytes();
+    sink.write_parts(&[b"\\# ", length])?;
     write_hex_word(octets, sink)
 }
 
 // The word of all octets behind a space, if there are any.
 fn write_hex_word<W: Write>(octets: &[u8], sink: &mut Tally<W>) -> Result<(), SinkFailed>
     requires { sink.old.failures < 2 ^ 64 - 1 }
-    ensures ok { OnOk result (Appends (W.contents sink.old.device) (W.contents sink.new.device) (spaced (32 ∷ []) (hex_words octets.now))) }
-    ensures err { OnErr result (AppendsBeginning (W.contents sink.old.device) (W.contents sink.new.device) (spaced (32 ∷ []) (hex_words octets.now))) }
-    ensures counted { sink.new.failures ≡ failures_after sink.old.failures result }
+    ensures { Writes W.contents sink.old sink.new result (spaced (32 ∷ []) (hex_words octets.now)) }
 {
     if octets.is_empty() {
         return Ok(());
@@ -300,9 +286,7 @@ fn write_hex_word<W: Write>(octets: &[u8], sink: &mut Tally<W>) -> Result<(), Si
 
 fn write_hex<W: Write>(octets: &[u8], sink: &mut Tally<W>) -> Result<(), SinkFailed>
     requires { sink.old.failures < 2 ^ 64 - 1 }
-    ensures ok { OnOk result (Appends (W.contents sink.old.device) (W.contents sink.new.device) (hex_text octets.now)) }
-    ensures err { OnErr result (AppendsBeginning (W.contents sink.old.device) (W.contents sink.new.device) (hex_text octets.now)) }
-    ensures counted { sink.new.failures ≡ failures_after sink.old.failures result }
+    ensures { Writes W.contents sink.old sink.new result (hex_text octets.now) }
 {
     let mut rest = octets;
     'chunks: while !rest.is_empty() {

@@ -1,9 +1,7 @@
 pub mod NameLoop
 pub mod BodyLaws
-pub mod SoaData
 pub mod Fitting
 pub mod SetLoop
-pub mod PartsLoop
 pub mod TypesLoop
 pub mod Ancestors
 pub mod Ordered

@@ -73,9 +73,7 @@ fn report_read_fault<W: Write>(
     ensures sink { sink.new.failures ≡ sink_failures_after sink.old.failures result }
 {
     if !is_silent(flags) {
-        let Ok(()) = write_read_fault(fault, sink) else {
-            return Err(Stop::Sink);
-        };
+        write_read_fault(fault, sink)?;
     }
     Ok(false)
 }
@@ -91,9 +89,7 @@ fn report_check_faults<W: Write>(
     ensures sink { sink.new.failures ≡ sink_failures_after sink.old.failures result }
 {
     if !is_silent(flags) {
-        let Ok(()) = write_check_faults(faults, sink) else {
-            return Err(Stop::Sink);
-        };
+        write_check_faults(faults, sink)?;
     }
     Ok(false)
 }
@@ -105,13 +101,9 @@ fn report_zone<W: Write>(flags: Flags, zone: &Zone, sink: &mut Tally<W>) -> Resu
     ensures sink { sink.new.failures ≡ sink_failures_after sink.old.failures result }
 {
     if flags.print {
-        let Ok(()) = print(zone, sink) else {
-            return Err(Stop::Sink);
-        };
+        print(zone, sink)?;
     } else if !flags.quiet {
-        let Ok(()) = write_loaded(zone, sink) else {
-            return Err(Stop::Sink);
-        };
+        write_loaded(zone, sink)?;
     }
     Ok(true)
 }

@@ -5,7 +5,6 @@ ghost use Rattle.dns_spec.specs.Names.{same, at_or_below};
 ghost use Rattle.std.specs.Option.{option_map_or};
 ghost use Rattle.dns_spec.specs.Records.{ResourceRecord};
 ghost use Rattle.dns_spec.specs.Data.{target};
-ghost use Rattle.dns_spec.specs.Checks.{first_is_asterisk};
 ghost use Rattle.dns_tools.specs.ListZone.{is_listed, is_plain, is_refused, has_fault, lacks_or_repeats, lacks_server, server_lost};
 
 use crate::record::Record;
@@ -44,7 +43,7 @@ fn is_plain(origin: &Name, listed: &Record) -> bool
     ensures { result ≡ is_plain origin.now listed.now }
 {
     let (_owner, _ttl) = (listed.owner.octets(), listed.ttl);
-    is_listed(origin, listed) && !first_is_asterisk(&listed.owner)
+    is_listed(origin, listed) && !listed.owner.is_wildcard()
 }
 
 fn is_listed(origin: &Name, listed: &Record) -> bool
@@ -52,15 +51,6 @@ fn is_listed(origin: &Name, listed: &Record) -> bool
 {
     listed.rtype == RType::A
         || ((listed.rtype == RType::NS || listed.rtype == RType::SOA) && listed.owner.same(origin))
-}
-
-fn first_is_asterisk(name: &Name) -> bool
-    ensures { result ≡ first_is_asterisk name.now }
-{
-    match name.labels().next() {
-        Some(label) => label.octets() == b"*".as_slice(),
-        None => false,
-    }
 }
 
 fn has_fault(origin: &Name, records: &[Record], name: &Name) -> bool

@@ -1,7 +1,14 @@
 //! Why a program stops, what it says then, and the status that it ends with.
-ghost use Rattle.std.specs.Prelude.{◌≡◌};
+ghost use Rattle.std.specs.Prelude.{◌≡◌, IsTrue};
+ghost use Rattle.dns_tools.specs.declared.fault.Stop.TheVariants.{Memory, Source, Sink};
+ghost use Rattle.dns_tools.specs.declared.fault.FaultWord.TheVariants.{BadOrigin, NoMemory};
 ghost use Rattle.dns_tools.specs.Status.{status_of, fault_status, word_of};
+ghost use Rattle.dns_tools.specs.Words.{is_word_fault};
 
+use clap::error::ErrorKind;
+use dns_name::{NameFault, SinkFailed, SourceFailed};
+use dns_zone::PrintFault;
+use std::alloc::AllocError;
 use thiserror::Error;
 
 /// Why an engine gave up before the end of its input.
@@ -13,6 +20,38 @@ pub enum Stop {
     Source,
     /// Writing failed.
     Sink,
+}
+
+impl From<AllocError> for Stop {
+    ghost from_gives = { λ _ stop. stop ≡ Memory };
+
+    fn from(_error: AllocError) -> Stop {
+        Stop::Memory
+    }
+}
+
+impl From<SourceFailed> for Stop {
+    ghost from_gives = { λ _ stop. stop ≡ Source };
+
+    fn from(_failed: SourceFailed) -> Stop {
+        Stop::Source
+    }
+}
+
+impl From<SinkFailed> for Stop {
+    ghost from_gives = { λ _ stop. stop ≡ Sink };
+
+    fn from(_failed: SinkFailed) -> Stop {
+        Stop::Sink
+    }
+}
+
+impl From<PrintFault> for Stop {
+    ghost from_gives = { λ _ stop. stop ≡ Sink };
+
+    fn from(_fault: PrintFault) -> Stop {
+        Stop::Sink
+    }
 }
 
 /// The status of a program: 0 where its engine answers true, 1 where it answers false, 2 where it stopped.
@@ -72,6 +111,35 @@ impl From<Stop> for FaultWord {
             Stop::Memory => FaultWord::NoMemory,
             Stop::Source => FaultWord::SourceFailed,
             Stop::Sink => FaultWord::SinkFailed,
+        }
+    }
+}
+
+impl From<AllocError> for FaultWord {
+    ghost from_gives = { λ _ word. word ≡ NoMemory };
+
+    fn from(_error: AllocError) -> FaultWord {
+        FaultWord::NoMemory
+    }
+}
+
+/// ORIGIN is no name, whatever its fault.
+impl From<NameFault> for FaultWord {
+    ghost from_gives = { λ _ word. word ≡ BadOrigin };
+
+    fn from(_fault: NameFault) -> FaultWord {
+        FaultWord::BadOrigin
+    }
+}
+
+/// Words that the command line does not take.
+impl From<clap::Error> for FaultWord {
+    ghost from_gives = { λ _ word. IsTrue (is_word_fault word) };
+
+    fn from(error: clap::Error) -> FaultWord {
+        match error.kind() {
+            ErrorKind::OutOfMemory => FaultWord::NoMemory,
+            _ => FaultWord::Usage,
         }
     }
 }

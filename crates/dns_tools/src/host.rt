@@ -1,23 +1,49 @@
 //! What the programs' mains do alike: their words, their zone file, and what they say where they stop.
-ghost use Rattle.std.specs.Prelude.{◌≡◌, ◌⊎◌, IfErr};
+ghost use Rattle.std.specs.Prelude.{◌≡◌, ◌⊎◌, Ok, Err, IfOk, IfErr};
 ghost use Rattle.dns_tools.specs.Status.{fault_status};
 
-use crate::fault::FaultWord;
+use crate::fault::{FaultWord, Stop};
 use std::alloc::Global;
-use std::io::{Error, ErrorKind};
+use std::env::FillError;
+use std::io::{BufWriter, Error, ErrorKind, Write};
 use std::rt::{Env, Files};
 use std::{env, fs};
 
-/// The words behind the program's own name. Words that are no text are none that a program takes: `usage`.
+/// The words after the program's own name, which is not looked at. Words that are no text are none that a program
+/// takes: `usage`.
 pub fn given_words<R: Env + AllocGlobal>(rt: &R) -> Result<Vec<String>, FaultWord>
     ensures { IfErr result (λ fault. (fault ≡ FaultWord.Usage) ⊎ (fault ≡ FaultWord.NoMemory)) }
 {
-    let given = env::args(rt).map_err(|error| word_or_no_memory(&error, FaultWord::Usage))?;
+    let given = env::args(&(Words { rt }, rt.alloc()));
+    let given = given.map_err(|error| word_or_no_memory(&error, FaultWord::Usage))?;
     let mut words = Vec::new(rt.alloc());
-    for word in given.skip(1) {
+    for word in given {
         words.push(word).map_err(|_| FaultWord::NoMemory)?;
     }
     Ok(words)
+}
+
+// The environment without the program's own name, which need not be text.
+#[derive(Drop)]
+struct Words<'a, R> {
+    rt: &'a R,
+}
+
+impl<R: Env> Env for Words<'_, R> {
+    fn arg(&self, i: usize, buf: &mut [u8]) -> Result<usize, FillError> {
+        match i.checked_add(1) {
+            Some(next) => self.rt.arg(next, buf),
+            None => Err(FillError::NotPresent),
+        }
+    }
+
+    fn var(&self, name: &str, buf: &mut [u8]) -> Result<usize, FillError> {
+        self.rt.var(name, buf)
+    }
+
+    fn var_at(&self, i: usize, buf: &mut [u8]) -> Result<usize, FillError> {
+        self.rt.var_at(i, buf)
+    }
 }
 
 /// The file of a path, to be read: `R16` where it can't be opened.
@@ -25,6 +51,28 @@ pub fn open_file<R: Files>(rt: &R, path: &str) -> Result<R::File, FaultWord>
     ensures { IfErr result (λ fault. (fault ≡ FaultWord.SourceFailed) ⊎ (fault ≡ FaultWord.NoMemory)) }
 {
     fs::open(rt, path).map_err(|error| word_or_no_memory(&error, FaultWord::SourceFailed))
+}
+
+/// Writes what the buffer still holds of a report, where its engine came to its end, and lets the buffer go.
+///
+/// The buffer is taken apart: dropped as it is, it would write once more after a failure.
+pub fn finish<W: Write + Drop>(
+    outcome: Result<bool, Stop>,
+    output: BufWriter<W>,
+) -> Result<bool, Stop>
+    ensures stopped { IfErr outcome (λ stop. result ≡ Err stop) }
+    ensures ended { IfOk outcome (λ passes. (result ≡ Ok passes) ⊎ (result ≡ Err Stop.Sink)) }
+{
+    let mut output = output;
+    let flushed = match outcome {
+        Ok(_) => output.flush(),
+        Err(_) => Ok(()),
+    };
+    let (_writer, _unwritten) = output.into_parts();
+    match flushed {
+        Ok(()) => outcome,
+        Err(_) => Err(Stop::Sink),
+    }
 }
 
 /// Tells a fault on standard error, and gives the status for it: 2 also where standard error can't be written.

@@ -18,7 +18,7 @@ mod words;
 
 pub use check::{Flags, check_zone};
 pub use fault::{FaultWord, Stop, exit_status};
-pub use host::{given_words, open_file, told};
+pub use host::{finish, given_words, open_file, told};
 pub use list::{BuildFault, Zone};
 pub use load::{LoadFault, load as load_zone};
 pub use once::run_once;

@@ -12,7 +12,7 @@ use std::alloc::{AllocError, Global};
 use std::io::Read;
 
 // How many records are served.
-const MOST_RECORDS: usize = 1_000;
+const MOST_SERVED: usize = 1_000;
 
 /// Why no zone was loaded.
 #[derive(Clone, Copy, Debug, PartialEq, Eq)]
@@ -25,19 +25,26 @@ pub enum LoadFault {
     NoMemory,
 }
 
+impl From<ReadFault> for LoadFault {
+    ghost use Rattle.dns_tools.specs.declared.load.LoadFault.{LoadFault};
+
+    ghost from_gives = { λ fault refusal. refusal ≡ LoadFault.Read fault };
+
+    fn from(fault: ReadFault) -> LoadFault {
+        LoadFault::Read(fault)
+    }
+}
+
 /// Loads the zone of the origin from the source of its file (RFC 1035 section 5).
 ///
 /// The file is read relative to the origin in lower case. Its first faulty entry decides; else the records are refused
-/// where they are more than 1,000, doubles counted, or are no zone that is served. Nothing is read again after a failure.
+/// where they are more than 1,000, duplicates counted, or are no zone that is served. Nothing is read again after a failure.
 pub fn load<R: Read>(alloc: Global, origin: &Name, source: &mut Tally<R>) -> Result<Zone, LoadFault>
     requires { source.old.failures < 2 ^ 64 - 1 }
     ensures counted { source.new.failures ≡ failures_after_load source.old.failures result }
     ensures meaning { LoadedAs (R.remaining source.old.device) origin.now result }
 {
-    let records = match read_zone(alloc, &origin.fold(), source) {
-        Ok(records) => records,
-        Err(fault) => return Err(LoadFault::Read(fault)),
-    };
+    let records = read_zone(alloc, &origin.fold(), source)?;
     match zone_of(alloc, origin, records) {
         Ok(zone) => Ok(zone),
         Err(BuildFault::Refused) => Err(LoadFault::Refused),
@@ -55,7 +62,7 @@ fn zone_of(
     ensures served { IfOk result (λ zone. is_unserved origin.now records.items ≡ false) }
     ensures refused { result ≡ Err BuildFault.Refused → is_unserved origin.now records.items ≡ true }
 {
-    if records.len() > MOST_RECORDS {
+    if records.len() > MOST_SERVED {
         return Err(BuildFault::Refused);
     }
     let Ok(records) = listed(alloc, records) else {

@@ -53,8 +53,8 @@ pub fn run_once<R: Read, W: Write>(
     ensures unread { result ≡ Err Stop.Memory → source.new ≡ source.old }
     ensures unwritten { result ≡ Err Stop.Memory → sink.new ≡ sink.old }
 {
-    let mut piece = vec![in alloc; 0; PIECE].map_err(|_| Stop::Memory)?;
-    let mut exchange = Exchange::new(alloc, zone, limit).map_err(|_| Stop::Memory)?;
+    let mut piece = vec![in alloc; 0; PIECE]?;
+    let mut exchange = Exchange::new(alloc, zone, limit)?;
     exchange.run(piece.as_mut_slice(), source, sink)
 }
 
@@ -105,19 +105,19 @@ impl<'z> Exchange<'z> {
     {
         let mut left = u64::MAX;
         'pieces: while left > 0 {
-            self.flush(sink).map_err(|_| Stop::Sink)?;
+            self.flush(sink)?;
             let most = left.min(piece.len() as u64) as usize;
-            let count = source.read(&mut piece[..most]).map_err(|_| Stop::Source)?;
+            let count = source.read(&mut piece[..most])?;
             if count == 0 {
                 break;
             }
-            self.take(&piece[..count], sink).map_err(|_| Stop::Sink)?;
+            self.take(&piece[..count], sink)?;
             left -= count as u64;
         }
         if !self.line.is_empty() {
-            self.end_line(sink).map_err(|_| Stop::Sink)?;
+            self.end_line(sink)?;
         }
-        self.flush(sink).map_err(|_| Stop::Sink)?;
+        self.flush(sink)?;
         Ok(self.are_all_messages)
     }
 

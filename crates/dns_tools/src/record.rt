@@ -3,7 +3,7 @@ ghost use Rattle.std.specs.Prelude.{◌≡◌};
 ghost use Rattle.dns_spec.specs.Data.{Valid, target};
 
 use dns_name::Name;
-use dns_rdata::{Part, RType, Rdata};
+use dns_rdata::{RType, Rdata};
 use std::marker::Model;
 
 /// A record of class IN, with data of its type (RFC 1035 3.2.1).
@@ -45,12 +45,6 @@ impl Record {
     pub(crate) fn target(&self) -> Option<Name>
         ensures { result ≡ target self.now.rtype self.now.rdata }
     {
-        let mut parts = Rdata::parts(self.rtype, self.rdata.octets());
-        'parts: while let Some(part) = parts.next() {
-            if let Part::Name(octets) = part {
-                return Some(Name::from_octets(octets));
-            }
-        }
-        None
+        Rdata::target(self.rtype, self.rdata.octets())
     }
 }

@@ -1,9 +1,8 @@
 //! The lines of the checker's report.
-ghost use Rattle.std.specs.Prelude.{◌≡◌, ◌-◌, ◌^◌, ◌<◌, OnOk, OnErr};
+ghost use Rattle.std.specs.Prelude.{◌≡◌, ◌-◌, ◌^◌, ◌<◌};
 ghost use Rattle.std.specs.List.{flat_map};
-ghost use Rattle.std.specs.Io.KnownBytes.{Appends};
 ghost use Rattle.dns_spec.specs.Report.{two_digits, line_report, fault_report, loaded_report};
-ghost use Rattle.dns_name.specs.Counted.{failures_after, AppendsBeginning};
+ghost use Rattle.dns_name.specs.Counted.{Writes};
 ghost use Rattle.dns_master.specs.Codes.{fault_of};
 
 use dns_master::ReadFault;
@@ -18,9 +17,8 @@ pub(crate) fn write_read_fault<W: Write>(
     sink: &mut Tally<W>,
 ) -> Result<(), SinkFailed>
     requires { sink.old.failures < 2 ^ 64 - 1 }
-    ensures ok { OnOk result (Appends (W.contents sink.old.device) (W.contents sink.new.device) (line_report (fault_of fault.now.code) fault.now.line)) }
-    ensures err { OnErr result (AppendsBeginning (W.contents sink.old.device) (W.contents sink.new.device) (line_report (fault_of fault.now.code) fault.now.line)) }
-    ensures counted { sink.new.failures ≡ failures_after sink.old.failures result }
+    ensures { Writes W.contents sink.old sink.new result
+        (line_report (fault_of fault.now.code) fault.now.line) }
 {
     let mut digits = Buffer::new();
     let line = digits.format(fault.line).as_bytes();
@@ -34,9 +32,7 @@ pub(crate) fn write_check_faults<W: Write>(
     sink: &mut Tally<W>,
 ) -> Result<(), SinkFailed>
     requires { sink.old.failures < 2 ^ 64 - 1 }
-    ensures ok { OnOk result (Appends (W.contents sink.old.device) (W.contents sink.new.device) (flat_map fault_report faults.now)) }
-    ensures err { OnErr result (AppendsBeginning (W.contents sink.old.device) (W.contents sink.new.device) (flat_map fault_report faults.now)) }
-    ensures counted { sink.new.failures ≡ failures_after sink.old.failures result }
+    ensures { Writes W.contents sink.old sink.new result (flat_map fault_report faults.now) }
 {
     'faults: for fault in faults {
         write_check_fault(fault, sink)?;
@@ -46,9 +42,7 @@ pub(crate) fn write_check_faults<W: Write>(
 
 fn write_check_fault<W: Write>(fault: &CheckFault, sink: &mut Tally<W>) -> Result<(), SinkFailed>
     requires { sink.old.failures < 2 ^ 64 - 1 }
-    ensures ok { OnOk result (Appends (W.contents sink.old.device) (W.contents sink.new.device) (fault_report fault.now)) }
-    ensures err { OnErr result (AppendsBeginning (W.contents sink.old.device) (W.contents sink.new.device) (fault_report fault.now)) }
-    ensures counted { sink.new.failures ≡ failures_after sink.old.failures result }
+    ensures { Writes W.contents sink.old sink.new result (fault_report fault.now) }
 {
     fault.owner.write_text(sink)?;
     let code = two_digits(fault.code);
@@ -58,9 +52,7 @@ fn write_check_fault<W: Write>(fault: &CheckFault, sink: &mut Tally<W>) -> Resul
 /// Writes the lines of a zone that passes: `zone example/IN: loaded serial 1` and `OK`.
 pub(crate) fn write_loaded<W: Write>(zone: &Zone, sink: &mut Tally<W>) -> Result<(), SinkFailed>
     requires { sink.old.failures < 2 ^ 64 - 1 }
-    ensures ok { OnOk result (Appends (W.contents sink.old.device) (W.contents sink.new.device) (loaded_report zone.now)) }
-    ensures err { OnErr result (AppendsBeginning (W.contents sink.old.device) (W.contents sink.new.device) (loaded_report zone.now)) }
-    ensures counted { sink.new.failures ≡ failures_after sink.old.failures result }
+    ensures { Writes W.contents sink.old sink.new result (loaded_report zone.now) }
 {
     sink.write_all(b"zone ")?;
     zone.origin().write_bare_text(sink)?;

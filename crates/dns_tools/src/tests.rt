@@ -1,6 +1,7 @@
 mod check;
 mod devices;
 mod fault;
+mod host;
 mod load;
 mod long;
 mod once;

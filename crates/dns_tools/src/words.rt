@@ -5,8 +5,7 @@ ghost use Rattle.dns_tools.specs.Words.{is_dashed, is_option, has_late_dash, is_
 
 use crate::check::Flags;
 use crate::fault::FaultWord;
-use clap::error::ErrorKind;
-use clap::{Arg, ArgAction, ArgMatches, Command, Error};
+use clap::{Arg, ArgAction, ArgMatches, Command};
 use dns_name::Name;
 use std::alloc::{AllocError, Global};
 use std::convert::AsStr;
@@ -36,8 +35,7 @@ pub fn serve_words<'a, S: AsStr>(alloc: Global, words: &'a [S]) -> Result<ServeW
         return Err(FaultWord::Usage);
     }
     let (origin, file) = once_values(alloc, words)?;
-    let origin = Name::read_text(origin.as_bytes(), &Name::root());
-    let origin = origin.map_err(|_| FaultWord::BadOrigin)?;
+    let origin = Name::read_text(origin.as_bytes(), &Name::root())?;
     Ok(ServeWords {
         origin: origin.fold(),
         file,
@@ -68,8 +66,7 @@ pub fn check_words<'a, S: AsStr>(alloc: Global, words: &'a [S]) -> Result<CheckW
         return Err(FaultWord::Usage);
     }
     let (flags, origin, file) = check_values(alloc, words)?;
-    let origin = Name::read_text(origin.as_bytes(), &Name::root());
-    let origin = origin.map_err(|_| FaultWord::BadOrigin)?;
+    let origin = Name::read_text(origin.as_bytes(), &Name::root())?;
     Ok(CheckWords {
         flags,
         origin: origin.fold(),
@@ -93,9 +90,8 @@ fn begins_with_dash(word: &str) -> bool
 fn once_values<'a, S: AsStr>(alloc: Global, words: &'a [S]) -> Result<(&'a str, &'a str), FaultWord>
     ensures { IfErr result (λ fault. IsTrue (is_word_fault fault)) }
 {
-    let command = serve_command(alloc).map_err(|_| FaultWord::NoMemory)?;
-    let matches = command.try_get_matches_from(words);
-    let matches = matches.map_err(|error| word_of_error(&error))?;
+    let command = serve_command(alloc)?;
+    let matches = command.try_get_matches_from(words)?;
     given_values(&matches).ok_or(FaultWord::Usage)
 }
 
@@ -119,15 +115,6 @@ fn value<'a>(alloc: Global, name: &'a str) -> Arg<'a> {
 
 fn given_values<'a>(matches: &ArgMatches<'a>) -> Option<(&'a str, &'a str)> {
     named_values(matches.subcommand_matches("once")?)
-}
-
-fn word_of_error(error: &Error) -> FaultWord
-    ensures { IsTrue (is_word_fault result) }
-{
-    match error.kind() {
-        ErrorKind::OutOfMemory => FaultWord::NoMemory,
-        _ => FaultWord::Usage,
-    }
 }
 
 // Whether a word behind the options begins with `-`.
@@ -157,9 +144,8 @@ fn check_values<'a, S: AsStr>(
 ) -> Result<(Flags, &'a str, &'a str), FaultWord>
     ensures { IfErr result (λ fault. IsTrue (is_word_fault fault)) }
 {
-    let command = check_command(alloc).map_err(|_| FaultWord::NoMemory)?;
-    let matches = command.try_get_matches_from(words);
-    let matches = matches.map_err(|error| word_of_error(&error))?;
+    let command = check_command(alloc)?;
+    let matches = command.try_get_matches_from(words)?;
     let flags = Flags {
         quiet: matches.get_flag(QUIET),
         print: matches.get_flag(PRINT),

@@ -9,7 +9,6 @@ pub mod SetTests
 pub mod NameTree
 pub mod AboveCuts
 pub mod TopmostLoop
-pub mod PartsLoop
 pub mod OwnRecords
 pub mod ToldNames
 pub mod OwnersWalk

@@ -1,15 +1,12 @@
 -- A record's line goes out in four parts, and the records of a list one after another.
-use Rattle.std.proofs.Common.{◌≡◌, ℕ, suc, ◌+◌, ◌<◌, Bool, true, false, cond, List, ◌∷◌, ◌++◌, Option, length, drop, get_or, refl, sym, ap, ◌∙◌, filter, flat_map, append_assoc, codes, decimal, add-one, Result, Ok, Err}
+use Rattle.std.proofs.Common.{◌≡◌, ℕ, suc, ◌+◌, ◌<◌, Bool, true, false, cond, List, ◌∷◌, ◌++◌, length, drop, get_or, sym, ap, ◌∙◌, filter, flat_map, append_assoc, codes, decimal, add-one}
 use Rattle.std.proofs.Math.Seq.{drop-cons}
-use Rattle.std.specs.Result.{OnOk}
-use Rattle.std.specs.Io.KnownBytes.{Appends}
 use Rattle.dns_spec.specs.Names.{Octets}
 use Rattle.dns_spec.specs.NameText.{name_text}
 use Rattle.dns_spec.specs.TypeText.{type_text}
 use Rattle.dns_spec.specs.WrittenText.{data_text}
 use Rattle.dns_spec.specs.Records.{ResourceRecord, ZoneContents}
 use Rattle.dns_spec.specs.ZonePrinted.{record_line, soa_first, zone_text}
-use Rattle.dns_rdata.proofs.WrittenLoop.{Written, Written-none, Written-more}
 use Rattle.dns_zone.specs.ZoneForm.{AreOrdered}
 
 -- the second part of a line, and the last
@@ -22,24 +19,9 @@ data_part t d = codes " " ++ data_text t d ++ codes "\n"
 regroup : (a b c d e f g h : Octets) → a ++ b ++ c ++ d ++ e ++ f ++ g ++ h ≡ a ++ ((b ++ c ++ d) ++ (e ++ (f ++ g ++ h)))
 regroup a b c d e f g h = simp append_assoc
 
-line_parts : (r : ResourceRecord) → record_line r ≡ name_text r.owner ++ (ttl_part r.ttl ++ (type_text r.rtype ++ data_part r.rtype r.rdata))
+-- the line of a record, part by part
+pub line_parts : (r : ResourceRecord) → record_line r ≡ name_text r.owner ++ (ttl_part r.ttl ++ (type_text r.rtype ++ data_part r.rtype r.rdata))
 line_parts r = regroup (name_text r.owner) (codes " ") (decimal r.ttl) (codes " IN ") (type_text r.rtype) (codes " ") (data_text r.rtype r.rdata) (codes "\n")
-
--- what went out before each part of a line
-module _ (r : ResourceRecord) (a : Option Octets) where
-  pub owner_written : (b : Option Octets) → Appends a b (name_text r.owner) → Written a b (record_line r) (ttl_part r.ttl ++ (type_text r.rtype ++ data_part r.rtype r.rdata))
-  owner_written b h = Written-more a a b (record_line r) (record_line r) (name_text r.owner) (ttl_part r.ttl ++ (type_text r.rtype ++ data_part r.rtype r.rdata)) (Written-none a (record_line r)) (line_parts r) h
-
-  pub ttl_written : (b c : Option Octets) → Appends a b (name_text r.owner) → Appends b c (ttl_part r.ttl) → Written a c (record_line r) (type_text r.rtype ++ data_part r.rtype r.rdata)
-  ttl_written b c h k = Written-more a b c (record_line r) (ttl_part r.ttl ++ (type_text r.rtype ++ data_part r.rtype r.rdata)) (ttl_part r.ttl) (type_text r.rtype ++ data_part r.rtype r.rdata) (owner_written b h) refl k
-
-  pub type_written : (b c d : Option Octets) → Appends a b (name_text r.owner) → Appends b c (ttl_part r.ttl) → Appends c d (type_text r.rtype) → Written a d (record_line r) (data_part r.rtype r.rdata)
-  type_written b c d h k l = Written-more a c d (record_line r) (type_text r.rtype ++ data_part r.rtype r.rdata) (type_text r.rtype) (data_part r.rtype r.rdata) (ttl_written b c h k) refl l
-
--- what is known where a call succeeds
-pub OnOk-map : {T E P Q : Type 0} (r : Result T E) → OnOk r P → (P → Q) → OnOk r Q
-OnOk-map (Ok x) p f = f p
-OnOk-map (Err e) p f = p
 
 -- a record of a list that is chosen, or is not
 module _ (p : ResourceRecord → Bool) (rs : List ResourceRecord) (r : ResourceRecord) (i : ℕ) (h : i < length rs) (e : r ≡ get_or rs i r) where

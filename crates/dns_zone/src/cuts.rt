@@ -45,7 +45,7 @@ fn is_topmost(origin: &Name, cuts: &[&Record], listed: &Record) -> bool
 fn is_delegation(origin: &Name, listed: &Record) -> bool
     ensures { result ≡ (listed.now.rtype == type_ns && below listed.now.owner origin.now) }
 {
-    listed.rtype == RType::NS && is_below(&listed.owner, origin)
+    listed.rtype == RType::NS && listed.owner.below(origin)
 }
 
 /// The cuts that are not behind the name in canonical order.
@@ -79,14 +79,7 @@ pub(crate) fn is_below_last(cuts: &[&Record], name: &Name) -> bool
     ensures { result ≡ last_passes (λ (c : ResourceRecord). below name.now c.owner) (behind cuts.now) }
 {
     match cuts.last() {
-        Some(cut) => is_below(name, &cut.owner),
+        Some(cut) => name.below(&cut.owner),
         None => false,
     }
-}
-
-/// Whether the name is below an ancestor, and not the same.
-pub(crate) fn is_below(name: &Name, ancestor: &Name) -> bool
-    ensures { result ≡ below name.now ancestor.now }
-{
-    name.label_count() > ancestor.label_count() && name.at_or_below(ancestor)
 }

@@ -1,5 +1,9 @@
 //! Why records are no zone that may be served.
+ghost use Rattle.std.specs.Prelude.{◌≡◌};
+ghost use Rattle.dns_zone.specs.declared.fault.BuildFault.TheVariants.{NoMemory};
+
 use dns_name::Name;
+use std::alloc::AllocError;
 use std::marker::Model;
 
 /// A fault of a zone: the owner that it is told of, in lower case, and the number of its code, 1 to 15 (`Z01` to `Z15`).
@@ -26,4 +30,12 @@ pub enum BuildFault {
     Faults(Vec<CheckFault>),
     /// No memory was found.
     NoMemory,
+}
+
+impl From<AllocError> for BuildFault {
+    ghost from_gives = { λ _ fault. fault ≡ NoMemory };
+
+    fn from(_error: AllocError) -> BuildFault {
+        BuildFault::NoMemory
+    }
 }

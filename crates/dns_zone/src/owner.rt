@@ -2,11 +2,10 @@
 ghost use Rattle.std.specs.Prelude.{◌≡◌, ◌==◌, ◌&&◌, ◌||◌, not, map};
 ghost use Rattle.dns_spec.specs.Records.{owns};
 ghost use Rattle.dns_spec.specs.Tree.{is_cut};
-ghost use Rattle.dns_spec.specs.Checks.{is_origin, count, owns_such, is_address_type, below_cut, first_is_asterisk, checks, no_soa, many_soa, soa_elsewhere, no_ns, outside, cname_and_other, many_cname, ttls_differ, ns_target_alias, ns_target_lost, mx_target_alias, data_at_cut, wildcard_ns, large_set, many_sets};
+ghost use Rattle.dns_spec.specs.Checks.{is_origin, count, owns_such, is_address_type, below_cut, checks, no_soa, many_soa, soa_elsewhere, no_ns, outside, cname_and_other, many_cname, ttls_differ, ns_target_alias, ns_target_lost, mx_target_alias, data_at_cut, wildcard_ns, large_set, many_sets};
 ghost use Rattle.dns_spec.specs.Data.{type_ns, type_cname};
 ghost use Rattle.dns_zone.specs.OwnerForm.{IsOwner};
 
-use crate::cuts::is_below;
 use crate::lookup::has_type;
 use crate::sets::{have_large_set, have_many_sets, have_other_ttls};
 use crate::survey::Survey;
@@ -147,7 +146,7 @@ impl<'a> Owner<'a> {
     fn has_wildcard_ns(&self) -> bool
         ensures { result ≡ wildcard_ns self.now.zone self.now.name }
     {
-        first_is_asterisk(self.name) && self.owns(RType::NS)
+        self.name.is_wildcard() && self.owns(RType::NS)
     }
 
     fn has_large_set(&self) -> bool
@@ -189,7 +188,7 @@ impl<'a> Owner<'a> {
     fn is_cut(&self) -> bool
         ensures { result ≡ is_cut self.now.zone self.now.name }
     {
-        self.owns(RType::NS) && is_below(self.name, self.survey.origin())
+        self.owns(RType::NS) && self.name.below(self.survey.origin())
     }
 
     // At a cut stand its NS records and addresses alone.
@@ -229,13 +228,4 @@ fn is_address_type(rtype: RType) -> bool
     ensures { result ≡ is_address_type rtype.0 }
 {
     rtype == RType::A || rtype == RType::AAAA
-}
-
-fn first_is_asterisk(name: &Name) -> bool
-    ensures { result ≡ first_is_asterisk name.now }
-{
-    match name.labels().next() {
-        Some(label) => label.octets() == b"*".as_slice(),
-        None => false,
-    }
 }

@@ -1,14 +1,13 @@
 //! The canonical text of a zone (RFC 1035 5.1).
-ghost use Rattle.std.specs.Prelude.{◌≡◌, ◌-◌, ◌^◌, ◌<◌, ◌≤◌, ◌++◌, All, length, OnOk, OnErr, codes, decimal};
+ghost use Rattle.std.specs.Prelude.{◌≡◌, ◌-◌, ◌^◌, ◌<◌, ◌≤◌, ◌++◌, All, length, codes, decimal};
 ghost use Rattle.std.specs.List.Sorted.{IsPermutation};
 ghost use Rattle.dns_spec.specs.Names.{DomainName};
 ghost use Rattle.dns_spec.specs.ZoneText.{most_octets};
 ghost use Rattle.dns_spec.specs.Meaning.{Means, records};
 ghost use Rattle.std.specs.List.{filter, flat_map};
-ghost use Rattle.std.specs.Io.KnownBytes.{Appends};
 ghost use Rattle.dns_spec.specs.WrittenText.{data_text};
 ghost use Rattle.dns_spec.specs.ZonePrinted.{HasZoneType, record_line, soa_first, printed_records, zone_text};
-ghost use Rattle.dns_name.specs.Counted.{failures_after, AppendsBeginning};
+ghost use Rattle.dns_name.specs.Counted.{Writes};
 ghost use Rattle.dns_zone.specs.ZoneForm.{is_chosen};
 
 use crate::zone::Zone;
@@ -22,6 +21,12 @@ use std::io::Write;
 #[derive(Clone, Copy, Debug, PartialEq, Eq)]
 pub struct PrintFault;
 
+impl From<SinkFailed> for PrintFault {
+    fn from(_failed: SinkFailed) -> PrintFault {
+        PrintFault
+    }
+}
+
 /// Writes the canonical text of a zone: each record on a line of its own with its owner, TTL, class, type and data, the
 /// SOA first and the others in canonical order (RFC 1035 5.1, 5.2, RFC 4034 6.1, 6.3).
 ///
@@ -31,25 +36,20 @@ pub struct PrintFault;
 /// was written, and nothing is tried after it.
 pub fn print<W: Write>(zone: &Zone, sink: &mut Tally<W>) -> Result<(), PrintFault>
     requires { sink.old.failures < 2 ^ 64 - 1 }
-    ensures ok { OnOk result (Appends (W.contents sink.old.device) (W.contents sink.new.device) (zone_text zone.now)) }
-    ensures err { OnErr result (AppendsBeginning (W.contents sink.old.device) (W.contents sink.new.device) (zone_text zone.now)) }
-    ensures counted { sink.new.failures ≡ failures_after sink.old.failures result }
+    ensures writes { Writes W.contents sink.old sink.new result (zone_text zone.now) }
     ensures meaning { All HasZoneType zone.now.records → length (zone_text zone.now) ≤ most_octets
         → (o : DomainName) → Means o (zone_text zone.now) (records (printed_records zone.now)) }
     ensures same_records { IsPermutation zone.now.records (printed_records zone.now) }
 {
-    match write_records(zone.records(), sink) {
-        Ok(()) => Ok(()),
-        Err(SinkFailed) => Err(PrintFault),
-    }
+    write_records(zone.records(), sink)?;
+    Ok(())
 }
 
 // The SOA first, then the others in order.
 fn write_records<W: Write>(records: &[Record], sink: &mut Tally<W>) -> Result<(), SinkFailed>
     requires { sink.old.failures < 2 ^ 64 - 1 }
-    ensures ok { OnOk result (Appends (W.contents sink.old.device) (W.contents sink.new.device) (flat_map record_line (soa_first records.now))) }
-    ensures err { OnErr result (AppendsBeginning (W.contents sink.old.device) (W.contents sink.new.device) (flat_map record_line (soa_first records.now))) }
-    ensures counted { sink.new.failures ≡ failures_after sink.old.failures result }
+    ensures { Writes W.contents sink.old sink.new result
+        (flat_map record_line (soa_first records.now)) }
 {
     write_chosen(true, records, sink)?;
     write_chosen(false, records, sink)
@@ -62,9 +62,8 @@ fn write_chosen<W: Write>(
     sink: &mut Tally<W>,
 ) -> Result<(), SinkFailed>
     requires { sink.old.failures < 2 ^ 64 - 1 }
-    ensures ok { OnOk result (Appends (W.contents sink.old.device) (W.contents sink.new.device) (flat_map record_line (filter (is_chosen is_soa) records.now))) }
-    ensures err { OnErr result (AppendsBeginning (W.contents sink.old.device) (W.contents sink.new.device) (flat_map record_line (filter (is_chosen is_soa) records.now))) }
-    ensures counted { sink.new.failures ≡ failures_after sink.old.failures result }
+    ensures { Writes W.contents sink.old sink.new result
+        (flat_map record_line (filter (is_chosen is_soa) records.now)) }
 {
     'records: for listed in records {
         if is_chosen(is_soa, listed) {
@@ -83,9 +82,7 @@ fn is_chosen(is_soa: bool, listed: &Record) -> bool
 // A record on a line of its own.
 fn write_record<W: Write>(listed: &Record, sink: &mut Tally<W>) -> Result<(), SinkFailed>
     requires { sink.old.failures < 2 ^ 64 - 1 }
-    ensures ok { OnOk result (Appends (W.contents sink.old.device) (W.contents sink.new.device) (record_line listed.now)) }
-    ensures err { OnErr result (AppendsBeginning (W.contents sink.old.device) (W.contents sink.new.device) (record_line listed.now)) }
-    ensures counted { sink.new.failures ≡ failures_after sink.old.failures result }
+    ensures { Writes W.contents sink.old sink.new result (record_line listed.now) }
 {
     listed.owner.write_text(sink)?;
     write_ttl(listed.ttl, sink)?;
@@ -96,9 +93,8 @@ fn write_record<W: Write>(listed: &Record, sink: &mut Tally<W>) -> Result<(), Si
 // The TTL and the class, with spaces around them.
 fn write_ttl<W: Write>(ttl: u32, sink: &mut Tally<W>) -> Result<(), SinkFailed>
     requires { sink.old.failures < 2 ^ 64 - 1 }
-    ensures ok { OnOk result (Appends (W.contents sink.old.device) (W.contents sink.new.device) (codes " " ++ decimal ttl ++ codes " IN ")) }
-    ensures err { OnErr result (AppendsBeginning (W.contents sink.old.device) (W.contents sink.new.device) (codes " " ++ decimal ttl ++ codes " IN ")) }
-    ensures counted { sink.new.failures ≡ failures_after sink.old.failures result }
+    ensures { Writes W.contents sink.old sink.new result
+        (codes " " ++ decimal ttl ++ codes " IN ") }
 {
     let mut digits = Buffer::new();
     let text = digits.format(ttl).as_bytes();
@@ -108,9 +104,8 @@ fn write_ttl<W: Write>(ttl: u32, sink: &mut Tally<W>) -> Result<(), SinkFailed>
 // The data behind a space, and the end of the line.
 fn write_data<W: Write>(listed: &Record, sink: &mut Tally<W>) -> Result<(), SinkFailed>
     requires { sink.old.failures < 2 ^ 64 - 1 }
-    ensures ok { OnOk result (Appends (W.contents sink.old.device) (W.contents sink.new.device) (codes " " ++ data_text listed.now.rtype listed.now.rdata ++ codes "\n")) }
-    ensures err { OnErr result (AppendsBeginning (W.contents sink.old.device) (W.contents sink.new.device) (codes " " ++ data_text listed.now.rtype listed.now.rdata ++ codes "\n")) }
-    ensures counted { sink.new.failures ≡ failures_after sink.old.failures result }
+    ensures { Writes W.contents sink.old sink.new result
+        (codes " " ++ data_text listed.now.rtype listed.now.rdata ++ codes "\n") }
 {
     sink.write_all(b" ")?;
     Rdata::write_text(listed.rtype, listed.rdata.octets(), sink)?;

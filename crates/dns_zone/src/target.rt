@@ -4,17 +4,11 @@ ghost use Rattle.dns_spec.specs.Data.{target};
 
 use dns_master::Record;
 use dns_name::Name;
-use dns_rdata::{Part, Rdata};
+use dns_rdata::Rdata;
 
 /// The first name in the data: of NS the server, of MX the exchange (RFC 1035 3.3.9, 3.3.11).
 pub(crate) fn target(listed: &Record) -> Option<Name>
     ensures { result ≡ target listed.now.rtype listed.now.rdata }
 {
-    let mut parts = Rdata::parts(listed.rtype, listed.rdata.octets());
-    'parts: while let Some(part) = parts.next() {
-        if let Part::Name(octets) = part {
-            return Some(Name::from_octets(octets));
-        }
-    }
-    None
+    Rdata::target(listed.rtype, listed.rdata.octets())
 }

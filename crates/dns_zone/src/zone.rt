@@ -3,7 +3,6 @@ ghost use Rattle.std.specs.Prelude.{◌≡◌, ◌≤◌, [], length, IfOk};
 ghost use Rattle.std.specs.Result.{IfErr};
 ghost use Rattle.std.specs.List.{filter};
 ghost use Rattle.dns_spec.specs.Names.{folded, same};
-ghost use Rattle.dns_spec.specs.Data.{type_soa, number_of, soa_serial};
 ghost use Rattle.dns_spec.specs.Records.{ResourceRecord, zone_of, ordered_zone, first_serial, zone_serial};
 ghost use Rattle.dns_spec.specs.Checks.{faults};
 ghost use Rattle.dns_spec.specs.Meaning.{most_records};
@@ -15,7 +14,7 @@ use crate::faults::faults;
 use crate::ordered::ordered;
 use dns_master::Record;
 use dns_name::Name;
-use dns_rdata::RType;
+use dns_rdata::{RType, Rdata};
 use std::alloc::Global;
 use std::marker::Model;
 
@@ -49,12 +48,8 @@ impl Zone {
         ensures faults { IfErr result (λ fault. TellsFaults fault (zone_of origin.now records.items)) }
     {
         let origin = origin.fold();
-        let Ok(records) = ordered(alloc, &origin, records) else {
-            return Err(BuildFault::NoMemory);
-        };
-        let Ok(found) = faults(alloc, &origin, records.as_slice()) else {
-            return Err(BuildFault::NoMemory);
-        };
+        let records = ordered(alloc, &origin, records)?;
+        let found = faults(alloc, &origin, records.as_slice())?;
         if !found.is_empty() {
             return Err(BuildFault::Faults(found));
         }
@@ -87,32 +82,13 @@ impl Zone {
 
 // The serial number of the first SOA at the origin, or 0 where there is none.
 fn serial_at(origin: &Name, records: &[Record]) -> u32
-    ensures { result ≡ first_serial (filter is_soa (filter (λ (r : ResourceRecord). same r.owner origin.now) records.now)) }
+    ensures { result ≡ first_serial
+        (filter is_soa (filter (λ (r : ResourceRecord). same r.owner origin.now) records.now)) }
 {
     'records: for listed in records {
         if listed.owner.same(origin) && listed.rtype == RType::SOA {
-            return serial_of(listed.rdata.octets());
+            return Rdata::soa_serial(listed.rdata.octets());
         }
     }
     0
-}
-
-// The serial number in the data of an SOA: the first of the five numbers that end it.
-fn serial_of(octets: &[u8]) -> u32
-    ensures { result ≡ soa_serial octets.now }
-{
-    let numbers = &octets[octets.len().saturating_sub(20)..];
-    number_of(&numbers[..numbers.len().min(4)])
-}
-
-// The number that octets spell, the most significant first (RFC 1035 2.3.2).
-fn number_of(octets: &[u8]) -> u32
-    requires { length octets.now ≤ 4 }
-    ensures { result ≡ number_of octets.now }
-{
-    let mut number = 0;
-    'octets: for octet in octets {
-        number = 256 * number + u32::from(*octet);
-    }
-    number
 }

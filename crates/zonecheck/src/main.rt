@@ -3,8 +3,10 @@
 #![tactic(auto)]
 
 use dns_name::Tally;
-use dns_tools::{FaultWord, check_words, check_zone, exit_status, given_words, open_file, told};
-use std::io::{self, BufWriter, Write};
+use dns_tools::{
+    FaultWord, check_words, check_zone, exit_status, finish, given_words, open_file, told,
+};
+use std::io::{self, BufWriter};
 use std::process::ExitCode;
 use std::rt::{Env, Files};
 
@@ -24,8 +26,7 @@ fn check<R: Env + Files + Print + AllocGlobal>(rt: &R) -> Result<u8, FaultWord> 
     let output = BufWriter::new(alloc, io::writer(rt)).map_err(|_| FaultWord::NoMemory)?;
     let mut sink = Tally::new(output);
     let outcome = check_zone(alloc, &words.origin, words.flags, &mut source, &mut sink);
+    let outcome = finish(outcome, sink.into_inner());
     outcome?;
-    let flushed = sink.into_inner().flush();
-    flushed.map_err(|_| FaultWord::SinkFailed)?;
     Ok(exit_status(&outcome))
 }

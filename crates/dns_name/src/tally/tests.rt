@@ -88,3 +88,65 @@ fn a_write_that_takes_nothing_is_a_failure(rt: HostRuntime) {
     assert_eq!(rt; sink.write(b"d"), Err(SinkFailed));
     assert_eq!(rt; sink.failures(), 1);
 }
+
+/// A device of which one call fails, and which would work again after it. Its calls are counted.
+#[derive(Drop)]
+struct FailsOnce {
+    fails_at: u32,
+    calls: u32,
+}
+
+impl FailsOnce {
+    fn call(&mut self, count: usize) -> io::Result<usize>
+        ensures { IfOk result (λ n. n ≡ count) }
+    {
+        let fails = self.calls == self.fails_at;
+        self.calls = self.calls.saturating_add(1);
+        if fails {
+            return Err(io::Error::from(ErrorKind::Other));
+        }
+        Ok(count)
+    }
+}
+
+impl Read for FailsOnce {
+    fn read(&mut self, buf: &mut [u8]) -> io::Result<usize> {
+        self.call(buf.len().min(1))
+    }
+}
+
+impl Write for FailsOnce {
+    fn write(&mut self, piece: &[u8]) -> io::Result<usize> {
+        self.call(piece.len().min(1))
+    }
+
+    fn flush(&mut self) -> io::Result<()> {
+        Ok(())
+    }
+}
+
+#[test]
+fn nothing_is_asked_after_a_failure(rt: HostRuntime) {
+    for (fails_at, calls) in [(0, 1), (1, 2), (2, 3)] {
+        let mut sink = Tally::new(FailsOnce { fails_at, calls: 0 });
+        assert_eq!(rt; sink.write_all(b"abc"), Err(SinkFailed));
+        assert_eq!(rt; sink.into_inner().calls, calls);
+
+        let mut sink = Tally::new(FailsOnce { fails_at, calls: 0 });
+        assert_eq!(rt; sink.write_parts(&[b"a", b"", b"bc"]), Err(SinkFailed));
+        assert_eq!(rt; sink.into_inner().calls, calls);
+    }
+    let mut sink = Tally::new(FailsOnce {
+        fails_at: 0,
+        calls: 0,
+    });
+    assert_eq!(rt; sink.write(b"abc"), Err(SinkFailed));
+    assert_eq!(rt; sink.into_inner().calls, 1);
+
+    let mut source = Tally::new(FailsOnce {
+        fails_at: 0,
+        calls: 0,
+    });
+    assert_eq!(rt; source.read(&mut [0; 4]), Err(SourceFailed));
+    assert_eq!(rt; source.into_inner().calls, 1);
+}

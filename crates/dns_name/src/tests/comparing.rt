@@ -76,6 +76,26 @@ fn names_above(rt: HostRuntime) -> Result<(), Fail> {
 }
 
 #[test]
+fn names_below(rt: HostRuntime) -> Result<(), Fail> {
+    let name = name_of(&[b"www", b"example"])?;
+    assert!(rt; name.below(&name_of(&[b"EXAMPLE"])?));
+    assert!(rt; name.below(&Name::root()));
+    assert!(rt; !name.below(&name));
+    assert!(rt; !name.below(&name_of(&[b"WWW", b"example"])?));
+    assert!(rt; !name_of(&[b"example"])?.below(&name));
+    Ok(())
+}
+
+#[test]
+fn wildcards(rt: HostRuntime) -> Result<(), Fail> {
+    assert!(rt; name_of(&[b"*", b"example"])?.is_wildcard());
+    assert!(rt; !name_of(&[b"a", b"*", b"example"])?.is_wildcard());
+    assert!(rt; !name_of(&[b"**", b"example"])?.is_wildcard());
+    assert!(rt; !Name::root().is_wildcard());
+    Ok(())
+}
+
+#[test]
 fn label_lengths(rt: HostRuntime) {
     assert!(rt; Label::new(b"").is_none());
     assert!(rt; Label::new(&[b'x'; 1]).is_some());

@@ -17,7 +17,7 @@ const IN_ORDER: [&[u8]; 10] = [
     b"\\200.z.example.",
 ];
 
-/// A device that takes at most three octets a call, and fails once its calls are used up.
+/// A device that takes at most three octets a call. Once its calls are used up one fails, and later ones would work.
 #[derive(Drop)]
 struct Failing {
     calls_left: usize,
@@ -27,6 +27,7 @@ struct Failing {
 impl Write for Failing {
     fn write(&mut self, piece: &[u8]) -> io::Result<usize> {
         if self.calls_left == 0 {
+            self.calls_left = usize::MAX;
             return Err(io::Error::from(ErrorKind::Other));
         }
         self.calls_left -= 1;
@@ -109,9 +110,14 @@ fn each_write_of_a_name_fails(rt: HostRuntime) -> Result<(), Fail> {
         let wanted = if fails { Err(SinkFailed) } else { Ok(()) };
         assert_eq!(rt; read(text)?.write_text(&mut sink), wanted);
         assert_eq!(rt; sink.failures(), u64::from(fails));
-        let written = sink.into_inner().written;
+        let device = sink.into_inner();
+        assert_eq!(rt; device.calls_left == usize::MAX, fails);
         let end = text.len().min(3 * calls);
-        assert_eq!(rt; written.as_slice(), &text[..end], "after {calls} calls");
+        assert_eq!(rt;
+            device.written.as_slice(),
+            &text[..end],
+            "after {calls} calls"
+        );
     }
     Ok(())
 }

@@ -1,4 +1,4 @@
-use crate::number::{number_text, read_number};
+use crate::number::read_number;
 use std::test::Fail;
 
 #[test]
@@ -21,20 +21,5 @@ fn numbers_read(rt: HostRuntime) -> Result<(), Fail> {
     }
     assert_eq!(rt; read_number(b"4294967295", u32::MAX), Some(u32::MAX));
     assert_eq!(rt; read_number(b"4294967296", u32::MAX), None);
-    Ok(())
-}
-
-#[test]
-fn numbers_written(rt: HostRuntime) -> Result<(), Fail> {
-    let rows: [(u32, &[u8]); 5] = [
-        (0, b"0"),
-        (9, b"9"),
-        (10, b"10"),
-        (65280, b"65280"),
-        (4294967295, b"4294967295"),
-    ];
-    for (number, text) in rows {
-        assert_eq!(rt; number_text(number).as_slice(), text);
-    }
     Ok(())
 }

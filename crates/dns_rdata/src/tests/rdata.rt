@@ -178,3 +178,32 @@ fn parts_in_order(rt: HostRuntime) -> Result<(), Fail> {
     }
     Ok(())
 }
+
+#[test]
+fn targets(rt: HostRuntime) -> Result<(), Fail> {
+    let rows: [(RType, &[u8], Option<&[u8]>); 4] = [
+        (RType::MX, b"\x00\x0a\x04Mail\x00", Some(b"\x04Mail\x00")),
+        (RType::SRV, b"AAAAAA\x01A\x00", Some(b"\x01A\x00")),
+        (RType::SOA, &SOA, Some(b"\x02ns\x00")),
+        (RType::TXT, b"\x01A", None),
+    ];
+    for (rtype, octets, wanted) in rows {
+        let Ok(_) = Rdata::from_wire(rt.alloc(), rtype, octets) else {
+            return Err("data of its type".into());
+        };
+        let target = Rdata::target(rtype, octets);
+        let found = target.as_ref().map(|name| name.octets());
+        assert_eq!(rt; found, wanted, "at {octets:?}");
+    }
+    Ok(())
+}
+
+#[test]
+fn numbers_of_an_soa(rt: HostRuntime) -> Result<(), Fail> {
+    let Ok(_) = Rdata::from_wire(rt.alloc(), RType::SOA, &SOA) else {
+        return Err("data of its type".into());
+    };
+    assert_eq!(rt; Rdata::soa_serial(&SOA), 1);
+    assert_eq!(rt; Rdata::soa_minimum(&SOA), 300);
+    Ok(())
+}

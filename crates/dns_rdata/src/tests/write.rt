@@ -84,7 +84,7 @@ fn data_written(rt: HostRuntime) -> Result<(), Fail> {
     Ok(())
 }
 
-/// A device that takes at most three octets a call, and fails once its calls are used up.
+/// A device that takes at most three octets a call. Once its calls are used up one fails, and later ones would work.
 #[derive(Drop)]
 struct Failing {
     calls_left: usize,
@@ -94,6 +94,7 @@ struct Failing {
 impl Write for Failing {
     fn write(&mut self, piece: &[u8]) -> io::Result<usize> {
         if self.calls_left == 0 {
+            self.calls_left = usize::MAX;
             return Err(io::Error::from(ErrorKind::Other));
         }
         self.calls_left -= 1;
@@ -121,7 +122,9 @@ fn each_write_fails(rt: HostRuntime) -> Result<(), Fail> {
             });
             let result = write(rt.alloc(), rtype, octets, &mut sink);
             assert_eq!(rt; sink.failures(), u64::from(result.is_err()));
-            let beginning = sink.into_inner().written;
+            let device = sink.into_inner();
+            assert_eq!(rt; device.calls_left == usize::MAX, result.is_err());
+            let beginning = device.written;
             assert!(rt; text.starts_with(beginning.as_slice()), "at {text:?}");
             assert_eq!(rt; result.is_ok(), beginning.len() == text.len());
             assert!(rt; beginning.len() > written || calls == 0 || written == text.len());

@@ -226,10 +226,9 @@ fn sinks_and_sources_that_fail(rt: HostRuntime) -> Result<(), Fail> {
         assert_eq!(rt; outcome, Err(Stop::Sink), "after {calls} octets");
         let written = calls as usize;
         assert_eq!(rt; sink.failures(), 1);
-        assert_eq!(rt;
-            sink.into_inner().text.as_slice(),
-            &LOADED.as_bytes()[..written]
-        );
+        let sink = sink.into_inner();
+        assert_eq!(rt; sink.calls_left, u32::MAX, "asked after its failure");
+        assert_eq!(rt; sink.text.as_slice(), &LOADED.as_bytes()[..written]);
     }
     for calls in 0..4 {
         let mut sink = Tally::new(Vec::new(alloc));
@@ -240,6 +239,11 @@ fn sinks_and_sources_that_fail(rt: HostRuntime) -> Result<(), Fail> {
         });
         let outcome = check_zone(alloc, &example()?, PRINT, &mut source, &mut sink);
         assert_eq!(rt; outcome, Err(Stop::Source), "after {calls} reads");
+        assert_eq!(rt;
+            source.into_inner().calls_left,
+            u32::MAX,
+            "asked after its failure"
+        );
         assert_eq!(rt; sink.into_inner().as_slice(), b"".as_slice());
     }
     Ok(())

@@ -2,7 +2,8 @@ ghost use Rattle.std.specs.Prelude.{◌≤◌, length, IfOk};
 
 use std::io::{self, ErrorKind, Read, Write};
 
-/// A reader that gives a text in pieces of at most `most` octets, until its calls are used up: then it fails.
+/// A reader that gives a text in pieces of at most `most` octets, until its calls are used up: then one
+/// fails, and later ones would work.
 #[derive(Drop)]
 pub(super) struct Pieces<'a> {
     pub text: &'a [u8],
@@ -13,6 +14,7 @@ pub(super) struct Pieces<'a> {
 impl Read for Pieces<'_> {
     fn read(&mut self, buf: &mut [u8]) -> io::Result<usize> {
         if self.calls_left == 0 {
+            self.calls_left = u32::MAX;
             return Err(io::Error::from(ErrorKind::Other));
         }
         self.calls_left -= 1;
@@ -21,7 +23,8 @@ impl Read for Pieces<'_> {
     }
 }
 
-/// A writer that keeps what it is given, at most `most` octets a call, until its calls are used up: then it fails.
+/// A writer that keeps what it is given, at most `most` octets a call, until its calls are used up: then one
+/// fails, and later ones would work.
 #[derive(Drop)]
 pub(super) struct Kept {
     pub text: Vec<u8>,
@@ -32,6 +35,7 @@ pub(super) struct Kept {
 impl Write for Kept {
     fn write(&mut self, piece: &[u8]) -> io::Result<usize> {
         if self.calls_left == 0 {
+            self.calls_left = u32::MAX;
             return Err(io::Error::from(ErrorKind::Other));
         }
         self.calls_left -= 1;

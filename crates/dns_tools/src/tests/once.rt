@@ -26,7 +26,15 @@ fn run(
         calls_left: writes,
     });
     let outcome = run_once(alloc, &zone, Limit::Udp, &mut source, &mut sink);
-    Ok((sink.into_inner().text, outcome))
+    let (source, sink) = (source.into_inner(), sink.into_inner());
+    // Both would work again after their failure.
+    if (source.calls_left == u32::MAX) != (outcome == Err(Stop::Source)) {
+        return Err("a source that is asked after its failure".into());
+    }
+    if (sink.calls_left == u32::MAX) != (outcome == Err(Stop::Sink)) {
+        return Err("a sink that is asked after its failure".into());
+    }
+    Ok((sink.text, outcome))
 }
 
 const WWW: &str = "12340000000100000000000003777777076578616d706c650000010001";

@@ -6,7 +6,7 @@ use Rattle.dns_master.specs.EntryForm.{TextMeans}
 use Rattle.dns_master.specs.SourceForm.{GivesMeaning}
 use Rattle.dns_master.specs.declared.fault.ReadFault.{ReadFault}
 use Rattle.dns_master.specs.declared.fault.ReadCode.TheVariants.{SourceFailed, NoMemory}
-use Rattle.dns_master.proofs.Told.{IfOk-map, IfErr-map}
+use Rattle.dns_name.proofs.Results.{IfOk-map, IfErr-map}
 use Rattle.dns_master.proofs.EntriesLoop.{known-means}
 use Rattle.dns_master.proofs.reader.read_zone.Goals as goal
 

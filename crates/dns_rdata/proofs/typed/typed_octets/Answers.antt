@@ -11,6 +11,6 @@ pub returns-then-len-words-clause-fault : goal.returns-then-len-words-clause-fau
 returns-then-len-words-clause-fault c =
     let read = ok_or-some c.row_of_type.result _ c.in_ok-row.row (sym c.ok_or.ensures.value ∙ c.in_ok-row.was) in
     let row = ap (option_map (λ r. row_for r.now)) (sym read) ∙ c.row_of_type.ensures in
-    let forms = c.in-Ok.ensures in
+    let forms = c.in_ok-forms.ensures in
     λ other d s. other_count c.args.rtype.0 (row_for c.in_ok-row.row.now) c.args.origin.now c.args.words.now d row
-    (λ e. c.if-len-words.true (omega (arith, c.len.ensures, c.in-Ok.forms.ok, length-map c.in-Ok.forms.items form_of, ap length forms, e))) s
+    (λ e. c.if-len-words.true (omega (arith, c.len.ensures, c.in_ok-forms.forms.ok, length-map c.in_ok-forms.forms.items form_of, ap length forms, e))) s

@@ -1,6 +1,6 @@
 use Rattle.std.proofs.Common.{◌≡◌, length}
 use Rattle.dns_spec.specs.WrittenText.{hex_text}
-use Rattle.dns_rdata.proofs.WrittenLoop.{Written}
+use Rattle.dns_name.proofs.WritesLemmas.{Written}
 use Rattle.dns_rdata.proofs.write.write_hex.Given as goal
 
 abbrev pub invariant-chunks : goal.invariant-chunks

@@ -1,4 +1,4 @@
-use Rattle.std.proofs.Common.{◌≡◌, [], ◌++◌, Option, Some, append-nil, ap, sym, ◌∙◌, subst}
+use Rattle.std.proofs.Common.{rules, ◌≡◌, [], ◌++◌, Option, Some, append-nil, ap, sym, ◌∙◌, subst}
 use Rattle.std.specs.Borrow.{Bor}
 use Rattle.std.specs.Io.KnownBytes.{Appends}
 use Rattle.std.proofs.KnownBytes.{Appends-trans}
@@ -11,7 +11,8 @@ use Rattle.dns_name.specs.WireForm.{labels_of}
 use Rattle.dns_rdata.specs.Parts.{part_for}
 use Rattle.dns_rdata.specs.declared.parts.Part.{Part}
 use Rattle.dns_rdata.specs.declared.parts.Part.TheVariants.{Name}
-use Rattle.dns_rdata.proofs.Beginnings.{OnErr-always, AppendsBeginning-second}
+use Rattle.dns_name.proofs.Results.{OnErr-always}
+use Rattle.dns_name.proofs.WritesLemmas.{beginning_of_second}
 use Rattle.dns_rdata.proofs.NameFronts.{name_cut}
 use Rattle.dns_rdata.proofs.write.write_name.Goals as goal
 
@@ -23,13 +24,21 @@ text_of_name octets rest part wire n front is e =
     ap name_text e ∙ sym (append-nil (name_text (labels_of wire.now)))
     ∙ ap (λ (y : Option (DomainName × Octets)). word_text (name_front y).0 ++ []) (sym there)
 
-pub returns-in_err-write_text-clause-err : goal.returns-in_err-write_text-clause-err
-returns-in_err-write_text-clause-err g c =
-    let text = text_of_name c.args.octets.now _ _ _ _ c.in-Some-Name-default.ensures.0 c.in-Some-Name-default.field-0-0-is c.from_octets.ensures.value in
-    OnErr-always c.from_residual-in_err-write_text.result
-    (AppendsBeginning-second _ _ _ _ _ c.in_ok-write_all.ensures.ok (subst (AppendsBeginning _ _) text c.in_err-write_text.ensures.err))
+pub returns-in_err-write_text-clause-writes : goal.returns-in_err-write_text-clause-writes
+returns-in_err-write_text-clause-writes g c = record {
+  ok = search rules;
+  err =
+      let text = text_of_name c.args.octets.now _ _ _ _ c.in-Some-Name-default.ensures.0 c.in-Some-Name-default.field-0-0-is c.from_octets.ensures.value in
+      OnErr-always c.from_residual-in_err-write_text.result
+      (beginning_of_second _ _ _ _ _ c.in_ok-write_all.ensures.ok (subst (AppendsBeginning _ _) text c.in_err-write_text.ensures.err));
+  counted = search rules;
+}
 
-pub returns-clause-ok : goal.returns-clause-ok
-returns-clause-ok g c =
+pub returns-clause-writes : goal.returns-clause-writes
+returns-clause-writes g c =
     let text = text_of_name c.args.octets.now _ _ _ _ c.in-Some-Name-default.ensures.0 c.in-Some-Name-default.field-0-0-is c.from_octets.ensures.value in
-    Appends-trans _ _ _ _ _ c.in_ok-write_all.ensures.ok (subst (Appends _ _) text c.in_ok-write_text.ensures.ok)
+    record {
+      ok = Appends-trans _ _ _ _ _ c.in_ok-write_all.ensures.ok (subst (Appends _ _) text c.in_ok-write_text.ensures.ok);
+      err = search rules;
+      counted = search rules;
+    }

@@ -3,7 +3,7 @@ use Rattle.dns_spec.specs.DataText.{number_word}
 use Rattle.dns_spec.specs.WrittenText.{form_words}
 use Rattle.dns_rdata.specs.TypeRows.{size_of}
 use Rattle.dns_rdata.specs.WrittenForm.{spaced, form_rest}
-use Rattle.dns_rdata.proofs.WrittenLoop.{Written}
+use Rattle.dns_name.proofs.WritesLemmas.{Written}
 use Rattle.dns_rdata.proofs.write.write_numbers.Given as goal
 
 -- the numbers before those left are written

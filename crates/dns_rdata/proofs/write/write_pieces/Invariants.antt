@@ -2,7 +2,7 @@ use Rattle.std.proofs.Common.{◌≡◌, IsTrue, [], drop}
 use Rattle.dns_rdata.specs.TypeRows.{pieces_in}
 use Rattle.dns_rdata.specs.Parts.{AreCut}
 use Rattle.dns_rdata.specs.WrittenForm.{spaced, pieces_words, have_words}
-use Rattle.dns_rdata.proofs.WrittenLoop.{Written}
+use Rattle.dns_name.proofs.WritesLemmas.{Written}
 use Rattle.dns_rdata.proofs.write.write_pieces.Given as goal
 
 -- the pieces before the rest are written

@@ -3,7 +3,7 @@ use Rattle.dns_spec.specs.Data.{are_strings}
 use Rattle.dns_spec.specs.DataText.{string_word}
 use Rattle.dns_spec.specs.WrittenText.{form_words, string_count}
 use Rattle.dns_rdata.specs.WrittenForm.{spaced}
-use Rattle.dns_rdata.proofs.WrittenLoop.{Written}
+use Rattle.dns_name.proofs.WritesLemmas.{Written}
 use Rattle.dns_rdata.proofs.write.write_strings.Given as goal
 
 -- the strings before the rest are written

@@ -1,5 +1,4 @@
-use Rattle.std.proofs.Common.{rules, ap, ◌∙◌}
-use Rattle.dns_spec.specs.Records.{ZoneContents}
+use Rattle.std.proofs.Common.{rules, ◌∙◌}
 use Rattle.dns_master.specs.Codes.{fault_of}
 use Rattle.dns_zone.specs.declared.fault.BuildFault.TheVariants.{Faults}
 use Rattle.dns_tools.specs.Checked.{options_of}

@@ -1,6 +1,6 @@
 use Rattle.std.proofs.Common.{rules}
-use Rattle.dns_rdata.proofs.Beginnings.{OnErr-always}
-use Rattle.dns_rdata.proofs.WrittenLoop.{Written-more, Written-begun}
+use Rattle.dns_name.proofs.Results.{OnErr-always}
+use Rattle.dns_name.proofs.WritesLemmas.{Written-more, Written-begun}
 use Rattle.dns_tools.proofs.ReportLines.{next_fault}
 use Rattle.dns_tools.proofs.report.write_check_faults.Goals as goal
 
@@ -12,7 +12,11 @@ faults-preserved g c =
       counted = search rules;
     }
 
-pub returns-in_err-write_check_fault-clause-err : goal.returns-in_err-write_check_fault-clause-err
-returns-in_err-write_check_fault-clause-err g c =
+pub returns-in_err-write_check_fault : goal.returns-in_err-write_check_fault
+returns-in_err-write_check_fault g c =
     let next = next_fault c.args.faults.now c.fault-item.result c.faults.fault-index c.faults-test.true c.fault-item.is in
-    OnErr-always c.from_residual.result (Written-begun _ _ _ _ _ _ _ c.faults.invariant.written next c.in_err-write_check_fault.ensures.err)
+    record {
+      ok = search rules;
+      err = OnErr-always c.from_residual.result (Written-begun _ _ _ _ _ _ _ c.faults.invariant.written next c.in_err-write_check_fault.ensures.err);
+      counted = search rules;
+    }

@@ -1,7 +1,7 @@
 use Rattle.std.proofs.Common.{◌≡◌, drop}
 use Rattle.std.specs.List.{flat_map}
 use Rattle.dns_spec.specs.Report.{fault_report}
-use Rattle.dns_rdata.proofs.WrittenLoop.{Written}
+use Rattle.dns_name.proofs.WritesLemmas.{Written}
 use Rattle.dns_tools.proofs.report.write_check_faults.Given as goal
 
 -- the lines of the faults that are left are still to be written

@@ -7,5 +7,5 @@ use Rattle.dns_zone.proofs.cuts.is_below_last.Goals as goal
 
 pub returns-in-Some : goal.returns-in-Some
 returns-in-Some c =
-    c.is_below.ensures ∙ ap (λ (b : Bor ResourceRecord). below c.args.name.now b.now.owner) c.cut.view_is
+    c.below.ensures ∙ ap (λ (b : Bor ResourceRecord). below c.args.name.now b.now.owner) c.cut.view_is
     ∙ last_is (λ (r : ResourceRecord). below c.args.name.now r.owner) c.in-Some.cut.now c.args.cuts.now c.in-Some.ensures.value

@@ -1,15 +1,19 @@
 use Rattle.std.proofs.Common.{sym, ◌∙◌, subst, rules}
-use Rattle.dns_rdata.proofs.Beginnings.{OnErr-always}
-use Rattle.dns_rdata.proofs.WrittenLoop.{Written, Written-more, Written-begun}
+use Rattle.dns_name.proofs.Results.{OnErr-always}
+use Rattle.dns_name.proofs.WritesLemmas.{Written, Written-more, Written-begun}
 use Rattle.dns_zone.specs.ZoneForm.{is_chosen}
 use Rattle.dns_zone.proofs.PrintedRecords.{chosen, passed_over}
 use Rattle.dns_zone.proofs.printed.write_chosen.Goals as goal
 use Rattle.dns_zone.proofs.printed.write_chosen.Goals.{then-is_chosen+in_ok-write_record, else-is_chosen}
 
-pub returns-in_err-write_record-clause-err : goal.returns-in_err-write_record-clause-err
-returns-in_err-write_record-clause-err g c =
+pub returns-in_err-write_record : goal.returns-in_err-write_record
+returns-in_err-write_record g c =
     let next = chosen (is_chosen c.args.is_soa) c.args.records.now c.listed-item.result c.records.listed-index c.records-test.true c.listed-item.is (sym c.is_chosen.ensures ∙ c.if-is_chosen.true) in
-    OnErr-always c.from_residual.result (Written-begun _ _ _ _ _ _ _ c.records.invariant.written next c.in_err-write_record.ensures.err)
+    record {
+      ok = search rules;
+      err = OnErr-always c.from_residual.result (Written-begun _ _ _ _ _ _ _ c.records.invariant.written next c.in_err-write_record.ensures.err);
+      counted = search rules;
+    }
 
 pub records-preserved : goal.records-preserved
 records-preserved g c = elim c.if-is_chosen.branch [

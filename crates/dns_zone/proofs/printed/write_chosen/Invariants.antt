@@ -1,6 +1,6 @@
 use Rattle.std.proofs.Common.{◌≡◌, drop, filter, flat_map}
 use Rattle.dns_spec.specs.ZonePrinted.{record_line}
-use Rattle.dns_rdata.proofs.WrittenLoop.{Written}
+use Rattle.dns_name.proofs.WritesLemmas.{Written}
 use Rattle.dns_zone.specs.ZoneForm.{is_chosen}
 use Rattle.dns_zone.proofs.printed.write_chosen.Given as goal
 

@@ -2,7 +2,7 @@ use Rattle.std.proofs.Common.{rules, ◌≡◌, true, false, sym, ap, ◌∙◌,
 use Rattle.dns_spec.specs.DataText.{Says}
 use Rattle.dns_spec.specs.Meaning.{Nothing, Fields, TypeIs, is_other_class, are_too_many}
 use Rattle.dns_master.specs.RecordForm.{TtlOf}
-use Rattle.dns_master.proofs.Told.{fault_told}
+use Rattle.dns_name.proofs.Results.{fault_handed_on}
 use Rattle.dns_master.proofs.RecordSteps.{ttl-or, class-fault, type-fault, no_ttl-fault, data-fault, count-fault, record-given}
 use Rattle.dns_master.proofs.state.Reader.read_record.Goals as goal
 
@@ -31,7 +31,7 @@ returns-in_default-ttl_in_force-clause-err c = λ _ o earlier known.
 
 pub returns-in_err-rdata-clause-err : goal.returns-in_err-rdata-clause-err
 returns-in_err-rdata-clause-err c =
-    fault_told c.from_residual.result c.in_err-rdata.field-0.0 _ c.from_residual.ensures.1 (λ other o earlier known.
+    fault_handed_on c.from_residual.result c.in_err-rdata.field-0.0 _ c.from_residual.ensures.1 (λ other o earlier known.
     let f = c.args.fields.now in
     let stated : TtlOf f.ttl c.in-Ok.stated = subst (λ (x : Fields). TtlOf x.ttl c.in-Ok.stated) c.fields.view_is c.in-Ok.ensures in
     let is_in : is_other_class f.class ≡ false = ap (λ (x : Fields). is_other_class x.class) (sym c.fields.view_is) ∙ search rules in

@@ -3,19 +3,19 @@ use Rattle.dns_spec.specs.ZoneText.{ended}
 use Rattle.dns_spec.specs.Meaning.{Sort, SortGives, sort_of, sort_by_words, faulty}
 use Rattle.dns_master.specs.Codes.{fault_of}
 use Rattle.dns_master.specs.EntryForm.{EntryRead, outcome_of}
-use Rattle.dns_master.proofs.Told.{fault_told}
+use Rattle.dns_name.proofs.Results.{fault_handed_on}
 use Rattle.dns_master.proofs.TextSteps.{wrong-faulty, same_sort, entry-means, entry-faulty, entry-ends_faulty, entry-line, entry-shorter}
 use Rattle.dns_master.proofs.state.Reader.take_entry.Goals as goal
 
 pub returns-in_err-end-clause-err : goal.returns-in_err-end-clause-err
 returns-in_err-end-clause-err c =
-    fault_told c.from_residual.result c.in_err-end.field-0.0 _ c.from_residual.ensures.1 (λ other o earlier known.
+    fault_handed_on c.from_residual.result c.in_err-end.field-0.0 _ c.from_residual.ensures.1 (λ other o earlier known.
     let told = c.in_err-end.ensures.err other in
     rw told.0 (wrong-faulty o earlier c.args.goes_on c.args.text.now told.1))
 
 pub returns-in_err-check_end-clause-err : goal.returns-in_err-check_end-clause-err
 returns-in_err-check_end-clause-err c =
-    fault_told c.from_residual-in_err-check_end.result c.in_err-check_end.field-0.0 _ c.from_residual-in_err-check_end.ensures.1 (λ other o earlier known.
+    fault_handed_on c.from_residual-in_err-check_end.result c.in_err-check_end.field-0.0 _ c.from_residual-in_err-check_end.ensures.1 (λ other o earlier known.
     let read = subst (λ before. EntryRead c.args.text.now before c.read_entry.new.words.items c.in_ok-end.end.lines (outcome_of c.in_ok-end.end.is_ended c.in_ok-end.end.is_open c.in_ok-end.end.rest.now))
     c.clear.ensures.items c.in_ok-end.ensures.ok in
     entry-ends_faulty o earlier c.args.goes_on c.args.text.now c.in_ok-end.end.rest.now _ _ c.in_ok-end.end.is_ended c.in_ok-end.end.is_open read
@@ -23,7 +23,7 @@ returns-in_err-check_end-clause-err c =
 
 pub returns-in_err-take_words-clause-err : goal.returns-in_err-take_words-clause-err
 returns-in_err-take_words-clause-err c =
-    fault_told c.from_residual-in_err-take_words.result c.in_err-take_words.field-0.0 _ c.from_residual-in_err-take_words.ensures.1 (λ other o earlier known.
+    fault_handed_on c.from_residual-in_err-take_words.result c.in_err-take_words.field-0.0 _ c.from_residual-in_err-take_words.ensures.1 (λ other o earlier known.
     let read = subst (λ before. EntryRead c.args.text.now before c.read_entry.new.words.items c.in_ok-end.end.lines (outcome_of c.in_ok-end.end.is_ended c.in_ok-end.end.is_open c.in_ok-end.end.rest.now))
     c.clear.ensures.items c.in_ok-end.ensures.ok in
     let sort : sort_of (ended read.tokens) ≡ sort_by_words c.begins_blank.result c.as_slice.result.now =

@@ -8,7 +8,7 @@ use Rattle.dns_master.specs.Codes.{fault_of}
 use Rattle.dns_master.specs.declared.fault.ReadCode.{ReadCode}
 use Rattle.dns_master.specs.declared.fault.ReadCode.TheVariants.{NoMemory}
 use Rattle.dns_master.specs.ReaderForm.{Knows, RecordTaken, EntryTaken}
-use Rattle.dns_master.proofs.Told.{OnOk-map, IfErr-map}
+use Rattle.dns_name.proofs.Results.{OnOk-map, IfErr-map}
 use Rattle.dns_master.proofs.KnowsSteps.{owned-taken, given-owner}
 use Rattle.dns_master.proofs.state.Reader.take_owned.Goals as goal
 

@@ -7,12 +7,12 @@ use Rattle.dns_spec.specs.FileFaults.{no_owner}
 use Rattle.dns_spec.specs.Meaning.{Fields, RecordGives, TtlSays, fields, faulty, gives}
 use Rattle.dns_master.specs.Codes.{fault_of}
 use Rattle.dns_master.specs.ReaderForm.{Knows, RecordTaken}
-use Rattle.dns_master.proofs.Told.{fault_told, OnOk-map}
+use Rattle.dns_name.proofs.Results.{fault_handed_on, OnOk-map}
 use Rattle.dns_master.proofs.RecordSteps.{last-stated, copied-some}
 use Rattle.dns_master.proofs.state.Reader.take_record.Goals as goal
 
 pub returns-in_err-record-clause-err : goal.returns-in_err-record-clause-err
-returns-in_err-record-clause-err c = fault_told c.from_residual.result c.in_err-record.field-0.0 _ c.from_residual.ensures.1 (λ other o earlier known.
+returns-in_err-record-clause-err c = fault_handed_on c.from_residual.result c.in_err-record.field-0.0 _ c.from_residual.ensures.1 (λ other o earlier known.
     subst (λ (f : Fields). RecordGives o earlier no_owner (λ n. n ≡ c.args.owner) f (faulty (fault_of c.in_err-record.field-0.0))) c.of-fields.ensures
     (c.in_err-record.ensures.err other o earlier known))
 

@@ -11,7 +11,7 @@ use Rattle.dns_master.specs.declared.fault.ReadCode.{ReadCode}
 use Rattle.dns_master.specs.declared.fault.ReadCode.TheVariants.{NoMemory}
 use Rattle.dns_master.specs.RecordForm.{LastOwner}
 use Rattle.dns_master.specs.ReaderForm.{last_owner, Knows, RecordTaken, EntryTaken}
-use Rattle.dns_master.proofs.Told.{OnOk-map, IfErr-map}
+use Rattle.dns_name.proofs.Results.{OnOk-map, IfErr-map}
 use Rattle.dns_master.proofs.KnowsSteps.{unowned-taken, given-owner}
 use Rattle.dns_master.proofs.state.Reader.take_unowned.Goals as goal
 

@@ -1,5 +1,5 @@
 use Rattle.std.proofs.Common.{rules}
-use Rattle.dns_name.proofs.Pieces.{Appends-take-add}
+use Rattle.dns_name.proofs.WritesLemmas.{Appends-take-add}
 use Rattle.dns_name.proofs.tally.Tally.write_all.Goals as goal
 
 pub pieces-preserved : goal.pieces-preserved

@@ -13,26 +13,26 @@ faults-requires-clause-lower c = ap folded c.fold-origin.ensures ∙ folded_fold
 
 pub returns-then-not-is_empty-clause-faults : goal.returns-then-not-is_empty-clause-faults
 returns-then-not-is_empty-clause-faults c =
-    let found = c.in-Ok-faults.ensures ∙ ap (λ (xs : List ResourceRecord). faults (record { origin = c.fold-origin.result; records = xs })) c.as_slice.ensures.value in
-    let same = found_of_read c.args.origin.now c.fold-origin.result c.args.records.items c.in-Ok.records.items c.in-Ok-faults.found.items c.fold-origin.ensures c.in-Ok.ensures.records found in (
+    let found = c.in_ok-found.ensures ∙ ap (λ (xs : List ResourceRecord). faults (record { origin = c.fold-origin.result; records = xs })) c.as_slice.ensures.value in
+    let same = found_of_read c.args.origin.now c.fold-origin.result c.args.records.items c.in_ok-records.records.items c.in_ok-found.found.items c.fold-origin.ensures c.in_ok-records.ensures.records found in (
       same,
       λ none.
-          let length_is : length c.in-Ok-faults.found.items ≡ 0 = ap length (same ∙ none) in
-          let empty : vec_len c.in-Ok-faults.found ≡ 0 = omega (arith, c.in-Ok-faults.found.ok.0) in
-          false≢true (sym c.if-not-is_empty.true ∙ c.is_empty.ensures ∙ eq-eqb (vec_len c.in-Ok-faults.found) 0 empty),
+          let length_is : length c.in_ok-found.found.items ≡ 0 = ap length (same ∙ none) in
+          let empty : vec_len c.in_ok-found.found ≡ 0 = omega (arith, c.in_ok-found.found.ok.0) in
+          false≢true (sym c.if-not-is_empty.true ∙ c.is_empty.ensures ∙ eq-eqb (vec_len c.in_ok-found.found) 0 empty),
     )
 
 pub invariant_of-result : goal.invariant_of-result
 invariant_of-result c =
-    let found = c.in-Ok-faults.ensures ∙ ap (λ (xs : List ResourceRecord). faults (record { origin = c.fold-origin.result; records = xs })) c.as_slice.ensures.value in
-    let empty : vec_len c.in-Ok-faults.found ≡ 0 = eqb-true (vec_len c.in-Ok-faults.found) 0 (sym c.is_empty.ensures ∙ c.if-not-is_empty.false) in
-    built c.args.origin.now c.fold-origin.result c.args.records.items c.in-Ok.records.items c.in-Ok-faults.found.items c.fold-origin.ensures c.in-Ok.ensures.records found
-    (omega (arith, c.in-Ok-faults.found.ok.0)) c.requires c.in-Ok.ensures.count c.in-Ok.ensures.in_order c.in-Ok.ensures.each
+    let found = c.in_ok-found.ensures ∙ ap (λ (xs : List ResourceRecord). faults (record { origin = c.fold-origin.result; records = xs })) c.as_slice.ensures.value in
+    let empty : vec_len c.in_ok-found.found ≡ 0 = eqb-true (vec_len c.in_ok-found.found) 0 (sym c.is_empty.ensures ∙ c.if-not-is_empty.false) in
+    built c.args.origin.now c.fold-origin.result c.args.records.items c.in_ok-records.records.items c.in_ok-found.found.items c.fold-origin.ensures c.in_ok-records.ensures.records found
+    (omega (arith, c.in_ok-found.found.ok.0)) c.requires c.in_ok-records.ensures.count c.in_ok-records.ensures.in_order c.in_ok-records.ensures.each
 
 pub returns-clause-passes : goal.returns-clause-passes
 returns-clause-passes c =
-    let found = c.in-Ok-faults.ensures ∙ ap (λ (xs : List ResourceRecord). faults (record { origin = c.fold-origin.result; records = xs })) c.as_slice.ensures.value in
-    let empty : vec_len c.in-Ok-faults.found ≡ 0 = eqb-true (vec_len c.in-Ok-faults.found) 0 (sym c.is_empty.ensures ∙ c.if-not-is_empty.false) in
-    let none : length c.in-Ok-faults.found.items ≡ 0 = omega (arith, c.in-Ok-faults.found.ok.0) in
-    sym (found_of_read c.args.origin.now c.fold-origin.result c.args.records.items c.in-Ok.records.items c.in-Ok-faults.found.items c.fold-origin.ensures c.in-Ok.ensures.records found)
-    ∙ nil_from_length c.in-Ok-faults.found.items none
+    let found = c.in_ok-found.ensures ∙ ap (λ (xs : List ResourceRecord). faults (record { origin = c.fold-origin.result; records = xs })) c.as_slice.ensures.value in
+    let empty : vec_len c.in_ok-found.found ≡ 0 = eqb-true (vec_len c.in_ok-found.found) 0 (sym c.is_empty.ensures ∙ c.if-not-is_empty.false) in
+    let none : length c.in_ok-found.found.items ≡ 0 = omega (arith, c.in_ok-found.found.ok.0) in
+    sym (found_of_read c.args.origin.now c.fold-origin.result c.args.records.items c.in_ok-records.records.items c.in_ok-found.found.items c.fold-origin.ensures c.in_ok-records.ensures.records found)
+    ∙ nil_from_length c.in_ok-found.found.items none

@@ -1,0 +1,98 @@
+-- A text that is written piece by piece: what two pieces, one after the other, have appended, and what is still to come.
+use Rattle.std.proofs.Common.{◌≡◌, ℕ, suc, ◌+◌, ◌-◌, ◌<◌, ◌≤◌, List, [], ◌∷◌, ◌++◌, slice_index_or, Result, ap, ◌∙◌, Option, Some, None, length, take, drop, refl, sym, subst, arith, append_assoc, length-drop, length-append}
+use Rattle.std.proofs.Math.Seq.{take-add, take-append-add, take-suc}
+use Rattle.std.proofs.lemmas.List.{take_all, take-append-le, take-append-drop, append-nil}
+use Rattle.std.proofs.lemmas.Grind.{flat_map-append}
+use Rattle.std.specs.Borrow.{Bor}
+use Rattle.std.specs.Io.KnownBytes.{Appends}
+use Rattle.std.proofs.KnownBytes.{Appends-trans}
+use Rattle.dns_name.proofs.Results.{OnOk-map, OnErr-map}
+use Rattle.dns_name.specs.Counted.{Counted, Writes, failures_after, joined, AppendsBeginning}
+
+-- the first n octets of a text, and then the first m of the rest, `&text[n..]`
+pub Appends-take-add : (a b c : Option (List ℕ)) (text : List ℕ) (n m : ℕ)
+    → Appends a b (take n text) → Appends b c (take m (take (length text - n) (drop n text))) → Appends a c (take (n + m) text)
+Appends-take-add a b c text n m first second =
+    let whole_rest : length (drop n text) ≤ length text - n = omega (arith, length-drop n text) in
+    let rest : take (length text - n) (drop n text) ≡ drop n text = take_all (length text - n) (drop n text) whole_rest in
+    let tail : Appends b c (take m (drop n text)) = subst (λ (xs : List ℕ). Appends b c (take m xs)) rest second in
+    subst (Appends a c) (sym (take-add n m text)) (Appends-trans a b c (take n text) (take m (drop n text)) first tail)
+
+-- a text of which a beginning was written, and others that were not begun
+pub beginning_of_first : (a b : Option (List ℕ)) (xs ys : List ℕ) → AppendsBeginning a b xs → AppendsBeginning a b (xs ++ ys)
+beginning_of_first a b xs ys (n, h, front) =
+    (n, omega (arith, h, length-append xs ys), subst (Appends a b) (sym (take-append-le n xs ys h)) front)
+
+-- a whole text, and then a beginning of the next
+pub beginning_of_second : (a b c : Option (List ℕ)) (xs ys : List ℕ) → Appends a b xs → AppendsBeginning b c ys → AppendsBeginning a c (xs ++ ys)
+beginning_of_second a b c xs ys whole (n, h, front) = (
+  length xs + n,
+  omega (arith, h, length-append xs ys),
+  subst (Appends a c) (sym (take-append-add xs ys n)) (Appends-trans a b c xs (take n ys) whole front),
+)
+
+-- the parts before place i, that part, and the parts after it
+joined_at : (parts : List (Bor (List ℕ))) (i : ℕ) (d : Bor (List ℕ)) → i < length parts
+    → joined parts ≡ (joined (take i parts) ++ (slice_index_or parts i d).now) ++ joined (drop (suc i) parts)
+joined_at parts i d h =
+    let part : Bor (List ℕ) = slice_index_or parts i d in
+    let front : joined (take (suc i) parts) ≡ joined (take i parts) ++ part.now =
+    ap joined (take-suc parts i d h) ∙ flat_map-append (λ (p : Bor (List ℕ)). p.now) (take i parts) (part ∷ []) ∙ ap (λ xs. joined (take i parts) ++ xs) (append-nil part.now)
+    in
+    ap joined (sym (take-append-drop (suc i) parts))
+    ∙ flat_map-append (λ (p : Bor (List ℕ)). p.now) (take (suc i) parts) (drop (suc i) parts)
+    ∙ ap (λ xs. xs ++ joined (drop (suc i) parts)) front
+
+-- what a call writes may be said in other words
+pub Writes-same : {W A E : Type 0} {contents : W → Option (List ℕ)} {old new : Counted W} {r : Result A E} {xs ys : List ℕ} → xs ≡ ys → Writes contents old new r xs
+    → Writes contents old new r ys
+Writes-same {contents = contents} {old} {new} {r} e w = subst (Writes contents old new r) e w
+
+-- a text was written, and then what a call writes
+pub Writes-after : {W A E : Type 0} {contents : W → Option (List ℕ)} {old mid new : Counted W} {r : Result A E} (xs ys : List ℕ)
+    → Appends (contents old.device) (contents mid.device) xs → mid.failures ≡ old.failures → Writes contents mid new r ys → Writes contents old new r (xs ++ ys)
+Writes-after {contents = contents} {old} {mid} {new} {r} xs ys h same w = record {
+  ok = OnOk-map r (λ k. Appends-trans (contents old.device) (contents mid.device) (contents new.device) xs ys h k) w.ok;
+  err = OnErr-map r (λ k. beginning_of_second (contents old.device) (contents mid.device) (contents new.device) xs ys h k) w.err;
+  counted = w.counted ∙ ap (λ count. failures_after count r) same;
+}
+
+-- all parts before place i, and then a beginning of that part
+pub beginning_of_parts : (a b c : Option (List ℕ)) (parts : List (Bor (List ℕ))) (i : ℕ) (d : Bor (List ℕ)) → i < length parts
+    → Appends a b (joined (take i parts)) → AppendsBeginning b c (slice_index_or parts i d).now → AppendsBeginning a c (joined parts)
+beginning_of_parts a b c parts i d h before begun =
+    subst (AppendsBeginning a c) (sym (joined_at parts i d h)) (beginning_of_first a c _ _ (beginning_of_second a b c _ _ before begun))
+
+-- of the whole text, all but the rest was appended
+pub record Written (old new : Option (List ℕ)) (whole rest : List ℕ) : Type 0 where
+  pub done : List ℕ
+  pub appended : Appends old new done
+  pub whole_is : done ++ rest ≡ whole
+
+Appends-none : (old : Option (List ℕ)) → Appends old old []
+Appends-none None = tt
+Appends-none (Some xs) = sym (append-nil xs)
+
+pub Written-none : (old : Option (List ℕ)) (whole : List ℕ) → Written old old whole whole
+Written-none old whole = record { done = []; appended = Appends-none old; whole_is = refl }
+
+-- the next piece
+pub Written-more : (old new newer : Option (List ℕ)) (whole rest piece others : List ℕ) → Written old new whole rest → rest ≡ piece ++ others → Appends new newer piece
+    → Written old newer whole others
+Written-more old new newer whole rest piece others so e h = record {
+  done = so.done ++ piece;
+  appended = Appends-trans old new newer so.done piece so.appended h;
+  whole_is = append_assoc so.done piece others ∙ ap (λ xs. so.done ++ xs) (sym e) ∙ so.whole_is;
+}
+
+-- a beginning of the next piece
+pub Written-begun : (old new newer : Option (List ℕ)) (whole rest piece others : List ℕ) → Written old new whole rest → rest ≡ piece ++ others → AppendsBeginning new newer piece
+    → AppendsBeginning old newer whole
+Written-begun old new newer whole rest piece others so e h =
+    subst (AppendsBeginning old newer) (ap (λ xs. so.done ++ xs) (sym e) ∙ so.whole_is)
+    (beginning_of_second old new newer so.done (piece ++ others) so.appended (beginning_of_first new newer piece others h))
+
+-- nothing is left
+pub Written-all : (old new : Option (List ℕ)) (whole rest : List ℕ) → Written old new whole rest → rest ≡ [] → Appends old new whole
+Written-all old new whole rest so e =
+    subst (Appends old new) (sym (append-nil so.done) ∙ ap (λ xs. so.done ++ xs) (sym e) ∙ so.whole_is) so.appended

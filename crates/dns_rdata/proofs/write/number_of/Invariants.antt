@@ -1,5 +1,0 @@
-use Rattle.dns_rdata.proofs.NumberSpelled.{NumberSoFar}
-use Rattle.dns_rdata.proofs.write.number_of.Given as goal
-
-abbrev pub invariant-octets : goal.invariant-octets
-invariant-octets l = NumberSoFar l.octets l.octet-index l.number
