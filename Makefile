@@ -1,36 +1,77 @@
-.PHONY: run programs install test misuse memory bench
+.PHONY: run programs built install uninstall clean package examples docs-check test misuse memory bench
 
 PREFIX ?= /usr/local
+NAMES = zonecheck zoneserve
+PROGRAMS = $(foreach name,$(NAMES),crates/$(name)/out/$(name))
+PAGES = $(wildcard man/*.1)
+DOC = $(DESTDIR)$(PREFIX)/share/doc/mitrehyssop
+SHARE = $(DESTDIR)$(PREFIX)/share/mitrehyssop
+COMPLETIONS = $(DESTDIR)$(PREFIX)/share/bash-completion/completions
 
 # Builds the programs, checks two zones in examples/, and asks the server about one of them.
 run: programs
-	examples/check crates/zonecheck/out/zonecheck
-	examples/ask crates/zoneserve/out/zoneserve
+	tools/check crates/zonecheck/out/zonecheck
+	tools/ask crates/zoneserve/out/zoneserve
 
 # Proves and builds each program, to crates/NAME/out/NAME, and runs it once.
 programs:
 	cd crates/zonecheck && rt run -- example ../../examples/example.zone
 	cd crates/zoneserve && rt run -- once example ../../examples/example.zone </dev/null
 
-# Installs the programs and the manual page below PREFIX, or below DESTDIR where a package is made.
-install: programs
-	install -d "$(DESTDIR)$(PREFIX)/bin" "$(DESTDIR)$(PREFIX)/share/man/man1"
-	install -m 755 crates/zonecheck/out/zonecheck crates/zoneserve/out/zoneserve "$(DESTDIR)$(PREFIX)/bin"
-	install -m 644 man/zonecheck.1 "$(DESTDIR)$(PREFIX)/share/man/man1"
+# Builds the programs where one is missing, or older than a source.
+built:
+	@tools/is-built $(PROGRAMS) || $(MAKE) programs
+
+# Installs what is built below PREFIX, or below DESTDIR where a package is made. The examples lie beside the documents by a link,
+# since small systems keep no documents, and scripts use them.
+install: built
+	install -d "$(DESTDIR)$(PREFIX)/bin" "$(DESTDIR)$(PREFIX)/share/man/man1" "$(DOC)/docs" "$(SHARE)/examples" "$(COMPLETIONS)"
+	install -m 755 $(PROGRAMS) "$(DESTDIR)$(PREFIX)/bin"
+	install -m 644 $(PAGES) "$(DESTDIR)$(PREFIX)/share/man/man1"
+	install -m 644 README.md LICENSE-MIT LICENSE-APACHE "$(DOC)"
+	install -m 644 docs/*.md "$(DOC)/docs"
+	cp examples/* "$(SHARE)/examples"
+	ln -sfn ../../mitrehyssop/examples "$(DOC)/examples"
+	for name in $(NAMES); do install -m 644 tools/completion "$(COMPLETIONS)/$$name"; done
+
+uninstall:
+	rm -f $(foreach name,$(NAMES),"$(DESTDIR)$(PREFIX)/bin/$(name)" "$(COMPLETIONS)/$(name)")
+	rm -f $(foreach page,$(PAGES),"$(DESTDIR)$(PREFIX)/share/man/man1/$(notdir $(page))")
+	rm -rf "$(DOC)" "$(SHARE)"
+
+# Takes away what was built, proofs that are kept too: the next build proves all.
+clean:
+	rm -rf crates/*/out out
+
+# Makes out/mitrehyssop_VERSION_ARCH.deb of what is built.
+package: built
+	tools/package
+
+# Compares each zone of examples/ with its canonical text.
+examples: built
+	tools/examples crates/zonecheck/out/zonecheck
+
+# Runs the commands of the documents and compares what they print, and tries the remedies of docs/CODES.md and
+# the script of units.
+docs-check: built
+	tools/docs-check $(PROGRAMS)
+	tools/remedies crates/zonecheck/out/zonecheck
+	tools/test-units crates/zonecheck/out/zonecheck
 
 test:
 	rt ci
 
-# Runs zonecheck on wrong words, on files that can't be read, and on outputs that take nothing. It is no part of the gate.
+# Runs the programs on wrong words, on files that can't be read, on faulty files, and on outputs that take nothing. It is
+# no part of the gate.
 misuse: programs
-	examples/misuse crates/zonecheck/out/zonecheck
+	tools/misuse crates/zonecheck/out/zonecheck crates/zoneserve/out/zoneserve
 
 # Refuses each program each of its allocations in turn. It proves nothing, and is no part of the gate.
 memory:
-	examples/refuse-memory zonecheck
-	examples/refuse-memory zoneserve
+	tools/refuse-memory zonecheck
+	tools/refuse-memory zoneserve
 
-# Times how data is read and written, and measures the checker. It tells no pass or fail, and is no part of the gate.
+# Times how data is read and written, and measures the checker. It decides nothing, and is no part of the gate.
 bench:
-	examples/bench
-	examples/bench-checker
+	tools/bench
+	tools/bench-checker

@@ -148,7 +148,7 @@ fn a_read_that_fails(rt: HostRuntime) -> Result<(), Fail> {
 
 #[test]
 fn a_write_that_fails(rt: HostRuntime) -> Result<(), Fail> {
-    for writes in 0..PRINTED.len() as u32 {
+    for writes in 0..93 {
         let (text, outcome) = run(rt.alloc(), ANSWER.as_bytes(), 1, 1000, writes)?;
         assert!(rt;
             PRINTED.as_bytes().starts_with(text.as_slice()),
