@@ -1,7 +1,7 @@
 .PHONY: run programs built install uninstall clean package examples docs-check test misuse memory bench
 
 PREFIX ?= /usr/local
-NAMES = zonecheck zoneserve
+NAMES = zonecheck zoneserve dnsmsg
 PROGRAMS = $(foreach name,$(NAMES),crates/$(name)/out/$(name))
 PAGES = $(wildcard man/*.1)
 DOC = $(DESTDIR)$(PREFIX)/share/doc/mitrehyssop
@@ -17,6 +17,7 @@ run: programs
 programs:
 	cd crates/zonecheck && rt run -- example ../../examples/example.zone
 	cd crates/zoneserve && rt run -- once example ../../examples/example.zone </dev/null
+	cd crates/dnsmsg && rt run <stdin
 
 # Builds the programs where one is missing, or older than a source.
 built:
