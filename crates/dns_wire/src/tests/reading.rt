@@ -143,7 +143,7 @@ fn long_names(rt: HostRuntime) -> Result<(), Fail> {
 }
 
 #[test]
-fn want_of_memory_is_no_other_fault(rt: HostRuntime) -> Result<(), Fail> {
+fn want_of_memory_has_the_last_number(rt: HostRuntime) -> Result<(), Fail> {
     assert_eq!(rt; WireFault::NoMemory.code(), 7);
     Ok(())
 }
