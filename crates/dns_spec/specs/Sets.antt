@@ -1,10 +1,11 @@
 -- What a reader learns here: of which types records are, what a record set is without its owner, and which records it
 -- stands for at an owner.
-use Rattle.std.specs.Prelude.{ℕ, List, map, All, ◌==◌}
+use Rattle.std.specs.Prelude.{ℕ, List, [], ◌∷◌, map, All, ◌==◌}
+use Rattle.std.specs.Prelude.{Option, None, Some}
 use Rattle.std.specs.Ordering.{nat_cmp}
 use Rattle.dns_spec.specs.Names.{Octets, DomainName}
 use Rattle.dns_spec.specs.Data.{Valid}
-use Rattle.dns_spec.specs.Records.{ResourceRecord, distinct, sort_by}
+use Rattle.dns_spec.specs.Records.{ResourceRecord, distinct, sort_by, of_type}
 
 -- the types of records, each once, and by rising number
 abbrev pub types_of : List ResourceRecord → List ℕ
@@ -12,6 +13,14 @@ types_of rs = distinct ◌==◌ (map (λ (r : ResourceRecord). r.rtype) rs)
 
 abbrev pub rising_types : List ResourceRecord → List ℕ
 rising_types rs = sort_by nat_cmp (types_of rs)
+
+-- the records of the lowest of their types, by data octets
+abbrev pub of_first_type : List ℕ → List ResourceRecord → List ResourceRecord
+of_first_type [] rs = []
+of_first_type (t ∷ ts) rs = of_type t rs
+
+abbrev pub of_lowest_type : List ResourceRecord → List ResourceRecord
+of_lowest_type rs = of_first_type (rising_types rs) rs
 
 -- RFC 2181 5: a type, a TTL in seconds, and the data of each record
 pub record RecordSet : Type 0 where
@@ -28,3 +37,13 @@ abbrev pub records_at : DomainName → ℕ → RecordSet → List ResourceRecord
 records_at owner ttl set =
     map (λ (d : Octets). record { owner = owner; ttl = ttl; rtype = set.rtype; rdata = d })
     set.rdata
+
+-- the set that records of one type and one TTL make; no records make none
+abbrev pub set_of : List ResourceRecord → Option RecordSet
+set_of [] = None
+set_of (r ∷ rs) =
+    Some (record {
+      rtype = r.rtype;
+      ttl = r.ttl;
+      rdata = r.rdata ∷ map (λ (s : ResourceRecord). s.rdata) rs;
+    })
