@@ -7,7 +7,7 @@ ghost use Rattle.dns_spec.specs.Checks.{Passes};
 ghost use Rattle.dns_spec.specs.Reading.{MessageQuestion, Spells};
 ghost use Rattle.dns_spec.specs.Answer.{items, required_items};
 ghost use Rattle.dns_spec.specs.Layout.{Item, layout, size, plain_layout, plain_size};
-ghost use Rattle.dns_spec.specs.Reply.{Reply, kept, fitting, reply, reply_with, octets_by, reply_message};
+ghost use Rattle.dns_spec.specs.Reply.{Reply, kept, fitting, reply, reply_with, octets_by, octets_of, reply_message};
 ghost use Rattle.dns_spec.specs.Query.{query_read};
 ghost use Rattle.dns_spec.specs.Laws.{IsWritable, IsSetAt, KeepsBeginning};
 
@@ -95,4 +95,10 @@ pub fn first_512_octets_are_read()
 pub fn first_512_octets_decide()
     ensures { (z : ZoneContents) (keep : MessageQuestion → List Item) (d : Octets)
         → reply_with keep z d ≡ reply_with keep z (take 512 d) }
+{}
+
+/// And so do its octets, whatever their limit.
+pub fn first_512_octets_give_the_octets()
+    ensures { (z : ZoneContents) (d : Octets) (limit : ℕ)
+        → octets_of z d limit ≡ octets_of z (take 512 d) limit }
 {}
