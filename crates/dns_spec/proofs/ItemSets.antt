@@ -6,12 +6,12 @@ use Rattle.std.specs.List.{list_any}
 use Rattle.dns_spec.specs.Names.{DomainName, folded, names_equal, same}
 use Rattle.dns_spec.specs.Data.{type_a, type_ns, type_cname, type_soa, type_aaaa, qtype_any, soa_minimum}
 use Rattle.dns_spec.specs.Records.{ResourceRecord, ZoneContents, data_order, at, of_type, rrset, with_owner}
-use Rattle.dns_spec.specs.Sets.{records_at, rising_types}
+use Rattle.dns_spec.specs.Sets.{records_at, rising_types, of_first_type, of_lowest_type}
 use Rattle.dns_spec.specs.Tree.{exists, cut_of, source_of_synthesis, found}
 use Rattle.dns_spec.specs.Checks.{ttls_differ, Passes}
 use Rattle.dns_spec.specs.Layout.{Section, answer, authority, additional, Item}
 use Rattle.dns_spec.specs.Reading.{no_error}
-use Rattle.dns_spec.specs.Answer.{item, follows_alias, alias_set, chain, last_sought, alias_items, all_sets, asked_sets, negative_soa, negative, positive, has_any, outcome_by, outcome_at, outcome, targets, stands, address_set, address_sets, extra, main_items, items}
+use Rattle.dns_spec.specs.Answer.{item, follows_alias, alias_set, chain, last_sought, alias_items, asked_records, negative_soa, negative, positive, has_any, outcome_by, outcome_at, outcome, targets, stands, address_set, address_sets, extra, main_items, items}
 use Rattle.dns_spec.specs.Laws.{IsSetAt}
 use Rattle.dns_spec.proofs.NameLaws.{names_equal-decides}
 use Rattle.dns_spec.proofs.SortedOnce.{Each, Among, each_at, each_sort, among_filter}
@@ -19,19 +19,19 @@ use Rattle.dns_spec.proofs.WritableItems.{each_append, each_flat_map, each_from_
 use Rattle.dns_spec.proofs.PassedChecks.{checks_at, few_soa, one_soa}
 
 -- records with one owner, one TTL and one type are those of a set
-record IsOf (o : DomainName) (k t : ℕ) (r : ResourceRecord) : Type 0 where
-  owner : r.owner ≡ o
-  ttl : r.ttl ≡ k
-  rtype : r.rtype ≡ t
+pub record IsOf (o : DomainName) (k t : ℕ) (r : ResourceRecord) : Type 0 where
+  pub owner : r.owner ≡ o
+  pub ttl : r.ttl ≡ k
+  pub rtype : r.rtype ≡ t
 
-set_of : (o : DomainName) (k t : ℕ) (rs : List ResourceRecord) → Each (IsOf o k t) rs → rs ≡ records_at o k (record { rtype = t; ttl = k; rdata = map (λ (r : ResourceRecord). r.rdata) rs })
-set_of o k t [] e = refl
-set_of o k t (r ∷ rs) e =
+pub as_set : (o : DomainName) (k t : ℕ) (rs : List ResourceRecord) → Each (IsOf o k t) rs → rs ≡ records_at o k (record { rtype = t; ttl = k; rdata = map (λ (r : ResourceRecord). r.rdata) rs })
+as_set o k t [] e = refl
+as_set o k t (r ∷ rs) e =
     let head : r ≡ record { owner = o; ttl = k; rtype = t; rdata = r.rdata } = λ i. record { owner = e.0.owner i; ttl = e.0.ttl i; rtype = e.0.rtype i; rdata = r.rdata } in
-    ap₂ (λ x xs. x ∷ xs) head (set_of o k t rs e.1)
+    ap₂ (λ x xs. x ∷ xs) head (as_set o k t rs e.1)
 
 one_set : (o : DomainName) (k t : ℕ) (rs : List ResourceRecord) → Each (IsOf o k t) rs → IsSetAt rs
-one_set o k t rs e = record { owner = o; ttl = k; set = record { rtype = t; ttl = k; rdata = map (λ (r : ResourceRecord). r.rdata) rs }; records = set_of o k t rs e }
+one_set o k t rs e = record { owner = o; ttl = k; set = record { rtype = t; ttl = k; rdata = map (λ (r : ResourceRecord). r.rdata) rs }; records = as_set o k t rs e }
 
 one_record_set : (rs : List ResourceRecord) → length rs ≤ 1 → IsSetAt rs
 one_record_set [] h = one_set [] 0 0 [] tt
@@ -46,7 +46,7 @@ item_set s [] h = tt
 item_set s (r ∷ rs) h = (h, tt)
 
 -- the TTL of the first record of a type
-first_ttl : ℕ → List ResourceRecord → ℕ
+pub first_ttl : ℕ → List ResourceRecord → ℕ
 first_ttl t [] = 0
 first_ttl t (r ∷ rs) = cond (r.rtype == t) r.ttl (first_ttl t rs)
 
@@ -68,16 +68,16 @@ first_of_type t (s ∷ rs) r m e = go (s.rtype == t) refl m (first_of_type t rs 
         let g = f n e in
         record { first = g.first; among = inr g.among; typed = g.typed; ttl = ap (λ b. cond b s.ttl (first_ttl t rs)) p ∙ g.ttl }
 
-any_false : {X : Type 0} (p : X → Bool) (xs : List X) (a : X) → list_any p xs ≡ false → Among a xs → p a ≡ false
+pub any_false : {X : Type 0} (p : X → Bool) (xs : List X) (a : X) → list_any p xs ≡ false → Among a xs → p a ≡ false
 any_false p [] a e m = absurd m
 any_false p (x ∷ xs) a e (inl q) = ap p q ∙ (or_parts (p x) (list_any p xs) e).0
 any_false p (x ∷ xs) a e (inr m) = any_false p xs a (or_parts (p x) (list_any p xs) e).1 m
 
-each_among : {X : Type 0} (P : X → Type 0) (xs : List X) → ((x : X) → Among x xs → P x) → Each P xs
+pub each_among : {X : Type 0} (P : X → Type 0) (xs : List X) → ((x : X) → Among x xs → P x) → Each P xs
 each_among P [] f = tt
 each_among P (x ∷ xs) f = (f x (inl refl), each_among P xs (λ y m. f y (inr m)))
 
-filter_test : {X : Type 0} (p : X → Bool) (a : X) (xs : List X) → Among a (filter p xs) → p a ≡ true
+pub filter_test : {X : Type 0} (p : X → Bool) (a : X) (xs : List X) → Among a (filter p xs) → p a ≡ true
 filter_test p a [] m = absurd m
 filter_test p a (x ∷ xs) m = go (p x) refl m (filter_test p a xs)
   where
@@ -86,7 +86,7 @@ filter_test p a (x ∷ xs) m = go (p x) refl m (filter_test p a xs)
     go true q (inr n) f = f n
     go false q n f = f n
 
-each_typed : (t : ℕ) (P : ResourceRecord → Type 0) (rs : List ResourceRecord) → Each P rs → Each (λ r. P r × (r.rtype ≡ t)) (of_type t rs)
+pub each_typed : (t : ℕ) (P : ResourceRecord → Type 0) (rs : List ResourceRecord) → Each P rs → Each (λ r. P r × (r.rtype ≡ t)) (of_type t rs)
 each_typed t P rs e =
     each_sort data_order (λ r. P r × (r.rtype ≡ t)) (filter (λ (r : ResourceRecord). r.rtype == t) rs)
     (each_among (λ r. P r × (r.rtype ≡ t)) (filter (λ (r : ResourceRecord). r.rtype == t) rs) (λ r m.
@@ -134,20 +134,22 @@ module _ (z : ZoneContents) (origin : folded z.origin ≡ z.origin) (low : Each 
       each_weak [] e = tt
       each_weak (r ∷ rs) e = (record { owner = e.0.0.0; ttl = e.0.0.1 e.0.1; rtype = e.0.1 }, each_weak rs e.1)
 
-  -- the set itself, whose owner is the name in lower case
-  own_set : (n : DomainName) (t : ℕ) → IsSetAt (rrset z n t)
-  own_set n t =
-      one_set (folded n) (first_ttl t (at z n)) t (rrset z n t)
-      (each_weak (rrset z n t) (each_typed t (λ r. (r.owner ≡ folded n) × HasTtl n t r) (at z n)
+  -- the records of a set, whose owner is the name in lower case
+  pub own_records : (n : DomainName) (t : ℕ) → Each (IsOf (folded n) (first_ttl t (at z n)) t) (rrset z n t)
+  own_records n t =
+      each_weak (rrset z n t) (each_typed t (λ r. (r.owner ≡ folded n) × HasTtl n t r) (at z n)
       (each_among (λ r. (r.owner ≡ folded n) × HasTtl n t r) (at z n) (λ r m.
       let test = λ (x : ResourceRecord). same x.owner n in (
         sym (each_at (λ (x : ResourceRecord). folded x.owner ≡ x.owner) r z.records low (among_filter test r z.records m)) ∙ (names_equal-decides (folded r.owner) (folded n)).0 (filter_test test r z.records m),
         each_at (HasTtl n t) r (at z n) (at_ttl n t) m,
-      )))))
+      ))))
     where
       each_weak : (rs : List ResourceRecord) → Each (λ r. ((r.owner ≡ folded n) × HasTtl n t r) × (r.rtype ≡ t)) rs → Each (IsOf (folded n) (first_ttl t (at z n)) t) rs
       each_weak [] e = tt
       each_weak (r ∷ rs) e = (record { owner = e.0.0.0; ttl = e.0.0.1 e.0.1; rtype = e.0.1 }, each_weak rs e.1)
+
+  own_set : (n : DomainName) (t : ℕ) → IsSetAt (rrset z n t)
+  own_set n t = one_set (folded n) (first_ttl t (at z n)) t (rrset z n t) (own_records n t)
 
   referral_set : (c : DomainName) → IsSetAt (with_owner c (rrset z c type_ns))
   referral_set c =
@@ -193,13 +195,18 @@ module _ (z : ZoneContents) (origin : folded z.origin ≡ z.origin) (low : Each 
   units [] = tt
   units (x ∷ xs) = (tt, units xs)
 
-  asked_are_sets : (q : DomainName) (rs : List ResourceRecord) (t : ℕ) → Shown q rs → Sets (asked_sets t rs)
-  asked_are_sets q rs t s = go (t == qtype_any)
+  lowest_set : (q : DomainName) (rs : List ResourceRecord) → Shown q rs → IsSetAt (of_lowest_type rs)
+  lowest_set q rs s = go (rising_types rs)
     where
-      go : (b : Bool) → Sets (cond b (all_sets rs) (item answer (of_type t rs)))
-      go true =
-          each_flat_map (λ (i : Item). IsSetAt i.records) (λ _. Unit {0}) (λ u. item answer (of_type u rs)) (rising_types rs)
-          (λ u _. item_set answer (of_type u rs) (found_set q rs u s)) (units (rising_types rs))
+      go : (ts : List ℕ) → IsSetAt (of_first_type ts rs)
+      go [] = one_record_set [] (omega arith)
+      go (t ∷ ts) = found_set q rs t s
+
+  asked_is_set : (q : DomainName) (rs : List ResourceRecord) (t : ℕ) → Shown q rs → Sets (item answer (asked_records t rs))
+  asked_is_set q rs t s = go (t == qtype_any)
+    where
+      go : (b : Bool) → Sets (item answer (cond b (of_lowest_type rs) (of_type t rs)))
+      go true = item_set answer (of_lowest_type rs) (lowest_set q rs s)
       go false = item_set answer (of_type t rs) (found_set q rs t s)
 
   negative_set : Sets (negative_soa z)
@@ -218,12 +225,12 @@ module _ (z : ZoneContents) (origin : folded z.origin ≡ z.origin) (low : Each 
       → Sets (outcome_by z t x y).answers × Sets (outcome_by z t x y).authorities
   main_sets t s (Some c) y e = (tt, item_set authority (with_owner c (rrset z c type_ns)) (referral_set c))
   main_sets t s None None e = (tt, negative_set)
-  main_sets t s None (Some rs) e = go (follows_alias t && has_any (of_type type_cname rs)) (has_any (asked_sets t rs))
+  main_sets t s None (Some rs) e = go (follows_alias t && has_any (of_type type_cname rs)) (has_any (asked_records t rs))
     where
-      go : (b c : Bool) → Sets (cond b (positive []) (cond c (positive (asked_sets t rs)) (negative z no_error))).answers
-          × Sets (cond b (positive []) (cond c (positive (asked_sets t rs)) (negative z no_error))).authorities
+      go : (b c : Bool) → Sets (cond b (positive []) (cond c (positive (item answer (asked_records t rs))) (negative z no_error))).answers
+          × Sets (cond b (positive []) (cond c (positive (item answer (asked_records t rs))) (negative z no_error))).authorities
       go true c = (tt, tt)
-      go false true = (asked_are_sets s rs t (found_shown s rs e), tt)
+      go false true = (asked_is_set s rs t (found_shown s rs e), tt)
       go false false = (tt, negative_set)
 
   alias_sets : (q : DomainName) (t : ℕ) → Sets (alias_items z q t)

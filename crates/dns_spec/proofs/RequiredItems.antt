@@ -8,7 +8,7 @@ use Rattle.dns_spec.specs.Data.{type_cname, target}
 use Rattle.dns_spec.specs.Records.{ResourceRecord, ZoneContents, data_order, of_type}
 use Rattle.dns_spec.specs.Tree.{cut_of, found}
 use Rattle.dns_spec.specs.Layout.{Section, answer, Item, records_of}
-use Rattle.dns_spec.specs.Answer.{item, follows_alias, alias_set, chain, last_sought, alias_items, Outcome, positive, negative, has_any, outcome_by, outcome_at, outcome, has_target_type, targets_of, targets_inside, targets_outside, targets, address_sets, extra, main_items, items, required_items, asked_sets}
+use Rattle.dns_spec.specs.Answer.{item, follows_alias, alias_set, chain, last_sought, alias_items, Outcome, positive, negative, has_any, outcome_by, outcome_at, outcome, has_target_type, targets_of, targets_inside, targets_outside, targets, address_sets, extra, main_items, items, required_items, asked_records}
 use Rattle.dns_spec.specs.Reading.{no_error}
 use Rattle.dns_spec.proofs.SortedOnce.{Each, each_sort}
 use Rattle.dns_spec.proofs.WritableItems.{each_flat_map}
@@ -89,9 +89,9 @@ record Refers (o : Outcome) : Type 0 where
 refers : (z : ZoneContents) (t : ℕ) (x : Option DomainName) (y : Option (List ResourceRecord)) → Refers (outcome_by z t x y)
 refers z t (Some c) y = record { cases = inr refl }
 refers z t None None = record { cases = inl refl }
-refers z t None (Some rs) = go (follows_alias t && has_any (of_type type_cname rs)) (has_any (asked_sets t rs))
+refers z t None (Some rs) = go (follows_alias t && has_any (of_type type_cname rs)) (has_any (asked_records t rs))
   where
-    go : (b c : Bool) → Refers (cond b (positive []) (cond c (positive (asked_sets t rs)) (negative z no_error)))
+    go : (b c : Bool) → Refers (cond b (positive []) (cond c (positive (item answer (asked_records t rs))) (negative z no_error)))
     go true c = record { cases = inl refl }
     go false true = record { cases = inl refl }
     go false false = record { cases = inl refl }

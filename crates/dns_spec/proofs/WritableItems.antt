@@ -8,11 +8,11 @@ use Rattle.std.specs.List.{list_all, list_any}
 use Rattle.dns_spec.specs.Names.{Octets, DomainName, is_name, folded, same, at_or_below, suffixes}
 use Rattle.dns_spec.specs.Data.{type_a, type_ns, type_cname, type_soa, type_aaaa, qtype_any, width, Piece, fixed, domain, string, strings, anything, pieces_of, Part, octets, name, piece_front, cut, first_name, target, soa_minimum}
 use Rattle.dns_spec.specs.Records.{ResourceRecord, ZoneContents, data_order, at, of_type, rrset, with_owner}
-use Rattle.dns_spec.specs.Sets.{rising_types}
+use Rattle.dns_spec.specs.Sets.{rising_types, of_first_type, of_lowest_type}
 use Rattle.dns_spec.specs.Tree.{exists, is_cut, cut_of, source_of_synthesis, found}
 use Rattle.dns_spec.specs.Layout.{Section, answer, authority, additional, Item, records_of}
 use Rattle.dns_spec.specs.Reading.{name_error, no_error}
-use Rattle.dns_spec.specs.Answer.{item, follows_alias, alias_set, first_target, next_sought, chain_from, chain, last_of, last_sought, alias_items, Outcome, all_sets, asked_sets, negative, positive, has_any, outcome_by, outcome_at, outcome, targets, stands, address_set, address_sets, extra, main_items, items}
+use Rattle.dns_spec.specs.Answer.{item, follows_alias, alias_set, first_target, next_sought, chain_from, chain, last_of, last_sought, alias_items, Outcome, asked_records, negative, positive, has_any, outcome_by, outcome_at, outcome, targets, stands, address_set, address_sets, extra, main_items, items}
 use Rattle.dns_spec.specs.Laws.{section_rank, sections_in_order, IsWritable}
 use Rattle.dns_spec.proofs.NameLaws.{is_name-tail, is_name-folded}
 use Rattle.dns_spec.proofs.SortedOnce.{Each, each_filter, each_sort}
@@ -209,28 +209,26 @@ module _ (z : ZoneContents) (w : Writable z.records) where
     authorities = item_stood authority (map Negative (rrset z z.origin type_soa)) (negative_writable (rrset z z.origin type_soa) (rrset_writable z.origin type_soa));
   }
 
-  all_sets_stood : (rs : List ResourceRecord) → Writable rs → Each (Stood answer) (all_sets rs)
-  all_sets_stood rs v =
-      let types = rising_types rs in
-      each_flat_map (Stood answer) (λ _. Unit {0}) (λ t. item answer (of_type t rs)) types (λ t _. item_stood answer (of_type t rs) (of_type_writable t rs v)) (units types)
+  lowest_writable : (rs : List ResourceRecord) → Writable rs → Writable (of_lowest_type rs)
+  lowest_writable rs v = go (rising_types rs)
     where
-      units : (ts : List ℕ) → Each (λ _. Unit {0}) ts
-      units [] = tt
-      units (t ∷ ts) = (tt, units ts)
+      go : (ts : List ℕ) → Writable (of_first_type ts rs)
+      go [] = tt
+      go (t ∷ ts) = of_type_writable t rs v
 
-  asked_sets_stood : (t : ℕ) (rs : List ResourceRecord) → Writable rs → Each (Stood answer) (asked_sets t rs)
-  asked_sets_stood t rs v = go (t == qtype_any)
+  asked_stood : (t : ℕ) (rs : List ResourceRecord) → Writable rs → Each (Stood answer) (item answer (asked_records t rs))
+  asked_stood t rs v = go (t == qtype_any)
     where
-      go : (b : Bool) → Each (Stood answer) (cond b (all_sets rs) (item answer (of_type t rs)))
-      go true = all_sets_stood rs v
+      go : (b : Bool) → Each (Stood answer) (item answer (cond b (of_lowest_type rs) (of_type t rs)))
+      go true = item_stood answer (of_lowest_type rs) (lowest_writable rs v)
       go false = item_stood answer (of_type t rs) (of_type_writable t rs v)
 
   answer_from_right : (t : ℕ) (rs : List ResourceRecord) → Writable rs → Right (outcome_by z t None (Some rs))
-  answer_from_right t rs v = go (follows_alias t && has_any (of_type type_cname rs)) (has_any (asked_sets t rs))
+  answer_from_right t rs v = go (follows_alias t && has_any (of_type type_cname rs)) (has_any (asked_records t rs))
     where
-      go : (b c : Bool) → Right (cond b (positive []) (cond c (positive (asked_sets t rs)) (negative z no_error)))
+      go : (b c : Bool) → Right (cond b (positive []) (cond c (positive (item answer (asked_records t rs))) (negative z no_error)))
       go true c = record { rcode = omega arith; answers = tt; authorities = tt }
-      go false true = record { rcode = omega arith; answers = asked_sets_stood t rs v; authorities = tt }
+      go false true = record { rcode = omega arith; answers = asked_stood t rs v; authorities = tt }
       go false false = negative_right no_error (omega arith)
 
   outcome_at_right : (t : ℕ) (s : DomainName) → Named s → Right (outcome_at z t s)

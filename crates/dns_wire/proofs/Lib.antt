@@ -3,3 +3,4 @@ mod PieceLemmas
 mod ReadLemmas
 mod ValidData
 mod Anyway
+mod NameLoop

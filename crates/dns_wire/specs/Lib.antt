@@ -2,3 +2,4 @@ pub mod WireFault
 pub mod Labels
 pub mod Pieces
 pub mod Read
+pub mod QueryForm

@@ -1,4 +1,4 @@
-//! Messages on the wire (RFC 1035 4.1), read.
+//! Messages on the wire (RFC 1035 4.1), read; and queries, read.
 #![tactic(auto)]
 
 mod data;
@@ -6,10 +6,12 @@ mod fault;
 mod message;
 mod name;
 mod number;
+mod query;
 mod reader;
 
 pub use fault::WireFault;
 pub use message::{CLASS_IN, Head, Message, Question, WireRecord};
+pub use query::{QueryRead, Rcode, read_query};
 pub use reader::read_message;
 
 #[cfg(test)]

@@ -48,10 +48,19 @@ module _ {X : Type 0} (cmp : X → X → Ordering) (total : IsTotalOrder cmp) wh
   pub sorted_pairs : (xs : List X) → sort_by cmp xs ≡ xs → Pairs NotAfter xs
   sorted_pairs xs e = subst (Pairs NotAfter) e (sort_pairs xs)
 
-data_order_total : IsTotalOrder data_order
+  -- and a list in order is sorted
+  pub first_in : (x : X) (xs : List X) → Each (NotAfter x) xs → insert_by cmp x xs ≡ x ∷ xs
+  first_in x [] e = refl
+  first_in x (y ∷ ys) e = ap (λ b. cond b (y ∷ insert_by cmp x ys) (x ∷ y ∷ ys)) e.0
+
+  pub unmoved : (xs : List X) → Pairs NotAfter xs → sort_by cmp xs ≡ xs
+  unmoved [] h = refl
+  unmoved (x ∷ xs) h = ap (insert_by cmp x) (unmoved xs h.1) ∙ first_in x xs h.0
+
+pub data_order_total : IsTotalOrder data_order
 data_order_total = on_total (λ (r : ResourceRecord). r.rdata) nat_list_cmp_total
 
-record_order_total : IsTotalOrder record_order
+pub record_order_total : IsTotalOrder record_order
 record_order_total =
     then_total (on_total (λ (r : ResourceRecord). r.owner) name_order_total)
     (then_total (on_total (λ (r : ResourceRecord). r.rtype) nat_cmp_total)
@@ -61,7 +70,7 @@ record_order_total =
 abbrev pub OwnerNotAfter : ResourceRecord → ResourceRecord → Type 0
 OwnerNotAfter r s = is_gt (name_order r.owner s.owner) ≡ false
 
-first_part : (c d : Ordering) → is_gt (ordering_then c d) ≡ false → is_gt c ≡ false
+pub first_part : (c d : Ordering) → is_gt (ordering_then c d) ≡ false → is_gt c ≡ false
 first_part Less d h = refl
 first_part Equal d h = refl
 first_part Greater d h = h

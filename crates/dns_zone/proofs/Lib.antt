@@ -12,3 +12,5 @@ pub mod TopmostLoop
 pub mod OwnRecords
 pub mod ToldNames
 pub mod OwnersWalk
+pub mod NodeSets
+pub mod Existing

@@ -8,7 +8,7 @@ use Rattle.std.specs.List.{prefix_len}
 use Rattle.std.specs.List.Sorted.{IsPartitionedBy}
 use Rattle.std.specs.Ordering.{ordering_reverse}
 use Rattle.dns_spec.specs.Names.{DomainName, folded, same, names_equal, name_order}
-use Rattle.dns_spec.specs.Records.{ResourceRecord, ZoneContents, at, insert_by, record_order}
+use Rattle.dns_spec.specs.Records.{ResourceRecord, ZoneContents, at, record_order}
 use Rattle.dns_spec.proofs.RecordOrder.{each_all, all_each}
 use Rattle.dns_spec.proofs.SortedOnce.{Each, each_filter, filter_each, each_weaker}
 use Rattle.dns_zone.specs.ZoneForm.{AreOrdered}
@@ -16,7 +16,7 @@ use Rattle.dns_zone.specs.OwnerForm.{IsOwner}
 use Rattle.dns_zone.specs.ToldForm.{HasOwners, begins_with_owner, owners_once}
 use Rattle.dns_zone.proofs.Pairs.{Pairs, pairs_filter, each_both, filter_all, filter_within, halves}
 use Rattle.dns_zone.proofs.NameOrder.{name_order_total, same-is, same-from, same-tied}
-use Rattle.dns_zone.proofs.AtName.{is_before, is_at, OwnerNotAfter, ordered_records, owners_in_order, at_parted, at_others}
+use Rattle.dns_zone.proofs.AtName.{unmoved, record_order_total, is_before, is_at, OwnerNotAfter, ordered_records, owners_in_order, at_parted, at_others}
 use Rattle.dns_zone.proofs.OwnRecords.{own_types}
 use Rattle.dns_zone.proofs.ToldNames.{greater_behind}
 
@@ -29,16 +29,8 @@ front p xs h =
     )
 
 -- a part of ordered records is ordered
-first_in : (r : ResourceRecord) (rs : List ResourceRecord) → Each (λ s. is_gt (record_order r s) ≡ false) rs → insert_by record_order r rs ≡ r ∷ rs
-first_in r [] e = refl
-first_in r (s ∷ rs) e = ap (λ b. cond b (s ∷ insert_by record_order r rs) (r ∷ s ∷ rs)) e.0
-
-ordered_from : (rs : List ResourceRecord) → Pairs (λ r s. is_gt (record_order r s) ≡ false) rs → AreOrdered rs
-ordered_from [] h = refl
-ordered_from (r ∷ rs) h = ap (insert_by record_order r) (ordered_from rs h.1) ∙ first_in r rs h.0
-
 ordered_filter : (p : ResourceRecord → Bool) (rs : List ResourceRecord) → AreOrdered rs → AreOrdered (filter p rs)
-ordered_filter p rs h = ordered_from (filter p rs) (pairs_filter (λ r s. is_gt (record_order r s) ≡ false) p rs (ordered_records rs h))
+ordered_filter p rs h = unmoved record_order record_order_total (filter p rs) (pairs_filter (λ r s. is_gt (record_order r s) ≡ false) p rs (ordered_records rs h))
 
 each_always : (P : ResourceRecord → Type 0) (rs : List ResourceRecord) → ((r : ResourceRecord) → P r) → Each P rs
 each_always P [] f = tt

@@ -181,7 +181,7 @@ each_distinct : {X : Type 0} (P : X → Type 0) (eq : X → X → Bool) (xs : Li
 each_distinct P eq [] e = tt
 each_distinct P eq (x ∷ xs) e = (e.0, each_filter P (λ y. not (eq x y)) (distinct eq xs) (each_distinct P eq xs e.1))
 
-each_map : {X Y : Type 0} (P : Y → Type 0) (f : X → Y) (xs : List X) → Each (λ x. P (f x)) xs → Each P (map f xs)
+pub each_map : {X Y : Type 0} (P : Y → Type 0) (f : X → Y) (xs : List X) → Each (λ x. P (f x)) xs → Each P (map f xs)
 each_map P f [] e = tt
 each_map P f (x ∷ xs) e = (e.0, each_map P f xs e.1)
 

@@ -1,9 +1,11 @@
 -- Records that stand by their types: the types of one owner.
-use Rattle.std.proofs.Common.{◌≡◌, ℕ, ◌<◌, ◌≤◌, Bool, true, false, not, ◌||◌, ◌⊎◌, cond, nat_lt, eqb, Some, None, List, [], ◌∷◌, refl, sym, ap, ap₂, ◌∙◌, arith, filter, inl, inr}
-use Rattle.std.proofs.lemmas.Bool.{ltb-true, ltb-false, eqb-true, ne_eqb, eqb-false, cases_lt}
+use Rattle.std.proofs.Common.{◌≡◌, ◌==◌, ℕ, ◌<◌, ◌≤◌, Bool, true, false, not, ◌||◌, ◌⊎◌, cond, nat_lt, eqb, Some, None, List, [], ◌∷◌, refl, sym, ap, ap₂, ◌∙◌, arith, filter, inl, inr}
+use Rattle.std.proofs.lemmas.Bool.{ltb-true, ltb-false, eqb-true, eq-eqb, ne_eqb, eqb-false, cases_lt, le-ltb, not-true}
 use Rattle.std.specs.List.{list_any, slice_get}
-use Rattle.dns_spec.proofs.SortedOnce.{Each}
-use Rattle.dns_zone.proofs.Pairs.{Pairs, first_passes}
+use Rattle.std.specs.List.Sorted.{IsPartitionedBy, IsNonDecreasingBy}
+use Rattle.dns_spec.specs.Records.{ResourceRecord}
+use Rattle.dns_spec.proofs.SortedOnce.{Each, filter_each}
+use Rattle.dns_zone.proofs.Pairs.{Pairs, pairs_of, pairs_filter, pairs_rising, parted, filter_within, first_passes}
 
 pub none_pass : {X : Type 0} (p : X → Bool) (xs : List X) → Each (λ x. p x ≡ false) xs → list_any p xs ≡ false
 none_pass p [] e = refl
@@ -12,6 +14,10 @@ none_pass p (x ∷ xs) e = ap₂ ◌||◌ e.0 (none_pass p xs e.1)
 pub first_is : {X : Type 0} (p : X → Bool) (x : X) (xs : List X) → Some x ≡ slice_get xs 0 → p x ≡ first_passes p xs
 first_is p x [] e = cc
 first_is p x (y ∷ ys) e = let same : x ≡ y = cc in ap p same
+
+pub first_rest : {X : Type 0} (x : X) (xs : List X) → Some x ≡ slice_get xs 0 → (ys : List X) × (xs ≡ x ∷ ys)
+first_rest x [] e = cc
+first_rest x (y ∷ ys) e = let same : y ≡ x = cc in (ys, ap (λ z. z ∷ ys) same)
 
 pub first_none : {X : Type 0} (p : X → Bool) (xs : List X) → None ≡ slice_get xs 0 → false ≡ first_passes p xs
 first_none p [] e = refl
@@ -43,3 +49,29 @@ module _ {X : Type 0} (n : X → ℕ) (t : ℕ) where
           other_than : (t < n x) ⊎ (n x ≤ t) → t ≤ n x → t < n x
           other_than (inl k) a = k
           other_than (inr k) a = absurd (eqb-false (n x) t e (omega arith))
+
+-- records by their types: those of a type stand in front of those that are not below it
+module _ (t : ℕ) where
+  abbrev of_t : ResourceRecord → Bool
+  of_t r = r.rtype == t
+
+  abbrev not_below : ResourceRecord → Bool
+  not_below r = not (nat_lt r.rtype t)
+
+  pub type_parted : (rs : List ResourceRecord) → IsNonDecreasingBy (λ (r : ResourceRecord). r.rtype) rs → IsPartitionedBy of_t (filter not_below rs)
+  type_parted rs h =
+      parted of_t (filter not_below rs)
+      (pairs_of (λ r. not_below r ≡ true) (λ r s. r.rtype ≤ s.rtype) (λ r s. of_t s ≡ true → of_t r ≡ true) (filter not_below rs) level
+      (filter_each not_below rs) (pairs_filter (λ r s. r.rtype ≤ s.rtype) not_below rs (pairs_rising (λ (r : ResourceRecord). r.rtype) rs h)))
+    where
+      level : (r s : ResourceRecord) → not_below r ≡ true → not_below s ≡ true → r.rtype ≤ s.rtype → of_t s ≡ true → of_t r ≡ true
+      level r s p q l e =
+          let a : t ≤ r.rtype = ltb-false r.rtype t (not-true _ p) in
+          let b : s.rtype ≡ t = eqb-true s.rtype t e in
+          eq-eqb r.rtype t (omega arith)
+
+  pub type_others : (rs : List ResourceRecord) → filter of_t (filter not_below rs) ≡ filter of_t rs
+  type_others rs =
+      filter_within not_below of_t rs (λ r e.
+      let b : r.rtype ≡ t = eqb-true r.rtype t e in
+      ap not (le-ltb r.rtype t (omega arith)))

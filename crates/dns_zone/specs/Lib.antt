@@ -1,4 +1,6 @@
 pub mod ZoneForm
+pub mod Nodes
+pub mod SetForm
 pub mod SetWalks
 pub mod CutForm
 pub mod OwnerForm

@@ -1,4 +1,4 @@
-//! Zones: the checks that a zone has to pass before it is served, and its canonical text.
+//! Zones: the checks that a zone has to pass before it is served, the walk over its names, and its canonical text.
 #![tactic(auto)]
 
 mod arranged;
@@ -6,17 +6,23 @@ mod cuts;
 mod fault;
 mod faults;
 mod lookup;
+mod node;
 mod order;
 mod ordered;
 mod owner;
 mod printed;
+mod set;
 mod sets;
+mod steps;
 mod survey;
 mod target;
 mod zone;
 
 pub use fault::{BuildFault, CheckFault};
+pub use node::Node;
 pub use printed::{PrintFault, print};
+pub use set::RecordSet;
+pub use steps::Steps;
 pub use zone::Zone;
 
 #[cfg(test)]

@@ -66,6 +66,24 @@ pub(crate) fn has_type(records: &[Record], rtype: RType) -> bool
     }
 }
 
+/// The records of a type, where they stand by their types.
+pub(crate) fn of_type<'a>(records: &'a [Record], rtype: RType) -> &'a [Record]
+    requires { IsNonDecreasingBy (λ (r : ResourceRecord). r.rtype) records.now }
+    ensures { result.now ≡ filter (λ (r : ResourceRecord). r.rtype == rtype.0) records.now }
+{
+    let others = &records[count_below(records, rtype)..];
+    &others[..count_of(others, rtype)]
+}
+
+// How many of the records are of the type, where these stand in front.
+fn count_of(records: &[Record], rtype: RType) -> usize
+    requires { IsPartitionedBy (λ (r : ResourceRecord). r.rtype == rtype.0) records.now }
+    ensures bound { result ≤ length records.now }
+    ensures own { take result records.now ≡ filter (λ (r : ResourceRecord). r.rtype == rtype.0) records.now }
+{
+    records.partition_point(|listed| listed.rtype == rtype)
+}
+
 // How many of the records are of a type below this one.
 fn count_below(records: &[Record], rtype: RType) -> usize
     requires { IsNonDecreasingBy (λ (r : ResourceRecord). r.rtype) records.now }

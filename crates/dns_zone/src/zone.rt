@@ -5,6 +5,7 @@ ghost use Rattle.std.specs.List.{filter};
 ghost use Rattle.dns_spec.specs.Names.{folded, same};
 ghost use Rattle.dns_spec.specs.Records.{ResourceRecord, zone_of, ordered_zone, first_serial, zone_serial};
 ghost use Rattle.dns_spec.specs.Checks.{faults};
+ghost use Rattle.dns_spec.specs.Tree.{exists};
 ghost use Rattle.dns_spec.specs.Meaning.{most_records};
 ghost use Rattle.dns_spec.specs.ZonePrinted.{is_soa};
 ghost use Rattle.dns_zone.specs.ZoneForm.{IsBuilt, TellsFaults};
@@ -60,6 +61,7 @@ impl Zone {
     pub fn origin(&self) -> &Name
         ensures origin { result.now ≡ self.now.origin }
         ensures lower { folded self.now.origin ≡ self.now.origin }
+        ensures built { IsBuilt self.now }
     {
         &self.origin
     }
@@ -69,6 +71,15 @@ impl Zone {
         ensures { result ≡ zone_serial self.now }
     {
         serial_at(&self.origin, self.records.as_slice())
+    }
+
+    // Whether the name exists.
+    pub(crate) fn exists(&self, name: &Name) -> bool
+        ensures { result ≡ exists self.now name.now }
+    {
+        self.records
+            .iter()
+            .any(|listed| listed.owner.at_or_below(name))
     }
 
     // Its records, in canonical order.

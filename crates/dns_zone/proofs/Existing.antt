@@ -1,0 +1,85 @@
+-- Which names exist in a built zone.
+use Rattle.std.proofs.Common.{◌≡◌, ℕ, ◌-◌, ◌≤◌, ◌<◌, Bool, true, false, ◌&&◌, ◌||◌, not, cond, ◌==◌, nat_le, List, [], ◌∷◌, ◌++◌, map, length, drop, refl, sym, ap, ap₂, ◌∙◌, arith}
+use Rattle.std.proofs.lemmas.Bool.{and_parts, false≢true, false_from_ne_true, or_right}
+use Rattle.std.proofs.lemmas.List.{length-map}
+use Rattle.std.specs.Char.{to_ascii_lowercase}
+use Rattle.std.specs.List.{list_any}
+use Rattle.dns_spec.specs.Names.{Octets, DomainName, wire, folded, names_equal, same, at_or_below}
+use Rattle.dns_spec.specs.Data.{type_soa}
+use Rattle.dns_spec.specs.Records.{ResourceRecord, ZoneContents, owns}
+use Rattle.dns_spec.specs.Tree.{exists}
+use Rattle.dns_spec.specs.ZonePrinted.{IsReadRecord}
+use Rattle.dns_spec.proofs.NameLaws.{IsName-is_name, at_or_below-length-wire}
+use Rattle.dns_spec.proofs.SortedOnce.{Each}
+use Rattle.dns_spec.proofs.RecordOrder.{each_all}
+use Rattle.dns_spec.proofs.PassedChecks.{checks_of_origin}
+use Rattle.dns_zone.specs.Nodes.{IsNode}
+use Rattle.dns_zone.specs.ZoneForm.{IsBuilt}
+use Rattle.dns_zone.proofs.NameOrder.{same-from, lower_twice}
+use Rattle.dns_zone.proofs.NameTree.{itself-under}
+
+any_more : {X : Type 0} (p q : X → Bool) (xs : List X) → ((x : X) → p x ≡ true → q x ≡ true) → list_any p xs ≡ true → list_any q xs ≡ true
+any_more p q [] f e = absurd (false≢true e)
+any_more p q (x ∷ xs) f e = go (p x) refl e (any_more p q xs f)
+  where
+    go : (t : Bool) → p x ≡ t → (t || list_any p xs) ≡ true → (list_any p xs ≡ true → list_any q xs ≡ true) → (q x || list_any q xs) ≡ true
+    go true a b r = ap (λ t. t || list_any q xs) (f x a)
+    go false a b r = or_right (q x) (list_any q xs) (r b)
+
+-- only the lower case of a name counts
+pub under-lower : (n a b : DomainName) → folded a ≡ folded b → length a ≡ length b → at_or_below n a ≡ at_or_below n b
+under-lower n a b e l =
+    ap₂ (λ (k : ℕ) (m : DomainName). nat_le k (length n) && names_equal (folded (drop (length n - k) n)) m) l e
+
+pub exists-lower : (z : ZoneContents) (a b : DomainName) → folded a ≡ folded b → length a ≡ length b → exists z a ≡ exists z b
+exists-lower z a b e l = go z.records
+  where
+    go : (rs : List ResourceRecord) → list_any (λ (r : ResourceRecord). at_or_below r.owner a) rs ≡ list_any (λ (r : ResourceRecord). at_or_below r.owner b) rs
+    go [] = refl
+    go (r ∷ rs) = ap₂ ◌||◌ (under-lower r.owner a b e l) (go rs)
+
+-- what exists is a name
+pub exists-fits : (z : ZoneContents) (n : DomainName) → IsBuilt z → exists z n ≡ true → length (wire n) ≤ 255
+exists-fits z n kept e = go z.records (each_all IsReadRecord z.records kept.each) e
+  where
+    go : (rs : List ResourceRecord) → Each IsReadRecord rs → list_any (λ (r : ResourceRecord). at_or_below r.owner n) rs ≡ true → length (wire n) ≤ 255
+    go [] h e = absurd (false≢true e)
+    go (r ∷ rs) h e = here (at_or_below r.owner n) refl e (go rs h.1)
+      where
+        here : (t : Bool) → at_or_below r.owner n ≡ t → (t || list_any (λ (s : ResourceRecord). at_or_below s.owner n) rs) ≡ true
+            → (list_any (λ (s : ResourceRecord). at_or_below s.owner n) rs ≡ true → length (wire n) ≤ 255) → length (wire n) ≤ 255
+        here true a b f = let name = IsName-is_name r.owner h.0.owner in omega (arith, at_or_below-length-wire r.owner n a)
+        here false a b f = f b
+
+-- the origin owns an SOA, so that it exists
+pub origin-node : (z : ZoneContents) → IsBuilt z → IsNode z z.origin
+origin-node z kept =
+    let none : (same z.origin z.origin && not (owns z z.origin type_soa)) ≡ false = (checks_of_origin z kept.low kept.passes).0 in
+    let here : same z.origin z.origin ≡ true = same-from z.origin z.origin refl in
+    let owned : owns z z.origin type_soa ≡ true = has (owns z z.origin type_soa) (sym (ap (λ b. b && not (owns z z.origin type_soa)) here) ∙ none) in
+    record {
+      built = kept;
+      lower = kept.low;
+      stands = any_more (λ (r : ResourceRecord). same r.owner z.origin && r.rtype == type_soa) (λ (r : ResourceRecord). at_or_below r.owner z.origin) z.records
+          (λ r h. itself-under r.owner z.origin (and_parts (same r.owner z.origin) (r.rtype == type_soa) h).0) owned;
+    }
+  where
+    has : (b : Bool) → not b ≡ false → b ≡ true
+    has true e = refl
+    has false e = absurd (false≢true (sym e))
+
+-- a child by its label: only the lower case counts
+pub child-exists : (z : ZoneContents) (l : Octets) (n : DomainName) → folded n ≡ n → exists z (map to_ascii_lowercase l ∷ n) ≡ exists z (l ∷ n)
+child-exists z l n low =
+    ap (λ (m : DomainName). exists z (map to_ascii_lowercase l ∷ m)) (sym low)
+    ∙ exists-lower z (folded (l ∷ n)) (l ∷ n) (lower_twice (l ∷ n)) (length-map (l ∷ n) (map to_ascii_lowercase))
+
+pub child-absent : (z : ZoneContents) (l : Octets) (n : DomainName) → IsBuilt z → 255 < length (wire (l ∷ n)) → exists z (l ∷ n) ≡ false
+child-absent z l n kept long = false_from_ne_true _ (λ e. let fits = exists-fits z (l ∷ n) kept e in absurd (omega arith))
+
+pub child-node : (z : ZoneContents) (l : Octets) (n : DomainName) → IsNode z n → exists z (map to_ascii_lowercase l ∷ n) ≡ true → IsNode z (map to_ascii_lowercase l ∷ n)
+child-node z l n node e = record {
+  built = node.built;
+  lower = ap (λ (m : DomainName). map to_ascii_lowercase (map to_ascii_lowercase l) ∷ m) node.lower ∙ ap (λ (m : DomainName). m ++ n) (lower_twice (l ∷ []));
+  stands = e;
+}

@@ -1,0 +1,33 @@
+-- What a reader learns here: what is counted while the names of a zone are walked, what a node of the zone is, and what its
+-- sets of records keep.
+use Rattle.std.specs.Prelude.{◌≡◌, ℕ, true, ◌≤◌, length}
+use Rattle.dns_spec.specs.Names.{DomainName, folded}
+use Rattle.dns_spec.specs.Records.{ResourceRecord, ZoneContents, rrset}
+use Rattle.dns_spec.specs.Sets.{RecordSet, HasValidData, records_at}
+use Rattle.dns_spec.specs.Tree.{exists}
+use Rattle.dns_spec.specs.Meaning.{most_ttl}
+use Rattle.dns_zone.specs.ZoneForm.{IsBuilt}
+
+-- a zone, how many of its nodes were handed out, and how many labels were compared on the way
+pub record Walk : Type 0 where
+  pub zone : ZoneContents
+  pub visits : ℕ
+  pub comparisons : ℕ
+
+-- a name of a zone
+pub record ZoneNode : Type 0 where
+  pub zone : ZoneContents
+  pub name : DomainName
+
+-- RFC 4592 2.2: the name exists in a zone that was built, and is in lower case as the zone's names are
+pub record IsNode (z : ZoneContents) (n : DomainName) : Type 0 where
+  pub built : IsBuilt z
+  pub lower : folded n ≡ n
+  pub stands : exists z n ≡ true
+
+-- RFC 2181 5: at the node's name the set stands for the RRset of its type. It has at most 64 records.
+pub record IsSetOf (node : ZoneNode) (set : RecordSet) : Type 0 where
+  pub records : records_at node.name set.ttl set ≡ rrset node.zone node.name set.rtype
+  pub few : length set.rdata ≤ 64
+  pub ttl : set.ttl ≤ most_ttl
+  pub valid : HasValidData set

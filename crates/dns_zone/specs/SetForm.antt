@@ -1,0 +1,22 @@
+-- What a reader learns here: how records of one type are lent as a set.
+use Rattle.std.specs.Prelude.{◌≡◌, ℕ, List, [], ◌∷◌, map, All}
+use Rattle.dns_spec.specs.Names.{Octets}
+use Rattle.dns_spec.specs.Data.{Valid}
+use Rattle.dns_spec.specs.Records.{ResourceRecord}
+use Rattle.dns_spec.specs.Sets.{RecordSet}
+
+-- the data of records, and the set that they make with a type and a TTL
+abbrev pub data_of : List ResourceRecord → List Octets
+data_of = map (λ (r : ResourceRecord). r.rdata)
+
+abbrev pub lent : ℕ → ℕ → List ResourceRecord → RecordSet
+lent t k rs = record { rtype = t; ttl = k; rdata = data_of rs }
+
+-- what such a set keeps: all data is of its type
+abbrev pub IsLent : ℕ → List ResourceRecord → Type 0
+IsLent t rs = All (Valid t) (data_of rs)
+
+-- all of the records have data of the type of the first
+abbrev pub AreOfType : List ResourceRecord → Type 0
+AreOfType [] = Unit {0}
+AreOfType (r ∷ rs) = IsLent r.rtype (r ∷ rs)
