@@ -1,5 +1,6 @@
 -- What a turn does with the datagram that was received.
-use Rattle.std.proofs.Common.{◌≡◌, ℕ, List, [], ◌∷◌, ◌++◌, append-nil, refl, take, Option, Some, None, Bool, true, false, sym, ap, ◌∙◌, subst}
+use Rattle.std.proofs.lemmas.List.{take_all, length-take}
+use Rattle.std.proofs.Common.{◌≡◌, ℕ, ◌≤◌, arith, List, [], ◌∷◌, ◌++◌, append-nil, refl, take, Option, Some, None, Bool, true, false, sym, ap, ◌∙◌, subst}
 use Rattle.std.specs.Option.{option_map, is_some}
 use Rattle.dns_spec.specs.Names.{Octets}
 use Rattle.dns_spec.specs.Records.{ZoneContents}
@@ -56,3 +57,12 @@ turn_unsent z y zone_is had has has' sent sent'' n buf piece length_of len out h
       received = then_kept had has has' _ h.handed same_has;
       due = ap is_some same;
     }
+
+-- a device that tells no datagrams has handed out what stands in the buffer
+pub handed_unknown : (n : ℕ) (buf : Octets) → n ≤ 512 → IsHanded None None n buf
+handed_unknown n buf h = record {
+  datagram = take n buf;
+  handed = tt;
+  kept = sym (take_all 512 (take n buf) (omega (arith, length-take n buf, h)));
+  within = h;
+}

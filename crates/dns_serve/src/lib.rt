@@ -11,3 +11,6 @@ pub use datagrams::{Datagrams, Failed};
 pub use fault::{StreamFault, TurnFault};
 pub use stream::serve_stream;
 pub use turn::udp_turn;
+
+#[cfg(test)]
+mod tests;

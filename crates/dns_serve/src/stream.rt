@@ -9,9 +9,9 @@ ghost use Rattle.dns_serve.specs.Streams.{SessionOf, StepOf, reply_over_tcp, sou
 use crate::fault::StreamFault;
 use crate::read::{read_full, skip};
 use byteorder::{BigEndian, ByteOrder};
-use dns_answer::{Limit, Steps, respond};
+use dns_answer::{Limit, respond};
 use dns_name::{SinkFailed, Tally};
-use dns_zone::Zone;
+use dns_zone::{Steps, Zone};
 use std::io::{Read, Write};
 
 // What is kept of a message: all that a query can have, since a question ends by octet 271.

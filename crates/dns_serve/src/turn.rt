@@ -5,8 +5,8 @@ ghost use Rattle.dns_serve.specs.Turns.{TurnOf};
 
 use crate::datagrams::Datagrams;
 use crate::fault::TurnFault;
-use dns_answer::{Limit, Steps, respond};
-use dns_zone::Zone;
+use dns_answer::{Limit, respond};
+use dns_zone::{Steps, Zone};
 
 // The octets that are kept of a datagram, and those that a reply has at most.
 const MOST_OCTETS: usize = 512;
