@@ -1,0 +1,4 @@
+pub mod Offered
+pub mod BodyLaws
+pub mod PlainSets
+pub mod PlainWritten

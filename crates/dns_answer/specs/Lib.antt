@@ -1,0 +1,4 @@
+pub mod Body
+pub mod Draft
+pub mod Laid
+pub mod PlainForm
