@@ -6,3 +6,6 @@ pub mod Offering
 pub mod WayLaws
 pub mod WaySteps
 pub mod TargetLaws
+pub mod EndingSets
+pub mod Endings
+pub mod AskedSets

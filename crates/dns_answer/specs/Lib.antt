@@ -5,3 +5,4 @@ pub mod PlainForm
 pub mod DraftForm
 pub mod Walks
 pub mod Targets
+pub mod Ending

@@ -60,6 +60,7 @@ pub(crate) fn offer_addresses<'z>(
     requires buffer { HasBuffer draft.old out.old }
     ensures offers { Offers draft.old out.old draft.new out.new (side_items steps.old.zone (side_takes side.entry) [] (set_targets set.now)) }
     ensures took { Took steps.old steps.new (side_nodes steps.old.zone (side_takes side.entry) (set_targets set.now)) (length (filter (side_takes side.entry) (set_targets set.now))) }
+    ensures bound { Took steps.old steps.new (127 * 64) 64 }
 {
     'targets: for i in 0..set.len() {
         offer_target(set, i, side, apex, steps, draft, out);

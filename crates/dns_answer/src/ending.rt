@@ -1,8 +1,20 @@
 //! How the answer for the last name sought ends (RFC 1034 4.3.2 step 3, RFC 2308).
+ghost use Rattle.std.specs.Prelude.{◌≡◌, ◌+◌, ◌*◌, ◌≤◌, ◌&&◌, ◌||◌, ◌==◌, length, true, false, IfSome};
+ghost use Rattle.std.specs.Option.{is_some};
+ghost use Rattle.dns_spec.specs.Names.{DomainName};
+ghost use Rattle.dns_spec.specs.Data.{type_ns, type_mx, type_srv, qtype_any, type_cname};
+ghost use Rattle.dns_spec.specs.Records.{at, rrset, with_owner, of_type};
+ghost use Rattle.dns_spec.specs.Sets.{set_of, of_lowest_type};
+ghost use Rattle.dns_spec.specs.Answer.{referral_to, negative, outcome_by, follows_alias, has_any, asked_records};
+ghost use Rattle.dns_name.specs.WireForm.{labels_of, IsWireForm};
+ghost use Rattle.dns_zone.specs.Nodes.{IsSetOf};
+ghost use Rattle.dns_wire.specs.QueryForm.{code_of};
+ghost use Rattle.dns_answer.specs.Walks.{IsApex, IsBelowCut, HasRoom};
+ghost use Rattle.dns_answer.specs.DraftForm.{HasBuffer};
+ghost use Rattle.dns_answer.specs.Ending.{Ends, TookTargets};
 
 use crate::addresses::{Side, offer_addresses};
 use crate::draft::Draft;
-use crate::lookup::or_apex;
 use crate::plain::Section;
 use dns_name::Name;
 use dns_rdata::{RType, Rdata, SetView};
@@ -31,7 +43,15 @@ pub(crate) fn refer<'z>(
     steps: &mut Steps<'z>,
     draft: &mut Draft<'_>,
     out: &mut [u8],
-) -> Verdict {
+) -> Verdict
+    requires apex { IsApex steps.old.zone apex.now }
+    requires cut { (n : DomainName) × IsBelowCut steps.old.zone n cut.now (labels_of octets.now) }
+    requires form { IsWireForm octets.now }
+    requires room { HasRoom steps.old (128 * 128) }
+    requires buffer { HasBuffer draft.old out.old }
+    ensures ends { Ends draft.old out.old draft.new out.new steps.old.zone (referral_to steps.old.zone cut.now.name) result }
+    ensures took { TookTargets steps.old steps.new (referral_to steps.old.zone cut.now.name) }
+{
     let mut name = Name::from_octets(octets);
     name.fold_in_place();
     let Some(servers) = cut.set(RType::NS) else {
@@ -55,11 +75,21 @@ pub(crate) fn deny(
     origin: &Name,
     draft: &mut Draft<'_>,
     out: &mut [u8],
-) -> Verdict {
-    if let Some(soa) = apex.set(RType::SOA) {
-        let ttl = soa.ttl().min(Rdata::soa_minimum(soa.rdata(0)));
-        draft.offer(out, Section::Authority, origin, ttl, &soa);
-    }
+) -> Verdict
+    requires apex { IsApex apex.now.zone apex.now }
+    requires origin { origin.now ≡ apex.now.zone.origin }
+    requires buffer { HasBuffer draft.old out.old }
+    ensures { Ends draft.old out.old draft.new out.new apex.now.zone (negative apex.now.zone (code_of rcode)) result }
+{
+    let Some(soa) = apex.set(RType::SOA) else {
+        return Verdict {
+            rcode,
+            is_referral: false,
+            is_truncated: draft.is_full,
+        };
+    };
+    let ttl = soa.ttl().min(Rdata::soa_minimum(soa.rdata(0)));
+    draft.offer(out, Section::Authority, origin, ttl, &soa);
     Verdict {
         rcode,
         is_referral: false,
@@ -77,7 +107,17 @@ pub(crate) fn offer_asked<'z>(
     steps: &mut Steps<'z>,
     draft: &mut Draft<'_>,
     out: &mut [u8],
-) -> Verdict {
+) -> Verdict
+    requires apex { IsApex steps.old.zone apex.now }
+    requires zone { node.now.zone ≡ steps.old.zone }
+    requires no_alias { (follows_alias qtype && has_any (of_type type_cname (with_owner name.now (at node.now.zone node.now.name)))) ≡ false }
+    requires room { HasRoom steps.old (64 * 128) }
+    requires buffer { HasBuffer draft.old out.old }
+    ensures ends { Ends draft.old out.old draft.new out.new steps.old.zone
+        (outcome_by steps.old.zone qtype None (Some (with_owner name.now (at node.now.zone node.now.name)))) result }
+    ensures took { TookTargets steps.old steps.new
+        (outcome_by steps.old.zone qtype None (Some (with_owner name.now (at node.now.zone node.now.name)))) }
+{
     let Some(set) = asked_set(node, qtype) else {
         return deny(Rcode::NoError, apex, steps.origin(), draft, out);
     };
@@ -94,7 +134,10 @@ pub(crate) fn offer_asked<'z>(
 }
 
 // The set asked for; of all types that of the lowest number (RFC 8482 4.1).
-fn asked_set<'z>(node: &Node<'z>, qtype: u16) -> Option<RecordSet<'z>> {
+fn asked_set<'z>(node: &Node<'z>, qtype: u16) -> Option<RecordSet<'z>>
+    ensures set { result ≡ set_of (asked_records qtype (at node.now.zone node.now.name)) }
+    ensures kept { IfSome result (IsSetOf node.now) }
+{
     if qtype == QTYPE_ANY {
         node.first_set()
     } else {
@@ -103,6 +146,8 @@ fn asked_set<'z>(node: &Node<'z>, qtype: u16) -> Option<RecordSet<'z>> {
 }
 
 // Addresses of the targets of these types are of use to the asker.
-fn has_targets(rtype: RType) -> bool {
+fn has_targets(rtype: RType) -> bool
+    ensures { result ≡ (rtype.0 == type_ns || rtype.0 == type_mx || rtype.0 == type_srv) }
+{
     rtype == RType::NS || rtype == RType::MX || rtype == RType::SRV
 }

@@ -41,3 +41,14 @@ targets-preserved c =
       hits = hits-more p c.args.set.now c.targets.i inside inv.hits;
       few = nodes-more z p c.args.set.now c.targets.i inside few inv.few;
     }
+
+pub returns-clause-bound : goal.returns-clause-bound
+returns-clause-bound c =
+    let inv = c.targets.invariant in
+    let most : c.targets.i ≤ 64 = omega (arith, c.targets.auto.i-end, c.len-i-end.ensures.value, c.requires.few) in
+    record {
+      zone = inv.took.zone;
+      from = inv.took.from;
+      visits = omega (arith, inv.took.visits, inv.few);
+      comparisons = omega (arith, inv.took.comparisons, inv.hits);
+    }
