@@ -69,7 +69,6 @@ Ends-referral w w1 w2 w' out out1 out2 out' z o c v is a g b rcode refers tc =
 
 -- the SOA of a negative answer
 module _ (z : ZoneContents) (kept : IsBuilt z) where
-
   pub soa-item : (set : RecordSet) (ttl : ℕ) → set_of (rrset z z.origin type_soa) ≡ Some set → records_at z.origin set.ttl set ≡ rrset z z.origin type_soa
       → ttl ≡ min set.ttl (soa_minimum (get_or set.rdata 0 [])) → negative_soa z ≡ record { section = authority; records = records_at z.origin ttl set } ∷ []
   soa-item set ttl e f g = go set.rdata refl as_many few (from_set (rrset z z.origin type_soa) e)

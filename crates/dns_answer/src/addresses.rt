@@ -147,13 +147,7 @@ fn offer_address<'z>(
 }
 
 // Offers the set of a type at a node, if there is one.
-fn offer_type(
-    node: &Node<'_>,
-    rtype: RType,
-    owner: &Name,
-    draft: &mut Draft<'_>,
-    out: &mut [u8],
-)
+fn offer_type(node: &Node<'_>, rtype: RType, owner: &Name, draft: &mut Draft<'_>, out: &mut [u8])
     requires owner { node.now.name ≡ owner.now }
     requires buffer { HasBuffer draft.old out.old }
     ensures { Offers draft.old out.old draft.new out.new (item additional (rrset node.now.zone node.now.name rtype.0)) }

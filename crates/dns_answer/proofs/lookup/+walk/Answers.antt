@@ -36,8 +36,8 @@ returns-then-is_some-clause-way t c =
     let under : at_or_below n z.origin ≡ true = above_under l n z.origin (c.args.depth - 1) (subst (λ m. at_or_below m z.origin ≡ true) whole c.requires.below)
     (sym (ap length whole) ∙ c.requires.depth ∙ omega (arith, c.if-depth-eq0.false)) in (
       subst (λ m. IsBelowCut z m c.in-Some-down.node (labels_of c.args.octets.now)) (sym whole)
-      (cut-at_child z l n _ _ _ c.in-Name.ensures.way under (c.or_apex.ensures ∙ ap (λ (a : ZoneNode). node_or a c.in-Name.node) c.requires.apex.node) c.in-Some-down.ensures.node
-      (c.in-Some-down.ensures.child.0 refl) (labels_of c.args.octets.now) whole (sym (ap is_some c.set.ensures.set) ∙ sym c.if-is_some.ensures)),
+          (cut-at_child z l n _ _ _ c.in-Name.ensures.way under (c.or_apex.ensures ∙ ap (λ (a : ZoneNode). node_or a c.in-Name.node) c.requires.apex.node) c.in-Some-down.ensures.node
+          (c.in-Some-down.ensures.child.0 refl) (labels_of c.args.octets.now) whole (sym (ap is_some c.set.ensures.set) ∙ sym c.if-is_some.ensures)),
       c.requires.form,
     )
 
