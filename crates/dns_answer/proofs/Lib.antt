@@ -1,0 +1,11 @@
+pub mod Offered
+pub mod BodyLaws
+pub mod PlainSets
+pub mod PlainWritten
+pub mod Offering
+pub mod WayLaws
+pub mod WaySteps
+pub mod TargetLaws
+pub mod EndingSets
+pub mod Endings
+pub mod AskedSets
