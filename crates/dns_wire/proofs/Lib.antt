@@ -3,3 +3,5 @@ mod PieceLemmas
 mod ReadLemmas
 mod ValidData
 mod Anyway
+mod ChainLemmas
+mod SpelledLemmas

@@ -2,3 +2,5 @@ pub mod WireFault
 pub mod Labels
 pub mod Pieces
 pub mod Read
+pub mod Kept
+pub mod Chains
