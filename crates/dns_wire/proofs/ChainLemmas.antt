@@ -113,25 +113,25 @@ newest_grown heads es e c low h lower false q =
     let other : h ≢ e.head = λ is. false≢true (sym q ∙ eq-eqb h e.head is) in
     get_or-set_other heads e.head h (suc (length es)) 0 other ∙ c.newest h lower ∙ sym (last_with-other h es e other)
 
-linked_grown : (heads : List ℕ) (es : List Entry) (e : Entry) → AreChains heads es → e.head < 1024 → e.next ≡ get_or heads e.head 0
+linked_grown : (heads : List ℕ) (es : List Entry) (e : Entry) → AreChains heads es → e.head < 1024 → e.place < 16384 → e.next ≡ get_or heads e.head 0
     → (k : ℕ) (x : Entry) → Among es e k x → (t : Bool) → nat_le (length es) k ≡ t
-    → (x.head < 1024) × (x.next ≡ last_with x.head (take k (es ++ e ∷ [])))
-linked_grown heads es e c low next k x a true q =
+    → (x.head < 1024) × (x.place < 16384) × (x.next ≡ last_with x.head (take k (es ++ e ∷ [])))
+linked_grown heads es e c low reach next k x a true q =
     let b = a.last (leb-true (length es) k q) in
     let own : e.next ≡ last_with e.head (take k (es ++ e ∷ [])) =
     next ∙ c.newest e.head low ∙ ap (last_with e.head) (sym (ap (λ j. take j (es ++ e ∷ [])) b.0 ∙ take-append_seam es (e ∷ []))) in
-    subst (λ (y : Entry). (y.head < 1024) × (y.next ≡ last_with y.head (take k (es ++ e ∷ [])))) (sym b.1) (low, own)
-linked_grown heads es e c low next k x a false q =
+    subst (λ (y : Entry). (y.head < 1024) × (y.place < 16384) × (y.next ≡ last_with y.head (take k (es ++ e ∷ [])))) (sym b.1) (low, reach, own)
+linked_grown heads es e c low reach next k x a false q =
     let b = a.before (leb-false (length es) k q) in
     let l = c.linked k x b.0 in
-    (l.0, l.1 ∙ ap (last_with x.head) (sym b.1))
+    (l.0, l.1, l.2 ∙ ap (last_with x.head) (sym b.1))
 
-pub chains_grow : (heads : List ℕ) (es : List Entry) (e : Entry) → AreChains heads es → e.head < 1024 → e.next ≡ get_or heads e.head 0
+pub chains_grow : (heads : List ℕ) (es : List Entry) (e : Entry) → AreChains heads es → e.head < 1024 → e.place < 16384 → e.next ≡ get_or heads e.head 0
     → AreChains (slice_set heads e.head (suc (length es))) (es ++ e ∷ [])
-chains_grow heads es e c low next = record {
+chains_grow heads es e c low reach next = record {
   all = length-set heads e.head (suc (length es)) ∙ c.all;
   newest = λ h lower. newest_grown heads es e c low h lower (h == e.head) refl;
-  linked = λ k x at. linked_grown heads es e c low next k x (among es e k x at) (nat_le (length es) k) refl;
+  linked = λ k x at. linked_grown heads es e c low reach next k x (among es e k x at) (nat_le (length es) k) refl;
 }
 
 newest_shrunk : (heads : List ℕ) (es : List Entry) (e : Entry) → AreChains heads (es ++ e ∷ []) → (e.head < 1024) × (e.next ≡ last_with e.head es)
@@ -158,7 +158,7 @@ get_before (y ∷ es) e (suc k) x at = get_before es e k x at
 pub last_linked : (heads : List ℕ) (es : List Entry) (e : Entry) → AreChains heads (es ++ e ∷ []) → (e.head < 1024) × (e.next ≡ last_with e.head es)
 last_linked heads es e c =
     let l = c.linked (length es) e (at_end es e) in
-    (l.0, l.1 ∙ ap (last_with e.head) (take-append_seam es (e ∷ [])))
+    (l.0, l.2 ∙ ap (last_with e.head) (take-append_seam es (e ∷ [])))
 
 pub chains_shrink : (heads : List ℕ) (es : List Entry) (e : Entry) → AreChains heads (es ++ e ∷ []) → AreChains (slice_set heads e.head e.next) es
 chains_shrink heads es e c = record {
@@ -166,7 +166,7 @@ chains_shrink heads es e c = record {
   newest = λ h lower. newest_shrunk heads es e c (last_linked heads es e c) h lower (h == e.head) refl;
   linked = λ k x at.
       let l = c.linked k x (get_before es e k x at) in
-      (l.0, l.1 ∙ ap (last_with x.head) (take-append-le k es (e ∷ []) (let inside = slice_get_within es k x at in omega arith)));
+      (l.0, l.1, l.2 ∙ ap (last_with x.head) (take-append-le k es (e ∷ []) (let inside = slice_get_within es k x at in omega arith)));
 }
 
 -- a beginning of the entries has those that it has
@@ -211,7 +211,7 @@ chain_begins P heads es h c low =
 pub chain_next : (P : ℕ → Type 0) (heads : List ℕ) (es : List Entry) (h k : ℕ) → AreChains heads es → Chain P h es (suc k)
     → (l : LastEntry h es k) → (P l.entry.place → ⊥) → Chain P h es l.entry.next × (l.entry.next ≤ k)
 chain_next P heads es h k c chain l unspelled =
-    let link = (c.linked k l.entry l.there).1 ∙ ap (λ j. last_with j (take k es)) l.with_number in
+    let link = (c.linked k l.entry l.there).2 ∙ ap (λ j. last_with j (take k es)) l.with_number in
     let inside = chain.inside in
     let bound = last_with-bound h (take k es) in
     (subst (Chain P h es) (sym link) (chain_at P h es k (omega (arith, inside)) none), omega (arith, link, bound, length-take-le k es (omega (arith, inside))))

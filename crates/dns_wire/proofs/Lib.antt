@@ -5,3 +5,4 @@ mod ValidData
 mod Anyway
 mod ChainLemmas
 mod SpelledLemmas
+mod Suffixes

@@ -16,8 +16,9 @@ abbrev pub last_with : ℕ → List Entry → ℕ
 last_with h [] = 0
 last_with h (e ∷ es) = with_first e h (last_with h es)
 
--- each number leads to its last entry, and each entry to the one with its number before it
+-- Each number leads to its last entry, and each entry to the one with its number before it. A pointer reaches each place.
 pub record AreChains (heads : List ℕ) (es : List Entry) : Type 0 where
   pub all : length heads ≡ 1024
   pub newest : (h : ℕ) → h < 1024 → get_or heads h 0 ≡ last_with h es
-  pub linked : (k : ℕ) (e : Entry) → slice_get es k ≡ Some e → (e.head < 1024) × (e.next ≡ last_with e.head (take k es))
+  pub linked : (k : ℕ) (e : Entry) → slice_get es k ≡ Some e
+      → (e.head < 1024) × (e.place < 16384) × (e.next ≡ last_with e.head (take k es))

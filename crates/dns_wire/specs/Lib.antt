@@ -4,3 +4,4 @@ pub mod Pieces
 pub mod Read
 pub mod Kept
 pub mod Chains
+pub mod Writing

@@ -8,6 +8,7 @@ mod name;
 mod number;
 mod places;
 mod reader;
+mod room;
 mod spelled;
 
 pub use fault::WireFault;

@@ -80,6 +80,7 @@ impl<const N: usize> Places<N> {
         requires few { N ≤ 8192 }
         requires room { length self.old < N }
         requires low { head < 1024 }
+        requires reached { place < 16384 }
         ensures { self.new ≡ self.old ++ record { place = place; head = head } ∷ [] }
     {
         let next = self.heads[usize::from(head)];
@@ -109,6 +110,7 @@ impl<const N: usize> Places<N> {
         requires { head < 1024 }
         ensures kept { IfSome result (λ place. IsKept self.now place head) }
         ensures spelled { IfSome result (λ place. SpelledAt message.now place suffix.now) }
+        ensures reached { IfSome result (λ place. place < 16384) }
         ensures none { IsNone result → NoneSpelled self.now head message.now suffix.now }
     {
         let mut number = self.heads[usize::from(head)];

@@ -25,6 +25,18 @@ returns-then-is_spelled-clause-kept g c =
     let own = at ∙ get_or_from_slice_get es k l.entry blank l.there in
     (k, ap (λ x. slice_get x k) (sym c.self.view_is) ∙ entry_kept es c.args.head k l ∙ ap (λ (e : Entry). Some (record { place = e.place; head = c.args.head })) (sym own))
 
+pub returns-then-is_spelled-clause-reached : goal.returns-then-is_spelled-clause-reached
+returns-then-is_spelled-clause-reached g c =
+    let es = c.self.inside.entries.items in
+    let k : ℕ = c.chain.number - 1 in
+    let positive = c.chain-test.true in
+    let is : c.chain.number ≡ suc k = omega (arith, positive) in
+    let l = c.chain.invariant.here k is in
+    let blank : Entry = record { place = 0; head = 0; next = 0 } in
+    let at = ap₂ (λ x i. get_or x i blank) c.as_slice.ensures.value (ap (λ n. n - 1) c.from-in-chain.ensures) in
+    let own = at ∙ get_or_from_slice_get es k l.entry blank l.there in
+    subst (λ (e : Entry). e.place < 16384) (sym own) (c.self.invariant.linked k l.entry l.there).1
+
 pub chain-smaller : goal.chain-smaller
 chain-smaller g c =
     let es = c.self.inside.entries.items in

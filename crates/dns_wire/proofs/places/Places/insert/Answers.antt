@@ -10,6 +10,6 @@ invariant_of-self g c =
     let heads = c.self.inside.heads in
     let es = c.self.inside.entries.items in
     let e : Entry = record { place = c.args.place; head = h; next = get_or heads c.from.result 0 } in
-    let grown = chains_grow heads es e c.self.invariant c.requires.low (ap (λ k. get_or heads k 0) c.from.ensures) in
+    let grown = chains_grow heads es e c.self.invariant c.requires.low c.requires.reached (ap (λ k. get_or heads k 0) c.from.ensures) in
     let number : suc (length es) ≡ c.len.result = omega (arith, c.len.ensures.value, ap length c.push.ensures.items, length-append es (e ∷ [])) in
     rw (c.push.ensures.items, c.from-2.ensures) (subst (λ k. AreChains (slice_set heads h k) (es ++ e ∷ [])) number grown)
