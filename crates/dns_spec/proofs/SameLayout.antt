@@ -31,7 +31,7 @@ same_octets ms low (l ∷ n) =
     ∙ ap (λ w. elim (place_of ms (l ∷ n)) as (λ _. Octets) [ None ↦ length l ∷ (l ++ w) | Some p ↦ pointer p ]) (same_octets ms low n)
 
 -- a suffix that is new begins among the octets laid out
-begins_inside : (ms : List Placed) (n front : DomainName) (l : Octets) (t : DomainName) → n ≡ front ++ l ∷ t → place_of ms (l ∷ t) ≡ None
+pub begins_inside : (ms : List Placed) (n front : DomainName) (l : Octets) (t : DomainName) → n ≡ front ++ l ∷ t → place_of ms (l ∷ t) ≡ None
     → (length (wire (l ∷ t)) ≤ length (wire n)) × (length (wire n) - length (wire (l ∷ t)) < length (shared_octets ms n))
 begins_inside ms n [] l t e none = let len = ap (λ x. length (wire x)) e in (omega (arith, len), omega (arith, shared_some ms n, len))
 begins_inside ms [] (x ∷ front) l t e none = absurd (let z = ap length e in omega (arith, z))

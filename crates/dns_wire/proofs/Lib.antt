@@ -6,3 +6,4 @@ mod Anyway
 mod ChainLemmas
 mod SpelledLemmas
 mod Suffixes
+mod NameWritten

@@ -1,5 +1,5 @@
 -- What is found for a suffix is where it is shared, and what is kept of a name is just what later names may share of it.
-use Rattle.std.proofs.Common.{◌≡◌, ℕ, zero, suc, ◌+◌, ◌-◌, ◌*◌, ◌<◌, ◌≤◌, Bool, true, false, cond, nat_le, List, [], ◌∷◌, ◌++◌, length, take, drop, get_or, slice_get, Option, None, Some, refl, sym, ap, ap₂, ◌∙◌, subst, arith, append_assoc, append-nil, length-append, drop_at, le-leb}
+use Rattle.std.proofs.Common.{◌≡◌, ℕ, zero, suc, ◌+◌, ◌-◌, ◌*◌, ◌<◌, ◌≤◌, Bool, true, false, cond, nat_le, List, [], ◌∷◌, ◌++◌, length, take, drop, get_or, slice_get, Option, None, Some, refl, sym, ap, ap₂, ◌∙◌, subst, arith, append_assoc, append-nil, length-append, drop_at, take_at, le-leb}
 use Rattle.std.proofs.lemmas.Bool.{le-ltb, leb-true, leb-false, false≢true}
 use Rattle.std.proofs.lemmas.Option.{none-some, same_Some}
 use Rattle.dns_spec.specs.Names.{Octets, DomainName, wire, is_name}
@@ -13,7 +13,7 @@ use Rattle.dns_spec.specs.Reading.RunAt.{ends, goes_on, jumps}
 use Rattle.dns_wire.specs.Labels.{LabelAt, PointerAt}
 use Rattle.dns_wire.proofs.Runs.{GoesOn, at_end, at_label, at_pointer, goes_on_at}
 use Rattle.dns_wire.specs.Kept.{Kept, IsKept, SpelledAt, NoneSpelled}
-use Rattle.dns_wire.specs.Writing.{front_size, pointed_place, end_octets, new_places, Answers, Holds}
+use Rattle.dns_wire.specs.Writing.{front_size, pointed_place, end_octets, new_places, Answers, Holds, Grows, Extends}
 
 -- how a name is laid out, by whether its first suffix is shared
 module _ (ms : List Placed) (l : Octets) (n : DomainName) where
@@ -165,7 +165,7 @@ left_found {head} {b} {ks} {name} {rest} {others} k p ms n left first some kept 
 
 -- which places are kept of a name, by whether its first suffix is shared
 module _ (head : Octets → ℕ) (ms : List Placed) (l : Octets) (n : DomainName) (p : ℕ) where
-  kept-none : shared_place ms (l ∷ n) ≡ None
+  pub kept-none : shared_place ms (l ∷ n) ≡ None
       → new_places head ms (l ∷ n) p ≡ cond (nat_le p last_place) (record { place = p; head = head (wire (l ∷ n)) } ∷ new_places head ms n (p + 1 + length l)) []
   unfolding new_places
   kept-none e = ap (λ (x : Option ℕ). elim x as (λ _. List Kept) [
@@ -173,7 +173,7 @@ module _ (head : Octets → ℕ) (ms : List Placed) (l : Octets) (n : DomainName
     | Some q ↦ []
   ]) e
 
-  kept-some : (q : ℕ) → shared_place ms (l ∷ n) ≡ Some q → new_places head ms (l ∷ n) p ≡ []
+  pub kept-some : (q : ℕ) → shared_place ms (l ∷ n) ≡ Some q → new_places head ms (l ∷ n) p ≡ []
   unfolding new_places
   kept-some q e = ap (λ (x : Option ℕ). elim x as (λ _. List Kept) [
     | None ↦ cond (nat_le p last_place) (record { place = p; head = head (wire (l ∷ n)) } ∷ new_places head ms n (p + 1 + length l)) []
@@ -310,3 +310,24 @@ root_cut o others k [] e first short = refl
 root_cut o others k (l ∷ n) e first short =
     let same : k ∷ others ≡ length l ∷ (l ++ wire n) = sym first ∙ e in
     absurd (omega (arith, ap (λ x. get_or x 0 0) same, ap length same, length-append l (wire n), short))
+
+pub grows_none : (ks : List Kept) → Grows ks ks
+grows_none ks = record { more = []; places = sym (append-nil ks) }
+
+pub grows_more : {ks ks' ks'' : List Kept} (x : Kept) → Grows ks ks' → ks'' ≡ ks' ++ x ∷ [] → Grows ks ks''
+grows_more {ks} x g e = record { more = g.more ++ x ∷ []; places = e ∙ ap (λ z. z ++ x ∷ []) g.places ∙ append_assoc ks g.more (x ∷ []) }
+
+pub extends_none : (b : Octets) (ks : List Kept) → Extends b ks b ks
+extends_none b ks = record { more_octets = []; octets = sym (append-nil b); more_places = []; places = sym (append-nil ks) }
+
+pub extends_again : {b b' b'' : Octets} {ks ks' ks'' : List Kept} → Extends b ks b' ks' → Extends b' ks' b'' ks'' → Extends b ks b'' ks''
+extends_again {b} {ks = ks} e f = record {
+  more_octets = e.more_octets ++ f.more_octets;
+  octets = f.octets ∙ ap (λ z. z ++ f.more_octets) e.octets ∙ append_assoc b e.more_octets f.more_octets;
+  more_places = e.more_places ++ f.more_places;
+  places = f.places ∙ ap (λ z. z ++ f.more_places) e.places ∙ append_assoc ks e.more_places f.more_places;
+}
+
+-- what was there is what is left when the rest is taken back
+pub taken_back : {A : Type 0} (xs ys zs : List A) → zs ≡ xs ++ ys → take (length xs) zs ≡ xs
+taken_back xs ys zs e = ap (take (length xs)) e ∙ take_at xs ys (length xs) refl

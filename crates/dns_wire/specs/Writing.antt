@@ -1,6 +1,6 @@
 -- What a reader learns here: how a writer lays a name out, which places it keeps for later names, and what must hold of
 -- the places kept, and of the octets written so far, that later names share rightly.
-use Rattle.std.specs.Prelude.{◌≡◌, ℕ, ◌+◌, ◌*◌, ◌<◌, ◌≤◌, ◌^◌, List, [], ◌∷◌, length, drop, min, nat_le, IsTrue, if◌then◌else◌}
+use Rattle.std.specs.Prelude.{◌≡◌, ℕ, ◌+◌, ◌*◌, ◌<◌, ◌≤◌, ◌^◌, List, [], ◌∷◌, ◌++◌, length, drop, min, nat_le, IsTrue, if◌then◌else◌}
 use Rattle.std.specs.Prelude.{Option, None, Some}
 use Rattle.dns_spec.specs.Names.{Octets, DomainName, wire, is_name}
 use Rattle.dns_spec.specs.Reading.{RunAt}
@@ -66,3 +66,15 @@ pub record IsSound (N size limit : ℕ) (b : Octets) (ks : List Kept) : Type 0 w
   pub few : 2 * length ks ≤ length b
   pub enough : min size 16384 ≤ 2 * N
   pub most : N ≤ 8192
+
+-- octets and places come after those that were there
+pub record Extends (b : Octets) (ks : List Kept) (b' : Octets) (ks' : List Kept) : Type 0 where
+  pub more_octets : Octets
+  pub octets : b' ≡ b ++ more_octets
+  pub more_places : List Kept
+  pub places : ks' ≡ ks ++ more_places
+
+-- places come after those that were there
+pub record Grows (ks ks' : List Kept) : Type 0 where
+  pub more : List Kept
+  pub places : ks' ≡ ks ++ more

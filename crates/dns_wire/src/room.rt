@@ -1,13 +1,14 @@
 //! The room of a writer: octets up to a limit, and the places of suffixes in them. Names are laid out here
 //! (RFC 1035 4.1.4).
-ghost use Rattle.std.specs.Prelude.{◌≡◌, ◌↔◌, List, ◌+◌, ◌*◌, ◌≤◌, ◌<◌, ◌^◌, [], ◌++◌, length, min, IsTrue, IfSome, IsNone};
+ghost use Rattle.std.specs.Prelude.{◌≡◌, ◌↔◌, List, ◌+◌, ◌*◌, ◌≤◌, ◌<◌, ◌^◌, [], ◌∷◌, ◌++◌, length, min, IsTrue, IfSome, IsNone};
 ghost use Rattle.std.specs.Bool.{OnTrue, OnFalse};
 ghost use Rattle.dns_spec.specs.Names.{DomainName, wire, is_name};
-ghost use Rattle.dns_spec.specs.Layout.{Placed, shared_octets, cost};
-ghost use Rattle.dns_wire.specs.Writing.{front_size, pointed_place, new_places, AfterLabel, Holds, IsSound};
+ghost use Rattle.dns_spec.specs.Layout.{Placed, pointer, shared_octets, cost};
+ghost use Rattle.dns_wire.specs.Writing.{front_size, pointed_place, new_places, end_octets, Extends, Grows, AfterLabel, Holds, IsSound};
 
 use crate::places::{Places, SuffixHash};
 use arrayvec::ArrayVec;
+use byteorder::{BigEndian, ByteOrder};
 
 // The last place that the 14 bits of a pointer reach.
 const LAST_PLACE: usize = 16383;
@@ -18,6 +19,93 @@ pub(crate) struct Room<const N: usize, const SIZE: usize> {
     pub(crate) octets: ArrayVec<u8, SIZE>,
     pub(crate) places: Places<N>,
     pub(crate) limit: usize,
+}
+
+impl<const N: usize, const SIZE: usize> Room<N, SIZE> {
+    /// Appends two runs of octets. False, with nothing written, where they do not fit the limit.
+    pub(crate) fn append(&mut self, front: &[u8], end: &[u8]) -> bool
+        requires sound { IsSound N SIZE self.old.limit self.old.octets.items self.old.places }
+        requires front { length front.now ≤ 2 ^ 32 }
+        requires end { length end.now ≤ 2 ^ 32 }
+        ensures fits { IsTrue result ↔ (length self.old.octets.items + (length front.now + length end.now) ≤ self.old.limit) }
+        ensures octets { OnTrue result (self.new.octets.items ≡ self.old.octets.items ++ (front.now ++ end.now)) }
+        ensures unchanged { OnFalse result (self.new.octets.items ≡ self.old.octets.items) }
+        ensures places { self.new.places ≡ self.old.places }
+        ensures limit { self.new.limit ≡ self.old.limit }
+        ensures sound { IsSound N SIZE self.new.limit self.new.octets.items self.new.places }
+    {
+        if self.limit - self.octets.len() < front.len() + end.len() {
+            return false;
+        }
+        self.extend(front);
+        self.extend(end);
+        true
+    }
+
+    fn extend(&mut self, octets: &[u8])
+        requires sound { IsSound N SIZE self.old.limit self.old.octets.items self.old.places }
+        requires room { length self.old.octets.items + length octets.now ≤ self.old.limit }
+        ensures octets { self.new.octets.items ≡ self.old.octets.items ++ octets.now }
+        ensures places { self.new.places ≡ self.old.places }
+        ensures limit { self.new.limit ≡ self.old.limit }
+        ensures sound { IsSound N SIZE self.new.limit self.new.octets.items self.new.places }
+    {
+        if self.octets.try_extend_from_slice(octets).is_err() {
+            unreachable!();
+        }
+    }
+
+    /// Writes a name, given in its wire form: its labels before the longest suffix that is shared, and a pointer to
+    /// that; or the whole name. False, with nothing written, where it does not fit the limit.
+    pub(crate) fn put_name<H: SuffixHash>(&mut self, hash: &mut H, name: &[u8]) -> bool
+        requires sound { IsSound N SIZE self.old.limit self.old.octets.items self.old.places }
+        requires short { length name.now ≤ 255 }
+        ensures fits { (ms : List Placed) (n : DomainName) → Holds (H.numbers hash.old) ms self.old.octets.items self.old.places → name.now ≡ wire n → IsTrue (is_name n) → IsTrue result ↔ (length self.old.octets.items + cost ms n ≤ self.old.limit) }
+        ensures octets { (ms : List Placed) (n : DomainName) → Holds (H.numbers hash.old) ms self.old.octets.items self.old.places → name.now ≡ wire n → IsTrue (is_name n) → OnTrue result (self.new.octets.items ≡ self.old.octets.items ++ shared_octets ms n) }
+        ensures holds { (ms : List Placed) (n : DomainName) → Holds (H.numbers hash.old) ms self.old.octets.items self.old.places → name.now ≡ wire n → IsTrue (is_name n) → OnTrue result (Holds (H.numbers hash.old) (ms ++ (n, length self.old.octets.items) ∷ []) self.new.octets.items self.new.places) }
+        ensures extends { Extends self.old.octets.items self.old.places self.new.octets.items self.new.places }
+        ensures unchanged { OnFalse result ((self.new.octets.items ≡ self.old.octets.items) × (self.new.places ≡ self.old.places)) }
+        ensures limit { self.new.limit ≡ self.old.limit }
+        ensures same { H.numbers hash.new ≡ H.numbers hash.old }
+        ensures sound { IsSound N SIZE self.new.limit self.new.octets.items self.new.places }
+    {
+        let shared = shared_suffix(&self.places, self.octets.as_slice(), hash, name);
+        let (front, _) = name.split_at(shared.front);
+        let at = self.octets.len();
+        if !self.append_end(front, shared.place) {
+            return false;
+        }
+        keep_suffixes(&mut self.places, hash, name, shared.front, at);
+        true
+    }
+
+    // Appends the front of a name and what ends it: a pointer to a place, or the root's length.
+    fn append_end(&mut self, front: &[u8], place: Option<u16>) -> bool
+        requires sound { IsSound N SIZE self.old.limit self.old.octets.items self.old.places }
+        requires short { length front.now ≤ 255 }
+        requires reached { IfSome place (λ p. p < 16384) }
+        ensures fits { IsTrue result ↔ (length self.old.octets.items + (length front.now + length (end_octets place)) ≤ self.old.limit) }
+        ensures octets { OnTrue result (self.new.octets.items ≡ self.old.octets.items ++ (front.now ++ end_octets place)) }
+        ensures unchanged { OnFalse result (self.new.octets.items ≡ self.old.octets.items) }
+        ensures places { self.new.places ≡ self.old.places }
+        ensures limit { self.new.limit ≡ self.old.limit }
+        ensures sound { IsSound N SIZE self.new.limit self.new.octets.items self.new.places }
+    {
+        match place {
+            Some(place) => self.append(front, &pointer_octets(place)),
+            None => self.append(front, &[0]),
+        }
+    }
+}
+
+// A pointer to a place (RFC 1035 4.1.4).
+fn pointer_octets(place: u16) -> [u8; 2]
+    requires { place < 16384 }
+    ensures { result ≡ pointer place }
+{
+    let mut octets = [0; 2];
+    BigEndian::write_u16(&mut octets, 0xc000 + place);
+    octets
 }
 
 // How a name is laid out: the octets of its labels before the suffix that it shares, and the place of that suffix.
@@ -71,6 +159,7 @@ fn keep_suffixes<H: SuffixHash, const N: usize>(
     requires most { N ≤ 8192 }
     ensures kept { (ms : List Placed) (n : DomainName) → name.now ≡ wire n → IsTrue (is_name n) → front ≡ front_size ms n → places.new ≡ places.old ++ new_places (H.numbers hash.old) ms n at }
     ensures few { 2 * length places.new ≤ at + front }
+    ensures grows { Grows places.old places.new }
     ensures same { H.numbers hash.new ≡ H.numbers hash.old }
 {
     let mut rest = name;
