@@ -7,3 +7,4 @@ mod ChainLemmas
 mod SpelledLemmas
 mod Suffixes
 mod NameWritten
+mod DataWritten

@@ -1,10 +1,11 @@
 -- What a reader learns here: how a writer lays a name out, which places it keeps for later names, and what must hold of
 -- the places kept, and of the octets written so far, that later names share rightly.
-use Rattle.std.specs.Prelude.{◌≡◌, ℕ, ◌+◌, ◌*◌, ◌<◌, ◌≤◌, ◌^◌, List, [], ◌∷◌, ◌++◌, length, drop, min, nat_le, IsTrue, if◌then◌else◌}
+use Rattle.std.specs.Prelude.{◌≡◌, ◌↔◌, ℕ, ◌+◌, ◌*◌, ◌<◌, ◌≤◌, ◌^◌, Bool, List, [], ◌∷◌, ◌++◌, length, drop, min, nat_le, IsTrue, if◌then◌else◌}
 use Rattle.std.specs.Prelude.{Option, None, Some}
+use Rattle.std.specs.Bool.{OnTrue}
 use Rattle.dns_spec.specs.Names.{Octets, DomainName, wire, is_name}
 use Rattle.dns_spec.specs.Reading.{RunAt}
-use Rattle.dns_spec.specs.Layout.{Placed, pointer, place_of, last_place, shared_place}
+use Rattle.dns_spec.specs.Layout.{Placed, Laid, pointer, place_of, last_place, shared_place}
 use Rattle.dns_wire.specs.Kept.{Kept, IsKept}
 
 -- octets begin with a length k that is not 0, and after so many octets come these
@@ -78,3 +79,9 @@ pub record Extends (b : Octets) (ks : List Kept) (b' : Octets) (ks' : List Kept)
 pub record Grows (ks ks' : List Kept) : Type 0 where
   pub more : List Kept
   pub places : ks' ≡ ks ++ more
+
+-- What was laid out after these octets is written exactly where it fits the limit, and its names are earlier names then.
+pub record IsWritten (head : Octets → ℕ) (limit : ℕ) (ms : List Placed) (b : Octets) (laid : Laid) (fits : Bool) (b' : Octets) (ks' : List Kept) : Type 0 where
+  pub exactly : IsTrue fits ↔ (length (b ++ laid.written) ≤ limit)
+  pub written : OnTrue fits (b' ≡ b ++ laid.written)
+  pub holds : OnTrue fits (Holds head (ms ++ laid.names) b' ks')

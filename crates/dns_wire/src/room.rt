@@ -1,14 +1,17 @@
 //! The room of a writer: octets up to a limit, and the places of suffixes in them. Names are laid out here
 //! (RFC 1035 4.1.4).
-ghost use Rattle.std.specs.Prelude.{◌≡◌, ◌↔◌, List, ◌+◌, ◌*◌, ◌≤◌, ◌<◌, ◌^◌, [], ◌∷◌, ◌++◌, length, min, IsTrue, IfSome, IsNone};
+ghost use Rattle.std.specs.Prelude.{◌≡◌, ◌↔◌, List, ◌+◌, ◌*◌, ◌≤◌, ◌<◌, ◌^◌, [], ◌∷◌, ◌++◌, length, take, min, All, IsTrue, IfSome, IsNone};
 ghost use Rattle.std.specs.Bool.{OnTrue, OnFalse};
 ghost use Rattle.dns_spec.specs.Names.{DomainName, wire, is_name};
-ghost use Rattle.dns_spec.specs.Layout.{Placed, pointer, shared_octets, cost};
-ghost use Rattle.dns_wire.specs.Writing.{front_size, pointed_place, new_places, end_octets, Extends, Grows, AfterLabel, Holds, IsSound};
+ghost use Rattle.dns_spec.specs.Data.{Valid, laid_parts};
+ghost use Rattle.dns_spec.specs.Layout.{Placed, pointer, shared_octets, cost, data_laid};
+ghost use Rattle.dns_wire.specs.Writing.{front_size, pointed_place, new_places, end_octets, Extends, Grows, AfterLabel, Holds, IsSound, IsWritten};
+ghost use Rattle.dns_rdata.specs.Parts.{HasName};
 
 use crate::places::{Places, SuffixHash};
 use arrayvec::ArrayVec;
 use byteorder::{BigEndian, ByteOrder};
+use dns_rdata::{Part, Parts, RType, Rdata};
 
 // The last place that the 14 bits of a pointer reach.
 const LAST_PLACE: usize = 16383;
@@ -24,9 +27,7 @@ pub(crate) struct Room<const N: usize, const SIZE: usize> {
 impl<const N: usize, const SIZE: usize> Room<N, SIZE> {
     /// Appends two runs of octets. False, with nothing written, where they do not fit the limit.
     pub(crate) fn append(&mut self, front: &[u8], end: &[u8]) -> bool
-        requires sound { IsSound N SIZE self.old.limit self.old.octets.items self.old.places }
-        requires front { length front.now ≤ 2 ^ 32 }
-        requires end { length end.now ≤ 2 ^ 32 }
+        requires { IsSound N SIZE self.old.limit self.old.octets.items self.old.places }
         ensures fits { IsTrue result ↔ (length self.old.octets.items + (length front.now + length end.now) ≤ self.old.limit) }
         ensures octets { OnTrue result (self.new.octets.items ≡ self.old.octets.items ++ (front.now ++ end.now)) }
         ensures unchanged { OnFalse result (self.new.octets.items ≡ self.old.octets.items) }
@@ -34,7 +35,8 @@ impl<const N: usize, const SIZE: usize> Room<N, SIZE> {
         ensures limit { self.new.limit ≡ self.old.limit }
         ensures sound { IsSound N SIZE self.new.limit self.new.octets.items self.new.places }
     {
-        if self.limit - self.octets.len() < front.len() + end.len() {
+        let room = self.limit - self.octets.len();
+        if room < front.len() || room - front.len() < end.len() {
             return false;
         }
         self.extend(front);
@@ -58,8 +60,7 @@ impl<const N: usize, const SIZE: usize> Room<N, SIZE> {
     /// Writes a name, given in its wire form: its labels before the longest suffix that is shared, and a pointer to
     /// that; or the whole name. False, with nothing written, where it does not fit the limit.
     pub(crate) fn put_name<H: SuffixHash>(&mut self, hash: &mut H, name: &[u8]) -> bool
-        requires sound { IsSound N SIZE self.old.limit self.old.octets.items self.old.places }
-        requires short { length name.now ≤ 255 }
+        requires { IsSound N SIZE self.old.limit self.old.octets.items self.old.places }
         ensures fits { (ms : List Placed) (n : DomainName) → Holds (H.numbers hash.old) ms self.old.octets.items self.old.places → name.now ≡ wire n → IsTrue (is_name n) → IsTrue result ↔ (length self.old.octets.items + cost ms n ≤ self.old.limit) }
         ensures octets { (ms : List Placed) (n : DomainName) → Holds (H.numbers hash.old) ms self.old.octets.items self.old.places → name.now ≡ wire n → IsTrue (is_name n) → OnTrue result (self.new.octets.items ≡ self.old.octets.items ++ shared_octets ms n) }
         ensures holds { (ms : List Placed) (n : DomainName) → Holds (H.numbers hash.old) ms self.old.octets.items self.old.places → name.now ≡ wire n → IsTrue (is_name n) → OnTrue result (Holds (H.numbers hash.old) (ms ++ (n, length self.old.octets.items) ∷ []) self.new.octets.items self.new.places) }
@@ -79,10 +80,61 @@ impl<const N: usize, const SIZE: usize> Room<N, SIZE> {
         true
     }
 
+    // Writes parts of data one after the other. False where they do not fit; then some of them may be written.
+    fn put_parts<H: SuffixHash>(&mut self, hash: &mut H, parts: Parts<'_>) -> bool
+        requires sound { IsSound N SIZE self.old.limit self.old.octets.items self.old.places }
+        requires names { All HasName parts }
+        ensures written { (ms : List Placed) → Holds (H.numbers hash.old) ms self.old.octets.items self.old.places → IsWritten (H.numbers hash.old) self.old.limit ms self.old.octets.items (data_laid ms (length self.old.octets.items) parts.entry) result self.new.octets.items self.new.places }
+        ensures extends { Extends self.old.octets.items self.old.places self.new.octets.items self.new.places }
+        ensures limit { self.new.limit ≡ self.old.limit }
+        ensures same { H.numbers hash.new ≡ H.numbers hash.old }
+        ensures sound { IsSound N SIZE self.new.limit self.new.octets.items self.new.places }
+    {
+        let mut parts = parts;
+        'parts: while let Some(part) = parts.next() {
+            let fits = match part {
+                Part::Octets(octets) => self.append(octets, &[]),
+                Part::Name(name) => self.put_name(hash, name),
+            };
+            if !fits {
+                return false;
+            }
+        }
+        true
+    }
+
+    // Writes data as it is laid out, all of it or, where it does not fit, a part of it.
+    fn put_data<H: SuffixHash>(&mut self, hash: &mut H, rtype: RType, rdata: &[u8]) -> bool
+        requires sound { IsSound N SIZE self.old.limit self.old.octets.items self.old.places }
+        requires valid { Valid rtype.0 rdata.now }
+        ensures written { (ms : List Placed) → Holds (H.numbers hash.old) ms self.old.octets.items self.old.places → IsWritten (H.numbers hash.old) self.old.limit ms self.old.octets.items (data_laid ms (length self.old.octets.items) (laid_parts rtype.0 rdata.now)) result self.new.octets.items self.new.places }
+        ensures extends { Extends self.old.octets.items self.old.places self.new.octets.items self.new.places }
+        ensures limit { self.new.limit ≡ self.old.limit }
+        ensures same { H.numbers hash.new ≡ H.numbers hash.old }
+        ensures sound { IsSound N SIZE self.new.limit self.new.octets.items self.new.places }
+    {
+        if rtype.compresses() {
+            self.put_parts(hash, Rdata::parts(rtype, rdata))
+        } else {
+            self.append(rdata, &[])
+        }
+    }
+
+    // Takes octets and places back, but for those that came first.
+    fn take_back(&mut self, octets: usize, places: usize)
+        requires fewer { 2 * places ≤ octets }
+        requires sound { IsSound N SIZE self.old.limit self.old.octets.items self.old.places }
+        ensures octets { self.new.octets.items ≡ take octets self.old.octets.items }
+        ensures places { self.new.places ≡ take places self.old.places }
+        ensures limit { self.new.limit ≡ self.old.limit }
+    {
+        self.octets.truncate(octets);
+        self.places.take_back(places);
+    }
+
     // Appends the front of a name and what ends it: a pointer to a place, or the root's length.
     fn append_end(&mut self, front: &[u8], place: Option<u16>) -> bool
         requires sound { IsSound N SIZE self.old.limit self.old.octets.items self.old.places }
-        requires short { length front.now ≤ 255 }
         requires reached { IfSome place (λ p. p < 16384) }
         ensures fits { IsTrue result ↔ (length self.old.octets.items + (length front.now + length (end_octets place)) ≤ self.old.limit) }
         ensures octets { OnTrue result (self.new.octets.items ≡ self.old.octets.items ++ (front.now ++ end_octets place)) }
