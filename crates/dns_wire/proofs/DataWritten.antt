@@ -1,14 +1,14 @@
 -- Data and records are written part by part: what is written and what is to come are the whole.
-use Rattle.std.proofs.Common.{◌≡◌, ◌↔◌, ℕ, zero, suc, ◌+◌, ◌-◌, ◌<◌, ◌≤◌, Bool, true, false, All, List, [], ◌∷◌, ◌++◌, map, length, take, drop, get_or, refl, sym, ap, ap₂, ◌∙◌, subst, arith, append_assoc, append-nil, length-append}
+use Rattle.std.proofs.Common.{◌≡◌, ◌↔◌, ℕ, zero, suc, ◌+◌, ◌-◌, ◌<◌, ◌≤◌, Bool, true, false, All, List, [], ◌∷◌, ◌++◌, map, length, take, drop, get_or, refl, sym, ap, ap₂, ◌∙◌, subst, arith, append_assoc, append-nil, length-append, lt_of_not-le}
 use Rattle.std.proofs.lemmas.Bool.{false≢true}
 use Rattle.std.specs.Bool.{OnTrue, OnFalse}
 use Rattle.dns_spec.specs.Names.{Octets, DomainName, wire, is_name}
-use Rattle.dns_spec.specs.Data.{Part, octets, name}
-use Rattle.dns_spec.specs.Layout.{Placed, Laid, laid_front, shared_octets, cost, data_laid}
-use Rattle.dns_spec.proofs.LayoutSize.{length-shared_octets}
+use Rattle.dns_spec.specs.Data.{class_in, Part, octets, name, laid_parts}
+use Rattle.dns_spec.specs.Layout.{Placed, Laid, laid_front, octets16, octets32, shared_octets, cost, data_laid, record_laid, record_tail}
+use Rattle.dns_spec.proofs.LayoutSize.{length-shared_octets, length-record_tail}
 use Rattle.dns_rdata.specs.Parts.{with_octets}
 use Rattle.dns_wire.specs.Kept.{Kept}
-use Rattle.dns_wire.specs.Writing.{Holds, IsWritten, Extends}
+use Rattle.dns_wire.specs.Writing.{Holds, IsWritten, Extends, shown, tail_laid}
 use Rattle.dns_wire.proofs.Suffixes.{extends_none, extends_again}
 use Rattle.dns_wire.proofs.NameWritten.{holds_octets}
 
@@ -137,3 +137,76 @@ octets_written {head} {limit} {ms} {b} {b'} {ks} {ks'} o fits holds exactly writ
 pub octets_extend : {b b' : Octets} {ks ks' : List Kept} (o : Octets) (fits : Bool) → OnTrue fits (b' ≡ b ++ o) → OnFalse fits (b' ≡ b) → ks' ≡ ks → Extends b ks b' ks'
 octets_extend {b} {b'} {ks} {ks'} o true e f places = record { more_octets = o; octets = e; more_places = []; places = places ∙ sym (append-nil ks) }
 octets_extend {b} {b'} {ks} {ks'} o false e f places = record { more_octets = []; octets = f ∙ sym (append-nil b); more_places = []; places = places ∙ sym (append-nil ks) }
+
+-- what is written after octets that were written, and what does not fit
+pub written_after : {head : Octets → ℕ} {limit : ℕ} {ms ms' : List Placed} {b b' b'' : Octets} {ks : List Kept} {laid laid' : Laid} {fits : Bool} (w : Octets) → b' ≡ b ++ w
+    → laid.written ≡ w ++ laid'.written → ms ++ laid.names ≡ ms' ++ laid'.names → IsWritten head limit ms' b' laid' fits b'' ks → IsWritten head limit ms b laid fits b'' ks
+written_after {head} {limit} {ms} {ms'} {b} {b'} {b''} {ks} {laid} {laid'} {fits} w e f names done =
+    let whole : b' ++ laid'.written ≡ b ++ laid.written = ap (λ z. z ++ laid'.written) e ∙ append_assoc b w laid'.written ∙ ap (λ z. b ++ z) (sym f) in
+    record {
+      exactly = (λ yes. let h = done.exactly.0 yes in omega (arith, h, ap length whole), λ h. done.exactly.1 (omega (arith, h, ap length whole)));
+      written = subst (λ x. OnTrue fits (b'' ≡ x)) whole done.written;
+      holds = subst (λ x. OnTrue fits (Holds head x b'' ks)) (sym names) done.holds;
+    }
+
+pub not_written : {head : Octets → ℕ} {limit : ℕ} {ms : List Placed} {b b' : Octets} {ks : List Kept} {laid : Laid} → limit < length (b ++ laid.written) → IsWritten head limit ms b laid false b' ks
+not_written past = record { exactly = (λ no. absurd (false≢true no), λ h. absurd (omega (arith, h, past))); written = tt; holds = tt }
+
+pub extends_same : {b b' : Octets} {ks ks' : List Kept} → b' ≡ b → ks' ≡ ks → Extends b ks b' ks'
+extends_same {b} {ks = ks} e f = record { more_octets = []; octets = e ∙ sym (append-nil b); more_places = []; places = f ∙ sym (append-nil ks) }
+
+-- the length of data, by writing it 10 octets further on
+measured_place : (b b' z : Octets) → b' ≡ b ++ z → length z ≡ 10 → length b' ≡ length b + 10
+measured_place b b' z e ten = ap length e ∙ length-append b z ∙ ap (λ k. length b + k) ten
+
+pub measured : {head : Octets → ℕ} {limit : ℕ} {ms : List Placed} {b' b'' : Octets} {ks : List Kept} (b : Octets) (ps : List Part) (z : Octets) → b' ≡ b ++ z → length z ≡ 10
+    → IsWritten head limit ms b' (data_laid ms (length b') ps) true b'' ks → length b'' ≡ length b + 10 + length (data_laid ms (length b + 10) ps).written
+measured {ms = ms} {b'} b ps z e ten done =
+    let at = measured_place b b' z e ten in
+    ap length done.written ∙ length-append b' (data_laid ms (length b') ps).written ∙ ap₂ (λ k p. k + length (data_laid ms p ps).written) at at
+
+pub unmeasured : {head : Octets → ℕ} {limit : ℕ} {ms : List Placed} {b' b'' : Octets} {ks : List Kept} (b : Octets) (ps : List Part) (z : Octets) → b' ≡ b ++ z → length z ≡ 10
+    → IsWritten head limit ms b' (data_laid ms (length b') ps) false b'' ks → limit < length b + (10 + length (data_laid ms (length b + 10) ps).written)
+unmeasured {limit = limit} {ms} {b'} b ps z e ten done =
+    let at = measured_place b b' z e ten in
+    let over : limit < length (b' ++ (data_laid ms (length b') ps).written) = lt_of_not-le (λ fits. false≢true (done.exactly.1 fits)) in
+    omega (arith, over, at, length-append b' (data_laid ms (length b') ps).written, ap (λ p. length (data_laid ms p ps).written) at)
+
+-- what follows an owner
+abbrev numbers_of : ℕ → ℕ → ℕ → Octets
+numbers_of t ttl k = octets16 t ++ octets16 class_in ++ octets32 ttl ++ octets16 k
+
+pub tail_written : {head : Octets → ℕ} {limit : ℕ} {ms : List Placed} {b b' b'' : Octets} {ks : List Kept} {fits : Bool} (t ttl k : ℕ) (o : Octets) → b' ≡ b ++ (numbers_of t ttl k ++ [])
+    → k ≡ length (data_laid ms (length b + 10) (laid_parts t o)).written → IsWritten head limit ms b' (data_laid ms (length b') (laid_parts t o)) fits b'' ks
+    → IsWritten head limit ms b (tail_laid ms (length b) t ttl o) fits b'' ks
+tail_written {head} {limit} {ms} {b} {b'} {b''} {ks} {fits} t ttl k o e long done =
+    let own = e ∙ ap (λ z. b ++ z) (append-nil (numbers_of t ttl k)) in
+    let at = measured_place b b' (numbers_of t ttl k) own refl in
+    let same = subst (λ p. IsWritten head limit ms b' (data_laid ms p (laid_parts t o)) fits b'' ks) at done in
+    written_after (numbers_of t ttl k) own (ap (λ j. numbers_of t ttl j ++ (data_laid ms (length b + 10) (laid_parts t o)).written) (sym long)) refl same
+
+pub tail_past : (limit : ℕ) (ms : List Placed) (b : Octets) (t ttl : ℕ) (o : Octets) → limit < length b + (10 + length (data_laid ms (length b + 10) (laid_parts t o)).written)
+    → limit < length (b ++ (tail_laid ms (length b) t ttl o).written)
+tail_past limit ms b t ttl o past =
+    let d = (data_laid ms (length b + 10) (laid_parts t o)).written in
+    omega (arith, past, length-append b (record_tail (shown [] t ttl o) d), length-record_tail (shown [] t ttl o) d)
+
+-- a record
+pub record_written : {head : Octets → ℕ} {limit : ℕ} {ms : List Placed} {b b' b'' : Octets} {ks : List Kept} {fits : Bool} (n : DomainName) (t ttl : ℕ) (o : Octets) → b' ≡ b ++ shared_octets ms n
+    → IsWritten head limit (ms ++ (n, length b) ∷ []) b' (tail_laid (ms ++ (n, length b) ∷ []) (length b') t ttl o) fits b'' ks
+    → IsWritten head limit ms b (record_laid ms (length b) (shown n t ttl o)) fits b'' ks
+record_written {head} {limit} {ms} {b} {b'} {b''} {ks} {fits} n t ttl o e done =
+    let w = shared_octets ms n in
+    let more = ms ++ (n, length b) ∷ [] in
+    let at : length b' ≡ length b + length w = ap length e ∙ length-append b w in
+    let d = data_laid more (length b + length w + 10) (laid_parts t o) in
+    let same = subst (λ p. IsWritten head limit more b' (tail_laid more p t ttl o) fits b'' ks) at done in
+    written_after w e refl (sym (append_assoc ms ((n, length b) ∷ []) d.names)) same
+
+pub record_past : (limit : ℕ) (ms : List Placed) (b : Octets) (n : DomainName) (t ttl : ℕ) (o : Octets) → limit < length b + cost ms n
+    → limit < length (b ++ (record_laid ms (length b) (shown n t ttl o)).written)
+record_past limit ms b n t ttl o past =
+    let w = shared_octets ms n in
+    let d = (data_laid (ms ++ (n, length b) ∷ []) (length b + length w + 10) (laid_parts t o)).written in
+    let tail = record_tail (shown n t ttl o) d in
+    omega (arith, past, length-shared_octets ms n, length-append b (w ++ tail), length-append w tail)

@@ -4,8 +4,10 @@ use Rattle.std.specs.Prelude.{◌≡◌, ◌↔◌, ℕ, ◌+◌, ◌*◌, ◌<�
 use Rattle.std.specs.Prelude.{Option, None, Some}
 use Rattle.std.specs.Bool.{OnTrue}
 use Rattle.dns_spec.specs.Names.{Octets, DomainName, wire, is_name}
+use Rattle.dns_spec.specs.Data.{laid_parts}
+use Rattle.dns_spec.specs.Records.{ResourceRecord}
 use Rattle.dns_spec.specs.Reading.{RunAt}
-use Rattle.dns_spec.specs.Layout.{Placed, Laid, pointer, place_of, last_place, shared_place}
+use Rattle.dns_spec.specs.Layout.{Placed, Laid, data_laid, record_tail, pointer, place_of, last_place, shared_place}
 use Rattle.dns_wire.specs.Kept.{Kept, IsKept}
 
 -- octets begin with a length k that is not 0, and after so many octets come these
@@ -85,3 +87,12 @@ pub record IsWritten (head : Octets → ℕ) (limit : ℕ) (ms : List Placed) (b
   pub exactly : IsTrue fits ↔ (length (b ++ laid.written) ≤ limit)
   pub written : OnTrue fits (b' ≡ b ++ laid.written)
   pub holds : OnTrue fits (Holds head (ms ++ laid.names) b' ks')
+
+-- a record, and what is laid out of it after its owner
+abbrev pub shown : DomainName → ℕ → ℕ → Octets → ResourceRecord
+shown owner rtype ttl rdata = record { owner = owner; ttl = ttl; rtype = rtype; rdata = rdata }
+
+abbrev pub tail_laid : List Placed → ℕ → ℕ → ℕ → Octets → Laid
+tail_laid ms p rtype ttl rdata =
+    let d = data_laid ms (p + 10) (laid_parts rtype rdata) in
+    record { written = record_tail (shown [] rtype ttl rdata) d.written; names = d.names }

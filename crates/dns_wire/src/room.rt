@@ -3,14 +3,16 @@
 ghost use Rattle.std.specs.Prelude.{◌≡◌, ◌↔◌, List, ◌+◌, ◌*◌, ◌≤◌, ◌<◌, ◌^◌, [], ◌∷◌, ◌++◌, length, take, min, All, IsTrue, IfSome, IsNone};
 ghost use Rattle.std.specs.Bool.{OnTrue, OnFalse};
 ghost use Rattle.dns_spec.specs.Names.{DomainName, wire, is_name};
-ghost use Rattle.dns_spec.specs.Data.{Valid, laid_parts};
-ghost use Rattle.dns_spec.specs.Layout.{Placed, pointer, shared_octets, cost, data_laid};
-ghost use Rattle.dns_wire.specs.Writing.{front_size, pointed_place, new_places, end_octets, Extends, Grows, AfterLabel, Holds, IsSound, IsWritten};
+ghost use Rattle.dns_spec.specs.Data.{Valid, class_in, laid_parts};
+ghost use Rattle.dns_spec.specs.Layout.{Placed, octets16, octets32, pointer, shared_octets, cost, data_laid, record_laid};
+ghost use Rattle.dns_wire.specs.Writing.{front_size, pointed_place, new_places, end_octets, Extends, Grows, AfterLabel, Holds, IsSound, IsWritten, shown, tail_laid};
 ghost use Rattle.dns_rdata.specs.Parts.{HasName};
 
+use crate::message::CLASS_IN;
 use crate::places::{Places, SuffixHash};
 use arrayvec::ArrayVec;
 use byteorder::{BigEndian, ByteOrder};
+use dns_name::Name;
 use dns_rdata::{Part, Parts, RType, Rdata};
 
 // The last place that the 14 bits of a pointer reach.
@@ -132,6 +134,63 @@ impl<const N: usize, const SIZE: usize> Room<N, SIZE> {
         self.places.take_back(places);
     }
 
+    /// Writes a record of class IN. False where it does not fit; then a part of it may be written.
+    pub(crate) fn put_record<H: SuffixHash>(&mut self, hash: &mut H, owner: &Name, rtype: RType, ttl: u32, rdata: &[u8]) -> bool
+        requires sound { IsSound N SIZE self.old.limit self.old.octets.items self.old.places }
+        requires valid { Valid rtype.0 rdata.now }
+        ensures written { (ms : List Placed) → Holds (H.numbers hash.old) ms self.old.octets.items self.old.places → IsWritten (H.numbers hash.old) self.old.limit ms self.old.octets.items (record_laid ms (length self.old.octets.items) (shown owner.now rtype.0 ttl rdata.now)) result self.new.octets.items self.new.places }
+        ensures extends { Extends self.old.octets.items self.old.places self.new.octets.items self.new.places }
+        ensures limit { self.new.limit ≡ self.old.limit }
+        ensures same { H.numbers hash.new ≡ H.numbers hash.old }
+        ensures sound { IsSound N SIZE self.new.limit self.new.octets.items self.new.places }
+    {
+        self.put_name(hash, owner.octets()) && self.put_tail(hash, rtype, ttl, rdata)
+    }
+
+    // Writes what follows the owner of a record.
+    fn put_tail<H: SuffixHash>(&mut self, hash: &mut H, rtype: RType, ttl: u32, rdata: &[u8]) -> bool
+        requires sound { IsSound N SIZE self.old.limit self.old.octets.items self.old.places }
+        requires valid { Valid rtype.0 rdata.now }
+        ensures written { (ms : List Placed) → Holds (H.numbers hash.old) ms self.old.octets.items self.old.places → IsWritten (H.numbers hash.old) self.old.limit ms self.old.octets.items (tail_laid ms (length self.old.octets.items) rtype.0 ttl rdata.now) result self.new.octets.items self.new.places }
+        ensures extends { Extends self.old.octets.items self.old.places self.new.octets.items self.new.places }
+        ensures limit { self.new.limit ≡ self.old.limit }
+        ensures same { H.numbers hash.new ≡ H.numbers hash.old }
+        ensures sound { IsSound N SIZE self.new.limit self.new.octets.items self.new.places }
+    {
+        let Some(length) = self.data_length(hash, rtype, rdata) else {
+            return false;
+        };
+        let numbers = record_numbers(rtype, ttl, length);
+        self.append(&numbers, &[]) && self.put_data(hash, rtype, rdata)
+    }
+
+    // The length of data that is laid out 10 octets further on. `None` where it does not fit. Nothing is written.
+    fn data_length<H: SuffixHash>(&mut self, hash: &mut H, rtype: RType, rdata: &[u8]) -> Option<u16>
+        requires sound { IsSound N SIZE self.old.limit self.old.octets.items self.old.places }
+        requires valid { Valid rtype.0 rdata.now }
+        ensures some { (ms : List Placed) → Holds (H.numbers hash.old) ms self.old.octets.items self.old.places → IfSome result (λ k. k ≡ length (data_laid ms (length self.old.octets.items + 10) (laid_parts rtype.0 rdata.now)).written) }
+        ensures none { (ms : List Placed) → Holds (H.numbers hash.old) ms self.old.octets.items self.old.places → IsNone result → self.old.limit < length self.old.octets.items + (10 + length (data_laid ms (length self.old.octets.items + 10) (laid_parts rtype.0 rdata.now)).written) }
+        ensures octets { self.new.octets.items ≡ self.old.octets.items }
+        ensures places { self.new.places ≡ self.old.places }
+        ensures limit { self.new.limit ≡ self.old.limit }
+        ensures same { H.numbers hash.new ≡ H.numbers hash.old }
+        ensures sound { IsSound N SIZE self.new.limit self.new.octets.items self.new.places }
+    {
+        let octets = self.octets.len();
+        let places = self.places.len();
+        if !self.append(&[0; 10], &[]) {
+            return None;
+        }
+        let fits = self.put_data(hash, rtype, rdata);
+        let end = self.octets.len();
+        self.take_back(octets, places);
+        if fits {
+            Some((end - octets - 10) as u16)
+        } else {
+            None
+        }
+    }
+
     // Appends the front of a name and what ends it: a pointer to a place, or the root's length.
     fn append_end(&mut self, front: &[u8], place: Option<u16>) -> bool
         requires sound { IsSound N SIZE self.old.limit self.old.octets.items self.old.places }
@@ -242,4 +301,16 @@ fn after_first_label(name: &[u8]) -> Option<(usize, &[u8])>
     }
     let (_, after) = others.split_at_checked(length)?;
     Some((length, after))
+}
+
+// Type, class IN, TTL and data length of a record (RFC 1035 4.1.3).
+fn record_numbers(rtype: RType, ttl: u32, length: u16) -> [u8; 10]
+    ensures { result ≡ octets16 rtype.0 ++ octets16 class_in ++ octets32 ttl ++ octets16 length }
+{
+    let mut octets = [0; 10];
+    BigEndian::write_u16(&mut octets, rtype.0);
+    BigEndian::write_u16(&mut octets[2..], CLASS_IN);
+    BigEndian::write_u32(&mut octets[4..], ttl);
+    BigEndian::write_u16(&mut octets[8..], length);
+    octets
 }
