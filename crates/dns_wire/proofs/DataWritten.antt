@@ -121,7 +121,7 @@ pub octets_written : {head : Octets → ℕ} {limit : ℕ} {ms : List Placed} {b
     → IsWritten head limit ms b (data_laid ms (length b) (octets o ∷ [])) fits b' ks'
 octets_written {head} {limit} {ms} {b} {b'} {ks} {ks'} o fits holds exactly written places =
     let laid : data_laid ms (length b) (octets o ∷ []) ≡ record { written = o ++ []; names = [] } =
-        data-octets ms (length b) o [] ∙ ap (laid_front o []) (data-none ms (length b + length o)) in
+    data-octets ms (length b) o [] ∙ ap (laid_front o []) (data-none ms (length b + length o)) in
     subst (λ l. IsWritten head limit ms b l fits b' ks') (sym laid) (record {
       exactly = (λ yes. let h = exactly.0 yes in omega (arith, h, length-append b (o ++ []), length-append o []), λ h. exactly.1 (omega (arith, h, length-append b (o ++ []), length-append o [])));
       written = written;

@@ -8,3 +8,4 @@ mod SpelledLemmas
 mod Suffixes
 mod NameWritten
 mod DataWritten
+mod RecordsWritten

@@ -37,8 +37,8 @@ name_laid ms (l ∷ n) = go (shared_place ms (l ∷ n)) refl (name_laid ms n)
         let f = front_size ms n in
         let o = end_octets (pointed_place ms n) in
         let more : take (1 + length l + f) (wire (l ∷ n)) ≡ length l ∷ (l ++ take f (wire n)) =
-            ap (λ k. take k (wire (l ∷ n))) (let z : 1 + length l + f ≡ suc (length l + f) = omega arith in z)
-            ∙ ap (λ z. length l ∷ z) (take-append-add l (wire n) f) in
+        ap (λ k. take k (wire (l ∷ n))) (let z : 1 + length l + f ≡ suc (length l + f) = omega arith in z)
+        ∙ ap (λ z. length l ∷ z) (take-append-add l (wire n) f) in
         shared_whole ms l n e ∙ ap (λ z. length l ∷ (l ++ z)) h ∙ ap (λ z. length l ∷ z) (sym (append_assoc l (take f (wire n)) o))
         ∙ ap (λ z. z ++ o) (sym more)
         ∙ ap₂ (λ k x. take k (wire (l ∷ n)) ++ end_octets x) (sym (front-none ms l n e)) (sym (pointed-none ms l n e))
@@ -128,7 +128,7 @@ kept_sound head ms (l ∷ n) i p h (k, at) = go (shared_place ms (l ∷ n)) refl
     go (Some q) e t r k at again = absurd (none-some _ (ap (λ x. slice_get x k) (sym (kept-some head ms l n i q e)) ∙ at))
     go None e false r k at again =
         absurd (none-some _ (ap (λ x. slice_get x k) (sym (kept-none head ms l n i e
-            ∙ ap (λ t. cond t (record { place = i; head = head (wire (l ∷ n)) } ∷ new_places head ms n (i + 1 + length l)) []) r)) ∙ at))
+        ∙ ap (λ t. cond t (record { place = i; head = head (wire (l ∷ n)) } ∷ new_places head ms n (i + 1 + length l)) []) r)) ∙ at))
     go None e true r zero at again =
         let low = leb-true i last_place r in
         let first = ap (λ x. slice_get x 0) (sym (kept-more head ms l n i e low)) ∙ at in

@@ -7,7 +7,7 @@ use Rattle.dns_spec.specs.Names.{Octets, DomainName, wire, is_name}
 use Rattle.dns_spec.specs.Data.{laid_parts}
 use Rattle.dns_spec.specs.Records.{ResourceRecord}
 use Rattle.dns_spec.specs.Reading.{RunAt}
-use Rattle.dns_spec.specs.Layout.{Placed, Laid, data_laid, record_tail, pointer, place_of, last_place, shared_place}
+use Rattle.dns_spec.specs.Layout.{Placed, Laid, laid_front, data_laid, record_laid, record_tail, pointer, place_of, last_place, shared_place}
 use Rattle.dns_wire.specs.Kept.{Kept, IsKept}
 
 -- octets begin with a length k that is not 0, and after so many octets come these
@@ -96,3 +96,10 @@ abbrev pub tail_laid : List Placed → ℕ → ℕ → ℕ → Octets → Laid
 tail_laid ms p rtype ttl rdata =
     let d = data_laid ms (p + 10) (laid_parts rtype rdata) in
     record { written = record_tail (shown [] rtype ttl rdata) d.written; names = d.names }
+
+-- records laid out from place p on, with their names
+unfoldable pub records_laid : List Placed → ℕ → List ResourceRecord → Laid
+records_laid ms p [] = record { written = []; names = [] }
+records_laid ms p (r ∷ rs) =
+    let l = record_laid ms p r in
+    laid_front l.written l.names (records_laid (ms ++ l.names) (p + length l.written) rs)

@@ -5,7 +5,8 @@ ghost use Rattle.std.specs.Bool.{OnTrue, OnFalse};
 ghost use Rattle.dns_spec.specs.Names.{DomainName, wire, is_name};
 ghost use Rattle.dns_spec.specs.Data.{Valid, class_in, laid_parts};
 ghost use Rattle.dns_spec.specs.Layout.{Placed, octets16, octets32, pointer, shared_octets, cost, data_laid, record_laid};
-ghost use Rattle.dns_wire.specs.Writing.{front_size, pointed_place, new_places, end_octets, Extends, Grows, AfterLabel, Holds, IsSound, IsWritten, shown, tail_laid};
+ghost use Rattle.dns_wire.specs.Writing.{front_size, pointed_place, new_places, end_octets, Extends, Grows, AfterLabel, Holds, IsSound, IsWritten, shown, tail_laid, records_laid};
+ghost use Rattle.dns_spec.specs.Sets.{records_at};
 ghost use Rattle.dns_rdata.specs.Parts.{HasName};
 
 use crate::message::CLASS_IN;
@@ -13,7 +14,7 @@ use crate::places::{Places, SuffixHash};
 use arrayvec::ArrayVec;
 use byteorder::{BigEndian, ByteOrder};
 use dns_name::Name;
-use dns_rdata::{Part, Parts, RType, Rdata};
+use dns_rdata::{Part, Parts, RType, Rdata, SetView};
 
 // The last place that the 14 bits of a pointer reach.
 const LAST_PLACE: usize = 16383;
@@ -134,8 +135,42 @@ impl<const N: usize, const SIZE: usize> Room<N, SIZE> {
         self.places.take_back(places);
     }
 
+    /// Writes the records of a set at an owner, with this TTL in seconds. False, with nothing written, where they do not
+    /// all fit.
+    pub(crate) fn put_set<H: SuffixHash, S: SetView>(
+        &mut self,
+        hash: &mut H,
+        owner: &Name,
+        ttl: u32,
+        set: &S,
+    ) -> bool
+        requires { IsSound N SIZE self.old.limit self.old.octets.items self.old.places }
+        ensures written { (ms : List Placed) → Holds (H.numbers hash.old) ms self.old.octets.items self.old.places → IsWritten (H.numbers hash.old) self.old.limit ms self.old.octets.items (records_laid ms (length self.old.octets.items) (records_at owner.now ttl (S.set set.now))) result self.new.octets.items self.new.places }
+        ensures unchanged { OnFalse result ((self.new.octets.items ≡ self.old.octets.items) × (self.new.places ≡ self.old.places)) }
+        ensures limit { self.new.limit ≡ self.old.limit }
+        ensures same { H.numbers hash.new ≡ H.numbers hash.old }
+        ensures sound { IsSound N SIZE self.new.limit self.new.octets.items self.new.places }
+    {
+        let octets = self.octets.len();
+        let places = self.places.len();
+        'records: for i in 0..set.len() {
+            if !self.put_record(hash, owner, set.rtype(), ttl, set.rdata(i)) {
+                self.take_back(octets, places);
+                return false;
+            }
+        }
+        true
+    }
+
     /// Writes a record of class IN. False where it does not fit; then a part of it may be written.
-    pub(crate) fn put_record<H: SuffixHash>(&mut self, hash: &mut H, owner: &Name, rtype: RType, ttl: u32, rdata: &[u8]) -> bool
+    pub(crate) fn put_record<H: SuffixHash>(
+        &mut self,
+        hash: &mut H,
+        owner: &Name,
+        rtype: RType,
+        ttl: u32,
+        rdata: &[u8],
+    ) -> bool
         requires sound { IsSound N SIZE self.old.limit self.old.octets.items self.old.places }
         requires valid { Valid rtype.0 rdata.now }
         ensures written { (ms : List Placed) → Holds (H.numbers hash.old) ms self.old.octets.items self.old.places → IsWritten (H.numbers hash.old) self.old.limit ms self.old.octets.items (record_laid ms (length self.old.octets.items) (shown owner.now rtype.0 ttl rdata.now)) result self.new.octets.items self.new.places }
@@ -148,7 +183,13 @@ impl<const N: usize, const SIZE: usize> Room<N, SIZE> {
     }
 
     // Writes what follows the owner of a record.
-    fn put_tail<H: SuffixHash>(&mut self, hash: &mut H, rtype: RType, ttl: u32, rdata: &[u8]) -> bool
+    fn put_tail<H: SuffixHash>(
+        &mut self,
+        hash: &mut H,
+        rtype: RType,
+        ttl: u32,
+        rdata: &[u8],
+    ) -> bool
         requires sound { IsSound N SIZE self.old.limit self.old.octets.items self.old.places }
         requires valid { Valid rtype.0 rdata.now }
         ensures written { (ms : List Placed) → Holds (H.numbers hash.old) ms self.old.octets.items self.old.places → IsWritten (H.numbers hash.old) self.old.limit ms self.old.octets.items (tail_laid ms (length self.old.octets.items) rtype.0 ttl rdata.now) result self.new.octets.items self.new.places }
@@ -165,7 +206,12 @@ impl<const N: usize, const SIZE: usize> Room<N, SIZE> {
     }
 
     // The length of data that is laid out 10 octets further on. `None` where it does not fit. Nothing is written.
-    fn data_length<H: SuffixHash>(&mut self, hash: &mut H, rtype: RType, rdata: &[u8]) -> Option<u16>
+    fn data_length<H: SuffixHash>(
+        &mut self,
+        hash: &mut H,
+        rtype: RType,
+        rdata: &[u8],
+    ) -> Option<u16>
         requires sound { IsSound N SIZE self.old.limit self.old.octets.items self.old.places }
         requires valid { Valid rtype.0 rdata.now }
         ensures some { (ms : List Placed) → Holds (H.numbers hash.old) ms self.old.octets.items self.old.places → IfSome result (λ k. k ≡ length (data_laid ms (length self.old.octets.items + 10) (laid_parts rtype.0 rdata.now)).written) }

@@ -15,7 +15,7 @@ returns-then-fits-clause-some g c = λ ms holds.
     let e = c.if-not-append.ensures.octets in
     let there = subst₂ (Holds head ms) (sym e) (sym c.append.ensures.places) (holds_octets (replicate 10 0 ++ []) holds) in
     let done = subst (λ t. IsWritten head c.append.new.self.limit ms b' (data_laid ms (length b') ps) t c.put_data-fits.new.self.octets.items c.put_data-fits.new.self.places) c.if-fits.true
-        (c.put_data-fits.ensures.written ms there) in
+    (c.put_data-fits.ensures.written ms there) in
     let long = measured b ps (replicate 10 0 ++ []) e refl done in
     omega (arith, long, c.len-end.ensures.value, c.len-octets.ensures.value)
 
@@ -28,6 +28,6 @@ returns-else-fits-clause-none g c = λ ms holds none.
     let e = c.if-not-append.ensures.octets in
     let there = subst₂ (Holds head ms) (sym e) (sym c.append.ensures.places) (holds_octets (replicate 10 0 ++ []) holds) in
     let done = subst (λ t. IsWritten head c.append.new.self.limit ms b' (data_laid ms (length b') ps) t c.put_data-fits.new.self.octets.items c.put_data-fits.new.self.places) c.if-fits.false
-        (c.put_data-fits.ensures.written ms there) in
+    (c.put_data-fits.ensures.written ms there) in
     let over = unmeasured b ps (replicate 10 0 ++ []) e refl done in
     omega (arith, over, c.append.ensures.limit)

@@ -12,9 +12,10 @@ returns-then-not-append_end-clause-fits g c = λ ms n holds e ok.
     let there = subst (λ b. Holds head ms b c.args.self.now.places) (sym c.as_slice.ensures.value) holds in
     let front = c.shared_suffix-shared.ensures.front ms n there e ok in
     let end = ap (λ p. length (end_octets p)) (c.shared_suffix-shared.ensures.place ms n there e ok) in
-    let cost = cost_is ms n in
-    (λ no. absurd (false≢true no),
-        λ room. sym c.if-not-append_end.true ∙ c.append_end.ensures.fits.1 (omega (arith, room, front, end, cost, c.split_at.ensures.front_len)))
+    let cost = cost_is ms n in (
+      λ no. absurd (false≢true no),
+      λ room. sym c.if-not-append_end.true ∙ c.append_end.ensures.fits.1 (omega (arith, room, front, end, cost, c.split_at.ensures.front_len)),
+    )
 
 pub returns-clause-fits : goal.returns-clause-fits
 returns-clause-fits g c = λ ms n holds e ok.
@@ -45,9 +46,9 @@ returns-clause-holds g c = λ ms n holds e ok.
     let octets = returns-clause-octets g c ms n holds e ok in
     let numbers = c.shared_suffix-shared.ensures.same in
     let kept =
-        c.keep_suffixes.ensures.kept ms n e ok front
-        ∙ ap₂ (λ ks h. ks ++ new_places h ms n c.len-at.result) c.append_end.ensures.places numbers
-        ∙ ap (λ i. c.args.self.now.places ++ new_places head ms n i) c.len-at.ensures.value in
+    c.keep_suffixes.ensures.kept ms n e ok front
+    ∙ ap₂ (λ ks h. ks ++ new_places h ms n c.len-at.result) c.append_end.ensures.places numbers
+    ∙ ap (λ i. c.args.self.now.places ++ new_places head ms n i) c.len-at.ensures.value in
     subst₂ (λ x ks. Holds head (ms ++ (n, length b) ∷ []) x ks) (sym octets) (sym kept) (holds_name head ms b c.args.self.now.places holds n ok)
 
 pub returns-clause-extends : goal.returns-clause-extends

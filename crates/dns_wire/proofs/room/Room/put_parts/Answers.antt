@@ -56,12 +56,12 @@ parts-preserved g c =
           let ks' = v.put_name-fits.new.self.places in
           let numbers = i.same in
           let octets_of : (ms : List Placed) → Holds head ms b ks → b' ≡ b ++ shared_octets ms n = λ ms holds.
-              subst (λ t. OnTrue t (b' ≡ b ++ shared_octets ms n)) yes
-              (v.put_name-fits.ensures.octets ms n (subst (λ h. Holds h ms b ks) (sym numbers) holds) (sym form.wire_is) form.is_name) in
+          subst (λ t. OnTrue t (b' ≡ b ++ shared_octets ms n)) yes
+          (v.put_name-fits.ensures.octets ms n (subst (λ h. Holds h ms b ks) (sym numbers) holds) (sym form.wire_is) form.is_name) in
           let holds_of : (ms : List Placed) → Holds head ms b ks → Holds head (ms ++ (n, length b) ∷ []) b' ks' = λ ms holds.
-              subst (λ h. Holds h (ms ++ (n, length b) ∷ []) b' ks') numbers
-              (subst (λ t. OnTrue t (Holds (g.H.SuffixHash.numbers c.parts.hash) (ms ++ (n, length b) ∷ []) b' ks')) yes
-              (v.put_name-fits.ensures.holds ms n (subst (λ h. Holds h ms b ks) (sym numbers) holds) (sym form.wire_is) form.is_name)) in
+          subst (λ h. Holds h (ms ++ (n, length b) ∷ []) b' ks') numbers
+          (subst (λ t. OnTrue t (Holds (g.H.SuffixHash.numbers c.parts.hash) (ms ++ (n, length b) ∷ []) b' ks')) yes
+          (v.put_name-fits.ensures.holds ms n (subst (λ h. Holds h ms b ks) (sym numbers) holds) (sym form.wire_is) form.is_name)) in
           rw (v.self-is, v.hash-is) (record {
             names = w.names;
             go = parts_name head c.args.parts ps c.args.self.now.octets.items b b' c.args.self.now.places ks ks' n there octets_of holds_of;
@@ -83,22 +83,22 @@ returns-then-not-fits-clause-written g c =
     let go = subst (λ x. PartsGo head c.args.parts c.args.self.now.octets.items c.args.self.now.places x b ks) w.are i.go in
     let limit = c.args.self.now.limit in
     let past : (ms : List Placed) → Holds head ms b ks → limit < length (b ++ (data_laid ms (length b) (part_for c.in-Some.part ∷ ps)).written) = λ ms holds.
-        elim c.match-part.branch [
-          | in-Octets v ↦
-              let o = v.in-Octets.octets.now in
-              let wrong = sym v.fits-is ∙ c.if-not-fits.true in
-              let over : c.parts.self.limit < length b + (length o + 0) = lt_of_not-le (λ fits. false≢true (sym wrong ∙ v.append-fits.ensures.fits.1 fits)) in
-              subst (λ x. limit < length (b ++ (data_laid ms (length b) (part_for x ∷ ps)).written)) (sym v.in-Octets.is)
-              (past_octets limit ms b o ps (omega (arith, over, i.limit)))
-          | in-Name v ↦
-              let n = labels_of v.in-Name.name.now in
-              let wrong = sym v.fits-is ∙ c.if-not-fits.true in
-              let form = subst IsLent v.in-Name.is w.lent in
-              let exactly = v.put_name-fits.ensures.fits ms n (subst (λ h. Holds h ms b ks) (sym i.same) holds) (sym form.wire_is) form.is_name in
-              let over : c.parts.self.limit < length b + cost ms n = lt_of_not-le (λ fits. false≢true (sym wrong ∙ exactly.1 fits)) in
-              subst (λ x. limit < length (b ++ (data_laid ms (length b) (part_for x ∷ ps)).written)) (sym v.in-Name.is)
-              (past_name limit ms b n ps (omega (arith, over, i.limit)))
-        ] in
+    elim c.match-part.branch [
+      | in-Octets v ↦
+          let o = v.in-Octets.octets.now in
+          let wrong = sym v.fits-is ∙ c.if-not-fits.true in
+          let over : c.parts.self.limit < length b + (length o + 0) = lt_of_not-le (λ fits. false≢true (sym wrong ∙ v.append-fits.ensures.fits.1 fits)) in
+          subst (λ x. limit < length (b ++ (data_laid ms (length b) (part_for x ∷ ps)).written)) (sym v.in-Octets.is)
+          (past_octets limit ms b o ps (omega (arith, over, i.limit)))
+      | in-Name v ↦
+          let n = labels_of v.in-Name.name.now in
+          let wrong = sym v.fits-is ∙ c.if-not-fits.true in
+          let form = subst IsLent v.in-Name.is w.lent in
+          let exactly = v.put_name-fits.ensures.fits ms n (subst (λ h. Holds h ms b ks) (sym i.same) holds) (sym form.wire_is) form.is_name in
+          let over : c.parts.self.limit < length b + cost ms n = lt_of_not-le (λ fits. false≢true (sym wrong ∙ exactly.1 fits)) in
+          subst (λ x. limit < length (b ++ (data_laid ms (length b) (part_for x ∷ ps)).written)) (sym v.in-Name.is)
+          (past_name limit ms b n ps (omega (arith, over, i.limit)))
+    ] in
     parts_past head limit c.args.parts (part_for c.in-Some.part ∷ ps) c.args.self.now.octets.items b c.match-part.self.octets.items c.args.self.now.places ks c.match-part.self.places go past
 
 pub returns-clause-written : goal.returns-clause-written

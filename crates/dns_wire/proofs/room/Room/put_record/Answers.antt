@@ -18,7 +18,7 @@ returns-then-put_name-clause-written g c = λ ms holds.
     let there = c.if-put_name.ensures.holds ms n holds c.octets.ensures.value c.octets.ensures.is_name in
     let done = c.put_tail.ensures.written more (subst (λ h. Holds h more b' c.put_name.new.self.places) (sym c.put_name.ensures.same) there) in
     let same = subst₂ (λ h l. IsWritten h l more b' (tail_laid more (length b') c.args.rtype.0 c.args.ttl c.args.rdata.now) c.put_tail.result c.put_tail.new.self.octets.items c.put_tail.new.self.places)
-        c.put_name.ensures.same c.put_name.ensures.limit done in
+    c.put_name.ensures.same c.put_name.ensures.limit done in
     record_written n c.args.rtype.0 c.args.ttl c.args.rdata.now e same
 
 pub returns-then-put_name-clause-extends : goal.returns-then-put_name-clause-extends

@@ -46,7 +46,7 @@ returns-else-append-clause-written g c = λ ms holds.
     let d = (data_laid ms (length b + 10) (laid_parts t o)).written in
     let over = lt_of_not-le (λ fits. false≢true (sym c.if-append.false ∙ c.append.ensures.fits.1 fits)) in
     let past : c.args.self.now.limit < length b + (10 + length d) =
-        omega (arith, over, ap length c.data_length.ensures.octets, c.data_length.ensures.limit, ap length c.record_numbers-numbers.ensures) in
+    omega (arith, over, ap length c.data_length.ensures.octets, c.data_length.ensures.limit, ap length c.record_numbers-numbers.ensures) in
     subst (λ f. IsWritten (g.H.SuffixHash.numbers c.args.hash.now) c.args.self.now.limit ms b (tail_laid ms (length b) t c.args.ttl o) f c.append.new.self.octets.items c.append.new.self.places)
     (sym c.if-append.false) (not_written (tail_past c.args.self.now.limit ms b t c.args.ttl o past))
 
