@@ -210,3 +210,7 @@ record_past limit ms b n t ttl o past =
     let d = (data_laid (ms ++ (n, length b) ∷ []) (length b + length w + 10) (laid_parts t o)).written in
     let tail = record_tail (shown n t ttl o) d in
     omega (arith, past, length-shared_octets ms n, length-append b (w ++ tail), length-append w tail)
+
+pub on_true : {A : Type 0} (t : Bool) → A → OnTrue t A
+on_true true a = a
+on_true false a = tt

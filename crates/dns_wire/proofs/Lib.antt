@@ -9,3 +9,4 @@ mod Suffixes
 mod NameWritten
 mod DataWritten
 mod RecordsWritten
+mod DraftLemmas

@@ -1,5 +1,5 @@
 -- A name laid out is one more earlier name: the message spells its suffixes, and the places kept answer for them.
-use Rattle.std.proofs.Common.{◌≡◌, ℕ, zero, suc, ◌+◌, ◌-◌, ◌*◌, ◌<◌, ◌≤◌, Bool, true, false, cond, nat_le, ◌⊎◌, inl, inr, List, [], ◌∷◌, ◌++◌, length, take, drop, slice_get, Option, None, Some, refl, sym, ap, ap₂, ◌∙◌, subst, arith, append_assoc, append-nil, length-append}
+use Rattle.std.proofs.Common.{◌≡◌, ℕ, zero, suc, ◌+◌, ◌-◌, ◌*◌, ◌<◌, ◌≤◌, Bool, true, false, cond, nat_le, ◌⊎◌, inl, inr, List, [], ◌∷◌, ◌++◌, length, take, drop, replicate, slice_get, Option, None, Some, refl, sym, ap, ap₂, ◌∙◌, subst, arith, append_assoc, append-nil, length-append}
 use Rattle.std.proofs.lemmas.Bool.{and_parts, leb-true, leb-false}
 use Rattle.std.proofs.lemmas.Option.{none-some, same_Some}
 use Rattle.std.proofs.lemmas.List.{length-take-le, take-append-le}
@@ -13,7 +13,7 @@ use Rattle.dns_spec.proofs.NameLaws.{is_name-tail}
 use Rattle.dns_spec.proofs.Places.{Stands}
 use Rattle.dns_spec.proofs.LayoutSize.{length-shared_octets}
 use Rattle.dns_spec.proofs.SameLayout.{begins_inside}
-use Rattle.dns_spec.proofs.SharedNames.{Suffix, suffix_from, suffix_to, place_again, place_pushed, shared_is, shared_to, shared_none, shared_whole, shared_pointed, shared_root, Found, Known, known_more}
+use Rattle.dns_spec.proofs.SharedNames.{Suffix, suffix_from, suffix_to, place_again, place_pushed, shared_is, shared_to, shared_none, shared_whole, shared_pointed, shared_root, shared_alone, Found, Known, known_more}
 use Rattle.dns_wire.specs.Kept.{Kept, IsKept}
 use Rattle.dns_wire.specs.Writing.{front_size, pointed_place, end_octets, new_places, Answers, Holds}
 use Rattle.dns_wire.proofs.Suffixes.{front-none, front-some, front-root, pointed-none, pointed-some, pointed-root, kept-none, kept-more, kept-some, kept-root}
@@ -259,3 +259,15 @@ holds_octets {b = b} x holds = record {
   after_header = let h = holds.after_header in omega (arith, h, length-append b x);
   answers = holds.answers;
 }
+
+-- before the first name nothing is shared
+pub holds_nothing : (head : Octets → ℕ) → Holds head [] (replicate 12 0) []
+holds_nothing head = record {
+  spelled = λ l n p e. absurd (none-some p e);
+  before = λ l n p e. absurd (none-some p e);
+  after_header = omega arith;
+  answers = record { complete = λ l n p e. absurd (none-some p e); sound = λ p h kept. absurd (none-some _ kept.1) };
+}
+
+pub cost_alone : (n : DomainName) → cost [] n ≡ length (wire n)
+cost_alone n = sym (length-shared_octets [] n) ∙ ap length (shared_alone n)

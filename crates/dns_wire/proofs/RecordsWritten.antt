@@ -9,12 +9,12 @@ use Rattle.dns_wire.specs.Kept.{Kept}
 use Rattle.dns_wire.specs.Writing.{Holds, IsWritten, shown, records_laid}
 use Rattle.dns_wire.proofs.DataWritten.{Goes, not_written}
 
-records-more : (ms : List Placed) (p : ℕ) (r : ResourceRecord) (rs : List ResourceRecord)
+pub records-more : (ms : List Placed) (p : ℕ) (r : ResourceRecord) (rs : List ResourceRecord)
     → records_laid ms p (r ∷ rs) ≡ laid_front (record_laid ms p r).written (record_laid ms p r).names (records_laid (ms ++ (record_laid ms p r).names) (p + length (record_laid ms p r).written) rs)
 unfolding records_laid
 records-more ms p r rs = refl
 
-records-none : (ms : List Placed) (p : ℕ) → records_laid ms p [] ≡ record { written = []; names = [] }
+pub records-none : (ms : List Placed) (p : ℕ) → records_laid ms p [] ≡ record { written = []; names = [] }
 unfolding records_laid
 records-none ms p = refl
 

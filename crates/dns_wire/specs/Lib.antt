@@ -5,3 +5,4 @@ pub mod Read
 pub mod Kept
 pub mod Chains
 pub mod Writing
+pub mod Draft

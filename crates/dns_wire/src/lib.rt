@@ -6,6 +6,7 @@ mod fault;
 mod message;
 mod name;
 mod number;
+mod page;
 mod places;
 mod reader;
 mod room;
@@ -13,6 +14,7 @@ mod spelled;
 
 pub use fault::WireFault;
 pub use message::{CLASS_IN, Head, Message, Question, WireRecord};
+pub use page::{Page, Section};
 pub use places::SuffixHash;
 pub use reader::read_message;
 

@@ -1,15 +1,15 @@
 //! The room of a writer: octets up to a limit, and the places of suffixes in them. Names are laid out here
 //! (RFC 1035 4.1.4).
-ghost use Rattle.std.specs.Prelude.{◌≡◌, ◌↔◌, List, ◌+◌, ◌*◌, ◌≤◌, ◌<◌, ◌^◌, [], ◌∷◌, ◌++◌, length, take, min, All, IsTrue, IfSome, IsNone};
+ghost use Rattle.std.specs.Prelude.{◌≡◌, ◌↔◌, List, ◌+◌, ◌*◌, ◌≤◌, ◌<◌, ◌^◌, [], ◌∷◌, ◌++◌, length, take, replicate, min, All, IsTrue, IfSome, IsNone};
 ghost use Rattle.std.specs.Bool.{OnTrue, OnFalse};
 ghost use Rattle.dns_spec.specs.Names.{DomainName, wire, is_name};
 ghost use Rattle.dns_spec.specs.Data.{Valid, class_in, laid_parts};
-ghost use Rattle.dns_spec.specs.Layout.{Placed, octets16, octets32, pointer, shared_octets, cost, data_laid, record_laid};
+ghost use Rattle.dns_spec.specs.Layout.{Placed, question_octets, octets16, octets32, pointer, shared_octets, cost, data_laid, record_laid};
 ghost use Rattle.dns_wire.specs.Writing.{front_size, pointed_place, new_places, end_octets, Extends, Grows, AfterLabel, Holds, IsSound, IsWritten, shown, tail_laid, records_laid};
 ghost use Rattle.dns_spec.specs.Sets.{records_at};
 ghost use Rattle.dns_rdata.specs.Parts.{HasName};
 
-use crate::message::CLASS_IN;
+use crate::message::{CLASS_IN, Question};
 use crate::places::{Places, SuffixHash};
 use arrayvec::ArrayVec;
 use byteorder::{BigEndian, ByteOrder};
@@ -28,6 +28,40 @@ pub(crate) struct Room<const N: usize, const SIZE: usize> {
 }
 
 impl<const N: usize, const SIZE: usize> Room<N, SIZE> {
+    /// Room for a message of so many octets, with 12 for its header.
+    pub(crate) fn new(limit: usize) -> Room<N, SIZE>
+        requires room { 12 ≤ SIZE }
+        ensures octets { result.octets.items ≡ replicate 12 0 }
+        ensures places { result.places ≡ [] }
+        ensures limit { result.limit ≡ limit }
+    {
+        let mut octets = ArrayVec::new();
+        if octets.try_extend_from_slice(&[0; 12]).is_err() {
+            unreachable!();
+        }
+        Room {
+            octets,
+            places: Places::new(),
+            limit,
+        }
+    }
+
+    /// Writes the question, which nothing stands before but the room for a header.
+    pub(crate) fn put_question<H: SuffixHash>(&mut self, hash: &mut H, question: &Question)
+        requires sound { IsSound N SIZE self.old.limit self.old.octets.items self.old.places }
+        requires room { 512 ≤ self.old.limit }
+        requires blank { self.old.octets.items ≡ replicate 12 0 }
+        requires first { self.old.places ≡ [] }
+        ensures octets { self.new.octets.items ≡ replicate 12 0 ++ question_octets question.now }
+        ensures holds { Holds (H.numbers hash.old) ((question.now.qname, 12) ∷ []) self.new.octets.items self.new.places }
+        ensures limit { self.new.limit ≡ self.old.limit }
+        ensures same { H.numbers hash.new ≡ H.numbers hash.old }
+        ensures sound { IsSound N SIZE self.new.limit self.new.octets.items self.new.places }
+    {
+        let _ = self.put_name(hash, question.name.octets());
+        let _ = self.append(&number_octets(question.qtype), &number_octets(question.qclass));
+    }
+
     /// Appends two runs of octets. False, with nothing written, where they do not fit the limit.
     pub(crate) fn append(&mut self, front: &[u8], end: &[u8]) -> bool
         requires { IsSound N SIZE self.old.limit self.old.octets.items self.old.places }
@@ -147,6 +181,7 @@ impl<const N: usize, const SIZE: usize> Room<N, SIZE> {
         requires { IsSound N SIZE self.old.limit self.old.octets.items self.old.places }
         ensures written { (ms : List Placed) → Holds (H.numbers hash.old) ms self.old.octets.items self.old.places → IsWritten (H.numbers hash.old) self.old.limit ms self.old.octets.items (records_laid ms (length self.old.octets.items) (records_at owner.now ttl (S.set set.now))) result self.new.octets.items self.new.places }
         ensures unchanged { OnFalse result ((self.new.octets.items ≡ self.old.octets.items) × (self.new.places ≡ self.old.places)) }
+        ensures longer { OnTrue result (length self.old.octets.items + length (S.set set.now).rdata ≤ length self.new.octets.items) }
         ensures limit { self.new.limit ≡ self.old.limit }
         ensures same { H.numbers hash.new ≡ H.numbers hash.old }
         ensures sound { IsSound N SIZE self.new.limit self.new.octets.items self.new.places }
@@ -174,6 +209,7 @@ impl<const N: usize, const SIZE: usize> Room<N, SIZE> {
         requires sound { IsSound N SIZE self.old.limit self.old.octets.items self.old.places }
         requires valid { Valid rtype.0 rdata.now }
         ensures written { (ms : List Placed) → Holds (H.numbers hash.old) ms self.old.octets.items self.old.places → IsWritten (H.numbers hash.old) self.old.limit ms self.old.octets.items (record_laid ms (length self.old.octets.items) (shown owner.now rtype.0 ttl rdata.now)) result self.new.octets.items self.new.places }
+        ensures longer { OnTrue result (length self.old.octets.items + 10 ≤ length self.new.octets.items) }
         ensures extends { Extends self.old.octets.items self.old.places self.new.octets.items self.new.places }
         ensures limit { self.new.limit ≡ self.old.limit }
         ensures same { H.numbers hash.new ≡ H.numbers hash.old }
@@ -193,6 +229,7 @@ impl<const N: usize, const SIZE: usize> Room<N, SIZE> {
         requires sound { IsSound N SIZE self.old.limit self.old.octets.items self.old.places }
         requires valid { Valid rtype.0 rdata.now }
         ensures written { (ms : List Placed) → Holds (H.numbers hash.old) ms self.old.octets.items self.old.places → IsWritten (H.numbers hash.old) self.old.limit ms self.old.octets.items (tail_laid ms (length self.old.octets.items) rtype.0 ttl rdata.now) result self.new.octets.items self.new.places }
+        ensures longer { OnTrue result (length self.old.octets.items + 10 ≤ length self.new.octets.items) }
         ensures extends { Extends self.old.octets.items self.old.places self.new.octets.items self.new.places }
         ensures limit { self.new.limit ≡ self.old.limit }
         ensures same { H.numbers hash.new ≡ H.numbers hash.old }
@@ -358,5 +395,13 @@ fn record_numbers(rtype: RType, ttl: u32, length: u16) -> [u8; 10]
     BigEndian::write_u16(&mut octets[2..], CLASS_IN);
     BigEndian::write_u32(&mut octets[4..], ttl);
     BigEndian::write_u16(&mut octets[8..], length);
+    octets
+}
+
+fn number_octets(number: u16) -> [u8; 2]
+    ensures { result ≡ octets16 number }
+{
+    let mut octets = [0; 2];
+    BigEndian::write_u16(&mut octets, number);
     octets
 }

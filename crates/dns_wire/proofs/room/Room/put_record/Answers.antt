@@ -1,4 +1,4 @@
-use Rattle.std.proofs.Common.{◌≡◌, ◌+◌, ◌<◌, ◌∙◌, false, refl, sym, ap, subst, subst₂, arith, length, ◌++◌, ◌∷◌, [], lt_of_not-le}
+use Rattle.std.proofs.Common.{◌≡◌, ◌+◌, ◌<◌, ◌≤◌, ◌∙◌, Bool, true, false, refl, sym, ap, subst, subst₂, arith, length, ◌++◌, ◌∷◌, [], length-append, lt_of_not-le}
 use Rattle.std.proofs.lemmas.Bool.{false≢true}
 use Rattle.std.specs.Bool.{OnTrue}
 use Rattle.dns_spec.specs.Layout.{record_laid}
@@ -32,3 +32,11 @@ returns-else-put_name-clause-written g c = λ ms holds.
     let over = lt_of_not-le (λ fits. false≢true (sym c.if-put_name.false ∙ exactly.1 fits)) in
     subst (λ f. IsWritten (g.H.SuffixHash.numbers c.args.hash.now) c.args.self.now.limit ms b (record_laid ms (length b) (shown n c.args.rtype.0 c.args.ttl c.args.rdata.now)) f c.put_name.new.self.octets.items c.put_name.new.self.places)
     (sym c.if-put_name.false) (not_written (record_past c.args.self.now.limit ms b n c.args.rtype.0 c.args.ttl c.args.rdata.now over))
+
+pub returns-then-put_name-clause-longer : goal.returns-then-put_name-clause-longer
+returns-then-put_name-clause-longer g c = go c.put_tail.result c.put_tail.ensures.longer
+  where
+    go : (t : Bool) → OnTrue t (length c.put_name.new.self.octets.items + 10 ≤ length c.put_tail.new.self.octets.items)
+        → OnTrue t (length c.args.self.now.octets.items + 10 ≤ length c.put_tail.new.self.octets.items)
+    go false h = tt
+    go true h = omega (arith, h, ap length c.put_name.ensures.extends.octets, length-append c.args.self.now.octets.items c.put_name.ensures.extends.more_octets)

@@ -1,4 +1,5 @@
 use Rattle.std.proofs.Common.{◌≡◌, ℕ, ◌+◌, ◌<◌, ◌≤◌, ◌∙◌, List, suc, true, false, refl, sym, ap, ap₂, subst, subst₂, arith, length, drop, get_or, [], ◌∷◌, ◌++◌}
+use Rattle.std.specs.Bool.{OnTrue}
 use Rattle.dns_spec.specs.Records.{ResourceRecord}
 use Rattle.dns_spec.specs.Sets.{records_at}
 use Rattle.dns_spec.specs.Layout.{Placed, record_laid}
@@ -11,6 +12,7 @@ pub records-init : goal.records-init
 records-init g c = record {
   go = records_begin (g.H.SuffixHash.numbers c.args.hash.now) (records_at c.args.owner.now c.args.ttl (g.S.SetView.set c.args.set.now)) c.args.self.now.octets.items c.args.self.now.places;
   extends = extends_none c.args.self.now.octets.items c.args.self.now.places;
+  longer = omega arith;
   limit = refl;
   same = refl;
   sound = c.requires;
@@ -45,6 +47,7 @@ records-preserved g c =
     record {
       go = subst (λ j. RecordsGo head rs b₀ ks₀ (drop j rs) b' ks') next (records_step head limit rs (drop (suc k) rs) r b₀ b b' ks₀ ks ks' go done);
       extends = extends_again c.records.invariant.extends c.put_record.ensures.extends;
+      longer = let more = subst (λ t. OnTrue t (length b + 10 ≤ length b')) c.if-not-put_record.false c.put_record.ensures.longer in let so_far = c.records.invariant.longer in omega (arith, more, so_far);
       limit = c.put_record.ensures.limit ∙ c.records.invariant.limit;
       same = c.put_record.ensures.same ∙ numbers;
       sound = c.put_record.ensures.sound;

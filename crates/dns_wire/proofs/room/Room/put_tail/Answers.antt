@@ -1,11 +1,11 @@
-use Rattle.std.proofs.Common.{◌≡◌, ◌+◌, ◌<◌, ◌∙◌, false, refl, sym, ap, ap₂, subst, subst₂, arith, length, ◌++◌, [], append-nil, lt_of_not-le}
+use Rattle.std.proofs.Common.{◌≡◌, ◌+◌, ◌<◌, ◌∙◌, false, refl, sym, ap, ap₂, subst, subst₂, arith, length, ◌++◌, [], append-nil, length-append, lt_of_not-le}
 use Rattle.std.proofs.lemmas.Bool.{false≢true}
 use Rattle.dns_spec.specs.Data.{laid_parts}
 use Rattle.dns_spec.specs.Layout.{data_laid}
 use Rattle.dns_wire.specs.Writing.{Holds, IsWritten, tail_laid}
 use Rattle.dns_wire.proofs.Suffixes.{extends_again}
 use Rattle.dns_wire.proofs.NameWritten.{holds_octets}
-use Rattle.dns_wire.proofs.DataWritten.{extends_same, octets_extend, tail_written, tail_past, not_written}
+use Rattle.dns_wire.proofs.DataWritten.{extends_same, octets_extend, tail_written, tail_past, not_written, on_true}
 use Rattle.dns_wire.proofs.room.Room.put_tail.Goals as goal
 
 pub returns-in_default-clause-extends : goal.returns-in_default-clause-extends
@@ -54,3 +54,16 @@ pub returns-else-append-clause-extends : goal.returns-else-append-clause-extends
 returns-else-append-clause-extends g c =
     extends_again (extends_same c.data_length.ensures.octets c.data_length.ensures.places)
     (octets_extend (c.record_numbers-numbers.result ++ []) c.append.result c.append.ensures.octets c.append.ensures.unchanged c.append.ensures.places)
+
+pub returns-then-append-clause-longer : goal.returns-then-append-clause-longer
+returns-then-append-clause-longer g c =
+    on_true c.put_data.result (omega (
+      arith,
+      ap length c.if-append.ensures.octets,
+      ap length c.data_length.ensures.octets,
+      ap length c.record_numbers-numbers.ensures,
+      ap length c.put_data.ensures.extends.octets,
+      length-append c.data_length.new.self.octets.items (c.record_numbers-numbers.result ++ []),
+      length-append c.record_numbers-numbers.result [],
+      length-append c.append.new.self.octets.items c.put_data.ensures.extends.more_octets
+    ))
