@@ -4,3 +4,10 @@ mod ReadLemmas
 mod ValidData
 mod Anyway
 mod NameLoop
+mod ChainLemmas
+mod SpelledLemmas
+mod Suffixes
+mod NameWritten
+mod DataWritten
+mod RecordsWritten
+mod DraftLemmas

@@ -3,3 +3,7 @@ pub mod Labels
 pub mod Pieces
 pub mod Read
 pub mod QueryForm
+pub mod Kept
+pub mod Chains
+pub mod Writing
+pub mod Draft

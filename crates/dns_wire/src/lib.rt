@@ -1,4 +1,4 @@
-//! Messages on the wire (RFC 1035 4.1), read; and queries, read.
+//! Messages on the wire (RFC 1035 4.1), read and written; and queries, read.
 #![tactic(auto)]
 
 mod data;
@@ -6,11 +6,17 @@ mod fault;
 mod message;
 mod name;
 mod number;
+mod page;
+mod places;
 mod query;
 mod reader;
+mod room;
+mod spelled;
 
 pub use fault::WireFault;
 pub use message::{CLASS_IN, Head, Message, Question, WireRecord};
+pub use page::{Page, Section};
+pub use places::SuffixHash;
 pub use query::{QueryRead, Rcode, read_query};
 pub use reader::read_message;
 
