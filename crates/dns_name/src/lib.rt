@@ -9,7 +9,7 @@ mod text;
 mod written;
 
 pub use label::Label;
-pub use name::{Labels, Name};
+pub use name::{Labels, Name, first_label};
 pub use tally::{SinkFailed, SourceFailed, Tally};
 pub use text::{NameFault, first_octet};
 

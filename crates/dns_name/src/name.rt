@@ -306,8 +306,9 @@ impl Labels<'_> {
     }
 }
 
-// The first label of a wire form, if it is not the root's, and the wire form behind it.
-fn first_label(octets: &[u8]) -> Option<(Label<'_>, &[u8])>
+/// The first label of a name in wire form, and the wire form of the rest: of `www.example.`, `www` and `example.` The root
+/// has none.
+pub fn first_label(octets: &[u8]) -> Option<(Label<'_>, &[u8])>
     requires { IsWireForm octets.now }
     ensures { MatchOption result (labels_of octets.now ≡ [])
         (λ x. (labels_of octets.now ≡ x.0 ∷ labels_of x.1.now) × IsWireForm x.1.now) }

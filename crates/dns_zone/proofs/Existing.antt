@@ -1,18 +1,20 @@
 -- Which names exist in a built zone.
-use Rattle.std.proofs.Common.{◌≡◌, ℕ, ◌-◌, ◌≤◌, ◌<◌, Bool, true, false, ◌&&◌, ◌||◌, not, cond, ◌==◌, nat_le, List, [], ◌∷◌, ◌++◌, map, length, drop, refl, sym, ap, ap₂, ◌∙◌, arith}
-use Rattle.std.proofs.lemmas.Bool.{and_parts, false≢true, false_from_ne_true, or_right}
+use Rattle.std.proofs.Common.{◌≡◌, ℕ, ◌-◌, ◌≤◌, ◌<◌, Bool, true, false, ◌&&◌, ◌||◌, not, ◌==◌, nat_le, List, [], ◌∷◌, ◌++◌, map, length, drop, refl, sym, ap, ap₂, ◌∙◌, arith}
+use Rattle.std.proofs.lemmas.Bool.{and_parts, false≢true, false_from_ne_true, or_right, lt-ltb}
 use Rattle.std.proofs.lemmas.List.{length-map}
 use Rattle.std.specs.Char.{to_ascii_lowercase}
 use Rattle.std.specs.List.{list_any}
 use Rattle.dns_spec.specs.Names.{Octets, DomainName, wire, folded, names_equal, same, at_or_below}
 use Rattle.dns_spec.specs.Data.{type_soa}
-use Rattle.dns_spec.specs.Records.{ResourceRecord, ZoneContents, owns}
+use Rattle.dns_spec.specs.Records.{ResourceRecord, ZoneContents, at, owns}
+use Rattle.dns_spec.specs.Checks.{is_owner}
 use Rattle.dns_spec.specs.Tree.{exists}
 use Rattle.dns_spec.specs.ZonePrinted.{IsReadRecord}
 use Rattle.dns_spec.proofs.NameLaws.{IsName-is_name, at_or_below-length-wire}
-use Rattle.dns_spec.proofs.SortedOnce.{Each}
+use Rattle.dns_spec.proofs.SortedOnce.{Each, Among, each_weaker, filter_among}
 use Rattle.dns_spec.proofs.RecordOrder.{each_all}
-use Rattle.dns_spec.proofs.PassedChecks.{checks_of_origin}
+use Rattle.dns_spec.proofs.PassedChecks.{checks_of_origin, checks_at}
+use Rattle.dns_spec.proofs.ItemSets.{each_among}
 use Rattle.dns_zone.specs.Nodes.{IsNode}
 use Rattle.dns_zone.specs.ZoneForm.{IsBuilt}
 use Rattle.dns_zone.proofs.NameOrder.{same-from, lower_twice}
@@ -52,21 +54,41 @@ exists-fits z n kept e = go z.records (each_all IsReadRecord z.records kept.each
         here false a b f = f b
 
 -- the origin owns an SOA, so that it exists
-pub origin-node : (z : ZoneContents) → IsBuilt z → IsNode z z.origin
-origin-node z kept =
+pub origin-soa : (z : ZoneContents) → IsBuilt z → owns z z.origin type_soa ≡ true
+origin-soa z kept =
     let none : (same z.origin z.origin && not (owns z z.origin type_soa)) ≡ false = (checks_of_origin z kept.low kept.passes).0 in
     let here : same z.origin z.origin ≡ true = same-from z.origin z.origin refl in
-    let owned : owns z z.origin type_soa ≡ true = has (owns z z.origin type_soa) (sym (ap (λ b. b && not (owns z z.origin type_soa)) here) ∙ none) in
-    record {
-      built = kept;
-      lower = kept.low;
-      stands = any_more (λ (r : ResourceRecord). same r.owner z.origin && r.rtype == type_soa) (λ (r : ResourceRecord). at_or_below r.owner z.origin) z.records
-          (λ r h. itself-under r.owner z.origin (and_parts (same r.owner z.origin) (r.rtype == type_soa) h).0) owned;
-    }
+    has (owns z z.origin type_soa) (sym (ap (λ b. b && not (owns z z.origin type_soa)) here) ∙ none)
   where
     has : (b : Bool) → not b ≡ false → b ≡ true
     has true e = refl
     has false e = absurd (false≢true (sym e))
+
+pub origin-node : (z : ZoneContents) → IsBuilt z → IsNode z z.origin
+origin-node z kept = record {
+  built = kept;
+  lower = kept.low;
+  stands = any_more (λ (r : ResourceRecord). same r.owner z.origin && r.rtype == type_soa) (λ (r : ResourceRecord). at_or_below r.owner z.origin) z.records
+      (λ r h. itself-under r.owner z.origin (and_parts (same r.owner z.origin) (r.rtype == type_soa) h).0) (origin-soa z kept);
+}
+
+-- all records of a built zone are at or below its origin
+pub all-inside : (z : ZoneContents) → IsBuilt z → Each (λ (r : ResourceRecord). at_or_below r.owner z.origin ≡ true) z.records
+all-inside z kept =
+    each_among (λ (r : ResourceRecord). at_or_below r.owner z.origin ≡ true) z.records (λ r m.
+    let lows = each_weaker IsReadRecord (λ (s : ResourceRecord). folded s.owner ≡ s.owner) z.records (λ s h. h.lower_owner) (each_all IsReadRecord z.records kept.each) in
+    let fine : (is_owner z r.owner && not (at_or_below r.owner z.origin)) ≡ false = (checks_at z kept.low lows kept.passes r m).1.1.1.1.0 in
+    let own : Among r (at z r.owner) = filter_among (λ (s : ResourceRecord). same s.owner r.owner) r z.records (same-from r.owner r.owner refl) m in
+    let owner : is_owner z r.owner ≡ true = lt-ltb 0 _ (some_length r (at z r.owner) own) in
+    inside (at_or_below r.owner z.origin) (sym (ap (λ b. b && not (at_or_below r.owner z.origin)) owner) ∙ fine))
+  where
+    some_length : (r : ResourceRecord) (rs : List ResourceRecord) → Among r rs → 0 < length rs
+    some_length r [] m = absurd m
+    some_length r (s ∷ rs) m = omega arith
+
+    inside : (b : Bool) → not b ≡ false → b ≡ true
+    inside true e = refl
+    inside false e = absurd (false≢true (sym e))
 
 -- a child by its label: only the lower case counts
 pub child-exists : (z : ZoneContents) (l : Octets) (n : DomainName) → folded n ≡ n → exists z (map to_ascii_lowercase l ∷ n) ≡ exists z (l ∷ n)

@@ -14,3 +14,11 @@ pub mod ToldNames
 pub mod OwnersWalk
 pub mod NodeSets
 pub mod Existing
+pub mod Spans
+pub mod ChildNames
+pub mod KidRows
+pub mod GrowingKids
+pub mod OriginRow
+pub mod GrowingTree
+pub mod FoundKid
+pub mod NodeRows

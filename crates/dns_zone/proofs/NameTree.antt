@@ -74,7 +74,7 @@ below-cons l n a = go (at_or_below n a) refl
         by_cases s (inr k) = false≢true (sym e ∙ k)
 
 -- labels that tie are one
-label-tie : (x y : Octets) → label_order x y ≡ Equal → x ≡ y
+pub label-tie : (x y : Octets) → label_order x y ≡ Equal → x ≡ y
 label-tie x y e = (octets_equal-decides x y).0 (lists_ties nat_cmp nat_ties x y ∙ ap is_eq e)
 
 -- a list is not after one that begins with it

@@ -1,6 +1,9 @@
 pub mod ZoneForm
 pub mod Nodes
 pub mod SetForm
+pub mod TreeForm
+pub mod TreeSteps
+pub mod NodeForm
 pub mod SetWalks
 pub mod CutForm
 pub mod OwnerForm

@@ -2,7 +2,7 @@
 -- sets of records keep.
 use Rattle.std.specs.Prelude.{◌≡◌, ℕ, true, ◌≤◌, length}
 use Rattle.dns_spec.specs.Names.{DomainName, folded}
-use Rattle.dns_spec.specs.Records.{ResourceRecord, ZoneContents, rrset}
+use Rattle.dns_spec.specs.Records.{ZoneContents, rrset}
 use Rattle.dns_spec.specs.Sets.{RecordSet, HasValidData, records_at}
 use Rattle.dns_spec.specs.Tree.{exists}
 use Rattle.dns_spec.specs.Meaning.{most_ttl}

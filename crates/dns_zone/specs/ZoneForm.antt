@@ -12,6 +12,12 @@ use Rattle.dns_zone.specs.declared.fault.BuildFault.TheVariants.{Faults, NoMemor
 abbrev pub AreOrdered : List ResourceRecord → Type 0
 AreOrdered rs = sort_by record_order rs ≡ rs
 
+-- records that were read, in canonical order, no more than a zone may have
+pub record IsCanonical (rs : List ResourceRecord) : Type 0 where
+  pub each : All IsReadRecord rs
+  pub ordered : AreOrdered rs
+  pub few : length rs ≤ most_records
+
 -- what every built zone keeps: an origin in lower case, and records in canonical order, without a fault
 pub record IsBuilt (z : ZoneContents) : Type 0 where
   pub low : folded z.origin ≡ z.origin

@@ -11,11 +11,14 @@ mod order;
 mod ordered;
 mod owner;
 mod printed;
+mod row;
+mod search;
 mod set;
 mod sets;
 mod steps;
 mod survey;
 mod target;
+mod tree;
 mod zone;
 
 pub use fault::{BuildFault, CheckFault};

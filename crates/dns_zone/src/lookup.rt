@@ -3,7 +3,7 @@ ghost use Rattle.std.specs.Prelude.{◌≡◌, ◌≤◌, ◌==◌, length, take
 ghost use Rattle.std.specs.List.{list_any, filter, prefix_len};
 ghost use Rattle.std.specs.List.Sorted.{IsPartitionedBy, IsNonDecreasingBy};
 ghost use Rattle.std.specs.Ordering.{is_lt};
-ghost use Rattle.dns_spec.specs.Names.{folded, same, name_order};
+ghost use Rattle.dns_spec.specs.Names.{folded, same, at_or_below, name_order};
 ghost use Rattle.dns_spec.specs.Records.{ResourceRecord};
 ghost use Rattle.dns_zone.specs.ZoneForm.{AreOrdered};
 
@@ -41,6 +41,16 @@ pub(crate) fn count_at(records: &[Record], name: &Name) -> usize
     ensures others { drop result records.now ≡ filter (λ (r : ResourceRecord). not (same r.owner name.now)) records.now }
 {
     records.partition_point(|listed| is_at(listed, name))
+}
+
+/// How many of the records have owners at or below the name, where these stand in front.
+pub(crate) fn count_under(records: &[Record], name: &Name) -> usize
+    requires { IsPartitionedBy (λ (r : ResourceRecord). at_or_below r.owner name.now) records.now }
+    ensures bound { result ≤ length records.now }
+    ensures own { take result records.now ≡ filter (λ (r : ResourceRecord). at_or_below r.owner name.now) records.now }
+    ensures others { drop result records.now ≡ filter (λ (r : ResourceRecord). not (at_or_below r.owner name.now)) records.now }
+{
+    records.partition_point(|listed| listed.owner.at_or_below(name))
 }
 
 /// How many records stand in front whose owner is the name. They are passed one by one.

@@ -1,5 +1,5 @@
 //! The nodes of a zone: the names that exist in it (RFC 1034 3.1, RFC 4592 2.2).
-ghost use Rattle.std.specs.Prelude.{◌≡◌, ◌+◌, ◌<◌, ◌≤◌, ◌↔◌, ◌∷◌, map, length, is_some, if◌then◌else◌, IsTrue, IsSome, IsNone, IfSome, true};
+ghost use Rattle.std.specs.Prelude.{◌≡◌, ◌+◌, ◌<◌, ◌≤◌, ◌↔◌, ◌∷◌, map, length, get_or, is_some, if◌then◌else◌, IsTrue, IsSome, IsNone, IfSome, true};
 ghost use Rattle.std.specs.Char.{to_ascii_lowercase};
 ghost use Rattle.std.specs.List.Sorted.{IsNonDecreasingBy};
 ghost use Rattle.dns_spec.specs.Names.{folded, wire};
@@ -7,11 +7,15 @@ ghost use Rattle.dns_spec.specs.Records.{ResourceRecord, at, rrset};
 ghost use Rattle.dns_spec.specs.Sets.{set_of, of_lowest_type};
 ghost use Rattle.dns_spec.specs.Tree.{exists};
 ghost use Rattle.dns_zone.specs.Nodes.{IsNode, IsSetOf};
+ghost use Rattle.dns_zone.specs.NodeForm.{zone_of_tree, IsZoneTree, IsNodeAt};
+ghost use Rattle.dns_zone.specs.TreeForm.{kids_at};
 
-use crate::lookup::{of_type, records_at};
+use crate::lookup::of_type;
+use crate::row::Row;
+use crate::search::find;
 use crate::set::{RecordSet, lent_set};
 use crate::steps::Steps;
-use crate::zone::Zone;
+use crate::tree::Tree;
 use dns_master::Record;
 use dns_name::{Label, Name};
 use dns_rdata::RType;
@@ -22,28 +26,30 @@ use std::marker::Model;
 /// It is lent out of the zone, as are its sets. A node is had from a walk alone, which counts it.
 #[derive(Drop)]
 pub struct Node<'z> {
-    zone: &'z Zone,
-    name: Name,
+    tree: &'z Tree,
+    row: usize,
 }
 
 impl<'z> Model for Node<'z> {
-    ghost use Rattle.dns_zone.specs.Nodes.{ZoneNode, IsNode};
+    ghost use Rattle.dns_zone.specs.Nodes.{ZoneNode};
 
     ghost Value = { ZoneNode };
 
-    ghost view = { λ n. record { zone = n.zone.now; name = n.name } };
+    ghost use Rattle.dns_zone.specs.NodeForm.{node_at, IsNodeAt};
 
-    ghost invariant = { λ n. IsNode n.zone.now n.name };
+    ghost view = { λ n. node_at n.tree.now n.row };
+
+    ghost invariant = { λ n. IsNodeAt n.tree.now n.row };
 }
 
 impl<'z> Node<'z> {
     // The node of the zone's origin.
-    pub(crate) fn of_origin(zone: &'z Zone) -> Node<'z>
-        ensures node { result ≡ record { zone = zone.now; name = zone.now.origin } }
-        ensures exists { IsNode zone.now zone.now.origin }
+    pub(crate) fn of_origin(tree: &'z Tree) -> Node<'z>
+        requires { IsZoneTree tree.now }
+        ensures node { result ≡ record { zone = zone_of_tree tree.now; name = tree.now.origin } }
+        ensures exists { IsNode (zone_of_tree tree.now) tree.now.origin }
     {
-        let name = zone.origin().copied();
-        Node { zone, name }
+        Node { tree, row: 0 }
     }
 
     /// The child of this label, if that name exists. Labels are compared without regard to the case of ASCII letters
@@ -68,15 +74,18 @@ impl<'z> Node<'z> {
         ensures compared { IfSome result (λ _. steps.old.comparisons < steps.new.comparisons) }
         ensures same_zone { steps.new.zone ≡ steps.old.zone }
     {
-        let name = child_name(label, &self.name)?;
-        steps.count_comparison();
-        if !self.zone.exists(&name) {
+        let mut asked = Name::root();
+        if !asked.push(label) {
             return None;
         }
+        asked.fold_in_place();
+        let lower = asked.labels().next()?;
+        let (start, kids) = kids_of(self.tree, self.row);
+        let found = find(self.tree.records.as_slice(), kids, lower.octets(), steps)?;
         steps.count_visit();
         Some(Node {
-            zone: self.zone,
-            name,
+            tree: self.tree,
+            row: start + found,
         })
     }
 
@@ -105,24 +114,18 @@ impl<'z> Node<'z> {
         ensures by_types { IsNonDecreasingBy (λ (r : ResourceRecord). r.rtype) result.now }
         ensures node { IsNode self.now.zone self.now.name }
     {
-        records_at(self.zone.records(), &self.name)
+        let row = &self.tree.rows[self.row];
+        &self.tree.records.as_slice()[row.first as usize..row.own_end as usize]
     }
 }
 
-// The name with a label before it, in lower case; `None` where it would be too long for a name.
-fn child_name(label: Label<'_>, name: &Name) -> Option<Name>
-    requires { folded name.now ≡ name.now }
-    ensures some { IfSome result (λ n. n ≡ map to_ascii_lowercase label.entry ∷ name.now) }
-    ensures none { IsNone result → 255 < length (wire (label.entry ∷ name.now)) }
+// The number of the first child of a row, and its children.
+fn kids_of<'z>(tree: &'z Tree, row: usize) -> (usize, &'z [Row])
+    requires { IsNodeAt tree.now row }
+    ensures start { result.0 ≡ get_or tree.now.bounds.items row 0 }
+    ensures kids { result.1.now ≡ kids_at tree.now.rows.items tree.now.bounds.items row }
 {
-    let mut child = Name::root();
-    if !child.push(label) {
-        return None;
-    }
-    'labels: for other in name.labels() {
-        if !child.push(other) {
-            return None;
-        }
-    }
-    Some(child.fold())
+    let start = tree.bounds[row];
+    let end = tree.bounds[row + 1];
+    (start, &tree.rows.as_slice()[start..end])
 }

@@ -75,7 +75,7 @@ impl<'z> Steps<'z> {
         ensures zone { self.new.zone ≡ self.old.zone }
     {
         self.visits += 1;
-        Node::of_origin(self.zone)
+        Node::of_origin(self.zone.tree())
     }
 
     // Counts a node that is handed out.

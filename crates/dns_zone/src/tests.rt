@@ -2,3 +2,4 @@ mod arranging;
 mod building;
 mod printing;
 mod texts;
+mod walking;

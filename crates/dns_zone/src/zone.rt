@@ -5,14 +5,15 @@ ghost use Rattle.std.specs.List.{filter};
 ghost use Rattle.dns_spec.specs.Names.{folded, same};
 ghost use Rattle.dns_spec.specs.Records.{ResourceRecord, zone_of, ordered_zone, first_serial, zone_serial};
 ghost use Rattle.dns_spec.specs.Checks.{faults};
-ghost use Rattle.dns_spec.specs.Tree.{exists};
 ghost use Rattle.dns_spec.specs.Meaning.{most_records};
 ghost use Rattle.dns_spec.specs.ZonePrinted.{is_soa};
 ghost use Rattle.dns_zone.specs.ZoneForm.{IsBuilt, TellsFaults};
+ghost use Rattle.dns_zone.specs.NodeForm.{zone_of_tree, IsZoneTree};
 
 use crate::fault::BuildFault;
 use crate::faults::faults;
 use crate::ordered::ordered;
+use crate::tree::{Rows, Tree, rows_of};
 use dns_master::Record;
 use dns_name::Name;
 use dns_rdata::{RType, Rdata};
@@ -22,19 +23,19 @@ use std::marker::Model;
 /// A zone that has no fault: an origin, and records in canonical order, each once. It has at most 100,000.
 #[derive(Drop)]
 pub struct Zone {
-    origin: Name,
-    records: Vec<Record>,
+    tree: Tree,
 }
 
 impl Model for Zone {
     ghost use Rattle.dns_spec.specs.Records.{ZoneContents};
-    ghost use Rattle.dns_zone.specs.ZoneForm.{IsBuilt};
 
     ghost Value = { ZoneContents };
 
-    ghost view = { λ z. record { origin = z.origin; records = z.records.items } };
+    ghost use Rattle.dns_zone.specs.NodeForm.{zone_of_tree, IsZoneTree};
 
-    ghost invariant = { λ z. IsBuilt (record { origin = z.origin; records = z.records.items }) };
+    ghost view = { λ z. zone_of_tree z.tree };
+
+    ghost invariant = { λ z. IsZoneTree z.tree };
 }
 
 impl Zone {
@@ -54,7 +55,15 @@ impl Zone {
         if !found.is_empty() {
             return Err(BuildFault::Faults(found));
         }
-        Ok(Zone { origin, records })
+        let Rows { rows, bounds } = rows_of(alloc, &origin, records.as_slice())?;
+        Ok(Zone {
+            tree: Tree {
+                origin,
+                records,
+                rows,
+                bounds,
+            },
+        })
     }
 
     /// The name at and below which the zone speaks, in lower case.
@@ -63,23 +72,22 @@ impl Zone {
         ensures lower { folded self.now.origin ≡ self.now.origin }
         ensures built { IsBuilt self.now }
     {
-        &self.origin
+        &self.tree.origin
     }
 
     /// The serial number of its SOA (RFC 1035 3.3.13).
     pub fn serial(&self) -> u32
         ensures { result ≡ zone_serial self.now }
     {
-        serial_at(&self.origin, self.records.as_slice())
+        serial_at(&self.tree.origin, self.tree.records.as_slice())
     }
 
-    // Whether the name exists.
-    pub(crate) fn exists(&self, name: &Name) -> bool
-        ensures { result ≡ exists self.now name.now }
+    // Its names.
+    pub(crate) fn tree(&self) -> &Tree
+        ensures zone { zone_of_tree result.now ≡ self.now }
+        ensures tree { IsZoneTree result.now }
     {
-        self.records
-            .iter()
-            .any(|listed| listed.owner.at_or_below(name))
+        &self.tree
     }
 
     // Its records, in canonical order.
@@ -87,7 +95,7 @@ impl Zone {
         ensures records { result.now ≡ self.now.records }
         ensures built { IsBuilt self.now }
     {
-        self.records.as_slice()
+        self.tree.records.as_slice()
     }
 }
 

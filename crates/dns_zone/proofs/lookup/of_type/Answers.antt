@@ -1,4 +1,4 @@
-use Rattle.std.proofs.Common.{◌==◌, refl, sym, ap, ◌∙◌, subst, filter}
+use Rattle.std.proofs.Common.{◌==◌, sym, ap, ◌∙◌, subst, filter}
 use Rattle.std.proofs.lemmas.List.{take_rest}
 use Rattle.std.specs.List.Sorted.{IsPartitionedBy}
 use Rattle.dns_spec.specs.Records.{ResourceRecord}

@@ -1,7 +1,7 @@
 use Rattle.std.proofs.Common.{◌≡◌, ◌∷◌, ◌==◌, sym, ap, ◌∙◌, subst, filter}
 use Rattle.std.specs.List.Sorted.{IsNonDecreasingBy}
 use Rattle.dns_spec.specs.Records.{ResourceRecord, at, rrset}
-use Rattle.dns_spec.specs.Sets.{set_of, of_lowest_type}
+use Rattle.dns_spec.specs.Sets.{set_of}
 use Rattle.dns_zone.specs.SetForm.{AreOfType}
 use Rattle.dns_zone.proofs.Types.{first_rest}
 use Rattle.dns_zone.proofs.NodeSets.{of_type_is, are_of_type, sets_kept, lowest}

@@ -1,11 +1,18 @@
-use Rattle.std.proofs.Common.{sym, ap, ◌∙◌, subst}
-use Rattle.dns_zone.specs.Nodes.{IsNode}
+use Rattle.std.proofs.Common.{ap}
+use Rattle.dns_spec.specs.Names.{DomainName}
+use Rattle.dns_zone.specs.NodeForm.{zone_of_tree}
+use Rattle.dns_zone.specs.TreeForm.{row_at}
+use Rattle.dns_zone.proofs.GrowingKids.{row_is}
 use Rattle.dns_zone.proofs.Existing.{origin-node}
 use Rattle.dns_zone.proofs.node.Node.of_origin.Goals as goal
 
 pub invariant_of-result : goal.invariant_of-result
-invariant_of-result c =
-    subst (IsNode c.args.zone.now) (sym (c.copied-name.ensures.value ∙ c.origin.ensures.origin)) (origin-node c.args.zone.now c.origin.ensures.built)
+invariant_of-result c = record { kept = c.requires; row = c.requires.tree.some }
+
+pub returns-clause-node : goal.returns-clause-node
+returns-clause-node c =
+    let t = c.args.tree.now in
+    ap (λ (n : DomainName). record { zone = zone_of_tree t; name = n }) (row_is t.records.items (row_at t.rows.items 0) t.origin c.requires.tree.origin)
 
 pub returns-clause-exists : goal.returns-clause-exists
-returns-clause-exists c = origin-node c.args.zone.now c.origin.ensures.built
+returns-clause-exists c = origin-node (zone_of_tree c.args.tree.now) c.requires.built

@@ -1,0 +1,148 @@
+-- The rows of a zone, added level by level.
+use Rattle.std.proofs.Common.{◌≡◌, ℕ, zero, suc, ◌+◌, ◌-◌, ◌<◌, ◌≤◌, ◌⊎◌, inl, inr, List, [], ◌∷◌, ◌++◌, length, drop, get_or, refl, sym, ap, ◌∙◌, arith, subst, length-append, length-drop}
+use Rattle.std.proofs.lemmas.Bool.{cases_lt}
+use Rattle.std.proofs.lemmas.List.{take-append-drop, get_or-take, get_or-drop, get_or_append_left, get_or_push, take_all}
+use Rattle.dns_spec.specs.Names.{DomainName}
+use Rattle.dns_spec.specs.Records.{ResourceRecord}
+use Rattle.dns_zone.specs.TreeForm.{span, row_name, row_at, kids_at, IsRow, IsKid, AreKids, IsTree}
+use Rattle.dns_zone.specs.TreeSteps.{AddsKids}
+use Rattle.dns_zone.specs.declared.row.Row.{Row}
+use Rattle.dns_zone.proofs.Pairs.{each_get}
+use Rattle.dns_zone.proofs.Spans.{span_front}
+use Rattle.dns_zone.proofs.GrowingKids.{row_is}
+
+-- the rows before row i have their children
+pub record Growing (o : DomainName) (rs : List ResourceRecord) (rows : List Row) (bounds : List ℕ) (i : ℕ) : Type 0 where
+  pub origin : IsRow rs (row_at rows 0) o
+  pub some : 0 < length rows
+  pub upto : i ≤ length rows
+  pub count : length bounds ≡ i + 1
+  pub last : get_or bounds i 0 ≡ length rows
+  pub each : (k : ℕ) → k < length rows → IsRow rs (row_at rows k) (row_name rs (row_at rows k))
+  pub rise : (k : ℕ) → k < i → get_or bounds k 0 ≤ get_or bounds (k + 1) 0
+  pub within : (k : ℕ) → k < i → get_or bounds (k + 1) 0 ≤ length rows
+  pub kids : (k : ℕ) → k < i → AreKids rs (row_name rs (row_at rows k)) (kids_at rows bounds k)
+
+pub own_name : (rs : List ResourceRecord) (row : Row) (n : DomainName) → IsRow rs row n → IsRow rs row (row_name rs row)
+own_name rs row n h = subst (IsRow rs row) (sym (row_is rs row n h)) h
+
+pub begin : (o : DomainName) (rs : List ResourceRecord) (row : Row) → IsRow rs row o → Growing o rs (row ∷ []) (1 ∷ []) 0
+begin o rs row h = record {
+  origin = h;
+  some = omega arith;
+  upto = omega arith;
+  count = refl;
+  last = refl;
+  each = only;
+  rise = λ k l. absurd (omega arith);
+  within = λ k l. absurd (omega arith);
+  kids = λ k l. absurd (omega arith);
+}
+  where
+    only : (k : ℕ) → k < 1 → IsRow rs (row_at (row ∷ []) k) (row_name rs (row_at (row ∷ []) k))
+    only zero l = own_name rs row o h
+    only (suc k) l = absurd (omega arith)
+
+module _ (o : DomainName) (rs : List ResourceRecord) (rows : List Row) (bounds : List ℕ) (i : ℕ) (g : Growing o rs rows bounds i) where
+  module _ (h : i < length rows) (rows' : List Row) (a : AddsKids rs (row_name rs (row_at rows i)) rows rows') where
+    abbrev bounds' : List ℕ
+    bounds' = bounds ++ length rows' ∷ []
+
+    whole : rows' ≡ rows ++ drop (length rows) rows'
+    whole = sym (take-append-drop (length rows) rows') ∙ ap (λ xs. xs ++ drop (length rows) rows') a.kept
+
+    keep : (k : ℕ) → k < length rows → row_at rows' k ≡ row_at rows k
+    keep k l = sym (get_or-take (length rows) rows' k _ l) ∙ ap (λ xs. row_at xs k) a.kept
+
+    bound : (k : ℕ) → k ≤ i → get_or bounds' k 0 ≡ get_or bounds k 0
+    bound k l = let c = g.count in get_or_append_left bounds (length rows' ∷ []) 0 k (omega arith)
+
+    last_bound : get_or bounds' (i + 1) 0 ≡ length rows'
+    last_bound = get_or_push bounds (length rows') 0 (i + 1) g.count
+
+    now : (k : ℕ) → k < i + 1 → (k < i) ⊎ (k ≡ i)
+    now k l = go (cases_lt k i)
+      where
+        go : (k < i) ⊎ (i ≤ k) → (k < i) ⊎ (k ≡ i)
+        go (inl m) = inl m
+        go (inr m) = inr (omega arith)
+
+    each_now : (k : ℕ) → k < length rows' → IsRow rs (row_at rows' k) (row_name rs (row_at rows' k))
+    each_now k l = go (cases_lt k (length rows))
+      where
+        go : (k < length rows) ⊎ (length rows ≤ k) → IsRow rs (row_at rows' k) (row_name rs (row_at rows' k))
+        go (inl m) = subst (λ (r : Row). IsRow rs r (row_name rs r)) (sym (keep k m)) (g.each k m)
+        go (inr m) =
+            let d : Row = record { first = 0; own_end = 0; end = 0; place = 0 } in
+            let n = row_name rs (row_at rows i) in
+            let fits : k - length rows < length (drop (length rows) rows') = omega (arith, length-drop (length rows) rows') in
+            let at : length rows + (k - length rows) ≡ k = omega arith in
+            let kid = each_get (IsKid rs n) (drop (length rows) rows') (k - length rows) d a.kids.each fits in
+            let there : get_or (drop (length rows) rows') (k - length rows) d ≡ row_at rows' k = get_or-drop (length rows) rows' (k - length rows) d ∙ ap (row_at rows') at in
+            subst (λ (r : Row). IsRow rs r (row_name rs r)) there (own_name rs _ (kid.label ∷ n) kid.is_row)
+
+    rise_now : (k : ℕ) → k < i + 1 → get_or bounds' k 0 ≤ get_or bounds' (k + 1) 0
+    rise_now k l = go (now k l)
+      where
+        go : (k < i) ⊎ (k ≡ i) → get_or bounds' k 0 ≤ get_or bounds' (k + 1) 0
+        go (inl m) = let r = g.rise k m in omega (arith, bound k (omega arith), bound (k + 1) (omega arith))
+        go (inr m) =
+            subst (λ (j : ℕ). get_or bounds' j 0 ≤ get_or bounds' (j + 1) 0) (sym m)
+            (let c = a.longer in omega (arith, bound i (omega arith), g.last, last_bound))
+
+    within_now : (k : ℕ) → k < i + 1 → get_or bounds' (k + 1) 0 ≤ length rows'
+    within_now k l = go (now k l)
+      where
+        go : (k < i) ⊎ (k ≡ i) → get_or bounds' (k + 1) 0 ≤ length rows'
+        go (inl m) = let w = g.within k m in let c = a.longer in omega (arith, bound (k + 1) (omega arith))
+        go (inr m) = subst (λ (j : ℕ). get_or bounds' (j + 1) 0 ≤ length rows') (sym m) (omega (arith, last_bound))
+
+    kids_now : (k : ℕ) → k < i + 1 → AreKids rs (row_name rs (row_at rows' k)) (kids_at rows' bounds' k)
+    kids_now k l = go (now k l)
+      where
+        go : (k < i) ⊎ (k ≡ i) → AreKids rs (row_name rs (row_at rows' k)) (kids_at rows' bounds' k)
+        go (inl m) =
+            let u = g.upto in
+            let same : kids_at rows' bounds' k ≡ kids_at rows bounds k =
+            ap (λ (b : ℕ). span rows' b (get_or bounds' (k + 1) 0)) (bound k (omega arith))
+            ∙ ap (λ (b : ℕ). span rows' (get_or bounds k 0) b) (bound (k + 1) (omega arith))
+            ∙ ap (λ xs. span xs (get_or bounds k 0) (get_or bounds (k + 1) 0)) whole
+            ∙ span_front rows (drop (length rows) rows') (get_or bounds k 0) (get_or bounds (k + 1) 0) (g.within k m)
+            in
+            let named : row_at rows' k ≡ row_at rows k = keep k (omega arith) in
+            subst (λ (r : Row). AreKids rs (row_name rs r) (kids_at rows' bounds' k)) (sym named) (subst (AreKids rs (row_name rs (row_at rows k))) (sym same) (g.kids k m))
+        go (inr m) =
+            let same : kids_at rows' bounds' i ≡ drop (length rows) rows' =
+            ap (λ (b : ℕ). span rows' b (get_or bounds' (i + 1) 0)) (bound i (omega arith) ∙ g.last)
+            ∙ ap (λ (b : ℕ). span rows' (length rows) b) last_bound
+            ∙ take_all (length rows' - length rows) (drop (length rows) rows') (omega (arith, length-drop (length rows) rows'))
+            in
+            let named : row_at rows' i ≡ row_at rows i = keep i h in
+            subst (λ (j : ℕ). AreKids rs (row_name rs (row_at rows' j)) (kids_at rows' bounds' j)) (sym m)
+            (subst (λ (r : Row). AreKids rs (row_name rs r) (kids_at rows' bounds' i)) (sym named) (subst (AreKids rs (row_name rs (row_at rows i))) (sym same) a.kids))
+
+    pub advance : Growing o rs rows' bounds' (i + 1)
+    advance = record {
+      origin = subst (λ (r : Row). IsRow rs r o) (sym (keep 0 g.some)) g.origin;
+      some = let b = g.some in let c = a.longer in omega arith;
+      upto = let c = a.longer in omega arith;
+      count = let c = g.count in omega (arith, length-append bounds (length rows' ∷ []));
+      last = last_bound;
+      each = each_now;
+      rise = rise_now;
+      within = within_now;
+      kids = kids_now;
+    }
+
+  pub finish : i ≡ length rows → IsTree o rs rows bounds
+  finish e =
+      let less : (k : ℕ) → k < length rows → k < i = λ k l. subst (λ (j : ℕ). k < j) (sym e) l in
+      record {
+        some = g.some;
+        origin = g.origin;
+        count = let c = g.count in omega arith;
+        each = g.each;
+        rise = λ k l. g.rise k (less k l);
+        within = λ k l. g.within k (less k l);
+        kids = λ k l. g.kids k (less k l);
+      }

@@ -1,0 +1,97 @@
+-- The nodes of a zone by their rows.
+use Rattle.std.proofs.Common.{◌≡◌, ℕ, ◌+◌, ◌-◌, ◌<◌, ◌≤◌, true, List, [], ◌∷◌, length, drop, get_or, sym, ap, ◌∙◌, arith, subst, length-take}
+use Rattle.std.proofs.lemmas.List.{get_or-take, get_or-drop}
+use Rattle.std.specs.List.{list_any}
+use Rattle.dns_spec.specs.Names.{Octets, DomainName, at_or_below}
+use Rattle.dns_spec.specs.Records.{ResourceRecord}
+use Rattle.dns_spec.specs.Tree.{exists}
+use Rattle.dns_spec.proofs.SortedOnce.{Each, each_weaker}
+use Rattle.dns_spec.proofs.RecordOrder.{contains_among}
+use Rattle.dns_zone.specs.Nodes.{IsNode}
+use Rattle.dns_zone.specs.NodeForm.{zone_of_tree, IsNodeAt}
+use Rattle.dns_zone.specs.TreeForm.{first_of, row_name, row_label, row_at, kids_at, IsRow, IsKid, AreKids}
+use Rattle.dns_zone.specs.declared.row.Row.{Row}
+use Rattle.dns_zone.specs.declared.tree.Tree.{Tree}
+use Rattle.dns_zone.proofs.Pairs.{each_get}
+use Rattle.dns_zone.proofs.Spans.{in_span, any_there, get_or_any}
+use Rattle.dns_zone.proofs.KidRows.{is_under}
+use Rattle.dns_zone.proofs.GrowingKids.{row_is}
+use Rattle.dns_zone.proofs.GrowingTree.{own_name}
+
+-- the name of a row exists
+pub row_exists : (rs : List ResourceRecord) (row : Row) (n : DomainName) → IsRow rs row n → list_any (λ (r : ResourceRecord). at_or_below r.owner n) rs ≡ true
+row_exists rs row n h =
+    let d : ResourceRecord = record { owner = []; ttl = 0; rtype = 0; rdata = [] } in
+    let order : row.first ≤ row.end = let a = h.more in omega arith in
+    let here = in_span (is_under n) rs row.first row.end order h.below row.first d (omega arith) h.more h.end_fits in
+    any_there (is_under n) rs (get_or rs row.first d)
+    (contains_among (get_or rs row.first d) rs (row.first, h.some, get_or_any rs row.first (get_or rs row.first d) d h.some)) here
+
+module _ (t : Tree) (k : ℕ) (at : IsNodeAt t k) where
+  abbrev rs : List ResourceRecord
+  rs = t.records.items
+
+  abbrev row : Row
+  row = row_at t.rows.items k
+
+  abbrev name : DomainName
+  name = row_name rs row
+
+  pub is_row : IsRow rs row name
+  is_row = at.kept.tree.each k at.row
+
+  pub node_is : IsNode (zone_of_tree t) name
+  node_is = record {
+    built = at.kept.built;
+    lower = is_row.lower;
+    stands = row_exists rs row name is_row;
+  }
+
+  abbrev start : ℕ
+  start = get_or t.bounds.items k 0
+
+  abbrev end : ℕ
+  end = get_or t.bounds.items (k + 1) 0
+
+  abbrev kids : List Row
+  kids = kids_at t.rows.items t.bounds.items k
+
+  pub are_kids : AreKids rs name kids
+  are_kids = at.kept.tree.kids k at.row
+
+  pub kid_rows : Each (λ c. IsRow rs c (row_name rs c)) kids
+  kid_rows = each_weaker (IsKid rs name) (λ c. IsRow rs c (row_name rs c)) kids (λ c h. own_name rs c (h.label ∷ name) h.is_row) are_kids.each
+
+  -- a child by its place among the children
+  module _ (i : ℕ) (fits : i < length kids) where
+    size : length kids ≤ end - start
+    size = omega (arith, length-take (end - start) (drop start t.rows.items))
+
+    pub row_of_kid : row_at t.rows.items (start + i) ≡ row_at kids i
+    row_of_kid =
+        let s = size in
+        sym (get_or-take (end - start) (drop start t.rows.items) i _ (omega arith) ∙ get_or-drop start t.rows.items i _)
+
+    pub kid_in : start + i < length t.rows.items
+    kid_in =
+        let s = size in
+        let r = at.kept.tree.rise k at.row in
+        let w = at.kept.tree.within k at.row in
+        omega arith
+
+    the_kid : IsKid rs name (row_at kids i)
+    the_kid = each_get (IsKid rs name) kids i _ are_kids.each fits
+
+    pub kid_name : row_name rs (row_at t.rows.items (start + i)) ≡ row_label rs (row_at kids i) ∷ name
+    kid_name =
+        let whole = row_is rs (row_at kids i) (the_kid.label ∷ name) the_kid.is_row in
+        ap (row_name rs) row_of_kid ∙ whole ∙ ap (λ (n : DomainName). first_of n ∷ name) (sym whole)
+
+    pub kid_exists : exists (zone_of_tree t) (row_label rs (row_at kids i) ∷ name) ≡ true
+    kid_exists =
+        let whole = row_is rs (row_at kids i) (the_kid.label ∷ name) the_kid.is_row in
+        subst (λ (l : Octets). exists (zone_of_tree t) (l ∷ name) ≡ true) (sym (ap first_of whole))
+        (row_exists rs (row_at kids i) (the_kid.label ∷ name) the_kid.is_row)
+
+    pub kid_at : IsNodeAt t (start + i)
+    kid_at = record { kept = at.kept; row = kid_in }

@@ -1,0 +1,6 @@
+use Rattle.std.proofs.Common.{◌≡◌, ◌≤◌, length}
+use Rattle.dns_zone.proofs.tests.walking.walked.Given as goal
+
+-- the walk is over the zone of the node
+abbrev pub invariant-labels : goal.invariant-labels
+invariant-labels l = record { zone : l.steps.zone ≡ l.node.zone; found : l.found ≤ l.octets-index }

@@ -1,0 +1,76 @@
+use Rattle.std.proofs.Common.{◌≡◌, true, ap, sym, ◌∙◌, subst, length, ◌-◌, List}
+use Rattle.std.specs.List.Sorted.{IsPartitionedBy}
+use Rattle.dns_spec.specs.Names.{DomainName, Octets, wire, folded, below}
+use Rattle.dns_spec.specs.Records.{ResourceRecord}
+use Rattle.dns_name.specs.WireForm.{labels_of}
+use Rattle.dns_name.proofs.WireLemmas.{IsWireForm-wire, labels_of_spelled}
+use Rattle.dns_zone.specs.TreeSteps.{IsChildOf}
+use Rattle.dns_zone.proofs.AtName.{is_at}
+use Rattle.dns_zone.proofs.KidRows.{is_under, owner_name, owner_lower, owner_below, under_front, own_front, made}
+use Rattle.dns_zone.proofs.tree.kid_at.Goals as goal
+
+pub child_octets-octets-requires-clause-owner : goal.child_octets-octets-requires-clause-owner
+child_octets-octets-requires-clause-owner c =
+    let r = c.index-records-next.result in
+    let spelled = c.octets-owner.ensures.value ∙ ap (λ (q : ResourceRecord). wire q.owner) c.record.view_is in
+    IsWireForm-wire c.octets-owner.result.now r.owner spelled
+    (owner_name c.args.records.now c.requires.canonical (labels_of c.args.parent.now) c.args.next c.requires.next r c.index-records-next.is)
+
+pub child_octets-octets-requires-clause-below : goal.child_octets-octets-requires-clause-below
+child_octets-octets-requires-clause-below c =
+    let rs = c.args.records.now in
+    let n = labels_of c.args.parent.now in
+    let r = c.index-records-next.result in
+    let spelled = c.octets-owner.ensures.value ∙ ap (λ (q : ResourceRecord). wire q.owner) c.record.view_is in
+    let name = owner_name rs c.requires.canonical n c.args.next c.requires.next r c.index-records-next.is in
+    subst (λ (m : DomainName). below m n ≡ true) (sym (labels_of_spelled c.octets-owner.result.now r.owner spelled name))
+    (owner_below rs c.requires.canonical n c.args.next c.requires.next r c.index-records-next.is)
+
+pub child_octets-octets-requires-clause-lower : goal.child_octets-octets-requires-clause-lower
+child_octets-octets-requires-clause-lower c =
+    let rs = c.args.records.now in
+    let n = labels_of c.args.parent.now in
+    let r = c.index-records-next.result in
+    let spelled = c.octets-owner.ensures.value ∙ ap (λ (q : ResourceRecord). wire q.owner) c.record.view_is in
+    let name = owner_name rs c.requires.canonical n c.args.next c.requires.next r c.index-records-next.is in
+    subst (λ (m : DomainName). folded m ≡ m) (sym (labels_of_spelled c.octets-owner.result.now r.owner spelled name))
+    (owner_lower rs c.requires.canonical n c.args.next c.requires.next r c.index-records-next.is)
+
+pub count_at-requires-clause-in_front : goal.count_at-requires-clause-in_front
+count_at-requires-clause-in_front c =
+    let rs = c.args.records.now in
+    let n = labels_of c.args.parent.now in
+    let r = c.index-records-next.result in
+    let octets = c.child_octets-octets.result.now in
+    let spelled = c.octets-owner.ensures.value ∙ ap (λ (q : ResourceRecord). wire q.owner) c.record.view_is in
+    let child = subst (λ (o : Octets). IsChildOf n o octets) spelled c.child_octets-octets.ensures in
+    subst (λ (m : DomainName). IsPartitionedBy (is_at m) c.split_at.result.1.now) (sym c.from_octets-name.ensures.value)
+    (subst (λ (xs : List ResourceRecord). IsPartitionedBy (is_at (labels_of octets)) xs) (sym c.split_at.ensures.back)
+    (own_front rs c.requires.canonical n c.args.next c.requires.next r c.index-records-next.is octets child))
+
+pub count_under-requires : goal.count_under-requires
+count_under-requires c =
+    let rs = c.args.records.now in
+    let n = labels_of c.args.parent.now in
+    let r = c.index-records-next.result in
+    let octets = c.child_octets-octets.result.now in
+    let spelled = c.octets-owner.ensures.value ∙ ap (λ (q : ResourceRecord). wire q.owner) c.record.view_is in
+    let child = subst (λ (o : Octets). IsChildOf n o octets) spelled c.child_octets-octets.ensures in
+    subst (λ (m : DomainName). IsPartitionedBy (is_under m) c.split_at.result.1.now) (sym c.from_octets-name.ensures.value)
+    (subst (λ (xs : List ResourceRecord). IsPartitionedBy (is_under (labels_of octets)) xs) (sym c.split_at.ensures.back)
+    (under_front rs c.requires.canonical n c.args.next c.requires.next r c.index-records-next.is octets child))
+
+pub returns : goal.returns
+returns c =
+    let rs = c.args.records.now in
+    let n = labels_of c.args.parent.now in
+    let r = c.index-records-next.result in
+    let octets = c.child_octets-octets.result.now in
+    let back = c.split_at.ensures.back in
+    let named = c.from_octets-name.ensures.value in
+    let spelled = c.octets-owner.ensures.value ∙ ap (λ (q : ResourceRecord). wire q.owner) c.record.view_is in
+    let child = subst (λ (o : Octets). IsChildOf n o octets) spelled c.child_octets-octets.ensures in
+    made rs c.requires.canonical n c.args.next c.requires.next r c.index-records-next.is octets child c.count_at.result c.count_under.result _
+    (rw (← back) c.count_at.ensures.bound) (rw (← back) c.count_under.ensures.bound)
+    (rw (← back, ← named) c.count_at.ensures.own) (rw (← back, ← named) c.count_under.ensures.own)
+    (ap (λ (o : Octets). length o - length octets) spelled)

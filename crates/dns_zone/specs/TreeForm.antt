@@ -1,0 +1,83 @@
+-- What a reader learns here: how the names of a zone are kept as rows of numbers, and what such rows keep.
+use Rattle.std.specs.Prelude.{◌≡◌, ℕ, zero, suc, ◌+◌, ◌-◌, ◌/◌, ◌<◌, ◌≤◌, true, List, [], ◌∷◌, map, length, take, drop, get_or}
+use Rattle.std.specs.List.{filter, list_any}
+use Rattle.std.specs.Char.{to_ascii_lowercase}
+use Rattle.dns_spec.specs.Names.{Octets, DomainName, wire, is_name, folded, same, at_or_below, label_order}
+use Rattle.dns_spec.specs.Records.{ResourceRecord}
+use Rattle.dns_spec.proofs.SortedOnce.{Each, Among, Rises}
+use Rattle.dns_name.specs.WireForm.{labels_of}
+use Rattle.dns_zone.specs.declared.row.Row.{Row}
+
+-- the elements from place a up to place b
+abbrev pub span : {X : Type 0} → List X → ℕ → ℕ → List X
+span xs a b = take (b - a) (drop a xs)
+
+abbrev pub owners : List ResourceRecord → List DomainName
+owners = map (λ (r : ResourceRecord). r.owner)
+
+-- The wire form of a row's name: it is the end of the owner of the first record at or below the name.
+unfoldable pub row_octets : List ResourceRecord → Row → Octets
+row_octets rs row = drop row.place (wire (get_or (owners rs) row.first []))
+
+unfoldable pub row_name : List ResourceRecord → Row → DomainName
+row_name rs row = labels_of (row_octets rs row)
+
+-- the first label of a name
+abbrev pub first_of : DomainName → Octets
+first_of [] = []
+first_of (l ∷ n) = l
+
+abbrev pub row_label : List ResourceRecord → Row → Octets
+row_label rs row = first_of (row_name rs row)
+
+-- the records at or below a name, and whether there is one
+abbrev pub under : DomainName → List ResourceRecord → List ResourceRecord
+under n rs = filter (λ (r : ResourceRecord). at_or_below r.owner n) rs
+
+-- a row of a name in lower case: which records are at or below it, and which of them are its own
+pub record IsRow (rs : List ResourceRecord) (row : Row) (n : DomainName) : Type 0 where
+  pub octets : row_octets rs row ≡ wire n
+  pub is_name : is_name n ≡ true
+  pub lower : folded n ≡ n
+  pub some : row.first < length rs
+  pub more : row.first < row.end
+  pub place : row.place ≤ length (wire (get_or (owners rs) row.first []))
+  pub first_own : row.first ≤ row.own_end
+  pub own_end : row.own_end ≤ row.end
+  pub end_fits : row.end ≤ length rs
+  pub below : span rs row.first row.end ≡ under n rs
+  pub own : span rs row.first row.own_end ≡ filter (λ (r : ResourceRecord). same r.owner n) rs
+
+-- a row of a name one label below
+pub record IsKid (rs : List ResourceRecord) (n : DomainName) (row : Row) : Type 0 where
+  pub label : Octets
+  pub is_row : IsRow rs row (label ∷ n)
+
+-- the rows of all names one label below a name, by their labels
+pub record AreKids (rs : List ResourceRecord) (n : DomainName) (kids : List Row) : Type 0 where
+  pub each : Each (IsKid rs n) kids
+  pub rising : Rises label_order (map (row_label rs) kids)
+  pub all : (l : Octets) → list_any (λ (r : ResourceRecord). at_or_below r.owner (l ∷ n)) rs ≡ true → Among (map to_ascii_lowercase l) (map (row_label rs) kids)
+  pub few : length kids ≤ length rs
+
+abbrev pub row_at : List Row → ℕ → Row
+row_at rows k = get_or rows k (record { first = 0; own_end = 0; end = 0; place = 0 })
+
+-- the children of row k are the rows from bound k up to the next bound
+abbrev pub kids_at : List Row → List ℕ → ℕ → List Row
+kids_at rows bounds k = span rows (get_or bounds k 0) (get_or bounds (k + 1) 0)
+
+-- rows for the origin and all names below it that exist, level by level
+pub record IsTree (o : DomainName) (rs : List ResourceRecord) (rows : List Row) (bounds : List ℕ) : Type 0 where
+  pub some : 0 < length rows
+  pub origin : IsRow rs (row_at rows 0) o
+  pub count : length bounds ≡ length rows + 1
+  pub each : (k : ℕ) → k < length rows → IsRow rs (row_at rows k) (row_name rs (row_at rows k))
+  pub rise : (k : ℕ) → k < length rows → get_or bounds k 0 ≤ get_or bounds (k + 1) 0
+  pub within : (k : ℕ) → k < length rows → get_or bounds (k + 1) 0 ≤ length rows
+  pub kids : (k : ℕ) → k < length rows → AreKids rs (row_name rs (row_at rows k)) (kids_at rows bounds k)
+
+-- how many children are left to look at after some comparisons, at most: a node has at most 100,000
+abbrev pub room_after : ℕ → ℕ
+room_after zero = 131071
+room_after (suc k) = room_after k / 2

@@ -1,0 +1,14 @@
+//! Rows of a tree of names.
+
+/// A name of a zone: which of the zone's records, in canonical order, are at or below it, and which of these its own.
+#[derive(Drop)]
+pub(crate) struct Row {
+    /// The first record at or below the name.
+    pub(crate) first: u32,
+    /// The record after the name's own, which stand first.
+    pub(crate) own_end: u32,
+    /// The record after those at or below the name.
+    pub(crate) end: u32,
+    /// Where the name begins in the wire form of the first record's owner, which ends in it.
+    pub(crate) place: u32,
+}

@@ -1,0 +1,62 @@
+//! A label, found among those of children by binary search.
+ghost use Rattle.std.specs.Prelude.{◌≡◌, ◌+◌, ◌<◌, ◌≤◌, map, length, IfSome, IsNone};
+ghost use Rattle.dns_spec.specs.Names.{label_order};
+ghost use Rattle.dns_spec.specs.Meaning.{most_records};
+ghost use Rattle.dns_spec.proofs.SortedOnce.{Each, Among, Rises};
+ghost use Rattle.dns_zone.specs.TreeForm.{row_label, row_name, row_at, IsRow};
+
+use crate::row::Row;
+use crate::steps::Steps;
+use crate::tree::octets_of;
+use dns_master::Record;
+use dns_name::first_label;
+use std::cmp::Ordering;
+
+/// Which of the children has the label, if one has it. Each comparison is counted: they are at most 17, since 100,000
+/// children are fewer than 2 ^ 17.
+pub(crate) fn find(
+    records: &[Record],
+    kids: &[Row],
+    label: &[u8],
+    steps: &mut Steps<'_>,
+) -> Option<usize>
+    requires rows { Each (λ k. IsRow records.now k (row_name records.now k)) kids.now }
+    requires rising { Rises label_order (map (row_label records.now) kids.now) }
+    requires few { length kids.now ≤ most_records }
+    requires comparisons { steps.old.comparisons ≤ 4294967278 }
+
+    ensures found { IfSome result (λ k. (k < length kids.now) × (row_label records.now (row_at kids.now k) ≡ label.now)) }
+    ensures none { IsNone result → Among label.now (map (row_label records.now) kids.now) → ⊥ }
+
+    ensures rise { steps.old.comparisons ≤ steps.new.comparisons }
+    ensures bound { steps.new.comparisons ≤ steps.old.comparisons + 17 }
+    ensures compared { IfSome result (λ _. steps.old.comparisons < steps.new.comparisons) }
+    ensures visits { steps.new.visits ≡ steps.old.visits }
+    ensures zone { steps.new.zone ≡ steps.old.zone }
+{
+    let (mut low, mut high) = (0, kids.len());
+    'turns: for turn in 0..17_u32 {
+        if low == high {
+            return None;
+        }
+        let middle = low + (high - low) / 2;
+        steps.count_comparison();
+        match label_of(records, &kids[middle]).cmp(label) {
+            Ordering::Less => low = middle + 1,
+            Ordering::Equal => return Some(middle),
+            Ordering::Greater => high = middle,
+        }
+    }
+    None
+}
+
+// The first label of a row's name. The root has none.
+fn label_of<'a>(records: &'a [Record], row: &Row) -> &'a [u8]
+    requires { IsRow records.now row.now (row_name records.now row.now) }
+    ensures { result.now ≡ row_label records.now row.now }
+{
+    match first_label(octets_of(records, row)) {
+        Some((label, _)) => label.octets(),
+        None => &[],
+    }
+}

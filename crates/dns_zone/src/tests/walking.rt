@@ -1,0 +1,170 @@
+//! Walks down the names of zones.
+
+use super::texts::{built, file_with};
+use crate::{Node, Steps};
+use dns_name::Label;
+use dns_rdata::{RType, SetView};
+use itoa::Buffer;
+use std::alloc::Global;
+use std::test::Fail;
+
+// Labels, the nearest to the origin first; how many of them are found; the lowest type at the last name found, or 0 where
+// it owns nothing.
+type Walked<'a> = (&'a [&'a [u8]], usize, u16);
+
+#[test]
+fn names_are_found_label_by_label(rt: HostRuntime) -> Result<(), Fail> {
+    let text = file_with(rt.alloc(), b"")?;
+    let Some(Ok(zone)) = built(rt.alloc(), b"example.", text.as_slice())? else {
+        panic!(rt; "no zone");
+    };
+    let rows: [Walked<'_>; 10] = [
+        (&[], 0, 2),
+        (&[b"www"], 1, 1),
+        // Labels are compared without regard to case.
+        (&[b"SUB", b"Ns"], 2, 1),
+        // Names that own nothing exist where a name below them owns something.
+        (&[b"ent"], 1, 0),
+        (&[b"ent", b"b"], 2, 0),
+        (&[b"ent", b"b", b"a"], 3, 1),
+        (&[b"w", b"*"], 2, 16),
+        (&[b"w", b"x"], 1, 0),
+        (&[b"nope"], 0, 2),
+        (&[b"www", b"www"], 1, 1),
+    ];
+    for (labels, found, rtype) in rows {
+        let mut steps = Steps::new(&zone);
+        let Some((count, node)) = walked(&mut steps, labels) else {
+            panic!(rt; "no walk along {labels:?}");
+        };
+        assert_eq!(rt; count, found, "{labels:?}");
+        assert_eq!(rt; steps.visits() as usize, found + 1);
+        assert_eq!(rt; lowest_type(&node), rtype, "{labels:?}");
+    }
+    Ok(())
+}
+
+#[test]
+fn sets_are_lent_by_their_data(rt: HostRuntime) -> Result<(), Fail> {
+    let text = file_with(rt.alloc(), b"www A 192.0.2.9\nwww TXT \"b\"\nwww TXT \"\"")?;
+    let Some(Ok(zone)) = built(rt.alloc(), b"example.", text.as_slice())? else {
+        panic!(rt; "no zone");
+    };
+    let mut steps = Steps::new(&zone);
+    let Some((_, node)) = walked(&mut steps, &[b"www"]) else {
+        panic!(rt; "no www");
+    };
+    let rows: [(RType, &[&[u8]]); 3] = [
+        (RType::A, &[&[192, 0, 2, 9], &[192, 0, 2, 10]]),
+        (RType::TXT, &[b"\x00", b"\x01b"]),
+        (RType::AAAA, &[]),
+    ];
+    for (rtype, wanted) in rows {
+        assert!(rt; has_data(&node, rtype, wanted), "{rtype:?}");
+    }
+    Ok(())
+}
+
+#[test]
+fn the_longest_name_has_127_labels(rt: HostRuntime) -> Result<(), Fail> {
+    let mut text = Vec::new(rt.alloc());
+    text.extend_from_slice(b"@ 60 SOA a a 1 2 3 4 5\n@ 60 NS a\na 60 A 192.0.2.1\n")?;
+    for _ in 0..127_u8 {
+        text.extend_from_slice(b"a.")?;
+    }
+    text.extend_from_slice(b" 60 A 192.0.2.2\n")?;
+    let Some(Ok(zone)) = built(rt.alloc(), b".", text.as_slice())? else {
+        panic!(rt; "no zone");
+    };
+    let labels: [&[u8]; 128] = [b"a"; 128];
+    let mut steps = Steps::new(&zone);
+    let Some((count, node)) = walked(&mut steps, &labels) else {
+        panic!(rt; "no walk");
+    };
+    assert_eq!(rt; count, 127);
+    assert_eq!(rt; steps.visits(), 128);
+    assert!(rt; has_data(&node, RType::A, &[&[192, 0, 2, 2]]));
+    Ok(())
+}
+
+#[test]
+fn a_name_has_at_most_100_000_children(rt: HostRuntime) -> Result<(), Fail> {
+    let text = file_of_children(rt.alloc())?;
+    let Some(Ok(zone)) = built(rt.alloc(), b"example.", text.as_slice())? else {
+        panic!(rt; "no zone");
+    };
+    let rows: [Walked<'_>; 5] = [
+        (&[b"ns"], 1, 1),
+        (&[b"0"], 1, 1),
+        (&[b"99995"], 1, 1),
+        (&[b"99996"], 0, 2),
+        (&[b"zz"], 0, 2),
+    ];
+    for (labels, found, rtype) in rows {
+        let mut steps = Steps::new(&zone);
+        let Some((count, node)) = walked(&mut steps, labels) else {
+            panic!(rt; "no walk along {labels:?}");
+        };
+        assert_eq!(rt; count, found, "{labels:?}");
+        assert_eq!(rt; lowest_type(&node), rtype, "{labels:?}");
+        assert!(rt; steps.comparisons() <= 17);
+    }
+    Ok(())
+}
+
+// A file of 100,000 records, of which 99,997 are at names of their own.
+fn file_of_children(alloc: Global) -> Result<Vec<u8>, Fail> {
+    let mut text = Vec::new(alloc);
+    text.extend_from_slice(b"$TTL 60\n@ SOA ns h 1 2 3 4 5\n@ NS ns\n@ TXT \"\"\nns A 192.0.2.1\n")?;
+    for number in 0..99_996_u32 {
+        let mut digits = Buffer::new();
+        text.extend_from_slice(digits.format(number).as_bytes())?;
+        text.extend_from_slice(b" A 192.0.2.1\n")?;
+    }
+    Ok(text)
+}
+
+// Walks down from the origin, as far as there are names; `None` for what is no label.
+fn walked<'z>(steps: &mut Steps<'z>, labels: &[&[u8]]) -> Option<(usize, Node<'z>)> {
+    if steps.visits() > 1_000_000 {
+        return None;
+    }
+    let mut node = steps.apex();
+    let mut found = 0;
+    'labels: for octets in labels {
+        let label = Label::new(octets)?;
+        if steps.visits() > 1_000_000 || steps.comparisons() > 1_000_000 {
+            return None;
+        }
+        let Some(child) = node.down(label, steps) else {
+            return Some((found, node));
+        };
+        node = child;
+        found += 1;
+    }
+    Some((found, node))
+}
+
+// The lowest type at a name, 0 where it owns nothing.
+fn lowest_type(node: &Node<'_>) -> u16 {
+    match node.first_set() {
+        Some(set) => set.rtype().0,
+        None => 0,
+    }
+}
+
+// Whether the set of a type has this data, and none where the data is none.
+fn has_data(node: &Node<'_>, rtype: RType, wanted: &[&[u8]]) -> bool {
+    let Some(set) = node.set(rtype) else {
+        return wanted.is_empty();
+    };
+    if set.len() != wanted.len() {
+        return false;
+    }
+    for i in 0..set.len() {
+        if set.rdata(i) != wanted[i] {
+            return false;
+        }
+    }
+    true
+}

@@ -1,0 +1,132 @@
+//! The names of a zone as rows, level by level: the children of a row stand side by side, by their labels.
+ghost use Rattle.std.specs.Prelude.{◌≡◌, ℕ, ◌+◌, ◌<◌, ◌≤◌, ◌∷◌, length, take, drop, get_or, true, IfOk, OnOk};
+ghost use Rattle.dns_spec.specs.Names.{folded, at_or_below, below};
+ghost use Rattle.dns_spec.specs.Records.{ResourceRecord};
+ghost use Rattle.dns_spec.specs.Meaning.{most_records};
+ghost use Rattle.dns_name.specs.WireForm.{labels_of, IsWireForm};
+ghost use Rattle.dns_zone.specs.ZoneForm.{IsBuilt, IsCanonical};
+ghost use Rattle.dns_zone.specs.TreeForm.{owners, row_octets, row_name, row_at, IsRow, IsTree};
+ghost use Rattle.dns_zone.specs.TreeSteps.{IsChildOf, IsNext, IsKidAt, AddsKids};
+
+use crate::lookup::{count_at, count_under};
+use crate::row::Row;
+use dns_master::Record;
+use dns_name::{Name, first_label};
+use std::alloc::{AllocError, Global};
+
+/// The names of a zone, and its records in canonical order.
+#[derive(Drop)]
+pub(crate) struct Tree {
+    pub(crate) origin: Name,
+    pub(crate) records: Vec<Record>,
+    pub(crate) rows: Vec<Row>,
+    pub(crate) bounds: Vec<usize>,
+}
+
+/// Rows, and for each row the number of its first child; the children of the next row follow.
+#[derive(Drop)]
+pub(crate) struct Rows {
+    pub(crate) rows: Vec<Row>,
+    pub(crate) bounds: Vec<usize>,
+}
+
+/// The rows of all names of a zone. Memory is taken for 24 octets for each name.
+pub(crate) fn rows_of(alloc: Global, origin: &Name, records: &[Record]) -> Result<Rows, AllocError>
+    requires { IsBuilt (record { origin = origin.now; records = records.now }) }
+    ensures { IfOk result (λ t. IsTree origin.now records.now t.rows.items t.bounds.items) }
+{
+    let mut rows = Vec::new(alloc);
+    let mut bounds = Vec::new(alloc);
+    rows.push(origin_row(origin, records))?;
+    bounds.push(1)?;
+    'rows: for number in 0..usize::MAX {
+        if number == rows.len() {
+            break;
+        }
+        add_kids(records, number, &mut rows)?;
+        bounds.push(rows.len())?;
+    }
+    Ok(Rows { rows, bounds })
+}
+
+// The row of the origin: all records of a zone are at or below it, and the first is its own.
+fn origin_row(origin: &Name, records: &[Record]) -> Row
+    requires { IsBuilt (record { origin = origin.now; records = records.now }) }
+    ensures { IsRow records.now result origin.now }
+{
+    Row {
+        first: 0,
+        own_end: count_at(records, origin) as u32,
+        end: records.len() as u32,
+        place: 0,
+    }
+}
+
+// Adds the rows of a row's children behind all rows.
+fn add_kids(records: &[Record], number: usize, rows: &mut Vec<Row>) -> Result<(), AllocError>
+    requires canonical { IsCanonical records.now }
+    requires number { number < length rows.old.items }
+    requires row { IsRow records.now (row_at rows.old.items number) (row_name records.now (row_at rows.old.items number)) }
+    ensures { OnOk result (AddsKids records.now (row_name records.now (row_at rows.old.items number)) rows.old.items rows.new.items) }
+{
+    let row = &rows[number];
+    let parent = octets_of(records, row);
+    let end = row.end as usize;
+    let mut next = row.own_end as usize;
+    'kids: while next < end {
+        let kid = kid_at(records, parent, next);
+        next = kid.end as usize;
+        rows.push(kid)?;
+    }
+    Ok(())
+}
+
+// The wire form of a row's name.
+pub(crate) fn octets_of<'a>(records: &'a [Record], row: &Row) -> &'a [u8]
+    requires { IsRow records.now row.now (row_name records.now row.now) }
+    ensures octets { result.now ≡ row_octets records.now row.now }
+    ensures wire { IsWireForm result.now }
+    ensures name { labels_of result.now ≡ row_name records.now row.now }
+{
+    let first = &records[row.first as usize];
+    first.owner.octets().split_at(row.place as usize).1
+}
+
+// The row of a child of the name of `parent`: the one that the record at `next` is at or below.
+fn kid_at(records: &[Record], parent: &[u8], next: usize) -> Row
+    requires canonical { IsCanonical records.now }
+    requires parent { IsWireForm parent.now }
+    requires next { IsNext records.now (labels_of parent.now) next }
+    ensures { IsKidAt records.now (labels_of parent.now) next result }
+{
+    let record = &records[next];
+    let owner = record.owner.octets();
+    let octets = child_octets(owner, parent);
+    let name = Name::from_octets(octets);
+    let (_, others) = records.split_at(next);
+    Row {
+        first: next as u32,
+        own_end: (next + count_at(others, &name)) as u32,
+        end: (next + count_under(others, &name)) as u32,
+        place: (owner.len() - octets.len()) as u32,
+    }
+}
+
+// The end of an owner's wire form that has one label more than the name of `parent`, which the owner is below.
+fn child_octets<'a>(owner: &'a [u8], parent: &[u8]) -> &'a [u8]
+    requires owner { IsWireForm owner.now }
+    requires parent { IsWireForm parent.now }
+    requires below { below (labels_of owner.now) (labels_of parent.now) ≡ true }
+    requires lower { folded (labels_of owner.now) ≡ labels_of owner.now }
+    requires lower_parent { folded (labels_of parent.now) ≡ labels_of parent.now }
+    ensures { IsChildOf (labels_of parent.now) owner.now result.now }
+{
+    let mut suffix = owner;
+    'labels: while let Some((_, rest)) = first_label(suffix) {
+        if rest.len() <= parent.len() {
+            return suffix;
+        }
+        suffix = rest;
+    }
+    suffix
+}
