@@ -45,7 +45,7 @@ returns-in-Answer-clause-put g c = λ q items draft.
     let d' : Draft = record { limit = c.put_set.new.self.limit; octets = c.put_set.new.self.octets.items; kept = c.put_set.new.self.places; questions = r.questions; answers = r.answers + c.len-count.result; authorities = r.authorities; additionals = r.additionals } in
     let here = subst (IsDraft head q items) (sym c.self.view_is) draft in
     let done = subst (λ t. IsWritten head r.room.limit (names_so_far q items) d.octets (records_laid (names_so_far q items) (length d.octets) (records_at c.args.owner.now c.args.ttl set)) t d'.octets d'.kept)
-        c.if-not-put_set.false (c.put_set.ensures.written (names_so_far q items) here.holds) in
+    c.if-not-put_set.false (c.put_set.ensures.written (names_so_far q items) here.holds) in
     subst (λ (s : Section). IsDraft head q (items ++ item_of s c.args.owner.now c.args.ttl set ∷ []) d') (sym c.in-Answer.is)
     (draft_put head q items d here r.room.limit Answer c.args.owner.now c.args.ttl set d' done refl (ap (λ k. r.answers + k) c.len-count.ensures.value) (sym (add-zero r.authorities)) (sym (add-zero r.additionals)))
 
@@ -72,7 +72,7 @@ returns-in-Authority-clause-put g c = λ q items draft.
     let d' : Draft = record { limit = c.put_set.new.self.limit; octets = c.put_set.new.self.octets.items; kept = c.put_set.new.self.places; questions = r.questions; answers = r.answers; authorities = r.authorities + c.len-count.result; additionals = r.additionals } in
     let here = subst (IsDraft head q items) (sym c.self.view_is) draft in
     let done = subst (λ t. IsWritten head r.room.limit (names_so_far q items) d.octets (records_laid (names_so_far q items) (length d.octets) (records_at c.args.owner.now c.args.ttl set)) t d'.octets d'.kept)
-        c.if-not-put_set.false (c.put_set.ensures.written (names_so_far q items) here.holds) in
+    c.if-not-put_set.false (c.put_set.ensures.written (names_so_far q items) here.holds) in
     subst (λ (s : Section). IsDraft head q (items ++ item_of s c.args.owner.now c.args.ttl set ∷ []) d') (sym c.in-Authority.is)
     (draft_put head q items d here r.room.limit Authority c.args.owner.now c.args.ttl set d' done refl (sym (add-zero r.answers)) (ap (λ k. r.authorities + k) c.len-count.ensures.value) (sym (add-zero r.additionals)))
 
@@ -99,7 +99,6 @@ returns-in-Additional-clause-put g c = λ q items draft.
     let d' : Draft = record { limit = c.put_set.new.self.limit; octets = c.put_set.new.self.octets.items; kept = c.put_set.new.self.places; questions = r.questions; answers = r.answers; authorities = r.authorities; additionals = r.additionals + c.len-count.result } in
     let here = subst (IsDraft head q items) (sym c.self.view_is) draft in
     let done = subst (λ t. IsWritten head r.room.limit (names_so_far q items) d.octets (records_laid (names_so_far q items) (length d.octets) (records_at c.args.owner.now c.args.ttl set)) t d'.octets d'.kept)
-        c.if-not-put_set.false (c.put_set.ensures.written (names_so_far q items) here.holds) in
+    c.if-not-put_set.false (c.put_set.ensures.written (names_so_far q items) here.holds) in
     subst (λ (s : Section). IsDraft head q (items ++ item_of s c.args.owner.now c.args.ttl set ∷ []) d') (sym c.in-Additional.is)
     (draft_put head q items d here r.room.limit Additional c.args.owner.now c.args.ttl set d' done refl (sym (add-zero r.answers)) (sym (add-zero r.authorities)) (ap (λ k. r.additionals + k) c.len-count.ensures.value))
-
