@@ -8,6 +8,7 @@ mod name;
 mod number;
 mod page;
 mod places;
+mod quick_hash;
 mod reader;
 mod room;
 mod spelled;
@@ -16,6 +17,7 @@ pub use fault::WireFault;
 pub use message::{CLASS_IN, Head, Message, Question, WireRecord};
 pub use page::{Page, Section};
 pub use places::SuffixHash;
+pub use quick_hash::QuickHash;
 pub use reader::read_message;
 
 #[cfg(test)]
