@@ -1,5 +1,6 @@
 -- A set more in a draft: its size is that of the layout, and it has one set more.
-use Rattle.std.proofs.Common.{◌≡◌, ◌↔◌, ℕ, ◌+◌, ◌≤◌, Bool, true, false, cond, List, [], ◌∷◌, ◌++◌, map, length, take, drop, replicate, filter, Option, refl, sym, ap, ap₂, ◌∙◌, subst, subst₂, arith, append_assoc, append-nil, length-append, add-zero}
+use Rattle.std.proofs.Common.{◌≡◌, ◌↔◌, ℕ, ◌+◌, ◌≤◌, Bool, true, false, cond, List, [], ◌∷◌, ◌++◌, map, length, take, drop, replicate, filter, Option, refl, sym, ap, ap₂, ◌∙◌, subst, subst₂, arith, append_assoc, append-nil, length-append, add-zero, ◌<◌, lt_of_not-le}
+use Rattle.std.proofs.lemmas.Bool.{false≢true}
 use Rattle.std.proofs.lemmas.List.{length-map, length-drop}
 use Rattle.std.proofs.lemmas.List.Concat.{flat_map-append}
 use Rattle.std.proofs.Math.Seq.{take-append-add}
@@ -10,6 +11,8 @@ use Rattle.std.specs.Option.{option_to_list}
 use Rattle.dns_spec.specs.Reading.{Header, MessageQuestion}
 use Rattle.dns_spec.specs.Layout as Layout
 use Rattle.dns_spec.specs.Layout.{Item, Placed, Laid, laid_front, record_laid, records_octets, records_of, in_section, is_section, asked_octets, asked_placed, answer, authority, additional, size, records_size, layout, header_octets, reply_header}
+use Rattle.dns_spec.specs.Sharing.{Sharing}
+use Rattle.dns_spec.proofs.LeastSize.{past_limit}
 use Rattle.dns_spec.proofs.LayoutSize.{length-records_octets, length-layout}
 use Rattle.dns_wire.specs.declared.page.Section.{Section}
 use Rattle.dns_wire.specs.Kept.{Kept}
@@ -159,3 +162,11 @@ pub finished : (front w out body : Octets) (n : ℕ) → out ≡ front ++ w → 
 finished front w out body n e twelve long is =
     let at : n ≡ length front + length body = omega (arith, long, twelve) in
     ap₂ take at e ∙ take-append-add front w (length body) ∙ ap (λ z. front ++ z) is
+
+-- where the layout is refused, each size that sharing allows is past the limit
+pub least_of : (q : Option MessageQuestion) (items : List Item) (limit : ℕ) (t : Bool) → ((t ≡ true) ↔ (size q items ≤ limit)) → limit ≤ 16384
+    → (t ≡ false) ↔ ((z : ℕ) → Sharing q items z → limit < z)
+least_of q items limit true exactly low =
+    (λ no. absurd (false≢true (sym no)), λ all. let fits = exactly.0 refl in let past = (past_limit q items limit low).1 all in absurd (omega (arith, fits, past)))
+least_of q items limit false exactly low =
+    (λ no z s. (past_limit q items limit low).0 (lt_of_not-le (λ fits. false≢true (exactly.1 fits))) z s, λ all. refl)

@@ -1,10 +1,11 @@
 //! A message that is being written: a question, and sets in their sections, within a limit (RFC 1035 4.1).
-ghost use Rattle.std.specs.Prelude.{◌≡◌, ◌↔◌, ◌+◌, ◌≤◌, List, [], ◌∷◌, ◌++◌, ℕ, ◌*◌, length, take, drop, min, IsTrue, Option};
+ghost use Rattle.std.specs.Prelude.{◌≡◌, ◌↔◌, ◌+◌, ◌<◌, ◌≤◌, List, [], ◌∷◌, ◌++◌, ℕ, ◌*◌, length, take, drop, min, IsTrue, IsFalse, Option};
 ghost use Rattle.std.specs.Option.{option_copied};
 ghost use Rattle.dns_spec.specs.Names.{Octets};
 ghost use Rattle.std.specs.Bool.{OnTrue, OnFalse};
 ghost use Rattle.dns_spec.specs.Reading.{MessageQuestion};
 ghost use Rattle.dns_spec.specs.Layout.{Item, size, layout, header_octets};
+ghost use Rattle.dns_spec.specs.Sharing.{Sharing};
 ghost use Rattle.dns_wire.specs.Writing.{IsSound};
 
 use crate::message::{Head, Question};
@@ -102,6 +103,7 @@ impl<const N: usize, const SIZE: usize> Page<N, SIZE> {
     ) -> bool
         ensures fits { (q : Option MessageQuestion) (items : List Item) → IsDraft (H.numbers hash.old) q items self.old → IsTrue result ↔ (size q (items ++ item_of section owner.now ttl (S.set set.now) ∷ []) ≤ self.old.limit) }
         ensures put { (q : Option MessageQuestion) (items : List Item) → IsDraft (H.numbers hash.old) q items self.old → OnTrue result (IsDraft (H.numbers hash.old) q (items ++ item_of section owner.now ttl (S.set set.now) ∷ []) self.new) }
+        ensures least { (q : Option MessageQuestion) (items : List Item) → IsDraft (H.numbers hash.old) q items self.old → self.old.limit ≤ 16384 → IsFalse result ↔ ((z : ℕ) → Sharing q (items ++ item_of section owner.now ttl (S.set set.now) ∷ []) z → self.old.limit < z) }
         ensures unchanged { OnFalse result (self.new ≡ self.old) }
         ensures limit { self.new.limit ≡ self.old.limit }
         ensures same { H.numbers hash.new ≡ H.numbers hash.old }

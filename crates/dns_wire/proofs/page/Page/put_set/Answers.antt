@@ -6,7 +6,7 @@ use Rattle.dns_wire.specs.declared.page.Section.{Section}
 use Rattle.dns_wire.specs.declared.page.Section.TheVariants.{Answer, Authority, Additional}
 use Rattle.dns_wire.specs.Writing.{IsWritten, records_laid}
 use Rattle.dns_wire.specs.Draft.{Draft, IsDraft, item_of, names_so_far}
-use Rattle.dns_wire.proofs.DraftLemmas.{draft_size, draft_put}
+use Rattle.dns_wire.proofs.DraftLemmas.{draft_size, draft_put, least_of}
 use Rattle.dns_wire.proofs.page.Page.put_set.Goals as goal
 
 pub returns-then-not-put_set-clause-fits : goal.returns-then-not-put_set-clause-fits
@@ -102,3 +102,23 @@ returns-in-Additional-clause-put g c = λ q items draft.
     c.if-not-put_set.false (c.put_set.ensures.written (names_so_far q items) here.holds) in
     subst (λ (s : Section). IsDraft head q (items ++ item_of s c.args.owner.now c.args.ttl set ∷ []) d') (sym c.in-Additional.is)
     (draft_put head q items d here r.room.limit Additional c.args.owner.now c.args.ttl set d' done refl (sym (add-zero r.answers)) (sym (add-zero r.authorities)) (ap (λ k. r.additionals + k) c.len-count.ensures.value))
+
+pub returns-then-not-put_set-clause-least : goal.returns-then-not-put_set-clause-least
+returns-then-not-put_set-clause-least g c = λ q items draft low.
+    let i = item_of c.args.section c.args.owner.now c.args.ttl (g.S.SetView.set c.args.set.now) in
+    least_of q (items ++ i ∷ []) c.args.self.now.limit false (returns-then-not-put_set-clause-fits g c q items draft) low
+
+pub returns-in-Answer-clause-least : goal.returns-in-Answer-clause-least
+returns-in-Answer-clause-least g c = λ q items draft low.
+    let i = item_of c.args.section c.args.owner.now c.args.ttl (g.S.SetView.set c.args.set.now) in
+    least_of q (items ++ i ∷ []) c.args.self.now.limit true (returns-in-Answer-clause-fits g c q items draft) low
+
+pub returns-in-Authority-clause-least : goal.returns-in-Authority-clause-least
+returns-in-Authority-clause-least g c = λ q items draft low.
+    let i = item_of c.args.section c.args.owner.now c.args.ttl (g.S.SetView.set c.args.set.now) in
+    least_of q (items ++ i ∷ []) c.args.self.now.limit true (returns-in-Authority-clause-fits g c q items draft) low
+
+pub returns-in-Additional-clause-least : goal.returns-in-Additional-clause-least
+returns-in-Additional-clause-least g c = λ q items draft low.
+    let i = item_of c.args.section c.args.owner.now c.args.ttl (g.S.SetView.set c.args.set.now) in
+    least_of q (items ++ i ∷ []) c.args.self.now.limit true (returns-in-Additional-clause-fits g c q items draft) low
