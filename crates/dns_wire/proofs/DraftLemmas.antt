@@ -1,14 +1,19 @@
 -- A set more in a draft: its size is that of the layout, and it has one set more.
-use Rattle.std.proofs.Common.{◌≡◌, ◌↔◌, ℕ, ◌+◌, ◌≤◌, Bool, true, false, cond, List, [], ◌∷◌, ◌++◌, map, length, replicate, filter, Option, refl, sym, ap, ap₂, ◌∙◌, subst, subst₂, arith, append_assoc, append-nil, length-append, add-zero}
-use Rattle.std.proofs.lemmas.List.{length-map}
+use Rattle.std.proofs.Common.{◌≡◌, ◌↔◌, ℕ, ◌+◌, ◌≤◌, Bool, true, false, cond, List, [], ◌∷◌, ◌++◌, map, length, take, drop, replicate, filter, Option, refl, sym, ap, ap₂, ◌∙◌, subst, subst₂, arith, append_assoc, append-nil, length-append, add-zero, ◌<◌, lt_of_not-le}
+use Rattle.std.proofs.lemmas.Bool.{false≢true}
+use Rattle.std.proofs.lemmas.List.{length-map, length-drop}
 use Rattle.std.proofs.lemmas.List.Concat.{flat_map-append}
+use Rattle.std.proofs.Math.Seq.{take-append-add}
 use Rattle.dns_spec.specs.Names.{Octets, DomainName}
 use Rattle.dns_spec.specs.Records.{ResourceRecord}
 use Rattle.dns_spec.specs.Sets.{RecordSet, records_at}
-use Rattle.dns_spec.specs.Reading.{MessageQuestion}
+use Rattle.std.specs.Option.{option_to_list}
+use Rattle.dns_spec.specs.Reading.{Header, MessageQuestion}
 use Rattle.dns_spec.specs.Layout as Layout
-use Rattle.dns_spec.specs.Layout.{Item, Placed, Laid, laid_front, record_laid, records_octets, records_of, in_section, is_section, asked_octets, asked_placed, answer, authority, additional, size, records_size}
-use Rattle.dns_spec.proofs.LayoutSize.{length-records_octets}
+use Rattle.dns_spec.specs.Layout.{Item, Placed, Laid, laid_front, record_laid, records_octets, records_of, in_section, is_section, asked_octets, asked_placed, answer, authority, additional, size, records_size, layout, header_octets, reply_header}
+use Rattle.dns_spec.specs.Sharing.{Sharing}
+use Rattle.dns_spec.proofs.LeastSize.{past_limit}
+use Rattle.dns_spec.proofs.LayoutSize.{length-records_octets, length-layout}
 use Rattle.dns_wire.specs.declared.page.Section.{Section}
 use Rattle.dns_wire.specs.Kept.{Kept}
 use Rattle.dns_wire.specs.Writing.{Holds, IsWritten, records_laid, shown}
@@ -114,3 +119,54 @@ module _ (head : Octets → ℕ) (q : Option MessageQuestion) (items : List Item
         authorities = authorities ∙ ap (λ k. k + count authority section (length set.rdata)) draft.authorities ∙ sym (section_counted authority items section owner ttl set);
         additionals = additionals ∙ ap (λ k. k + count additional section (length set.rdata)) draft.additionals ∙ sym (section_counted additional items section owner ttl set);
       }
+
+-- a draft without sets
+pub draft_begins : (head : Octets → ℕ) (q : Option MessageQuestion) (d : Draft) → d.octets ≡ replicate 12 0 ++ asked_octets q → Holds head (asked_placed q) d.octets d.kept
+    → d.questions ≡ length (option_to_list q) → d.answers ≡ 0 → d.authorities ≡ 0 → d.additionals ≡ 0 → IsDraft head q [] d
+draft_begins head q d octets holds questions answers authorities additionals =
+    let none = records-none (asked_placed q) (12 + length (asked_octets q)) in
+    let front = replicate 12 0 ++ asked_octets q in
+    record {
+      written = octets ∙ sym (append-nil front) ∙ ap (λ (l : Laid). front ++ l.written) (sym none);
+      holds = subst (λ ms. Holds head ms d.octets d.kept) (sym (append-nil (asked_placed q)) ∙ ap (λ (l : Laid). asked_placed q ++ l.names) (sym none)) holds;
+      questions = questions;
+      answers = answers;
+      authorities = authorities;
+      additionals = additionals;
+    }
+
+-- the layout is its header, and what is in the draft after room for one
+pub draft_laid : {head : Octets → ℕ} (h : Header) (q : Option MessageQuestion) (items : List Item) (d : Draft) → IsDraft head q items d
+    → header_octets h d.questions d.answers d.authorities d.additionals ++ drop 12 d.octets ≡ layout h q items
+unfolding layout
+draft_laid h q items d draft =
+    let rest = (records_laid (asked_placed q) (12 + length (asked_octets q)) (records_of items)).written in
+    let body : drop 12 d.octets ≡ asked_octets q ++ rest = ap (drop 12) draft.written in
+    let front = reply_header h q items in
+    let counts : header_octets h d.questions d.answers d.authorities d.additionals ≡ front =
+    ap₂ (λ a b. header_octets h a b d.authorities d.additionals) draft.questions draft.answers
+    ∙ ap₂ (λ a b. header_octets h (length (option_to_list q)) (length (in_section answer items)) a b) draft.authorities draft.additionals in
+    ap₂ ◌++◌ counts body ∙ sym (append_assoc front (asked_octets q) rest)
+    ∙ ap (λ z. front ++ asked_octets q ++ z) (octets_of_records (asked_placed q) (12 + length (asked_octets q)) (records_of items))
+
+pub draft_length : {head : Octets → ℕ} (q : Option MessageQuestion) (items : List Item) (d : Draft) → IsDraft head q items d → length d.octets ≡ size q items
+draft_length q items d draft =
+    let h : Header = record { id = 0; flags = 0 } in
+    let w = drop 12 d.octets in
+    let long = ap length (draft_laid h q items d draft) ∙ length-layout h q items in
+    let some = draft.holds.after_header in
+    omega (arith, long, length-append (header_octets h d.questions d.answers d.authorities d.additionals) w, length-drop 12 d.octets, some)
+
+-- the header and what follows it, taken from the front of what was lent
+pub finished : (front w out body : Octets) (n : ℕ) → out ≡ front ++ w → length front ≡ 12 → n ≡ 12 + length body → take (length body) w ≡ body → take n out ≡ front ++ body
+finished front w out body n e twelve long is =
+    let at : n ≡ length front + length body = omega (arith, long, twelve) in
+    ap₂ take at e ∙ take-append-add front w (length body) ∙ ap (λ z. front ++ z) is
+
+-- where the layout is refused, each size that sharing allows is past the limit
+pub least_of : (q : Option MessageQuestion) (items : List Item) (limit : ℕ) (t : Bool) → ((t ≡ true) ↔ (size q items ≤ limit)) → limit ≤ 16384
+    → (t ≡ false) ↔ ((z : ℕ) → Sharing q items z → limit < z)
+least_of q items limit true exactly low =
+    (λ no. absurd (false≢true (sym no)), λ all. let fits = exactly.0 refl in let past = (past_limit q items limit low).1 all in absurd (omega (arith, fits, past)))
+least_of q items limit false exactly low =
+    (λ no z s. (past_limit q items limit low).0 (lt_of_not-le (λ fits. false≢true (exactly.1 fits))) z s, λ all. refl)

@@ -9,6 +9,7 @@ mod number;
 mod page;
 mod places;
 mod query;
+mod quick_hash;
 mod reader;
 mod room;
 mod spelled;
@@ -18,6 +19,7 @@ pub use message::{CLASS_IN, Head, Message, Question, WireRecord};
 pub use page::{Page, Section};
 pub use places::SuffixHash;
 pub use query::{QueryRead, Rcode, read_query};
+pub use quick_hash::QuickHash;
 pub use reader::read_message;
 
 #[cfg(test)]

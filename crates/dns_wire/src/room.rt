@@ -59,7 +59,10 @@ impl<const N: usize, const SIZE: usize> Room<N, SIZE> {
         ensures sound { IsSound N SIZE self.new.limit self.new.octets.items self.new.places }
     {
         let _ = self.put_name(hash, question.name.octets());
-        let _ = self.append(&number_octets(question.qtype), &number_octets(question.qclass));
+        let _ = self.append(
+            &number_octets(question.qtype),
+            &number_octets(question.qclass),
+        );
     }
 
     /// Appends two runs of octets. False, with nothing written, where they do not fit the limit.

@@ -50,6 +50,6 @@ returns-clause-holds g c =
     let all = subst (λ t. OnTrue t (c.append.new.self.octets.items ≡ b' ++ (x ++ y))) more c.append.ensures.octets in
     let held = subst (λ t. OnTrue t (Holds head ([] ++ (n, length b) ∷ []) b' ks')) fits (c.put_name.ensures.holds [] n here c.octets.ensures.value c.octets.ensures.is_name) in
     let place : (n, length b) ∷ [] ≡ (c.args.question.now.qname, 12) ∷ [] =
-        ap₂ (λ m k. (m, k) ∷ []) (ap (λ (q : MessageQuestion). q.qname) c.question.view_is) (ap length c.requires.blank) in
+    ap₂ (λ m k. (m, k) ∷ []) (ap (λ (q : MessageQuestion). q.qname) c.question.view_is) (ap length c.requires.blank) in
     subst₂ (Holds head ((c.args.question.now.qname, 12) ∷ [])) (sym all) (sym c.append.ensures.places)
     (holds_octets (x ++ y) (subst (λ (ms : List Placed). Holds head ms b' ks') place held))

@@ -65,5 +65,5 @@ returns-then-append-clause-longer g c =
       ap length c.put_data.ensures.extends.octets,
       length-append c.data_length.new.self.octets.items (c.record_numbers-numbers.result ++ []),
       length-append c.record_numbers-numbers.result [],
-      length-append c.append.new.self.octets.items c.put_data.ensures.extends.more_octets
+      length-append c.append.new.self.octets.items c.put_data.ensures.extends.more_octets,
     ))
