@@ -5,7 +5,7 @@ ghost use Rattle.dns_spec.specs.Names.{Octets, DomainName, folded};
 ghost use Rattle.dns_spec.specs.Records.{ResourceRecord, ZoneContents};
 ghost use Rattle.dns_spec.specs.Checks.{Passes};
 ghost use Rattle.dns_spec.specs.Reading.{MessageQuestion, Spells};
-ghost use Rattle.dns_spec.specs.Answer.{items, required_items};
+ghost use Rattle.dns_spec.specs.Answer.{chain, items, required_items};
 ghost use Rattle.dns_spec.specs.Layout.{Item, layout, size, plain_layout, plain_size};
 ghost use Rattle.dns_spec.specs.Reply.{Reply, kept, fitting, reply, reply_with, octets_by, octets_of, reply_message};
 ghost use Rattle.dns_spec.specs.Query.{query_read};
@@ -33,6 +33,11 @@ pub fn reply_is_spelled()
 pub fn reply_is_within_its_limit()
     ensures { (z : ZoneContents) (d : Octets) (limit : ℕ) (r : Reply) → 271 ≤ limit
         → reply z d limit ≡ Some r → length (octets_by layout r) ≤ limit }
+{}
+
+/// The names sought for a question are at most 17: its own, and the targets of 16 aliases (a limit of this project).
+pub fn chains_have_at_most_17_names()
+    ensures { (z : ZoneContents) (q : DomainName) (t : ℕ) → length (chain z q t) ≤ 17 }
 {}
 
 /// The sets of a reply begin with those that it may not leave out (RFC 1035 4.1.1).
