@@ -44,14 +44,16 @@ impl<'z> Steps<'z> {
     pub fn visits(&self) -> u32
         ensures { result ≡ self.now.visits }
     {
-        self.visits
+        let Steps { visits, .. } = self;
+        *visits
     }
 
     /// How many times the label asked was compared with that of a child.
     pub fn comparisons(&self) -> u32
         ensures { result ≡ self.now.comparisons }
     {
-        self.comparisons
+        let Steps { comparisons, .. } = self;
+        *comparisons
     }
 
     /// The name at and below which the zone speaks, in lower case.
@@ -74,7 +76,7 @@ impl<'z> Steps<'z> {
         ensures comparisons { self.new.comparisons ≡ self.old.comparisons }
         ensures zone { self.new.zone ≡ self.old.zone }
     {
-        self.visits += 1;
+        self.count_visit();
         Node::of_origin(self.zone.tree())
     }
 

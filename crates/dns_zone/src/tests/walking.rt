@@ -115,7 +115,9 @@ fn a_name_has_at_most_100_000_children(rt: HostRuntime) -> Result<(), Fail> {
 // A file of 100,000 records, of which 99,997 are at names of their own.
 fn file_of_children(alloc: Global) -> Result<Vec<u8>, Fail> {
     let mut text = Vec::new(alloc);
-    text.extend_from_slice(b"$TTL 60\n@ SOA ns h 1 2 3 4 5\n@ NS ns\n@ TXT \"\"\nns A 192.0.2.1\n")?;
+    text.extend_from_slice(
+        b"$TTL 60\n@ SOA ns h 1 2 3 4 5\n@ NS ns\n@ TXT \"\"\nns A 192.0.2.1\n",
+    )?;
     for number in 0..99_996_u32 {
         let mut digits = Buffer::new();
         text.extend_from_slice(digits.format(number).as_bytes())?;
