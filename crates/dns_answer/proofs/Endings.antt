@@ -17,11 +17,10 @@ use Rattle.dns_zone.specs.ZoneForm.{IsBuilt}
 use Rattle.dns_wire.specs.QueryForm.{code_of}
 use Rattle.dns_answer.specs.Draft as spec
 use Rattle.dns_answer.specs.Draft.{offered}
-use Rattle.dns_answer.specs.DraftForm.{Holds, HasBuffer, Offers}
+use Rattle.dns_answer.specs.DraftForm.{State, Holds, Offers}
 use Rattle.dns_answer.specs.Targets.{side_items, side_nodes, set_targets}
 use Rattle.dns_answer.specs.Walks.{Took}
 use Rattle.dns_answer.specs.Ending.{Ends, all_names, inside, not_inside, ending_targets, ending_required, ending_items, glue_by, others_by}
-use Rattle.dns_answer.specs.declared.draft.Draft.{Draft}
 use Rattle.dns_answer.specs.declared.ending.Verdict.{Verdict}
 use Rattle.dns_answer.proofs.Offering.{Offers-is, Offers-nothing, Offers-then}
 use Rattle.dns_answer.proofs.TargetLaws.{side_items-none}
@@ -31,10 +30,10 @@ use Rattle.dns_spec.specs.Reading.{no_error}
 use Rattle.dns_answer.proofs.EndingSets.{no_targets_of_set, targets_of_set, item-shown}
 
 -- without a referral
-pub Ends-plain : (w w1 w' : Draft) (out out1 out' : Octets) (z : ZoneContents) (o : Outcome) (v : Verdict) → o.referral ≡ None
-    → Offers w out w1 out1 (main_items o) → Offers w1 out1 w' out' (side_items z all_names [] (ending_targets o))
-    → code_of v.rcode ≡ o.rcode → v.is_referral ≡ false → v.is_truncated ≡ w1.is_full → Ends w out w' out' z o v
-Ends-plain w w1 w' out out1 out' z o v none a b rcode refers tc =
+pub Ends-plain : (w w1 w' : State) (z : ZoneContents) (o : Outcome) (v : Verdict) → o.referral ≡ None
+    → Offers w w1 (main_items o) → Offers w1 w' (side_items z all_names [] (ending_targets o))
+    → code_of v.rcode ≡ o.rcode → v.is_referral ≡ false → v.is_truncated ≡ w1.full → Ends w w' z o v
+Ends-plain w w1 w' z o v none a b rcode refers tc =
     let ms = main_items o in
     let ts = ending_targets o in
     let required : ms ≡ ending_required z o = sym (ap (λ r. ms ++ glue_by z r ts) none ∙ append-nil ms) in
@@ -42,26 +41,26 @@ Ends-plain w w1 w' out out1 out' z o v none a b rcode refers tc =
     ap (λ x. x ++ side_items z all_names [] ts) required ∙ ap (λ r. ending_required z o ++ others_by z r ts) (sym none)
     in
     record {
-      offers = Offers-is w w' out out' _ _ whole (Offers-then w w1 w' out out1 out' _ _ a b);
+      offers = Offers-is w w' _ _ whole (Offers-then w w1 w' _ _ a b);
       rcode = rcode;
       referral = refers ∙ ap is_some (sym none);
       truncated = λ d h. tc ∙ (a.draft d h).full ∙ ap (λ is. (offered d is).full) required;
     }
 
 -- with one
-pub Ends-referral : (w w1 w2 w' : Draft) (out out1 out2 out' : Octets) (z : ZoneContents) (o : Outcome) (c : DomainName) (v : Verdict) → o.referral ≡ Some c
-    → Offers w out w1 out1 (main_items o) → Offers w1 out1 w2 out2 (side_items z (inside c) [] (ending_targets o)) → Offers w2 out2 w' out' (side_items z (not_inside c) [] (ending_targets o))
-    → code_of v.rcode ≡ o.rcode → v.is_referral ≡ true → v.is_truncated ≡ w2.is_full → Ends w out w' out' z o v
-Ends-referral w w1 w2 w' out out1 out2 out' z o c v is a g b rcode refers tc =
+pub Ends-referral : (w w1 w2 w' : State) (z : ZoneContents) (o : Outcome) (c : DomainName) (v : Verdict) → o.referral ≡ Some c
+    → Offers w w1 (main_items o) → Offers w1 w2 (side_items z (inside c) [] (ending_targets o)) → Offers w2 w' (side_items z (not_inside c) [] (ending_targets o))
+    → code_of v.rcode ≡ o.rcode → v.is_referral ≡ true → v.is_truncated ≡ w2.full → Ends w w' z o v
+Ends-referral w w1 w2 w' z o c v is a g b rcode refers tc =
     let ms = main_items o in
     let ts = ending_targets o in
     let required : ms ++ side_items z (inside c) [] ts ≡ ending_required z o = ap (λ r. ms ++ glue_by z r ts) (sym is) in
     let whole : (ms ++ side_items z (inside c) [] ts) ++ side_items z (not_inside c) [] ts ≡ ending_items z o =
     ap (λ x. x ++ side_items z (not_inside c) [] ts) required ∙ ap (λ r. ending_required z o ++ others_by z r ts) (sym is)
     in
-    let first = Offers-then w w1 w2 out out1 out2 _ _ a g in
+    let first = Offers-then w w1 w2 _ _ a g in
     record {
-      offers = Offers-is w w' out out' _ _ whole (Offers-then w w2 w' out out2 out' _ _ first b);
+      offers = Offers-is w w' _ _ whole (Offers-then w w2 w' _ _ first b);
       rcode = rcode;
       referral = refers ∙ ap is_some (sym is);
       truncated = λ d h. tc ∙ (first.draft d h).full ∙ ap (λ is. (offered d is).full) required;
@@ -101,11 +100,11 @@ module _ (z : ZoneContents) (kept : IsBuilt z) where
       go (r ∷ rs) e = absurd (cc)
 
 -- a negative answer
-pub Ends-denied : (w w' : Draft) (out out' : Octets) (z : ZoneContents) (rcode : ℕ) (v : Verdict) (is : List Item) → negative_soa z ≡ is → targets_of is ≡ []
-    → HasBuffer w' out' → Offers w out w' out' is → code_of v.rcode ≡ rcode → v.is_referral ≡ false → v.is_truncated ≡ w'.is_full → Ends w out w' out' z (negative z rcode) v
-Ends-denied w w' out out' z rcode v is e none b a code refers tc =
+pub Ends-denied : (w w' : State) (z : ZoneContents) (rcode : ℕ) (v : Verdict) (is : List Item) → negative_soa z ≡ is → targets_of is ≡ []
+    → Offers w w' is → code_of v.rcode ≡ rcode → v.is_referral ≡ false → v.is_truncated ≡ w'.full → Ends w w' z (negative z rcode) v
+Ends-denied w w' z rcode v is e none a code refers tc =
     let nothing : side_items z all_names [] (targets_of (negative_soa z)) ≡ [] = ap (λ x. side_items z all_names [] (targets_of x)) e ∙ ap (side_items z all_names []) none ∙ side_items-none z all_names in
-    Ends-plain w w' w' out out' out' z (negative z rcode) v refl (Offers-is w w' out out' _ _ (sym e) a) (Offers-is w' w' out' out' [] _ (sym nothing) (Offers-nothing w' out' b)) code refers tc
+    Ends-plain w w' w' z (negative z rcode) v refl (Offers-is w w' _ _ (sym e) a) (Offers-is w' w' [] _ (sym nothing) (Offers-nothing w')) code refers tc
 
 -- what a search finds passes
 find_passes : {X : Type 0} (p : X → Bool) (xs : List X) (x : X) → find p xs ≡ Some x → p x ≡ true
@@ -135,18 +134,18 @@ servers_targets z node name ttl set zone named timed e rt k =
     ap targets_of (servers_item z node name ttl set zone named timed e rt k) ∙ targets_of_set authority name ttl set (ap (λ t. t == type_ns || t == type_mx || t == type_srv) rt)
 
 -- a referral
-pub Ends-referred : (w w1 w2 w' : Draft) (out out1 out2 out' : Octets) (z z2 : ZoneContents) (node : ZoneNode) (name : DomainName) (ttl : ℕ) (set : RecordSet) (v : Verdict)
+pub Ends-referred : (w w1 w2 w' : State) (z z2 : ZoneContents) (node : ZoneNode) (name : DomainName) (ttl : ℕ) (set : RecordSet) (v : Verdict)
     → node.zone ≡ z → z2 ≡ z → name ≡ node.name → ttl ≡ set.ttl → Some set ≡ set_of (rrset node.zone node.name type_ns) → set.rtype ≡ type_ns → IsSetOf node set
-    → Offers w out w1 out1 (record { section = authority; records = records_at name ttl set } ∷ [])
-    → Offers w1 out1 w2 out2 (side_items z (inside name) [] (set_targets set)) → Offers w2 out2 w' out' (side_items z2 (not_inside name) [] (set_targets set))
-    → code_of v.rcode ≡ no_error → v.is_referral ≡ true → v.is_truncated ≡ w2.is_full → Ends w out w' out' z (referral_to z node.name) v
-Ends-referred w w1 w2 w' out out1 out2 out' z z2 node name ttl set v zone after named timed e rt k a g b code refers tc =
+    → Offers w w1 (record { section = authority; records = records_at name ttl set } ∷ [])
+    → Offers w1 w2 (side_items z (inside name) [] (set_targets set)) → Offers w2 w' (side_items z2 (not_inside name) [] (set_targets set))
+    → code_of v.rcode ≡ no_error → v.is_referral ≡ true → v.is_truncated ≡ w2.full → Ends w w' z (referral_to z node.name) v
+Ends-referred w w1 w2 w' z z2 node name ttl set v zone after named timed e rt k a g b code refers tc =
     let is = servers_item z node name ttl set zone named timed e rt k in
     let ts = servers_targets z node name ttl set zone named timed e rt k in
-    Ends-referral w w1 w2 w' out out1 out2 out' z (referral_to z node.name) node.name v refl
-    (Offers-is w w1 out out1 _ _ (sym is) a)
-    (Offers-is w1 w2 out1 out2 _ _ (ap (λ n. side_items z (inside n) [] (set_targets set)) named ∙ ap (side_items z (inside node.name) []) (sym ts)) g)
-    (Offers-is w2 w' out2 out' _ _ (ap (λ y. side_items y (not_inside name) [] (set_targets set)) after ∙ ap (λ n. side_items z (not_inside n) [] (set_targets set)) named ∙ ap (side_items z (not_inside node.name) []) (sym ts)) b)
+    Ends-referral w w1 w2 w' z (referral_to z node.name) node.name v refl
+    (Offers-is w w1 _ _ (sym is) a)
+    (Offers-is w1 w2 _ _ (ap (λ n. side_items z (inside n) [] (set_targets set)) named ∙ ap (side_items z (inside node.name) []) (sym ts)) g)
+    (Offers-is w2 w' _ _ (ap (λ y. side_items y (not_inside name) [] (set_targets set)) after ∙ ap (λ n. side_items z (not_inside n) [] (set_targets set)) named ∙ ap (side_items z (not_inside node.name) []) (sym ts)) b)
     code refers tc
 
 pub Took-referred : (s s1 s2 : Walk) (z z2 : ZoneContents) (c name : DomainName) (ts ms : List DomainName) → z2 ≡ z → name ≡ c → ts ≡ ms

@@ -2,9 +2,9 @@
 use Rattle.std.proofs.Common.{◌≡◌, ℕ, ◌+◌, ◌<◌, ◌≤◌, Bool, true, false, cond, nat_le, nat_lt, List, [], ◌∷◌, ◌++◌, length, take, Some, refl, sym, ap, ◌∙◌, subst, arith, append_assoc, append-nil, length-append}
 use Rattle.std.proofs.lemmas.Bool.{ltb-true, lt-ltb, false_from_ne_true}
 use Rattle.dns_spec.specs.Reading.{MessageQuestion}
-use Rattle.dns_spec.specs.Layout.{Item, plain_size}
+use Rattle.dns_spec.specs.Layout.{Item, size}
 use Rattle.dns_spec.specs.Reply.{kept, fitting}
-use Rattle.dns_spec.proofs.GrowingSize.{plain_size_grows, kept_is_fitting}
+use Rattle.dns_spec.proofs.GrowingSize.{size_grows, kept_is_fitting}
 use Rattle.dns_answer.specs.Draft.{Draft, empty_draft, size_with, offer, offered}
 
 pub offered-append : (d : Draft) (is js : List Item) → offered d (is ++ js) ≡ offered (offered d is) js
@@ -44,7 +44,7 @@ offered-kept q limit front (i ∷ is) = go (nat_le (size_with q (front ++ i ∷ 
     go false e = ap (λ (d : Draft). d.kept) (offered-full (record { question = q; limit = limit; kept = front; full = true }) is refl)
 
 pub offered-keeps : (q : MessageQuestion) (limit : ℕ) (is : List Item) → (offered (empty_draft q limit) is).kept ≡ kept (size_with q) limit is
-offered-keeps q limit is = offered-kept q limit [] is ∙ sym (kept_is_fitting (size_with q) (plain_size_grows (Some q)) limit is)
+offered-keeps q limit is = offered-kept q limit [] is ∙ sym (kept_is_fitting (size_with q) (size_grows (Some q)) limit is)
 
 -- Sets are missing exactly where the reply is full once they are offered.
 abbrev open_draft : MessageQuestion → ℕ → List Item → Draft

@@ -2,7 +2,7 @@
 use Rattle.std.specs.Prelude.{ℕ, Bool, true, false, List, [], ◌∷◌, ◌++◌, nat_le, if◌then◌else◌}
 use Rattle.std.specs.Prelude.{Option, Some}
 use Rattle.dns_spec.specs.Reading.{MessageQuestion}
-use Rattle.dns_spec.specs.Layout.{Item, plain_size}
+use Rattle.dns_spec.specs.Layout.{Item, size}
 
 -- A reply to a question while sets are offered to it: the sets that it has, and whether one did not fit, after which none is
 -- tried.
@@ -18,7 +18,7 @@ empty_draft q limit = record { question = q; limit = limit; kept = []; full = fa
 
 -- the size of a reply with some sets
 abbrev pub size_with : MessageQuestion → List Item → ℕ
-size_with q sets = plain_size (Some q) sets
+size_with q sets = size (Some q) sets
 
 -- a set is put where there is room for it, and none is put after one for which there was no room
 abbrev pub offer : Draft → Item → Draft

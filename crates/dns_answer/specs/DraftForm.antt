@@ -1,25 +1,25 @@
--- What a reader learns here: when a reply in a buffer has the sets of a draft, and what offering sets makes of it.
-use Rattle.std.specs.Prelude.{◌≡◌, ◌≤◌, ◌<◌, ◌^◌, List, length}
+-- What a reader learns here: when a reply has the sets of a draft, and what offering sets makes of it.
+use Rattle.std.specs.Prelude.{◌≡◌, Bool, List}
 use Rattle.std.specs.Prelude.{Some}
-use Rattle.dns_spec.specs.Names.{Octets}
 use Rattle.dns_spec.specs.Layout.{Item}
+use Rattle.dns_wire.specs.Draft as wire
+use Rattle.dns_wire.specs.Draft.{IsDraft}
+use Rattle.dns_wire.specs.QuickNumbers.{quick_number}
 use Rattle.dns_answer.specs.Draft as spec
 use Rattle.dns_answer.specs.Draft.{offered}
-use Rattle.dns_answer.specs.PlainForm.{Written}
-use Rattle.dns_answer.specs.declared.draft.Draft.{Draft}
 
--- the reply and its buffer are those of the draft
-pub record Holds (w : Draft) (out : Octets) (d : spec.Draft) : Type 0 where
-  pub written : Written w.plain out (Some d.question) d.kept
-  pub limit : length out ≡ d.limit
-  pub full : w.is_full ≡ d.full
+-- a reply while sets are offered to it: what is written of it, and whether a set did not fit
+pub record State : Type 0 where
+  pub page : wire.Draft
+  pub full : Bool
 
--- what is written is inside the buffer, which is no longer than a message can be
-pub record HasBuffer (w : Draft) (out : Octets) : Type 0 where
-  pub inside : w.plain.end ≤ length out
-  pub short : length out < 2 ^ 16
+-- the reply is that of the draft
+pub record Holds (w : State) (d : spec.Draft) : Type 0 where
+  pub written : IsDraft quick_number (Some d.question) d.kept w.page
+  pub limit : w.page.limit ≡ d.limit
+  pub full : w.full ≡ d.full
 
 -- These sets are offered, one after the other.
-pub record Offers (w : Draft) (out : Octets) (w' : Draft) (out' : Octets) (is : List Item) : Type 0 where
-  pub draft : (d : spec.Draft) → Holds w out d → Holds w' out' (offered d is)
-  pub buffer : HasBuffer w' out'
+pub record Offers (w w' : State) (is : List Item) : Type 0 where
+  pub draft : (d : spec.Draft) → Holds w d → Holds w' (offered d is)
+  pub limit : w'.page.limit ≡ w.page.limit

@@ -11,10 +11,9 @@ use Rattle.dns_zone.specs.Nodes.{Walk}
 use Rattle.dns_wire.specs.QueryForm.{code_of}
 use Rattle.dns_answer.specs.Draft as spec
 use Rattle.dns_answer.specs.Draft.{offered}
-use Rattle.dns_answer.specs.DraftForm.{Holds, Offers}
+use Rattle.dns_answer.specs.DraftForm.{State, Holds, Offers}
 use Rattle.dns_answer.specs.Walks.{Took}
 use Rattle.dns_answer.specs.Targets.{side_items, side_nodes}
-use Rattle.dns_answer.specs.declared.draft.Draft.{Draft}
 use Rattle.dns_answer.specs.declared.ending.Verdict.{Verdict}
 
 abbrev pub all_names : DomainName → Bool
@@ -56,11 +55,11 @@ misses_by None ms = length (filter all_names ms)
 misses_by (Some c) ms = length (filter (inside c) ms) + length (filter (not_inside c) ms)
 
 -- The sets that end an answer are offered, and the header says so.
-pub record Ends (w : Draft) (out : Octets) (w' : Draft) (out' : Octets) (z : ZoneContents) (o : Outcome) (v : Verdict) : Type 0 where
-  pub offers : Offers w out w' out' (ending_items z o)
+pub record Ends (w w' : State) (z : ZoneContents) (o : Outcome) (v : Verdict) : Type 0 where
+  pub offers : Offers w w' (ending_items z o)
   pub rcode : code_of v.rcode ≡ o.rcode
   pub referral : v.is_referral ≡ is_some o.referral
-  pub truncated : (d : spec.Draft) → Holds w out d → v.is_truncated ≡ (offered d (ending_required z o)).full
+  pub truncated : (d : spec.Draft) → Holds w d → v.is_truncated ≡ (offered d (ending_required z o)).full
 
 abbrev pub TookTargets : Walk → Walk → Outcome → Type 0
 TookTargets s s' o = Took s s' (nodes_by s.zone o.referral (ending_targets o)) (misses_by o.referral (ending_targets o))

@@ -7,4 +7,3 @@ mod draft;
 mod ending;
 mod lookup;
 mod names;
-mod plain;

@@ -7,3 +7,4 @@ pub mod Kept
 pub mod Chains
 pub mod Writing
 pub mod Draft
+pub mod QuickNumbers

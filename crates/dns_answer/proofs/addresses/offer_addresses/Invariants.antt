@@ -7,11 +7,11 @@ use Rattle.dns_answer.proofs.addresses.offer_addresses.Given as goal
 
 -- what was offered and taken for the first targets
 abbrev pub invariant-targets : goal.invariant-targets
-invariant-targets l =
+invariant-targets g l =
     let z = l.fn.steps.zone in
     let p = side_takes l.side in
     record {
-      offers : Offers l.fn.draft l.fn.out l.draft l.out (side_items z p [] (targets_of_first l.i l.set));
+      offers : Offers l.fn.draft l.draft (side_items z p [] (targets_of_first l.i l.set));
       took : Took l.fn.steps l.steps (side_nodes z p (targets_of_first l.i l.set)) (length (filter p (targets_of_first l.i l.set)));
       hits : length (filter p (targets_of_first l.i l.set)) ≤ l.i;
       few : side_nodes z p (targets_of_first l.i l.set) ≤ 127 * l.i;

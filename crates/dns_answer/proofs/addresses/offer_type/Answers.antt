@@ -5,4 +5,4 @@ use Rattle.dns_answer.proofs.TargetLaws.{item-none, item-some}
 use Rattle.dns_answer.proofs.addresses.offer_type.Goals as goal
 
 pub returns-in_default : goal.returns-in_default
-returns-in_default c = Offers-is _ _ _ _ [] _ (sym (item-none additional _ (sym c.in_default.ensures.set))) (Offers-nothing _ _ c.requires.buffer)
+returns-in_default g c = Offers-is _ _ [] _ (sym (item-none additional _ (sym c.in_default.ensures.set))) (Offers-nothing _)
