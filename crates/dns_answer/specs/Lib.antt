@@ -6,3 +6,4 @@ pub mod DraftForm
 pub mod Walks
 pub mod Targets
 pub mod Ending
+pub mod Chain
