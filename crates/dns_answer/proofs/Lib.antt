@@ -9,3 +9,4 @@ pub mod TargetLaws
 pub mod EndingSets
 pub mod Endings
 pub mod AskedSets
+pub mod StandingAddresses
