@@ -10,3 +10,4 @@ pub mod EndingSets
 pub mod Endings
 pub mod AskedSets
 pub mod StandingAddresses
+pub mod AnswerItems

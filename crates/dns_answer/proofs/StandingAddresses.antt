@@ -22,7 +22,7 @@ abbrev is_at : DomainName → ℕ → ResourceRecord → Bool
 is_at n t r = same r.owner n && r.rtype == t
 
 -- the records of items
-item_records : (s : Section) (rs : List ResourceRecord) → records_of (item s rs) ≡ rs
+pub item_records : (s : Section) (rs : List ResourceRecord) → records_of (item s rs) ≡ rs
 item_records s [] = refl
 item_records s (r ∷ rs) = ap (λ xs. r ∷ xs) (append-nil rs)
 
@@ -217,6 +217,6 @@ extra-side z is ms none = extra-stood z is [] ms (first type_a none.a) (first ty
       back = λ n h. absurd (false≢true h);
     }
 
-pub extra-none : (z : ZoneContents) (is : List Item) → extra z is [] ≡ side_items z all_names [] []
-unfolding extra side_items
+pub extra-none : (z : ZoneContents) (is : List Item) → extra z is [] ≡ []
+unfolding extra
 extra-none z is = refl
