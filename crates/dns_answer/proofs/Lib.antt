@@ -11,3 +11,4 @@ pub mod Endings
 pub mod AskedSets
 pub mod StandingAddresses
 pub mod AnswerItems
+pub mod ChainSteps
