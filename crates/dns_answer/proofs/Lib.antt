@@ -6,3 +6,6 @@ pub mod TargetLaws
 pub mod EndingSets
 pub mod Endings
 pub mod AskedSets
+pub mod StandingAddresses
+pub mod AnswerItems
+pub mod ChainSteps

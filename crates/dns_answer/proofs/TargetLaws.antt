@@ -75,7 +75,7 @@ stood-other p set i o h none e f =
     ap (list_any p) (first-more set i h) ∙ ap (λ x. list_any p (targets_of_first i set ++ option_to_list x)) e ∙ none_new p (targets_of_first i set) o none f
 
 -- what is offered for one target more
-side_items-append : (z : ZoneContents) (p : DomainName → Bool) (before ms ns : List DomainName) → side_items z p before (ms ++ ns) ≡ side_items z p before ms ++ side_items z p (before ++ ms) ns
+pub side_items-append : (z : ZoneContents) (p : DomainName → Bool) (before ms ns : List DomainName) → side_items z p before (ms ++ ns) ≡ side_items z p before ms ++ side_items z p (before ++ ms) ns
 unfolding side_items
 side_items-append z p before [] ns = ap (λ b. side_items z p b ns) (sym (append-nil before))
 side_items-append z p before (m ∷ ms) ns =
@@ -106,10 +106,10 @@ fold_from : (k : ℕ) (xs : List ℕ) → fold ◌+◌ k xs ≡ k + sum xs
 fold_from k [] = omega arith
 fold_from k (x ∷ xs) = omega (arith, fold_from (k + x) xs, fold_from (0 + x) xs)
 
-sum-cons : (x : ℕ) (xs : List ℕ) → sum (x ∷ xs) ≡ x + sum xs
+pub sum-cons : (x : ℕ) (xs : List ℕ) → sum (x ∷ xs) ≡ x + sum xs
 sum-cons x xs = omega (arith, fold_from (0 + x) xs)
 
-side_nodes-cons : (z : ZoneContents) (p : DomainName → Bool) (m : DomainName) (ms : List DomainName) → side_nodes z p (m ∷ ms) ≡ target_nodes z p (Some m) + side_nodes z p ms
+pub side_nodes-cons : (z : ZoneContents) (p : DomainName → Bool) (m : DomainName) (ms : List DomainName) → side_nodes z p (m ∷ ms) ≡ target_nodes z p (Some m) + side_nodes z p ms
 side_nodes-cons z p m ms = go (p m)
   where
     inner : (b : Bool) → sum (map (depth_in z) (cond b (m ∷ targets_in_zone z (filter p ms)) (targets_in_zone z (filter p ms)))) ≡ cond b (length m - length z.origin) 0 + side_nodes z p ms

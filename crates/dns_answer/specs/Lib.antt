@@ -3,3 +3,4 @@ pub mod DraftForm
 pub mod Walks
 pub mod Targets
 pub mod Ending
+pub mod Chain
