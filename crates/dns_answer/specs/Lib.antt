@@ -4,3 +4,4 @@ pub mod Walks
 pub mod Targets
 pub mod Ending
 pub mod Chain
+pub mod Seeking

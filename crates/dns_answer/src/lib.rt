@@ -3,6 +3,7 @@
 #![tactic(auto)]
 
 mod addresses;
+mod chain;
 mod draft;
 mod ending;
 mod lookup;
