@@ -170,6 +170,16 @@ asked-one t rs = go (t == qtype_any)
     go true = lowest (rising_types rs)
     go false = record { rtype = t; each = each_of_type t rs }
 
+-- a denial has no targets
+pub denial-no_targets : (z : ZoneContents) → targets_of (negative_soa z) ≡ []
+denial-no_targets z =
+    no-targets authority type_soa (map (λ (r : ResourceRecord). record r { ttl = min r.ttl (soa_minimum r.rdata) }) (rrset z z.origin type_soa))
+    (lowered (rrset z z.origin type_soa) (each_of_type type_soa (at z z.origin))) refl
+  where
+    lowered : (rs : List ResourceRecord) → AreOf type_soa rs → AreOf type_soa (map (λ (r : ResourceRecord). record r { ttl = min r.ttl (soa_minimum r.rdata) }) rs)
+    lowered [] e = tt
+    lowered (r ∷ rs) e = (e.0, lowered rs e.1)
+
 -- what is added after aliases and the sets of an outcome
 record Adds (z : ZoneContents) (front : List Item) (o : Outcome) : Type 0 where
   all : extra z (front ++ main_items o) (targets_of o.answers ++ targets_inside o ++ targets_outside o) ≡ glue_by z o.referral (ending_targets o) ++ others_by z o.referral (ending_targets o)
@@ -228,14 +238,7 @@ module _ (z : ZoneContents) (front : List Item) (clear : NoAddresses front) wher
       shown (r ∷ rs) e = (e.0, shown rs e.1)
 
   adds-denial : (rcode : ℕ) → Adds z front (negative z rcode)
-  adds-denial rcode = adds-nothing (negative z rcode) refl refl (no-targets authority type_soa (map lesser (rrset z z.origin type_soa)) (lowered (rrset z z.origin type_soa) (each_of_type type_soa (at z z.origin))) refl)
-    where
-      lesser : ResourceRecord → ResourceRecord
-      lesser = λ (r : ResourceRecord). record r { ttl = min r.ttl (soa_minimum r.rdata) }
-
-      lowered : (rs : List ResourceRecord) → AreOf type_soa rs → AreOf type_soa (map (λ (r : ResourceRecord). record r { ttl = min r.ttl (soa_minimum r.rdata) }) rs)
-      lowered [] e = tt
-      lowered (r ∷ rs) e = (e.0, lowered rs e.1)
+  adds-denial rcode = adds-nothing (negative z rcode) refl refl (denial-no_targets z)
 
   adds : (t : ℕ) (x : Option DomainName) (y : Option (List ResourceRecord)) → Adds z front (outcome_by z t x y)
   adds t (Some c) y = adds-referral c

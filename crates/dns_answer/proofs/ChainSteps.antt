@@ -15,7 +15,7 @@ use Rattle.dns_answer.specs.Chain.{names_from, chain_outcome, aliases_of, chain_
 use Rattle.dns_answer.proofs.TargetLaws.{side_items-none, sum-cons}
 use Rattle.dns_answer.proofs.AnswerItems.{items-are, required-are}
 
-abbrev depth_in : ZoneContents → DomainName → ℕ
+abbrev pub depth_in : ZoneContents → DomainName → ℕ
 depth_in z n = length n - length z.origin
 
 -- the chain ends at s: the outcome there, after its alias if it has one
@@ -72,7 +72,7 @@ module _ (z : ZoneContents) (t k : ℕ) (sought : List DomainName) (s : DomainNa
       }
 
   -- a type that follows no alias, or a name without one
-  none-shown : (follows_alias t && has_any (alias_set z s)) ≡ false → aliases_of z t (s ∷ []) ≡ []
+  pub none-shown : (follows_alias t && has_any (alias_set z s)) ≡ false → aliases_of z t (s ∷ []) ≡ []
   none-shown e = go (follows_alias t) e
     where
       none : (rs : List ResourceRecord) → has_any rs ≡ false → flat_map (λ (x : List ResourceRecord). item answer x) (rs ∷ []) ≡ []
@@ -87,7 +87,7 @@ module _ (z : ZoneContents) (t k : ℕ) (sought : List DomainName) (s : DomainNa
   no-alias-last [] e = refl
   no-alias-last (r ∷ rs) e = absurd (cc)
 
-  last-name : (follows_alias t && has_any (alias_set z s)) ≡ false → names_from z t k sought s ≡ s ∷ []
+  pub last-name : (follows_alias t && has_any (alias_set z s)) ≡ false → names_from z t k sought s ≡ s ∷ []
   last-name e = go (follows_alias t) e
     where
       go : (b : Bool) → (b && has_any (alias_set z s)) ≡ false → cond b (chain_from z k sought s) (s ∷ []) ≡ s ∷ []

@@ -12,3 +12,4 @@ pub mod AskedSets
 pub mod StandingAddresses
 pub mod AnswerItems
 pub mod ChainSteps
+pub mod AnswerCosts
