@@ -16,8 +16,8 @@ use Rattle.dns_answer.specs.Walks.{Took}
 use Rattle.dns_answer.specs.Targets.{side_nodes}
 use Rattle.dns_answer.specs.Ending.{all_names, inside, not_inside, ending_targets, nodes_by, misses_by}
 use Rattle.dns_answer.specs.Chain.{names_from, chain_outcome, chain_nodes, chain_misses}
-use Rattle.dns_answer.proofs.TargetLaws.{sum-cons}
-use Rattle.dns_answer.proofs.AnswerItems.{targets-last, denial-no_targets}
+use Rattle.dns_spec.proofs.FewItems.{sum_cons, targets_last}
+use Rattle.dns_answer.proofs.AnswerItems.{denial-no_targets}
 use Rattle.dns_answer.proofs.ChainSteps.{depth_in, last-name, none-shown}
 
 -- the header
@@ -73,16 +73,16 @@ depths z ns = sum (map (depth_in z) ns)
 depths-append : (z : ZoneContents) (ns ms : List DomainName) → depths z (ns ++ ms) ≡ depths z ns + depths z ms
 depths-append z [] ms = omega arith
 depths-append z (n ∷ ns) ms =
-    let a = sum-cons (depth_in z n) (map (depth_in z) (ns ++ ms)) in
-    let b = sum-cons (depth_in z n) (map (depth_in z) ns) in
+    let a = sum_cons (depth_in z n) (map (depth_in z) (ns ++ ms)) in
+    let b = sum_cons (depth_in z n) (map (depth_in z) ns) in
     let c = depths-append z ns ms in
     omega (arith, a, b, c)
 
 nodes-sum : (z : ZoneContents) (ns : List DomainName) → sum (map (nodes_to z) ns) ≡ length ns + depths z ns
 nodes-sum z [] = omega arith
 nodes-sum z (n ∷ ns) =
-    let a = sum-cons (nodes_to z n) (map (nodes_to z) ns) in
-    let b = sum-cons (depth_in z n) (map (depth_in z) ns) in
+    let a = sum_cons (nodes_to z n) (map (nodes_to z) ns) in
+    let b = sum_cons (depth_in z n) (map (depth_in z) ns) in
     let c = nodes-sum z ns in
     omega (arith, a, b, c)
 
@@ -143,7 +143,7 @@ module _ (z : ZoneContents) (q : DomainName) (t : ℕ) where
 
   targets-end : targets (outcome z q t) ≡ targets (chain_outcome z t 16 [] q)
   unfolding chain_outcome chain
-  targets-end = targets-last z q t
+  targets-end = targets_last z q t
 
   chain-cost : chain_nodes z t 16 [] q ≡ depths z (chain z q t) + depths z (targets_in_zone z (targets (outcome z q t)))
   unfolding chain_nodes chain

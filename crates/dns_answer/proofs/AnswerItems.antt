@@ -17,11 +17,12 @@ use Rattle.dns_spec.specs.Answer.{item, follows_alias, alias_items, last_sought,
 use Rattle.dns_spec.proofs.SortedOnce.{Each, each_weaker, filter_each}
 use Rattle.dns_spec.proofs.WritableItems.{each_append, each_flat_map}
 use Rattle.dns_spec.proofs.RequiredItems.{IsAlias, target_of, each_of_type, each_alias_item, no_targets}
+use Rattle.dns_spec.proofs.FewItems.{item_records, targets_last}
 use Rattle.dns_zone.proofs.NameTree.{same-under}
 use Rattle.dns_answer.specs.Targets.{addresses_of, side_items}
 use Rattle.dns_answer.specs.Ending.{all_names, inside, not_inside, glue_by, others_by, ending_targets, ending_items, ending_required}
 use Rattle.dns_answer.proofs.TargetLaws.{side_items-append, side_items-none}
-use Rattle.dns_answer.proofs.StandingAddresses.{NoAddresses, extra-side, extra-none, item_records}
+use Rattle.dns_answer.proofs.StandingAddresses.{NoAddresses, extra-side, extra-none}
 
 -- a test that names that are the same pass alike
 abbrev Respects : (DomainName → Bool) → Type 0
@@ -274,15 +275,6 @@ module _ (z : ZoneContents) (q : DomainName) (t : ℕ) where
   unfolding outcome
   main-front = append_assoc (alias_items z q t) last.answers last.authorities
 
-  pub targets-last : targets (outcome z q t)
-      ≡ targets_of (outcome_at z t (last_sought z q t)).answers ++ targets_inside (outcome_at z t (last_sought z q t)) ++ targets_outside (outcome_at z t (last_sought z q t))
-  unfolding outcome
-  targets-last =
-      ap (λ xs. xs ++ targets_inside last ++ targets_outside last)
-      (ap (filter_map target_of) (flat_map-append (λ (i : Item). i.records) front last.answers)
-      ∙ filter_map-append target_of (records_of front) (records_of last.answers)
-      ∙ ap (λ xs. xs ++ targets_of last.answers) (no_targets front (each_alias_item z q t)))
-
   inside-last : targets_inside (outcome z q t) ≡ targets_inside last
   unfolding outcome
   inside-last = refl
@@ -293,7 +285,7 @@ module _ (z : ZoneContents) (q : DomainName) (t : ℕ) where
       let main = front ++ main_items last in
       let glue = glue_by z last.referral (ending_targets last) in
       let others = others_by z last.referral (ending_targets last) in
-      ap (λ xs. xs ++ extra z xs (targets (outcome z q t))) main-front ∙ ap (λ ms. main ++ extra z main ms) targets-last
+      ap (λ xs. xs ++ extra z xs (targets (outcome z q t))) main-front ∙ ap (λ ms. main ++ extra z main ms) (targets_last z q t)
       ∙ ap (λ xs. main ++ xs) adds-last.all ∙ append_assoc front (main_items last) (glue ++ others)
       ∙ ap (λ xs. front ++ xs) (sym (append_assoc (main_items last) glue others))
 

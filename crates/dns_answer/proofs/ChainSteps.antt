@@ -12,7 +12,8 @@ use Rattle.dns_spec.specs.Layout.{answer, Item}
 use Rattle.dns_spec.specs.Answer.{item, follows_alias, alias_set, first_target, next_sought, chain_from, chain, last_of, last_sought, has_any, asked_records, Outcome, positive, negative, referral_to, outcome_by, outcome_at, items, required_items}
 use Rattle.dns_answer.specs.Ending.{all_names, ending_items, ending_required, ending_targets, nodes_by, misses_by}
 use Rattle.dns_answer.specs.Chain.{names_from, chain_outcome, aliases_of, chain_items, chain_required, chain_nodes, chain_misses}
-use Rattle.dns_answer.proofs.TargetLaws.{side_items-none, sum-cons}
+use Rattle.dns_spec.proofs.FewItems.{sum_cons}
+use Rattle.dns_answer.proofs.TargetLaws.{side_items-none}
 use Rattle.dns_answer.proofs.AnswerItems.{items-are, required-are}
 
 abbrev pub depth_in : ZoneContents → DomainName → ℕ
@@ -59,7 +60,7 @@ module _ (z : ZoneContents) (t k : ℕ) (sought : List DomainName) (s : DomainNa
       let o = outcome_at z t s in
       let same_aliases = ap (aliases_of z t) names ∙ shown in
       let same_outcome : outcome_at z t (last_of s (names_from z t k sought s)) ≡ o = ap (λ ns. outcome_at z t (last_of s ns)) names in
-      let depth : sum (map (depth_in z) (s ∷ [])) ≡ depth_in z s = sum-cons (depth_in z s) [] ∙ omega arith in
+      let depth : sum (map (depth_in z) (s ∷ [])) ≡ depth_in z s = sum_cons (depth_in z s) [] ∙ omega arith in
       record {
         all = ap (λ xs. xs ++ ending_items z (chain_outcome z t k sought s)) same_aliases ∙ ap (λ o. aliases ++ ending_items z o) same_outcome;
         required = ap (λ xs. xs ++ ending_required z (chain_outcome z t k sought s)) same_aliases ∙ ap (λ o. aliases ++ ending_required z o) same_outcome;
@@ -217,7 +218,7 @@ goes-on z t k sought s k' m follows e count =
       nodes =
           let a = ap (λ ns. sum (map (depth_in z) ns)) names in
           let b = ap (λ (x : Outcome). nodes_by z x.referral (ending_targets x)) same_outcome in
-          let c = sum-cons (depth_in z s) (map (depth_in z) rest) in
+          let c = sum_cons (depth_in z s) (map (depth_in z) rest) in
           omega (arith, a, b, c);
       misses =
           let a = ap length names in

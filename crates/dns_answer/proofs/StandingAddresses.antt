@@ -13,6 +13,7 @@ use Rattle.dns_spec.specs.Layout.{Section, additional, Item, records_of}
 use Rattle.dns_spec.specs.Answer.{item, stands, address_set, address_sets, extra}
 use Rattle.dns_spec.proofs.SortedOnce.{Each, each_weaker}
 use Rattle.dns_spec.proofs.ItemSets.{each_typed, each_among, filter_test}
+use Rattle.dns_spec.proofs.FewItems.{item_records}
 use Rattle.dns_zone.proofs.NameOrder.{same-is, same-from}
 use Rattle.dns_answer.specs.Targets.{addresses_of, target_items, side_items}
 use Rattle.dns_answer.specs.Ending.{all_names}
@@ -20,11 +21,6 @@ use Rattle.dns_answer.proofs.WayLaws.{at-folded}
 
 abbrev is_at : DomainName → ℕ → ResourceRecord → Bool
 is_at n t r = same r.owner n && r.rtype == t
-
--- the records of items
-pub item_records : (s : Section) (rs : List ResourceRecord) → records_of (item s rs) ≡ rs
-item_records s [] = refl
-item_records s (r ∷ rs) = ap (λ xs. r ∷ xs) (append-nil rs)
 
 stands-append : (n : DomainName) (t : ℕ) (xs ys : List Item) → stands n t (xs ++ ys) ≡ (stands n t xs || stands n t ys)
 stands-append n t xs ys =

@@ -22,6 +22,7 @@ use Rattle.dns_spec.specs.Checks.{is_owner, outside}
 use Rattle.dns_spec.proofs.SortedOnce.{Among, filter_among, each_weaker}
 use Rattle.dns_spec.proofs.PassedChecks.{checks_at}
 use Rattle.dns_spec.proofs.RecordOrder.{each_all}
+use Rattle.dns_spec.proofs.FewItems.{sum_cons}
 use Rattle.dns_zone.proofs.NameOrder.{same-from}
 use Rattle.dns_zone.proofs.NameTree.{same-under, itself-under}
 use Rattle.dns_answer.proofs.WayLaws.{at-folded}
@@ -102,18 +103,11 @@ side_items-none z p = refl
 abbrev depth_in : ZoneContents → DomainName → ℕ
 depth_in z m = length m - length z.origin
 
-fold_from : (k : ℕ) (xs : List ℕ) → fold ◌+◌ k xs ≡ k + sum xs
-fold_from k [] = omega arith
-fold_from k (x ∷ xs) = omega (arith, fold_from (k + x) xs, fold_from (0 + x) xs)
-
-pub sum-cons : (x : ℕ) (xs : List ℕ) → sum (x ∷ xs) ≡ x + sum xs
-sum-cons x xs = omega (arith, fold_from (0 + x) xs)
-
-pub side_nodes-cons : (z : ZoneContents) (p : DomainName → Bool) (m : DomainName) (ms : List DomainName) → side_nodes z p (m ∷ ms) ≡ target_nodes z p (Some m) + side_nodes z p ms
+side_nodes-cons : (z : ZoneContents) (p : DomainName → Bool) (m : DomainName) (ms : List DomainName) → side_nodes z p (m ∷ ms) ≡ target_nodes z p (Some m) + side_nodes z p ms
 side_nodes-cons z p m ms = go (p m)
   where
     inner : (b : Bool) → sum (map (depth_in z) (cond b (m ∷ targets_in_zone z (filter p ms)) (targets_in_zone z (filter p ms)))) ≡ cond b (length m - length z.origin) 0 + side_nodes z p ms
-    inner true = sum-cons (depth_in z m) (map (depth_in z) (targets_in_zone z (filter p ms)))
+    inner true = sum_cons (depth_in z m) (map (depth_in z) (targets_in_zone z (filter p ms)))
     inner false = omega arith
 
     go : (a : Bool) → sum (map (depth_in z) (targets_in_zone z (cond a (m ∷ filter p ms) (filter p ms)))) ≡ cond (a && at_or_below m z.origin) (length m - length z.origin) 0 + side_nodes z p ms

@@ -5,6 +5,7 @@ use Rattle.std.proofs.lemmas.Option.{none-some, same_Some}
 use Rattle.std.proofs.lemmas.Grind.{flat_map-append}
 use Rattle.std.proofs.lemmas.List.{length-map}
 use Rattle.std.proofs.lemmas.List.Elements.{filter_map-append}
+use Rattle.std.proofs.lemmas.List.Filters.{length-filter_both}
 use Rattle.std.specs.List.{filter_map, cons_option, fold}
 use Rattle.std.specs.Option.{option_to_list}
 use Rattle.dns_spec.specs.Names.{DomainName, is_name, folded, names_equal, same, at_or_below}
@@ -41,22 +42,11 @@ targets_last z q t =
     ∙ ap (λ xs. xs ++ targets_of last.answers) (no_targets front (each_alias_item z q t)))
 
 -- lengths
-filtered_short : {X : Type 0} (p : X → Bool) (xs : List X) → length (filter p xs) ≤ length xs
-filtered_short p [] = omega arith
-filtered_short p (x ∷ xs) = go (p x) (filtered_short p xs)
-  where
-    go : (b : Bool) → length (filter p xs) ≤ length xs → length (cond b (x ∷ filter p xs) (filter p xs)) ≤ suc (length xs)
-    go true h = omega arith
-    go false h = omega arith
-
 parted : {X : Type 0} (p : X → Bool) (xs : List X) → length (filter p xs) + length (filter (λ x. not (p x)) xs) ≡ length xs
-parted p [] = omega arith
-parted p (x ∷ xs) = go (p x) (parted p xs)
-  where
-    go : (b : Bool) → length (filter p xs) + length (filter (λ x. not (p x)) xs) ≡ length xs
-        → length (cond b (x ∷ filter p xs) (filter p xs)) + length (cond (not b) (x ∷ filter (λ x. not (p x)) xs) (filter (λ x. not (p x)) xs)) ≡ suc (length xs)
-    go true h = omega (arith, h)
-    go false h = omega (arith, h)
+parted p xs = length-filter_both p (λ x. not (p x)) (λ x. refl) xs
+
+filtered_short : {X : Type 0} (p : X → Bool) (xs : List X) → length (filter p xs) ≤ length xs
+filtered_short p xs = let both = parted p xs in omega (arith, both)
 
 mapped_short : {X Y : Type 0} (f : X → Option Y) (xs : List X) → length (filter_map f xs) ≤ length xs
 mapped_short f [] = omega arith
@@ -82,7 +72,7 @@ typed_shown o t (r ∷ rs) = go (r.rtype == t) (typed_shown o t rs)
 
 module _ (z : ZoneContents) (origin : folded z.origin ≡ z.origin) (low : Each (λ (r : ResourceRecord). folded r.owner ≡ r.owner) z.records) (passes : Passes z) where
   -- a limit of this project: a set has at most 64 records
-  count_few : (n : DomainName) (t : ℕ) → count z n t ≤ 64
+  pub count_few : (n : DomainName) (t : ℕ) → count z n t ≤ 64
   count_few n t = go (filter (λ (r : ResourceRecord). r.rtype == t) (at z n)) refl
     where
       few : (r : ResourceRecord) → Among r (filter (λ (s : ResourceRecord). s.rtype == t) (at z n)) → count z n t ≤ 64
@@ -247,11 +237,14 @@ fold_from : (k : ℕ) (xs : List ℕ) → fold ◌+◌ k xs ≡ k + sum xs
 fold_from k [] = omega arith
 fold_from k (x ∷ xs) = omega (arith, fold_from (k + x) xs, fold_from (0 + x) xs)
 
+pub sum_cons : (x : ℕ) (xs : List ℕ) → sum (x ∷ xs) ≡ x + sum xs
+sum_cons x xs = omega (arith, fold_from (0 + x) xs)
+
 nodes_few : (z : ZoneContents) (ns : List DomainName) → Each Named ns → sum (map (nodes_to z) ns) ≤ 128 * length ns
 nodes_few z [] e = omega arith
 nodes_few z (n ∷ ns) e =
     let a = length-is_name n e.0 in
-    let b = fold_from (0 + nodes_to z n) (map (nodes_to z) ns) in
+    let b = sum_cons (nodes_to z n) (map (nodes_to z) ns) in
     let c = nodes_few z ns e.1 in
     omega (arith, a, b, c)
 
