@@ -1,19 +1,18 @@
 -- How an answer ends, in the words of its outcome, and what all of it takes.
-use Rattle.std.proofs.Common.{◌≡◌, ℕ, zero, suc, ◌+◌, ◌-◌, ◌*◌, ◌<◌, ◌≤◌, Bool, true, false, cond, ◌&&◌, ◌⊎◌, inl, inr, not, min, List, [], ◌∷◌, ◌++◌, map, sum, length, Option, None, Some, is_some, refl, sym, ap, ap₂, ◌∙◌, subst, arith, append-nil, length-append}
+use Rattle.std.proofs.Common.{◌≡◌, ℕ, suc, ◌+◌, ◌-◌, ◌*◌, ◌≤◌, Bool, true, false, cond, ◌&&◌, not, List, [], ◌∷◌, ◌++◌, map, sum, length, Option, None, Some, is_some, refl, sym, ap, ap₂, ◌∙◌, arith, append-nil, length-append}
 use Rattle.std.proofs.lemmas.Bool.{eqb-true, false_from_ne_true}
 use Rattle.std.proofs.lemmas.List.Elements.{filter-append}
 use Rattle.std.specs.Prelude.{◌==◌}
 use Rattle.std.specs.List.{filter, flat_map}
 use Rattle.dns_spec.specs.Names.{DomainName, at_or_below}
-use Rattle.dns_spec.specs.Data.{type_soa, type_cname}
-use Rattle.dns_spec.specs.Records.{ResourceRecord, ZoneContents, at, rrset, of_type}
+use Rattle.dns_spec.specs.Data.{type_cname}
+use Rattle.dns_spec.specs.Records.{ResourceRecord, ZoneContents, of_type}
 use Rattle.dns_spec.specs.Tree.{cut_of, found}
 use Rattle.dns_spec.specs.Reading.{no_error, name_error}
-use Rattle.dns_spec.specs.Layout.{answer, authority, Item}
-use Rattle.dns_spec.specs.Answer.{item, follows_alias, alias_set, alias_items, chain, chain_from, last_sought, has_any, asked_records, Outcome, referral_to, negative, negative_soa, positive, outcome_by, outcome_at, outcome, is_authoritative, main_items, targets_of, targets_inside, targets_outside, targets, nodes_to, targets_in_zone, most_visits, most_comparisons}
+use Rattle.dns_spec.specs.Layout.{answer, Item}
+use Rattle.dns_spec.specs.Answer.{item, follows_alias, alias_set, alias_items, chain, chain_from, last_sought, has_any, asked_records, Outcome, referral_to, negative, positive, outcome_by, outcome_at, outcome, is_authoritative, targets_of, targets_inside, targets_outside, targets, nodes_to, targets_in_zone, most_visits, most_comparisons}
 use Rattle.dns_zone.specs.Nodes.{Walk}
 use Rattle.dns_answer.specs.Walks.{Took}
-use Rattle.dns_answer.specs.Targets.{side_nodes}
 use Rattle.dns_answer.specs.Ending.{all_names, inside, not_inside, ending_targets, nodes_by, misses_by}
 use Rattle.dns_answer.specs.Chain.{names_from, chain_outcome, chain_nodes, chain_misses}
 use Rattle.dns_spec.proofs.FewItems.{sum_cons, targets_last}

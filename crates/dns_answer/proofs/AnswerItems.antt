@@ -2,11 +2,11 @@
 use Rattle.std.proofs.Common.{◌≡◌, ℕ, Bool, true, false, cond, ◌||◌, ◌&&◌, ◌⊎◌, inl, inr, not, min, List, [], ◌∷◌, ◌++◌, map, Option, None, Some, refl, sym, ap, ap₂, ◌∙◌, subst, append-nil, append_assoc}
 use Rattle.std.proofs.lemmas.Bool.{false≢true, eqb-true, or_cases}
 use Rattle.std.proofs.lemmas.Grind.{flat_map-append}
-use Rattle.std.proofs.lemmas.List.Elements.{filter-append, filter_map-append}
+use Rattle.std.proofs.lemmas.List.Elements.{filter-append}
 use Rattle.std.proofs.lemmas.List.Folds.{list_any-append}
 use Rattle.std.specs.Prelude.{◌==◌}
-use Rattle.std.specs.List.{list_any, filter, filter_map, flat_map}
-use Rattle.dns_spec.specs.Names.{DomainName, same, at_or_below}
+use Rattle.std.specs.List.{list_any, filter, filter_map}
+use Rattle.dns_spec.specs.Names.{DomainName, same}
 use Rattle.dns_spec.specs.Data.{type_a, type_ns, type_cname, type_soa, type_mx, type_aaaa, type_srv, qtype_any, target, soa_minimum}
 use Rattle.dns_spec.specs.Records.{ResourceRecord, ZoneContents, at, rrset, of_type, with_owner}
 use Rattle.dns_spec.specs.Sets.{rising_types, of_first_type, of_lowest_type}
@@ -16,7 +16,7 @@ use Rattle.dns_spec.specs.Layout.{Section, answer, authority, Item, records_of}
 use Rattle.dns_spec.specs.Answer.{item, follows_alias, alias_items, last_sought, has_any, asked_records, Outcome, referral_to, negative, negative_soa, positive, outcome_by, outcome_at, outcome, targets_of, targets_inside, targets_outside, targets, extra, main_items, items, required_items}
 use Rattle.dns_spec.proofs.SortedOnce.{Each, each_weaker, filter_each}
 use Rattle.dns_spec.proofs.WritableItems.{each_append, each_flat_map}
-use Rattle.dns_spec.proofs.RequiredItems.{IsAlias, target_of, each_of_type, each_alias_item, no_targets}
+use Rattle.dns_spec.proofs.RequiredItems.{IsAlias, target_of, each_of_type, each_alias_item}
 use Rattle.dns_spec.proofs.FewItems.{item_records, targets_last}
 use Rattle.dns_zone.proofs.NameTree.{same-under}
 use Rattle.dns_answer.specs.Targets.{addresses_of, side_items}

@@ -5,11 +5,11 @@ use Rattle.std.specs.List.{flat_map, list_any}
 use Rattle.std.specs.Option.{option_and_then}
 use Rattle.dns_spec.specs.Names.{DomainName, same, at_or_below}
 use Rattle.dns_spec.specs.Data.{type_cname}
-use Rattle.dns_spec.specs.Records.{ResourceRecord, ZoneContents, of_type, with_owner, at}
+use Rattle.dns_spec.specs.Records.{ResourceRecord, ZoneContents, of_type}
 use Rattle.dns_spec.specs.Tree.{cut_of, found}
 use Rattle.dns_spec.specs.Reading.{no_error, name_error}
 use Rattle.dns_spec.specs.Layout.{answer, Item}
-use Rattle.dns_spec.specs.Answer.{item, follows_alias, alias_set, first_target, next_sought, chain_from, chain, last_of, last_sought, has_any, asked_records, Outcome, positive, negative, referral_to, outcome_by, outcome_at, items, required_items}
+use Rattle.dns_spec.specs.Answer.{item, follows_alias, alias_set, first_target, next_sought, chain_from, chain, last_of, has_any, asked_records, Outcome, positive, negative, referral_to, outcome_by, outcome_at, items, required_items}
 use Rattle.dns_answer.specs.Ending.{all_names, ending_items, ending_required, ending_targets, nodes_by, misses_by}
 use Rattle.dns_answer.specs.Chain.{names_from, chain_outcome, aliases_of, chain_items, chain_required, chain_nodes, chain_misses}
 use Rattle.dns_spec.proofs.FewItems.{sum_cons}

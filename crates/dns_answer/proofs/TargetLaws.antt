@@ -1,19 +1,19 @@
 -- The targets of a set, one after the other, and what was offered for those before.
-use Rattle.std.proofs.Common.{◌≡◌, ℕ, zero, suc, ◌+◌, ◌*◌, ◌-◌, ◌<◌, ◌≤◌, Bool, true, false, cond, ◌||◌, ◌&&◌, ◌⊎◌, inl, inr, not, List, [], ◌∷◌, ◌++◌, map, sum, length, take, get_or, Option, None, Some, refl, sym, ap, ◌∙◌, subst, arith, add-one, append_assoc, append-nil, length-append}
+use Rattle.std.proofs.Common.{◌≡◌, ℕ, zero, suc, ◌+◌, ◌*◌, ◌-◌, ◌<◌, ◌≤◌, Bool, true, false, cond, ◌||◌, ◌&&◌, ◌⊎◌, inl, inr, not, List, [], ◌∷◌, ◌++◌, map, sum, length, take, get_or, Option, None, Some, refl, sym, ap, ◌∙◌, arith, add-one, append_assoc, append-nil}
 use Rattle.std.proofs.Math.Seq.{take-suc}
 use Rattle.std.proofs.lemmas.Bool.{false≢true, false_from_ne_true}
-use Rattle.std.proofs.lemmas.List.Elements.{filter-append, filter_map-append}
+use Rattle.std.proofs.lemmas.List.Elements.{filter_map-append}
 use Rattle.std.proofs.lemmas.List.Folds.{list_any-append}
-use Rattle.std.specs.Option.{option_to_list, is_some}
-use Rattle.std.specs.List.{list_any, filter, filter_map, cons_option, fold}
+use Rattle.std.specs.Option.{option_to_list}
+use Rattle.std.specs.List.{list_any, filter, filter_map, cons_option}
 use Rattle.dns_spec.specs.Names.{Octets, DomainName, folded, same, at_or_below}
 use Rattle.dns_spec.specs.Data.{target, type_a, type_aaaa}
-use Rattle.dns_spec.specs.Records.{ResourceRecord, ZoneContents, at, rrset, of_type}
-use Rattle.dns_spec.specs.Sets.{RecordSet, set_of, records_at}
+use Rattle.dns_spec.specs.Records.{ResourceRecord, ZoneContents, at, of_type}
+use Rattle.dns_spec.specs.Sets.{RecordSet, set_of}
 use Rattle.dns_spec.specs.Layout.{Section, additional, Item}
 use Rattle.dns_spec.specs.Answer.{item, targets_in_zone}
 use Rattle.dns_spec.specs.Tree.{exists}
-use Rattle.dns_zone.specs.Nodes.{Walk, ZoneNode, IsSetOf}
+use Rattle.dns_zone.specs.Nodes.{Walk}
 use Rattle.dns_zone.specs.ZoneForm.{IsBuilt}
 use Rattle.std.specs.Prelude.{nat_lt}
 use Rattle.std.proofs.lemmas.Bool.{lt-ltb}
@@ -26,8 +26,8 @@ use Rattle.dns_spec.proofs.FewItems.{sum_cons}
 use Rattle.dns_zone.proofs.NameOrder.{same-from}
 use Rattle.dns_zone.proofs.NameTree.{same-under, itself-under}
 use Rattle.dns_answer.proofs.WayLaws.{at-folded}
-use Rattle.dns_answer.specs.Walks.{Took, HasRoom}
-use Rattle.dns_answer.specs.Targets.{set_targets, targets_of_first, addresses_of, target_items, side_items, side_nodes, target_nodes, target_misses}
+use Rattle.dns_answer.specs.Walks.{Took}
+use Rattle.dns_answer.specs.Targets.{targets_of_first, addresses_of, target_items, side_items, side_nodes, target_nodes, target_misses}
 
 one_more : (o : Option DomainName) → cons_option o [] ≡ option_to_list o
 one_more None = refl

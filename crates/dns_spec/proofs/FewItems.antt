@@ -1,5 +1,5 @@
 -- An answer of a zone that passes has few targets and few sets, and visits few nodes for each name.
-use Rattle.std.proofs.Common.{◌≡◌, ℕ, zero, suc, ◌+◌, ◌-◌, ◌*◌, ◌≤◌, nat_lt, Bool, true, false, ◌&&◌, not, cond, ◌==◌, inl, inr, List, [], ◌∷◌, ◌++◌, map, sum, length, Option, None, Some, is_some, option_map, unwrap_or, All, filter, flat_map, refl, sym, ap, ap₂, ◌∙◌, subst, arith, append-nil, length-append}
+use Rattle.std.proofs.Common.{◌≡◌, ℕ, suc, ◌+◌, ◌-◌, ◌*◌, ◌≤◌, nat_lt, Bool, true, false, ◌&&◌, not, cond, ◌==◌, inl, List, [], ◌∷◌, ◌++◌, map, sum, length, Option, None, Some, option_map, All, filter, flat_map, refl, sym, ap, ap₂, ◌∙◌, subst, arith, append-nil, length-append}
 use Rattle.std.proofs.lemmas.Bool.{eqb-true, ltb-false}
 use Rattle.std.proofs.lemmas.Option.{none-some, same_Some}
 use Rattle.std.proofs.lemmas.Grind.{flat_map-append}
@@ -9,14 +9,14 @@ use Rattle.std.proofs.lemmas.List.Filters.{length-filter_both}
 use Rattle.std.specs.List.{filter_map, cons_option, fold}
 use Rattle.std.specs.Option.{option_to_list}
 use Rattle.dns_spec.specs.Names.{DomainName, is_name, folded, names_equal, same, at_or_below}
-use Rattle.dns_spec.specs.Data.{type_ns, type_soa, type_cname, type_a, type_aaaa, qtype_any, target, soa_minimum}
+use Rattle.dns_spec.specs.Data.{type_ns, type_cname, type_a, type_aaaa, qtype_any, target}
 use Rattle.dns_spec.specs.Records.{ResourceRecord, ZoneContents, data_order, at, of_type, rrset, with_owner}
 use Rattle.dns_spec.specs.Sets.{rising_types, of_first_type, of_lowest_type}
 use Rattle.dns_spec.specs.Tree.{exists, cut_of, source_of_synthesis, found}
 use Rattle.dns_spec.specs.Checks.{count, large_set, Passes}
-use Rattle.dns_spec.specs.Reading.{no_error, name_error}
+use Rattle.dns_spec.specs.Reading.{no_error}
 use Rattle.dns_spec.specs.Layout.{Section, answer, authority, additional, Item, records_of}
-use Rattle.dns_spec.specs.Answer.{item, follows_alias, alias_set, chain, last_sought, alias_items, asked_records, has_any, Outcome, negative, negative_soa, positive, referral_to, outcome_by, outcome_at, outcome, has_target_type, targets_of, targets_inside, targets_outside, targets, stands, address_set, address_sets, extra, main_items, items, nodes_to, targets_in_zone, most_visits, names_looked_up}
+use Rattle.dns_spec.specs.Answer.{item, follows_alias, alias_set, chain, last_sought, alias_items, asked_records, has_any, Outcome, negative, positive, referral_to, outcome_by, outcome_at, outcome, has_target_type, targets_of, targets_inside, targets_outside, targets, stands, address_set, address_sets, extra, main_items, items, nodes_to, targets_in_zone, most_visits, names_looked_up}
 use Rattle.dns_spec.proofs.NameLaws.{names_equal-decides, length-is_name}
 use Rattle.dns_spec.proofs.SortedOnce.{Each, Among, each_filter, among_filter, length-sort_by}
 use Rattle.dns_spec.proofs.ItemSets.{any_false, filter_test}

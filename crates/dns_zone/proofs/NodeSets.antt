@@ -1,22 +1,20 @@
 -- The sets of a name of a built zone.
-use Rattle.std.proofs.Common.{◌≡◌, ℕ, ◌≤◌, ◌<◌, true, false, not, cond, nat_lt, ◌==◌, ◌⊎◌, inl, inr, List, [], ◌∷◌, map, length, Option, None, Some, IfSome, refl, sym, ap, ◌∙◌, subst, filter, is_gt, nat_cmp, arith, Less, Equal, Greater}
-use Rattle.std.proofs.lemmas.Bool.{ltb-false, eqb-true, eq-eqb, cases_lt, lt-ltb, le-ltb}
+use Rattle.std.proofs.Common.{◌≡◌, ℕ, ◌≤◌, ◌<◌, true, false, not, cond, ◌==◌, ◌⊎◌, inl, inr, List, [], ◌∷◌, map, length, Option, None, Some, IfSome, refl, sym, ap, ◌∙◌, subst, filter, is_gt, nat_cmp, arith, Less, Equal, Greater}
+use Rattle.std.proofs.lemmas.Bool.{eqb-true, eq-eqb, cases_lt, lt-ltb, le-ltb}
 use Rattle.std.proofs.lemmas.Cmp.{nat_cmp_total, tied_itself}
 use Rattle.std.proofs.lemmas.List.{length-map}
 use Rattle.std.proofs.lemmas.Option.{none-some, same_Some}
 use Rattle.std.specs.List.Sorted.{IsNonDecreasingBy}
 use Rattle.std.specs.Ordering.{ordering_then}
-use Rattle.dns_spec.specs.Names.{DomainName, folded, names_equal, same}
+use Rattle.dns_spec.specs.Names.{DomainName, folded, same}
 use Rattle.dns_spec.specs.Data.{Valid}
 use Rattle.dns_spec.specs.Records.{ResourceRecord, ZoneContents, distinct, sort_by, data_order, record_order, at, rrset}
 use Rattle.dns_spec.specs.Sets.{RecordSet, records_at, set_of, rising_types, of_lowest_type, of_first_type}
-use Rattle.dns_spec.specs.Checks.{count, large_set}
 use Rattle.dns_spec.specs.ZonePrinted.{IsReadRecord}
-use Rattle.dns_spec.proofs.SortedOnce.{Each, Among, each_filter, each_distinct, each_sort, each_weaker, filter_each, among_filter, sort_among, length-sort_by}
+use Rattle.dns_spec.proofs.SortedOnce.{Each, each_filter, each_distinct, each_sort, each_weaker, filter_each, length-sort_by}
 use Rattle.dns_spec.proofs.RecordOrder.{each_all, all_each}
 use Rattle.dns_spec.proofs.FewItems.{count_few}
-use Rattle.dns_spec.proofs.PassedChecks.{checks_at}
-use Rattle.dns_spec.proofs.ItemSets.{IsOf, as_set, first_ttl, own_records, each_typed, any_false, filter_test}
+use Rattle.dns_spec.proofs.ItemSets.{IsOf, as_set, first_ttl, own_records, each_typed}
 use Rattle.dns_zone.specs.Nodes.{IsSetOf}
 use Rattle.dns_zone.specs.SetForm.{data_of, lent, IsLent, AreOfType}
 use Rattle.dns_zone.specs.ZoneForm.{IsBuilt}
