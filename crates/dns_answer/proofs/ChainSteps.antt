@@ -186,6 +186,13 @@ module _ (z : ZoneContents) (t k : ℕ) (sought : List DomainName) (s : DomainNa
 pub alias-alone : (z : ZoneContents) → ending_items z (positive []) ≡ []
 alias-alone z = side_items-none z all_names
 
+module _ (z : ZoneContents) (t k : ℕ) (sought : List DomainName) (s : DomainName) (aliases : List Item) (e : ChainEnds z t k sought s aliases (positive [])) where
+  pub alias-all : chain_items z t k sought s ≡ aliases
+  alias-all = e.all ∙ ap (λ xs. aliases ++ xs) (alias-alone z) ∙ append-nil aliases
+
+  pub alias-required : chain_required z t k sought s ≡ aliases
+  alias-required = e.required ∙ append-nil aliases
+
 -- an alias is followed
 pub goes-on : (z : ZoneContents) (t k : ℕ) (sought : List DomainName) (s : DomainName) (k' : ℕ) (m : DomainName) → follows_alias t ≡ true → next_sought z (s ∷ sought) s ≡ Some m → k ≡ k' + 1
     → ChainGoesOn z t k sought s k' m
