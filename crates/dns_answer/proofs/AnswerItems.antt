@@ -2,11 +2,11 @@
 use Rattle.std.proofs.Common.{◌≡◌, ℕ, Bool, true, false, cond, ◌||◌, ◌&&◌, ◌⊎◌, inl, inr, not, min, List, [], ◌∷◌, ◌++◌, map, Option, None, Some, refl, sym, ap, ap₂, ◌∙◌, subst, append-nil, append_assoc}
 use Rattle.std.proofs.lemmas.Bool.{false≢true, eqb-true, or_cases}
 use Rattle.std.proofs.lemmas.Grind.{flat_map-append}
-use Rattle.std.proofs.lemmas.List.Elements.{filter-append, filter_map-append}
+use Rattle.std.proofs.lemmas.List.Elements.{filter-append}
 use Rattle.std.proofs.lemmas.List.Folds.{list_any-append}
 use Rattle.std.specs.Prelude.{◌==◌}
-use Rattle.std.specs.List.{list_any, filter, filter_map, flat_map}
-use Rattle.dns_spec.specs.Names.{DomainName, same, at_or_below}
+use Rattle.std.specs.List.{list_any, filter, filter_map}
+use Rattle.dns_spec.specs.Names.{DomainName, same}
 use Rattle.dns_spec.specs.Data.{type_a, type_ns, type_cname, type_soa, type_mx, type_aaaa, type_srv, qtype_any, target, soa_minimum}
 use Rattle.dns_spec.specs.Records.{ResourceRecord, ZoneContents, at, rrset, of_type, with_owner}
 use Rattle.dns_spec.specs.Sets.{rising_types, of_first_type, of_lowest_type}
@@ -16,12 +16,13 @@ use Rattle.dns_spec.specs.Layout.{Section, answer, authority, Item, records_of}
 use Rattle.dns_spec.specs.Answer.{item, follows_alias, alias_items, last_sought, has_any, asked_records, Outcome, referral_to, negative, negative_soa, positive, outcome_by, outcome_at, outcome, targets_of, targets_inside, targets_outside, targets, extra, main_items, items, required_items}
 use Rattle.dns_spec.proofs.SortedOnce.{Each, each_weaker, filter_each}
 use Rattle.dns_spec.proofs.WritableItems.{each_append, each_flat_map}
-use Rattle.dns_spec.proofs.RequiredItems.{IsAlias, target_of, each_of_type, each_alias_item, no_targets}
+use Rattle.dns_spec.proofs.RequiredItems.{IsAlias, target_of, each_of_type, each_alias_item}
+use Rattle.dns_spec.proofs.FewItems.{item_records, targets_last}
 use Rattle.dns_zone.proofs.NameTree.{same-under}
 use Rattle.dns_answer.specs.Targets.{addresses_of, side_items}
 use Rattle.dns_answer.specs.Ending.{all_names, inside, not_inside, glue_by, others_by, ending_targets, ending_items, ending_required}
 use Rattle.dns_answer.proofs.TargetLaws.{side_items-append, side_items-none}
-use Rattle.dns_answer.proofs.StandingAddresses.{NoAddresses, extra-side, extra-none, item_records}
+use Rattle.dns_answer.proofs.StandingAddresses.{NoAddresses, extra-side, extra-none}
 
 -- a test that names that are the same pass alike
 abbrev Respects : (DomainName → Bool) → Type 0
@@ -170,6 +171,16 @@ asked-one t rs = go (t == qtype_any)
     go true = lowest (rising_types rs)
     go false = record { rtype = t; each = each_of_type t rs }
 
+-- a denial has no targets
+pub denial-no_targets : (z : ZoneContents) → targets_of (negative_soa z) ≡ []
+denial-no_targets z =
+    no-targets authority type_soa (map (λ (r : ResourceRecord). record r { ttl = min r.ttl (soa_minimum r.rdata) }) (rrset z z.origin type_soa))
+    (lowered (rrset z z.origin type_soa) (each_of_type type_soa (at z z.origin))) refl
+  where
+    lowered : (rs : List ResourceRecord) → AreOf type_soa rs → AreOf type_soa (map (λ (r : ResourceRecord). record r { ttl = min r.ttl (soa_minimum r.rdata) }) rs)
+    lowered [] e = tt
+    lowered (r ∷ rs) e = (e.0, lowered rs e.1)
+
 -- what is added after aliases and the sets of an outcome
 record Adds (z : ZoneContents) (front : List Item) (o : Outcome) : Type 0 where
   all : extra z (front ++ main_items o) (targets_of o.answers ++ targets_inside o ++ targets_outside o) ≡ glue_by z o.referral (ending_targets o) ++ others_by z o.referral (ending_targets o)
@@ -228,14 +239,7 @@ module _ (z : ZoneContents) (front : List Item) (clear : NoAddresses front) wher
       shown (r ∷ rs) e = (e.0, shown rs e.1)
 
   adds-denial : (rcode : ℕ) → Adds z front (negative z rcode)
-  adds-denial rcode = adds-nothing (negative z rcode) refl refl (no-targets authority type_soa (map lesser (rrset z z.origin type_soa)) (lowered (rrset z z.origin type_soa) (each_of_type type_soa (at z z.origin))) refl)
-    where
-      lesser : ResourceRecord → ResourceRecord
-      lesser = λ (r : ResourceRecord). record r { ttl = min r.ttl (soa_minimum r.rdata) }
-
-      lowered : (rs : List ResourceRecord) → AreOf type_soa rs → AreOf type_soa (map (λ (r : ResourceRecord). record r { ttl = min r.ttl (soa_minimum r.rdata) }) rs)
-      lowered [] e = tt
-      lowered (r ∷ rs) e = (e.0, lowered rs e.1)
+  adds-denial rcode = adds-nothing (negative z rcode) refl refl (denial-no_targets z)
 
   adds : (t : ℕ) (x : Option DomainName) (y : Option (List ResourceRecord)) → Adds z front (outcome_by z t x y)
   adds t (Some c) y = adds-referral c
@@ -271,15 +275,6 @@ module _ (z : ZoneContents) (q : DomainName) (t : ℕ) where
   unfolding outcome
   main-front = append_assoc (alias_items z q t) last.answers last.authorities
 
-  pub targets-last : targets (outcome z q t)
-      ≡ targets_of (outcome_at z t (last_sought z q t)).answers ++ targets_inside (outcome_at z t (last_sought z q t)) ++ targets_outside (outcome_at z t (last_sought z q t))
-  unfolding outcome
-  targets-last =
-      ap (λ xs. xs ++ targets_inside last ++ targets_outside last)
-      (ap (filter_map target_of) (flat_map-append (λ (i : Item). i.records) front last.answers)
-      ∙ filter_map-append target_of (records_of front) (records_of last.answers)
-      ∙ ap (λ xs. xs ++ targets_of last.answers) (no_targets front (each_alias_item z q t)))
-
   inside-last : targets_inside (outcome z q t) ≡ targets_inside last
   unfolding outcome
   inside-last = refl
@@ -290,7 +285,7 @@ module _ (z : ZoneContents) (q : DomainName) (t : ℕ) where
       let main = front ++ main_items last in
       let glue = glue_by z last.referral (ending_targets last) in
       let others = others_by z last.referral (ending_targets last) in
-      ap (λ xs. xs ++ extra z xs (targets (outcome z q t))) main-front ∙ ap (λ ms. main ++ extra z main ms) targets-last
+      ap (λ xs. xs ++ extra z xs (targets (outcome z q t))) main-front ∙ ap (λ ms. main ++ extra z main ms) (targets_last z q t)
       ∙ ap (λ xs. main ++ xs) adds-last.all ∙ append_assoc front (main_items last) (glue ++ others)
       ∙ ap (λ xs. front ++ xs) (sym (append_assoc (main_items last) glue others))
 

@@ -5,17 +5,18 @@ use Rattle.std.specs.List.{flat_map, list_any}
 use Rattle.std.specs.Option.{option_and_then}
 use Rattle.dns_spec.specs.Names.{DomainName, same, at_or_below}
 use Rattle.dns_spec.specs.Data.{type_cname}
-use Rattle.dns_spec.specs.Records.{ResourceRecord, ZoneContents, of_type, with_owner, at}
+use Rattle.dns_spec.specs.Records.{ResourceRecord, ZoneContents, of_type}
 use Rattle.dns_spec.specs.Tree.{cut_of, found}
 use Rattle.dns_spec.specs.Reading.{no_error, name_error}
 use Rattle.dns_spec.specs.Layout.{answer, Item}
-use Rattle.dns_spec.specs.Answer.{item, follows_alias, alias_set, first_target, next_sought, chain_from, chain, last_of, last_sought, has_any, asked_records, Outcome, positive, negative, referral_to, outcome_by, outcome_at, items, required_items}
+use Rattle.dns_spec.specs.Answer.{item, follows_alias, alias_set, first_target, next_sought, chain_from, chain, last_of, has_any, asked_records, Outcome, positive, negative, referral_to, outcome_by, outcome_at, items, required_items}
 use Rattle.dns_answer.specs.Ending.{all_names, ending_items, ending_required, ending_targets, nodes_by, misses_by}
 use Rattle.dns_answer.specs.Chain.{names_from, chain_outcome, aliases_of, chain_items, chain_required, chain_nodes, chain_misses}
-use Rattle.dns_answer.proofs.TargetLaws.{side_items-none, sum-cons}
+use Rattle.dns_spec.proofs.FewItems.{sum_cons}
+use Rattle.dns_answer.proofs.TargetLaws.{side_items-none}
 use Rattle.dns_answer.proofs.AnswerItems.{items-are, required-are}
 
-abbrev depth_in : ZoneContents → DomainName → ℕ
+abbrev pub depth_in : ZoneContents → DomainName → ℕ
 depth_in z n = length n - length z.origin
 
 -- the chain ends at s: the outcome there, after its alias if it has one
@@ -59,7 +60,7 @@ module _ (z : ZoneContents) (t k : ℕ) (sought : List DomainName) (s : DomainNa
       let o = outcome_at z t s in
       let same_aliases = ap (aliases_of z t) names ∙ shown in
       let same_outcome : outcome_at z t (last_of s (names_from z t k sought s)) ≡ o = ap (λ ns. outcome_at z t (last_of s ns)) names in
-      let depth : sum (map (depth_in z) (s ∷ [])) ≡ depth_in z s = sum-cons (depth_in z s) [] ∙ omega arith in
+      let depth : sum (map (depth_in z) (s ∷ [])) ≡ depth_in z s = sum_cons (depth_in z s) [] ∙ omega arith in
       record {
         all = ap (λ xs. xs ++ ending_items z (chain_outcome z t k sought s)) same_aliases ∙ ap (λ o. aliases ++ ending_items z o) same_outcome;
         required = ap (λ xs. xs ++ ending_required z (chain_outcome z t k sought s)) same_aliases ∙ ap (λ o. aliases ++ ending_required z o) same_outcome;
@@ -72,7 +73,7 @@ module _ (z : ZoneContents) (t k : ℕ) (sought : List DomainName) (s : DomainNa
       }
 
   -- a type that follows no alias, or a name without one
-  none-shown : (follows_alias t && has_any (alias_set z s)) ≡ false → aliases_of z t (s ∷ []) ≡ []
+  pub none-shown : (follows_alias t && has_any (alias_set z s)) ≡ false → aliases_of z t (s ∷ []) ≡ []
   none-shown e = go (follows_alias t) e
     where
       none : (rs : List ResourceRecord) → has_any rs ≡ false → flat_map (λ (x : List ResourceRecord). item answer x) (rs ∷ []) ≡ []
@@ -87,7 +88,7 @@ module _ (z : ZoneContents) (t k : ℕ) (sought : List DomainName) (s : DomainNa
   no-alias-last [] e = refl
   no-alias-last (r ∷ rs) e = absurd (cc)
 
-  last-name : (follows_alias t && has_any (alias_set z s)) ≡ false → names_from z t k sought s ≡ s ∷ []
+  pub last-name : (follows_alias t && has_any (alias_set z s)) ≡ false → names_from z t k sought s ≡ s ∷ []
   last-name e = go (follows_alias t) e
     where
       go : (b : Bool) → (b && has_any (alias_set z s)) ≡ false → cond b (chain_from z k sought s) (s ∷ []) ≡ s ∷ []
@@ -185,6 +186,13 @@ module _ (z : ZoneContents) (t k : ℕ) (sought : List DomainName) (s : DomainNa
 pub alias-alone : (z : ZoneContents) → ending_items z (positive []) ≡ []
 alias-alone z = side_items-none z all_names
 
+module _ (z : ZoneContents) (t k : ℕ) (sought : List DomainName) (s : DomainName) (aliases : List Item) (e : ChainEnds z t k sought s aliases (positive [])) where
+  pub alias-all : chain_items z t k sought s ≡ aliases
+  alias-all = e.all ∙ ap (λ xs. aliases ++ xs) (alias-alone z) ∙ append-nil aliases
+
+  pub alias-required : chain_required z t k sought s ≡ aliases
+  alias-required = e.required ∙ append-nil aliases
+
 -- an alias is followed
 pub goes-on : (z : ZoneContents) (t k : ℕ) (sought : List DomainName) (s : DomainName) (k' : ℕ) (m : DomainName) → follows_alias t ≡ true → next_sought z (s ∷ sought) s ≡ Some m → k ≡ k' + 1
     → ChainGoesOn z t k sought s k' m
@@ -217,7 +225,7 @@ goes-on z t k sought s k' m follows e count =
       nodes =
           let a = ap (λ ns. sum (map (depth_in z) ns)) names in
           let b = ap (λ (x : Outcome). nodes_by z x.referral (ending_targets x)) same_outcome in
-          let c = sum-cons (depth_in z s) (map (depth_in z) rest) in
+          let c = sum_cons (depth_in z s) (map (depth_in z) rest) in
           omega (arith, a, b, c);
       misses =
           let a = ap length names in

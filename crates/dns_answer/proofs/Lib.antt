@@ -9,3 +9,4 @@ pub mod AskedSets
 pub mod StandingAddresses
 pub mod AnswerItems
 pub mod ChainSteps
+pub mod AnswerCosts

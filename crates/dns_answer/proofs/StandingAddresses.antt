@@ -1,18 +1,18 @@
 -- The additional sets of a reply are the addresses of the targets that did not stand before.
-use Rattle.std.proofs.Common.{◌≡◌, ℕ, Bool, true, false, cond, ◌||◌, ◌&&◌, ◌⊎◌, inl, inr, not, List, [], ◌∷◌, ◌++◌, refl, sym, ap, ◌∙◌, Some, append-nil}
+use Rattle.std.proofs.Common.{◌≡◌, ℕ, Bool, true, false, cond, ◌||◌, ◌&&◌, ◌⊎◌, inl, inr, not, List, [], ◌∷◌, ◌++◌, refl, sym, ap, ◌∙◌, Some}
 use Rattle.std.proofs.lemmas.Bool.{false≢true, and_parts, and_from, or_cases, or_left, or_right, eq-eqb}
 use Rattle.std.proofs.lemmas.Grind.{flat_map-append}
 use Rattle.std.proofs.lemmas.List.Folds.{list_any-append}
-use Rattle.std.proofs.lemmas.List.Elements.{filter-append}
 use Rattle.std.specs.Prelude.{◌==◌}
-use Rattle.std.specs.List.{list_any, filter}
-use Rattle.dns_spec.specs.Names.{DomainName, folded, names_equal, same, at_or_below}
+use Rattle.std.specs.List.{list_any}
+use Rattle.dns_spec.specs.Names.{DomainName, folded, names_equal, same}
 use Rattle.dns_spec.specs.Data.{type_a, type_aaaa}
 use Rattle.dns_spec.specs.Records.{ResourceRecord, ZoneContents, at, rrset, of_type}
 use Rattle.dns_spec.specs.Layout.{Section, additional, Item, records_of}
 use Rattle.dns_spec.specs.Answer.{item, stands, address_set, address_sets, extra}
-use Rattle.dns_spec.proofs.SortedOnce.{Each, each_weaker}
+use Rattle.dns_spec.proofs.SortedOnce.{Each}
 use Rattle.dns_spec.proofs.ItemSets.{each_typed, each_among, filter_test}
+use Rattle.dns_spec.proofs.FewItems.{item_records}
 use Rattle.dns_zone.proofs.NameOrder.{same-is, same-from}
 use Rattle.dns_answer.specs.Targets.{addresses_of, target_items, side_items}
 use Rattle.dns_answer.specs.Ending.{all_names}
@@ -20,11 +20,6 @@ use Rattle.dns_answer.proofs.WayLaws.{at-folded}
 
 abbrev is_at : DomainName → ℕ → ResourceRecord → Bool
 is_at n t r = same r.owner n && r.rtype == t
-
--- the records of items
-pub item_records : (s : Section) (rs : List ResourceRecord) → records_of (item s rs) ≡ rs
-item_records s [] = refl
-item_records s (r ∷ rs) = ap (λ xs. r ∷ xs) (append-nil rs)
 
 stands-append : (n : DomainName) (t : ℕ) (xs ys : List Item) → stands n t (xs ++ ys) ≡ (stands n t xs || stands n t ys)
 stands-append n t xs ys =

@@ -1,19 +1,19 @@
 -- The targets of a set, one after the other, and what was offered for those before.
-use Rattle.std.proofs.Common.{◌≡◌, ℕ, zero, suc, ◌+◌, ◌*◌, ◌-◌, ◌<◌, ◌≤◌, Bool, true, false, cond, ◌||◌, ◌&&◌, ◌⊎◌, inl, inr, not, List, [], ◌∷◌, ◌++◌, map, sum, length, take, get_or, Option, None, Some, refl, sym, ap, ◌∙◌, subst, arith, add-one, append_assoc, append-nil, length-append}
+use Rattle.std.proofs.Common.{◌≡◌, ℕ, zero, suc, ◌+◌, ◌*◌, ◌-◌, ◌<◌, ◌≤◌, Bool, true, false, cond, ◌||◌, ◌&&◌, ◌⊎◌, inl, inr, not, List, [], ◌∷◌, ◌++◌, map, sum, length, take, get_or, Option, None, Some, refl, sym, ap, ◌∙◌, arith, add-one, append_assoc, append-nil}
 use Rattle.std.proofs.Math.Seq.{take-suc}
 use Rattle.std.proofs.lemmas.Bool.{false≢true, false_from_ne_true}
-use Rattle.std.proofs.lemmas.List.Elements.{filter-append, filter_map-append}
+use Rattle.std.proofs.lemmas.List.Elements.{filter_map-append}
 use Rattle.std.proofs.lemmas.List.Folds.{list_any-append}
-use Rattle.std.specs.Option.{option_to_list, is_some}
-use Rattle.std.specs.List.{list_any, filter, filter_map, cons_option, fold}
+use Rattle.std.specs.Option.{option_to_list}
+use Rattle.std.specs.List.{list_any, filter, filter_map, cons_option}
 use Rattle.dns_spec.specs.Names.{Octets, DomainName, folded, same, at_or_below}
 use Rattle.dns_spec.specs.Data.{target, type_a, type_aaaa}
-use Rattle.dns_spec.specs.Records.{ResourceRecord, ZoneContents, at, rrset, of_type}
-use Rattle.dns_spec.specs.Sets.{RecordSet, set_of, records_at}
+use Rattle.dns_spec.specs.Records.{ResourceRecord, ZoneContents, at, of_type}
+use Rattle.dns_spec.specs.Sets.{RecordSet, set_of}
 use Rattle.dns_spec.specs.Layout.{Section, additional, Item}
 use Rattle.dns_spec.specs.Answer.{item, targets_in_zone}
 use Rattle.dns_spec.specs.Tree.{exists}
-use Rattle.dns_zone.specs.Nodes.{Walk, ZoneNode, IsSetOf}
+use Rattle.dns_zone.specs.Nodes.{Walk}
 use Rattle.dns_zone.specs.ZoneForm.{IsBuilt}
 use Rattle.std.specs.Prelude.{nat_lt}
 use Rattle.std.proofs.lemmas.Bool.{lt-ltb}
@@ -22,11 +22,12 @@ use Rattle.dns_spec.specs.Checks.{is_owner, outside}
 use Rattle.dns_spec.proofs.SortedOnce.{Among, filter_among, each_weaker}
 use Rattle.dns_spec.proofs.PassedChecks.{checks_at}
 use Rattle.dns_spec.proofs.RecordOrder.{each_all}
+use Rattle.dns_spec.proofs.FewItems.{sum_cons}
 use Rattle.dns_zone.proofs.NameOrder.{same-from}
 use Rattle.dns_zone.proofs.NameTree.{same-under, itself-under}
 use Rattle.dns_answer.proofs.WayLaws.{at-folded}
-use Rattle.dns_answer.specs.Walks.{Took, HasRoom}
-use Rattle.dns_answer.specs.Targets.{set_targets, targets_of_first, addresses_of, target_items, side_items, side_nodes, target_nodes, target_misses}
+use Rattle.dns_answer.specs.Walks.{Took}
+use Rattle.dns_answer.specs.Targets.{targets_of_first, addresses_of, target_items, side_items, side_nodes, target_nodes, target_misses}
 
 one_more : (o : Option DomainName) → cons_option o [] ≡ option_to_list o
 one_more None = refl
@@ -102,18 +103,11 @@ side_items-none z p = refl
 abbrev depth_in : ZoneContents → DomainName → ℕ
 depth_in z m = length m - length z.origin
 
-fold_from : (k : ℕ) (xs : List ℕ) → fold ◌+◌ k xs ≡ k + sum xs
-fold_from k [] = omega arith
-fold_from k (x ∷ xs) = omega (arith, fold_from (k + x) xs, fold_from (0 + x) xs)
-
-pub sum-cons : (x : ℕ) (xs : List ℕ) → sum (x ∷ xs) ≡ x + sum xs
-sum-cons x xs = omega (arith, fold_from (0 + x) xs)
-
-pub side_nodes-cons : (z : ZoneContents) (p : DomainName → Bool) (m : DomainName) (ms : List DomainName) → side_nodes z p (m ∷ ms) ≡ target_nodes z p (Some m) + side_nodes z p ms
+side_nodes-cons : (z : ZoneContents) (p : DomainName → Bool) (m : DomainName) (ms : List DomainName) → side_nodes z p (m ∷ ms) ≡ target_nodes z p (Some m) + side_nodes z p ms
 side_nodes-cons z p m ms = go (p m)
   where
     inner : (b : Bool) → sum (map (depth_in z) (cond b (m ∷ targets_in_zone z (filter p ms)) (targets_in_zone z (filter p ms)))) ≡ cond b (length m - length z.origin) 0 + side_nodes z p ms
-    inner true = sum-cons (depth_in z m) (map (depth_in z) (targets_in_zone z (filter p ms)))
+    inner true = sum_cons (depth_in z m) (map (depth_in z) (targets_in_zone z (filter p ms)))
     inner false = omega arith
 
     go : (a : Bool) → sum (map (depth_in z) (targets_in_zone z (cond a (m ∷ filter p ms) (filter p ms)))) ≡ cond (a && at_or_below m z.origin) (length m - length z.origin) 0 + side_nodes z p ms

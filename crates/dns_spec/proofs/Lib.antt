@@ -87,3 +87,4 @@ pub mod ReadRecords
 pub mod SameRecords
 pub mod PrintedAgain
 pub mod FaultLaws
+pub mod FewItems

@@ -55,7 +55,7 @@ found_each P test (x ∷ xs) y e h = go (test x) h (found_each P test xs y e.1)
     go false q f = f q
 
 -- names above a name, and in lower case
-abbrev Named : DomainName → Type 0
+abbrev pub Named : DomainName → Type 0
 Named n = is_name n ≡ true
 
 each_suffix : (n : DomainName) → Named n → Each Named (suffixes n)
@@ -116,6 +116,36 @@ with_owner_writable : (n : DomainName) (rs : List ResourceRecord) → Named n �
 with_owner_writable n [] h w = tt
 with_owner_writable n (r ∷ rs) h w = (record { owner = h; rtype = w.0.rtype; ttl = w.0.ttl; rdata = w.0.rdata }, with_owner_writable n rs h w.1)
 
+-- The names sought are names.
+module _ (z : ZoneContents) where
+  first_target_named : (rs : List ResourceRecord) (m : DomainName) → first_target rs ≡ Some m → Named m
+  first_target_named [] m e = absurd (none-some m e)
+  first_target_named (r ∷ rs) m e = named_target r.rtype r.rdata m e
+
+  next_named : (sought : List DomainName) (s m : DomainName) → next_sought z sought s ≡ Some m → Named m
+  next_named sought s m e =
+      option_and_then_some (λ m. cond (at_or_below m z.origin && not (list_any (same m) sought)) (Some m) None) (first_target (alias_set z s)) m e (λ x p q.
+      let c = cond_some (at_or_below x z.origin && not (list_any (same x) sought)) x m q in
+      subst Named c.1 (first_target_named (alias_set z s) x p))
+
+  chain_from_named : (k : ℕ) (sought : List DomainName) (s : DomainName) → Named s → Each Named (chain_from z k sought s)
+  unfolding chain_from
+  chain_from_named zero sought s h = (h, tt)
+  chain_from_named (suc k) sought s h = (h, go (next_sought z (s ∷ sought) s) refl (λ m n. chain_from_named k (s ∷ sought) m n))
+    where
+      go : (y : Option DomainName) → next_sought z (s ∷ sought) s ≡ y → ((m : DomainName) → Named m → Each Named (chain_from z k (s ∷ sought) m))
+          → Each Named (elim y [ None ↦ [] | Some m ↦ chain_from z k (s ∷ sought) m ])
+      go None e f = tt
+      go (Some m) e f = f m (next_named (s ∷ sought) s m e)
+
+  pub chain_named : (q : DomainName) (t : ℕ) → Named q → Each Named (chain z q t)
+  unfolding chain
+  chain_named q t h = go (follows_alias t) (chain_from_named 16 [] q h)
+    where
+      go : (b : Bool) → Each Named (chain_from z 16 [] q) → Each Named (cond b (chain_from z 16 [] q) (q ∷ []))
+      go true e = e
+      go false e = (h, tt)
+
 -- Over a zone whose records fit a message.
 module _ (z : ZoneContents) (w : Writable z.records) where
   found_writable : (q : DomainName) (rs : List ResourceRecord) → Named q → found z q ≡ Some rs → Writable rs
@@ -143,34 +173,6 @@ module _ (z : ZoneContents) (w : Writable z.records) where
           → Writable (cond t [] (unwrap_or (option_map (of_type type_cname) (found z s)) []))
       go true e = tt
       go false e = e
-
-  first_target_named : (rs : List ResourceRecord) (m : DomainName) → first_target rs ≡ Some m → Named m
-  first_target_named [] m e = absurd (none-some m e)
-  first_target_named (r ∷ rs) m e = named_target r.rtype r.rdata m e
-
-  next_named : (sought : List DomainName) (s m : DomainName) → next_sought z sought s ≡ Some m → Named m
-  next_named sought s m e =
-      option_and_then_some (λ m. cond (at_or_below m z.origin && not (list_any (same m) sought)) (Some m) None) (first_target (alias_set z s)) m e (λ x p q.
-      let c = cond_some (at_or_below x z.origin && not (list_any (same x) sought)) x m q in
-      subst Named c.1 (first_target_named (alias_set z s) x p))
-
-  chain_from_named : (k : ℕ) (sought : List DomainName) (s : DomainName) → Named s → Each Named (chain_from z k sought s)
-  unfolding chain_from
-  chain_from_named zero sought s h = (h, tt)
-  chain_from_named (suc k) sought s h = (h, go (next_sought z (s ∷ sought) s) refl (λ m n. chain_from_named k (s ∷ sought) m n))
-    where
-      go : (y : Option DomainName) → next_sought z (s ∷ sought) s ≡ y → ((m : DomainName) → Named m → Each Named (chain_from z k (s ∷ sought) m))
-          → Each Named (elim y [ None ↦ [] | Some m ↦ chain_from z k (s ∷ sought) m ])
-      go None e f = tt
-      go (Some m) e f = f m (next_named (s ∷ sought) s m e)
-
-  chain_named : (q : DomainName) (t : ℕ) → Named q → Each Named (chain z q t)
-  unfolding chain
-  chain_named q t h = go (follows_alias t) (chain_from_named 16 [] q h)
-    where
-      go : (b : Bool) → Each Named (chain_from z 16 [] q) → Each Named (cond b (chain_from z 16 [] q) (q ∷ []))
-      go true e = e
-      go false e = (h, tt)
 
   last_named : (s : DomainName) (ms : List DomainName) → Named s → Each Named ms → Named (last_of s ms)
   last_named s [] h e = h
@@ -248,14 +250,14 @@ module _ (z : ZoneContents) (w : Writable z.records) where
   alias_items_stood q t h = go (follows_alias t)
     where
       go : (b : Bool) → Each (Stood answer) (cond b (flat_map (λ s. item answer (alias_set z s)) (chain z q t)) [])
-      go true = each_flat_map (Stood answer) Named (λ s. item answer (alias_set z s)) (chain z q t) (λ s n. item_stood answer (alias_set z s) (alias_set_writable z w s n)) (chain_named z w q t h)
+      go true = each_flat_map (Stood answer) Named (λ s. item answer (alias_set z s)) (chain z q t) (λ s n. item_stood answer (alias_set z s) (alias_set_writable z w s n)) (chain_named z q t h)
       go false = tt
 
   outcome_right : (q : DomainName) (t : ℕ) → Named q → Right (outcome z q t)
   unfolding outcome
   outcome_right q t h =
       let s = last_sought z q t in
-      let o = outcome_at_right t s (last_named z w q (chain z q t) h (chain_named z w q t h)) in
+      let o = outcome_at_right t s (last_named z w q (chain z q t) h (chain_named z q t h)) in
       record {
         rcode = o.rcode;
         answers = each_append (Stood answer) (alias_items z q t) (outcome_at z t s).answers (alias_items_stood q t h) o.answers;
