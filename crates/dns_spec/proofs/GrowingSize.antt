@@ -1,17 +1,17 @@
 -- The size of a layout grows with each set. So the greatest number of sets that fits is reached by stopping at the first
 -- that does not.
-use Rattle.std.proofs.Common.{◌≡◌, ℕ, zero, suc, ◌≤◌, Bool, true, false, cond, nat_le, List, [], ◌∷◌, ◌++◌, length, take, Option, refl, sym, ap, ◌∙◌, subst, arith, append_assoc, append-nil, le-leb, leb-true}
+use Rattle.std.proofs.Common.{◌≡◌, ℕ, zero, suc, ◌+◌, ◌≤◌, Bool, true, false, cond, nat_le, List, [], ◌∷◌, ◌++◌, length, take, Option, refl, sym, ap, ◌∙◌, subst, arith, append_assoc, append-nil, le-leb, leb-true}
 use Rattle.std.proofs.lemmas.List.Concat.{flat_map-append}
 use Rattle.dns_spec.specs.Names.{DomainName}
 use Rattle.dns_spec.specs.Records.{ResourceRecord}
 use Rattle.dns_spec.specs.Reading.{MessageQuestion}
-use Rattle.dns_spec.specs.Layout.{Item, greatest, records_of, asked_names, asked_name, names_of, records_size, size, plain_records_size, plain_size}
+use Rattle.dns_spec.specs.Layout.{Item, greatest, records_of, Placed, asked_octets, asked_placed, asked_name, record_size, record_names, records_size, size, plain_records_size, plain_size}
 use Rattle.dns_spec.specs.Reply.{kept, fitting}
 
-records_grow : (ms : List DomainName) (rs ss : List ResourceRecord) → records_size ms rs ≤ records_size ms (rs ++ ss)
+records_grow : (ms : List Placed) (p : ℕ) (rs ss : List ResourceRecord) → records_size ms p rs ≤ records_size ms p (rs ++ ss)
 unfolding records_size
-records_grow ms [] ss = omega arith
-records_grow ms (r ∷ rs) ss = let h = records_grow (ms ++ names_of r) rs ss in omega (arith, h)
+records_grow ms p [] ss = omega arith
+records_grow ms p (r ∷ rs) ss = let h = records_grow (ms ++ record_names ms p r) (p + record_size ms p r) rs ss in omega (arith, h)
 
 plain_records_grow : (asked : DomainName) (rs ss : List ResourceRecord) → plain_records_size asked rs ≤ plain_records_size asked (rs ++ ss)
 plain_records_grow asked [] ss = omega arith
@@ -23,7 +23,9 @@ both is js = flat_map-append (λ (i : Item). i.records) is js
 pub size_grows : (q : Option MessageQuestion) (is js : List Item) → size q is ≤ size q (is ++ js)
 unfolding size
 size_grows q is js =
-    let h = subst (λ rs. records_size (asked_names q) (records_of is) ≤ records_size (asked_names q) rs) (sym (both is js)) (records_grow (asked_names q) (records_of is) (records_of js)) in
+    let ms = asked_placed q in
+    let p = 12 + length (asked_octets q) in
+    let h = subst (λ rs. records_size ms p (records_of is) ≤ records_size ms p rs) (sym (both is js)) (records_grow ms p (records_of is) (records_of js)) in
     omega (arith, h)
 
 pub plain_size_grows : (q : Option MessageQuestion) (is js : List Item) → plain_size q is ≤ plain_size q (is ++ js)

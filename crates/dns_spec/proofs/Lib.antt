@@ -27,6 +27,8 @@ pub mod OneData
 pub mod OneMeaning
 pub mod PlainLayout
 pub mod LayoutSize
+pub mod UnboundedSize
+pub mod SameLayout
 pub mod LeastSize
 pub mod Question
 pub mod OneMessage

@@ -202,7 +202,7 @@ reply_spells z d keep r writable low keeps = reply_laid plain_layout z d keep r 
         plain_spells h (Some q) (keep q) (roomy h (Some q) (keep q) id flags ok ordered) (plain_counts (Some q) (keep q) k.2) all
 
 -- The same of the layout in which names share suffixes, within a limit.
-pub shared_reply_spells : (z : ZoneContents) (d : Octets) (limit : ℕ) (r : Reply) → All IsWritable z.records → All (λ o. o < 256) d → 271 ≤ limit → limit ≤ 16384
+pub shared_reply_spells : (z : ZoneContents) (d : Octets) (limit : ℕ) (r : Reply) → All IsWritable z.records → All (λ o. o < 256) d → 271 ≤ limit → limit ≤ 65535
     → reply z d limit ≡ Some r → Spells (octets_by layout r) (reply_message r)
 unfolding reply
 shared_reply_spells z d limit r writable low from upto =

@@ -21,7 +21,7 @@ udp z d = octets_of z d 512
 
 unfoldable tcp : ZoneContents → Octets → Option Octets
 unfolding labels_from cut run runs_before name_at shared_octets cost data_laid records_octets layout data_size records_size size plain_layout plain_size chain_from chain outcome_at outcome extra items required_items reply_with reply octets_of question_at query_read decide
-tcp z d = octets_of z d 16384
+tcp z d = octets_of z d 65535
 
 -- a header, the length of the reply, and the octets from a place on
 abbrev outline : Option Octets → ℕ → ℕ → Option (Octets × ℕ × Octets)

@@ -5,11 +5,11 @@ use Rattle.std.proofs.lemmas.Option.{none-some, same_Some, cond_some}
 use Rattle.std.proofs.lemmas.List.{length-map, map-append}
 use Rattle.std.specs.List.{list_all}
 use Rattle.std.specs.Option.{option_to_list}
-use Rattle.dns_spec.specs.Names.{Octets, DomainName, wire, is_label, labels_from}
+use Rattle.dns_spec.specs.Names.{Octets, wire, is_label, labels_from}
 use Rattle.dns_spec.specs.Data.{class_in, Fixed, width, Piece, fixed, domain, string, strings, anything, pieces_of, compresses, Part, octets, octets_front, piece_front, cut, valid, parts, laid_parts}
 use Rattle.dns_spec.specs.Records.{ResourceRecord}
 use Rattle.dns_spec.specs.Reading.{Header, MessageQuestion, MessageRecord, OctetsAt, NumberAt, PiecesAt, DataAt, RecordsAt, Spells}
-use Rattle.dns_spec.specs.Layout.{octets16, octets32, answer, authority, additional, Item, records_of, in_section, Placed, shared_octets, data_laid, parts_of, record_tail, records_octets, question_octets, asked_octets, asked_placed, asked_names, reply_header, layout, records_size, size, names_of, is_section, Section, message_record, message_of}
+use Rattle.dns_spec.specs.Layout.{octets16, octets32, answer, authority, additional, Item, records_of, in_section, Placed, shared_octets, data_laid, parts_of, record_tail, records_octets, question_octets, asked_octets, asked_placed, reply_header, layout, record_size, record_names, records_size, size, is_section, Section, message_record, message_of}
 use Rattle.dns_spec.specs.Laws.{IsWritable, IsAskable, HasRoom, HasCounts}
 use Rattle.dns_spec.proofs.SortedOnce.{Each}
 use Rattle.dns_spec.proofs.Places.{Stands, stands_front, stands_rest, stands_behind, stands_all, stands_within, stands_get, number_at, octets_at}
@@ -54,7 +54,7 @@ no_octets (anything ∷ ps) ys h ms i =
     let whole : octets [] ∷ c.others ≡ ys = ap (λ z. z.0 ∷ c.others) p ∙ c.whole in
     ap (λ z. length (data_octets ms i z)) (sym whole) ∙ no_octets ps c.others (ap (λ z. cut ps z.1) p ∙ c.more) ms (i + 0)
 
-module _ (b : Octets) (room : length b ≤ 16384) where
+module _ (b : Octets) (room : length b < 2 ^ 16) where
   -- data laid out from place i on is read there, and its names are earlier names from then on
   record Laid (ps : List Piece) (os : Octets) (ms : List Placed) (i : ℕ) (xs : List Part) : Type 0 where
     pieces : PiecesAt b ps i (i + length (data_octets ms i xs)) os
@@ -182,7 +182,7 @@ module _ (b : Octets) (room : length b ≤ 16384) where
       let later = data_octets more next ys in
       let here : Stands b i w = stands_front w later at in
       let labels = (and_parts (list_all is_label n) (nat_le (length (wire n)) 255) m.2).0 in
-      let known' : Known b next more = known_more b i ms known n i (omega arith) header room labels here in
+      let known' : Known b next more = known_more b i ms known n i (omega arith) header labels here in
       let r : Laid ps rest more next ys = lays more next known' (omega arith) (stands_rest w later at) in
       let end : next + length later ≡ i + length (w ++ later) = omega (arith, length-append w later) in
       record {
@@ -268,7 +268,7 @@ module _ (b : Octets) (room : length b ≤ 16384) where
       let data_stands : Stands b behind d = stands_behind 10 (t ++ c ++ l ++ k) d refl tail in
       let short = stands_within d data_stands in
       let labels = (and_parts (list_all is_label r.owner) (nat_le (length (wire r.owner)) 255) w_ok.0.owner).0 in
-      let known' : Known b behind earlier = known_later b j behind earlier (omega arith) (known_more b i ms known r.owner i (omega arith) header room labels own) in
+      let known' : Known b behind earlier = known_later b j behind earlier (omega arith) (known_more b i ms known r.owner i (omega arith) header labels own) in
       let laid = data_laid_at r.rtype r.rdata earlier behind w_ok.0.rdata known' (omega arith) data_stands in
       let tail_len : length (record_tail r d) ≡ 10 + length d = length-append (t ++ c ++ l ++ k) d in
       let next : i + length w ≡ behind + length d = omega (arith, length-append n (record_tail r d), tail_len) in
@@ -295,19 +295,19 @@ records_split b [] rs i e h = (i, refl, h)
 records_split b (q ∷ qs) rs i e h = let s = records_split b qs rs (h.0 + 10 + h.1) e h.3 in (s.0, (h.0, h.1, h.2, s.1), s.2)
 
 -- the name of the question is an earlier name of the records
-asked_known : (b : Octets) → length b ≤ 16384 → (q : Option MessageQuestion) → IfSome q IsAskable → Stands b 12 (asked_octets q)
+asked_known : (b : Octets) (q : Option MessageQuestion) → IfSome q IsAskable → Stands b 12 (asked_octets q)
     → Known b (12 + length (asked_octets q)) (asked_placed q)
-asked_known b room None ok at = nothing_known b 12
-asked_known b room (Some q) ok at =
+asked_known b None ok at = nothing_known b 12
+asked_known b (Some q) ok at =
     let from : ℕ = 12 + length (question_octets q) in
     let spelled : Stands b 12 (wire q.qname) = stands_front (wire q.qname) (octets16 q.qtype) (stands_front (wire q.qname ++ octets16 q.qtype) (octets16 q.qclass) at) in
     let alone : Stands b 12 (shared_octets [] q.qname) = subst (Stands b 12) (sym (shared_alone q.qname)) spelled in
     let labels = (and_parts (list_all is_label q.qname) (nat_le (length (wire q.qname)) 255) ok.qname).0 in
     let first : Known b (12 + length (shared_octets [] q.qname)) ((q.qname, 12) ∷ []) =
-    known_more b 12 [] (nothing_known b 12) q.qname 12 (omega arith) (omega arith) room labels alone in
+    known_more b 12 [] (nothing_known b 12) q.qname 12 (omega arith) (omega arith) labels alone in
     known_later b (12 + length (shared_octets [] q.qname)) from ((q.qname, 12) ∷ []) (omega (arith, ap length (shared_alone q.qname), length-question_octets q)) first
 
-spells_where : (b : Octets) (h : Header) (q : Option MessageQuestion) (items : List Item) → length b ≤ 16384 → HasRoom h q items → HasCounts items
+spells_where : (b : Octets) (h : Header) (q : Option MessageQuestion) (items : List Item) → length b < 2 ^ 16 → HasRoom h q items → HasCounts items
     → Each IsWritable (records_of items)
     → b ≡ reply_header h q items ++ asked_octets q ++ records_octets (asked_placed q) (12 + length (asked_octets q)) (records_of items) → Spells b (message_of h q items)
 spells_where b h q items room ok counts writable whole =
@@ -323,7 +323,7 @@ spells_where b h q items room ok counts writable whole =
     let at = header_at h (length (option_to_list q)) (length A) (length B) (length C) ok.id ok.flags (one_question q) counts.answers counts.authorities counts.additionals (stands_front rh qo front) in
     let question : Stands b 12 qo = stands_behind 12 rh qo refl front in
     let asked = asked_at_12 q ok.question question in
-    let known = asked_known b room q ok.question question in
+    let known = asked_known b q ok.question question in
     let head_len : length (rh ++ qo) ≡ from = length-append rh qo in
     let behind : Stands b from rest = subst (λ x. Stands b x rest) (zero-add from) (stands_behind from (rh ++ qo) rest head_len all) in
     let end : from + length rest ≡ length b = omega (arith, ap length whole, length-append (rh ++ qo) rest, head_len) in
@@ -365,19 +365,19 @@ counted is few = record {
   additionals = omega (arith, section_bound additional is);
 }
 
-shared_bound : (ms : List DomainName) (rs : List ResourceRecord) → length rs ≤ records_size ms rs
+shared_bound : (ms : List Placed) (p : ℕ) (rs : List ResourceRecord) → length rs ≤ records_size ms p rs
 unfolding records_size
-shared_bound ms [] = omega arith
-shared_bound ms (r ∷ rs) = let b = shared_bound (ms ++ names_of r) rs in omega (arith, b)
+shared_bound ms p [] = omega arith
+shared_bound ms p (r ∷ rs) = let b = shared_bound (ms ++ record_names ms p r) (p + record_size ms p r) rs in omega (arith, b)
 
 few_counts : (q : Option MessageQuestion) (is : List Item) → size q is < 2 ^ 16 → HasCounts is
 unfolding size
-few_counts q is short = let b = shared_bound (asked_names q) (records_of is) in counted is (omega (arith, b))
+few_counts q is short = let b = shared_bound (asked_placed q) (12 + length (asked_octets q)) (records_of is) in counted is (omega (arith, b))
 
 -- The layout spells its message.
-pub layout_spells : (h : Header) (q : Option MessageQuestion) (items : List Item) → HasRoom h q items → All IsWritable (records_of items) → size q items ≤ 16384
+pub layout_spells : (h : Header) (q : Option MessageQuestion) (items : List Item) → HasRoom h q items → All IsWritable (records_of items) → size q items ≤ 65535
     → Spells (layout h q items) (message_of h q items)
 unfolding layout
 layout_spells h q items ok writable short =
     let b = layout h q items in
-    spells_where b h q items (omega (arith, length-layout h q items, short)) ok (few_counts q items (omega arith)) (each_from_all IsWritable (records_of items) writable) refl
+    spells_where b h q items (omega (arith, length-layout h q items, short)) ok (few_counts q items (omega (arith, short))) (each_from_all IsWritable (records_of items) writable) refl

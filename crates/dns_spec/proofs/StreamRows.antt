@@ -14,7 +14,7 @@ use Rattle.dns_spec.proofs.Examples.{hex, www_query, small_zone}
 -- the replies of a server of the small zone, to at most so many messages
 unfoldable answers : ℕ → Octets → Octets
 unfolding first_frame frames labels_from cut run runs_before name_at shared_octets cost data_laid records_octets layout data_size records_size size chain_from chain outcome_at outcome extra items required_items reply_with reply octets_of question_at query_read decide
-answers k x = replies (λ d. octets_of small_zone d 16384) (frames k x)
+answers k x = replies (λ d. octets_of small_zone d 65535) (frames k x)
 
 -- a query, 11 octets that get no reply, and the query again
 abbrev three_messages : Octets

@@ -3,7 +3,7 @@
 use Rattle.std.specs.Prelude.{ℕ, zero, suc, ◌+◌, ◌-◌, ◌*◌, Bool, true, false, ◌&&◌, List, [], ◌∷◌, ◌++◌, map, length, nat_le, if◌then◌else◌}
 use Rattle.std.specs.Prelude.{Option, None, Some}
 use Rattle.std.specs.Option.{option_to_list}
-use Rattle.std.specs.List.{list_any, filter, flat_map}
+use Rattle.std.specs.List.{filter, flat_map}
 use Rattle.std.specs.Int.{bytes_high_first}
 use Rattle.dns_spec.specs.Names.{Octets, DomainName, wire, names_equal, last_labels}
 use Rattle.dns_spec.specs.Data.{class_in, Part, octets, name, laid_parts}
@@ -63,18 +63,30 @@ abbrev pub place_of : List Placed → DomainName → Option ℕ
 place_of [] s = None
 place_of (m ∷ ms) s = if has_suffix m.0 s then Some (suffix_place m s) else place_of ms s
 
--- RFC 1035 4.1.4: a name is written as its labels before the longest suffix that an earlier name has, and a pointer to
--- it; without such a suffix it is written whole. The root is never shared.
+-- RFC 1035 4.1.4: the last place that the 14 bits of a pointer reach
+abbrev pub last_place : ℕ
+last_place = 16383
+
+abbrev pub reached : Option ℕ → Option ℕ
+reached None = None
+reached (Some p) = if nat_le p last_place then Some p else None
+
+-- the place to which a name that ends in s points: that of s, where a pointer reaches it
+abbrev pub shared_place : List Placed → DomainName → Option ℕ
+shared_place ms s = reached (place_of ms s)
+
+-- RFC 1035 4.1.4: a name is written as its labels before the longest suffix that an earlier name has at a place which a
+-- pointer reaches, and a pointer to it; without such a suffix it is written whole. The root is never shared.
 unfoldable pub shared_octets : List Placed → DomainName → Octets
 shared_octets ms [] = 0 ∷ []
 shared_octets ms (l ∷ n) =
-    elim (place_of ms (l ∷ n)) [ None ↦ length l ∷ (l ++ shared_octets ms n) | Some p ↦ pointer p ]
+    elim (shared_place ms (l ∷ n)) [ None ↦ length l ∷ (l ++ shared_octets ms n) | Some p ↦ pointer p ]
 
 -- its length: the octets of the labels before that suffix and 2, or all of them
-unfoldable pub cost : List DomainName → DomainName → ℕ
+unfoldable pub cost : List Placed → DomainName → ℕ
 cost ms [] = 1
 cost ms (l ∷ n) =
-    elim (list_any (λ m. has_suffix m (l ∷ n)) ms) [ true ↦ 2 | false ↦ 1 + length l + cost ms n ]
+    elim (shared_place ms (l ∷ n)) [ None ↦ 1 + length l + cost ms n | Some p ↦ 2 ]
 
 -- What is laid out: its octets, and the names in it with their places.
 pub record Laid : Type 0 where
@@ -129,10 +141,6 @@ abbrev pub asked_placed : Option MessageQuestion → List Placed
 asked_placed None = []
 asked_placed (Some q) = (q.qname, 12) ∷ []
 
-abbrev pub asked_names : Option MessageQuestion → List DomainName
-asked_names None = []
-asked_names (Some q) = q.qname ∷ []
-
 -- RFC 1035 4.1.1: ID and flags, and how many questions, answers, authority and additional records there are
 abbrev pub header_octets : Header → ℕ → ℕ → ℕ → ℕ → Octets
 header_octets h qd an ns ar =
@@ -151,32 +159,40 @@ layout h q items =
     reply_header h q items ++ asked_octets q
     ++ records_octets (asked_placed q) (12 + length (asked_octets q)) (records_of items)
 
--- the names in data that take part in sharing
-abbrev pub names_in : List Part → List DomainName
-names_in [] = []
-names_in (octets o ∷ ps) = names_in ps
-names_in (name n ∷ ps) = n ∷ names_in ps
+-- the size of data from place p on, after earlier names
+unfoldable pub data_size : List Placed → ℕ → List Part → ℕ
+data_size ms p [] = 0
+data_size ms p (octets o ∷ ps) = length o + data_size ms (p + length o) ps
+data_size ms p (name n ∷ ps) = cost ms n + data_size (ms ++ (n, p) ∷ []) (p + cost ms n) ps
 
--- the names of a record that later names may share: its owner, and those in its data
-abbrev pub names_of : ResourceRecord → List DomainName
-names_of r = r.owner ∷ names_in (parts_of r)
+-- the names in it with their places
+abbrev pub data_names : List Placed → ℕ → List Part → List Placed
+data_names ms p [] = []
+data_names ms p (octets o ∷ ps) = data_names ms (p + length o) ps
+data_names ms p (name n ∷ ps) = (n, p) ∷ data_names (ms ++ (n, p) ∷ []) (p + cost ms n) ps
 
--- the size of data after earlier names, of a record, and of records
-unfoldable pub data_size : List DomainName → List Part → ℕ
-data_size ms [] = 0
-data_size ms (octets o ∷ ps) = length o + data_size ms ps
-data_size ms (name n ∷ ps) = cost ms n + data_size (ms ++ n ∷ []) ps
+-- the size of a record from place p on, and its names with their places
+abbrev pub record_size : List Placed → ℕ → ResourceRecord → ℕ
+record_size ms p r =
+    let owner = cost ms r.owner in
+    owner + 10 + data_size (ms ++ (r.owner, p) ∷ []) (p + owner + 10) (parts_of r)
 
-abbrev pub record_size : List DomainName → ResourceRecord → ℕ
-record_size ms r = cost ms r.owner + 10 + data_size (ms ++ r.owner ∷ []) (parts_of r)
+abbrev pub record_names : List Placed → ℕ → ResourceRecord → List Placed
+record_names ms p r =
+    (r.owner, p) ∷ data_names (ms ++ (r.owner, p) ∷ []) (p + cost ms r.owner + 10) (parts_of r)
 
-unfoldable pub records_size : List DomainName → List ResourceRecord → ℕ
-records_size ms [] = 0
-records_size ms (r ∷ rs) = record_size ms r + records_size (ms ++ names_of r) rs
+-- the size of records from place p on
+unfoldable pub records_size : List Placed → ℕ → List ResourceRecord → ℕ
+records_size ms p [] = 0
+records_size ms p (r ∷ rs) =
+    let k = record_size ms p r in
+    k + records_size (ms ++ record_names ms p r) (p + k) rs
 
 -- the length of the layout, added up without writing
 unfoldable pub size : Option MessageQuestion → List Item → ℕ
-size q items = 12 + length (asked_octets q) + records_size (asked_names q) (records_of items)
+size q items =
+    let from = 12 + length (asked_octets q) in
+    from + records_size (asked_placed q) from (records_of items)
 
 -- The plain layout: an owner that is spelled as the question's name is a pointer to it, unless it is the root. All other
 -- names are written whole.

@@ -20,6 +20,7 @@ pub mod ComputedReading
 pub mod Query
 pub mod Layout
 pub mod Sharing
+pub mod UnboundedLayout
 pub mod Answer
 pub mod Reply
 pub mod Stream

@@ -1,13 +1,29 @@
 -- What a reader learns here: the sizes that a reply may have by RFC 1035 4.1.4, where each name is written whole or
--- shares any of its suffixes. The layout has the least of them.
+-- shares any of its suffixes. The layout has the least of them, up to 16,384 octets: of longer ones some places are past
+-- the reach of a pointer.
 use Rattle.std.specs.Prelude.{◌≡◌, ℕ, ◌+◌, List, [], ◌∷◌, ◌++◌, length, IsTrue}
-use Rattle.std.specs.Prelude.{Option}
+use Rattle.std.specs.Prelude.{Option, None, Some}
 use Rattle.std.specs.List.{list_any}
 use Rattle.dns_spec.specs.Names.{Octets, DomainName, wire}
 use Rattle.dns_spec.specs.Data.{Part, octets, name}
 use Rattle.dns_spec.specs.Records.{ResourceRecord}
 use Rattle.dns_spec.specs.Reading.{MessageQuestion}
-use Rattle.dns_spec.specs.Layout.{Item, records_of, has_suffix, asked_octets, asked_names, parts_of, names_of}
+use Rattle.dns_spec.specs.Layout.{Item, records_of, has_suffix, asked_octets, parts_of}
+
+-- the earlier names that a question gives to the records
+abbrev pub asked_names : Option MessageQuestion → List DomainName
+asked_names None = []
+asked_names (Some q) = q.qname ∷ []
+
+-- the names in data that take part in sharing
+abbrev pub names_in : List Part → List DomainName
+names_in [] = []
+names_in (octets o ∷ ps) = names_in ps
+names_in (name n ∷ ps) = n ∷ names_in ps
+
+-- the names of a record that later names may share: its owner, and those in its data
+abbrev pub names_of : ResourceRecord → List DomainName
+names_of r = r.owner ∷ names_in (parts_of r)
 
 -- the octets of labels, each after its length
 abbrev pub labels_size : DomainName → ℕ

@@ -1,9 +1,10 @@
 //! Laws of layouts: the octets laid out are the message, and their number is the size added up.
 
-ghost use Rattle.std.specs.Prelude.{◌≡◌, ℕ, List, ◌≤◌, All, Option, length};
+ghost use Rattle.std.specs.Prelude.{◌≡◌, ℕ, List, ◌<◌, ◌≤◌, ◌⊎◌, ◌↔◌, All, Option, length};
 ghost use Rattle.dns_spec.specs.Reading.{Header, MessageQuestion, Spells};
 ghost use Rattle.dns_spec.specs.Layout.{Item, records_of, layout, size, plain_layout, plain_size, message_of};
 ghost use Rattle.dns_spec.specs.Sharing.{Sharing};
+ghost use Rattle.dns_spec.specs.UnboundedLayout.{unbounded_layout, unbounded_size};
 ghost use Rattle.dns_spec.specs.Laws.{IsWritable, HasRoom, HasCounts};
 
 /// The plain layout of sets, with a question or without, spells their message (RFC 1035 4.1).
@@ -26,12 +27,25 @@ pub fn layout_has_its_size()
         → length (layout h q items) ≡ size q items }
 {}
 
-/// The layout, in which names share suffixes, spells its message, with a question or without, as long as it has at most 16,384 octets: a pointer
-/// has 14 bits (RFC 1035 4.1.4).
+/// The layout, in which names share suffixes, spells its message, with a question or without, as long as it has at most 65,535 octets
+/// (RFC 1035 4.1.4).
 pub fn layout_is_spelled()
     ensures { (h : Header) (q : Option MessageQuestion) (items : List Item) → HasRoom h q items
-        → All IsWritable (records_of items) → size q items ≤ 16384
+        → All IsWritable (records_of items) → size q items ≤ 65535
         → Spells (layout h q items) (message_of h q items) }
+{}
+
+/// Where the layout has at most 16,384 octets, or the one without bound has, they are the same. Else both are longer.
+pub fn layout_is_without_bound_up_to_16384_octets()
+    ensures { (h : Header) (q : Option MessageQuestion) (items : List Item)
+        → (size q items ≤ 16384) ⊎ (unbounded_size q items ≤ 16384)
+        → (layout h q items ≡ unbounded_layout h q items) × (size q items ≡ unbounded_size q items) }
+{}
+
+/// The layout without bound is as long as its size, which is added up without writing it.
+pub fn unbounded_layout_has_its_size()
+    ensures { (h : Header) (q : Option MessageQuestion) (items : List Item)
+        → length (unbounded_layout h q items) ≡ unbounded_size q items }
 {}
 
 /// The size of the layout is one that sharing of suffixes allows (RFC 1035 4.1.4).
@@ -39,8 +53,15 @@ pub fn size_is_possible()
     ensures { (q : Option MessageQuestion) (items : List Item) → Sharing q items (size q items) }
 {}
 
-/// Sharing of suffixes allows no smaller size than that of the layout (RFC 1035 4.1.4).
+/// Sharing of suffixes allows no smaller size than that of the layout, up to 16,384 octets (RFC 1035 4.1.4). Among longer layouts
+/// one may be shorter that is not lawful: its pointers have places that no pointer reaches.
 pub fn size_is_the_least()
-    ensures { (q : Option MessageQuestion) (items : List Item) (z : ℕ) → Sharing q items z
+    ensures { (q : Option MessageQuestion) (items : List Item) (z : ℕ) → Sharing q items z → z ≤ 16384
         → size q items ≤ z }
+{}
+
+/// So the layout is past a limit of at most 16,384 octets exactly where every size that sharing allows is.
+pub fn layout_is_past_a_limit_where_all_sizes_are()
+    ensures { (q : Option MessageQuestion) (items : List Item) (limit : ℕ) → limit ≤ 16384
+        → (limit < size q items) ↔ ((z : ℕ) → Sharing q items z → limit < z) }
 {}

@@ -21,11 +21,11 @@ pub fn plain_reply_is_spelled()
 {}
 
 /// The octets of a reply spell the message that the reply is, over every zone whose records fit a message, for every
-/// datagram and every limit from 271 to 16,384 octets (RFC 1035 4.1).
+/// datagram and every limit from 271 to 65,535 octets (RFC 1035 4.1).
 pub fn reply_is_spelled()
     ensures { (z : ZoneContents) (d : Octets) (limit : ℕ) (r : Reply) → All IsWritable z.records
         → All (λ o. o < 256) d
-        → 271 ≤ limit → limit ≤ 16384
+        → 271 ≤ limit → limit ≤ 65535
         → reply z d limit ≡ Some r → Spells (octets_by layout r) (reply_message r) }
 {}
 

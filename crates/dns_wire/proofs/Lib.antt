@@ -3,3 +3,10 @@ mod PieceLemmas
 mod ReadLemmas
 mod ValidData
 mod Anyway
+mod ChainLemmas
+mod SpelledLemmas
+mod Suffixes
+mod NameWritten
+mod DataWritten
+mod RecordsWritten
+mod DraftLemmas

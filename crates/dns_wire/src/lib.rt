@@ -1,4 +1,4 @@
-//! Messages on the wire (RFC 1035 4.1), read.
+//! Messages on the wire (RFC 1035 4.1), read and written.
 #![tactic(auto)]
 
 mod data;
@@ -6,10 +6,18 @@ mod fault;
 mod message;
 mod name;
 mod number;
+mod page;
+mod places;
+mod quick_hash;
 mod reader;
+mod room;
+mod spelled;
 
 pub use fault::WireFault;
 pub use message::{CLASS_IN, Head, Message, Question, WireRecord};
+pub use page::{Page, Section};
+pub use places::SuffixHash;
+pub use quick_hash::QuickHash;
 pub use reader::read_message;
 
 #[cfg(test)]

@@ -11,7 +11,7 @@ const HEADER_OCTETS: usize = 12;
 
 // What stands where a name goes on.
 #[derive(Drop)]
-enum Step<'a> {
+pub(crate) enum Step<'a> {
     // The root's length, which ends the name.
     End,
     Label(Label<'a>),
@@ -54,7 +54,7 @@ pub(crate) fn read_name(message: &[u8], at: usize) -> Result<(Name, usize), Wire
 }
 
 // What stands at a place of a run of labels that began at `run`.
-fn step_at(message: &[u8], run: usize, place: usize) -> Result<Step<'_>, WireFault>
+pub(crate) fn step_at(message: &[u8], run: usize, place: usize) -> Result<Step<'_>, WireFault>
     ensures step { IfOk result (λ step. StepAt message.now run place step) }
     ensures none { IsErr result → NoRunAt message.now run place }
 {

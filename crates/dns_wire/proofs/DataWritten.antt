@@ -1,0 +1,216 @@
+-- Data and records are written part by part: what is written and what is to come are the whole.
+use Rattle.std.proofs.Common.{◌≡◌, ◌↔◌, ℕ, zero, suc, ◌+◌, ◌-◌, ◌<◌, ◌≤◌, Bool, true, false, All, List, [], ◌∷◌, ◌++◌, map, length, take, drop, get_or, refl, sym, ap, ap₂, ◌∙◌, subst, arith, append_assoc, append-nil, length-append, lt_of_not-le}
+use Rattle.std.proofs.lemmas.Bool.{false≢true}
+use Rattle.std.specs.Bool.{OnTrue, OnFalse}
+use Rattle.dns_spec.specs.Names.{Octets, DomainName, wire, is_name}
+use Rattle.dns_spec.specs.Data.{class_in, Part, octets, name, laid_parts}
+use Rattle.dns_spec.specs.Layout.{Placed, Laid, laid_front, octets16, octets32, shared_octets, cost, data_laid, record_laid, record_tail}
+use Rattle.dns_spec.proofs.LayoutSize.{length-shared_octets, length-record_tail}
+use Rattle.dns_rdata.specs.Parts.{with_octets}
+use Rattle.dns_wire.specs.Kept.{Kept}
+use Rattle.dns_wire.specs.Writing.{Holds, IsWritten, Extends, shown, tail_laid}
+use Rattle.dns_wire.proofs.Suffixes.{extends_none, extends_again}
+use Rattle.dns_wire.proofs.NameWritten.{holds_octets}
+
+-- data after octets, and after a name
+data-octets : (ms : List Placed) (p : ℕ) (o : Octets) (ps : List Part) → data_laid ms p (octets o ∷ ps) ≡ laid_front o [] (data_laid ms (p + length o) ps)
+unfolding data_laid
+data-octets ms p o ps = refl
+
+data-name : (ms : List Placed) (p : ℕ) (n : DomainName) (ps : List Part)
+    → data_laid ms p (name n ∷ ps) ≡ laid_front (shared_octets ms n) ((n, p) ∷ []) (data_laid (ms ++ (n, p) ∷ []) (p + length (shared_octets ms n)) ps)
+unfolding data_laid
+data-name ms p n ps = refl
+
+data-none : (ms : List Placed) (p : ℕ) → data_laid ms p [] ≡ record { written = []; names = [] }
+unfolding data_laid
+data-none ms p = refl
+
+-- What is laid out after octets b₀ ends with what is laid out after octets b.
+pub record Goes (head : Octets → ℕ) (whole : Laid) (ms₀ : List Placed) (b₀ : Octets) (rest : List Placed → ℕ → Laid) (b : Octets) (ks : List Kept) : Type 0 where
+  pub ms : List Placed
+  pub holds : Holds head ms b ks
+  pub written : b₀ ++ whole.written ≡ b ++ (rest ms (length b)).written
+  pub names : ms₀ ++ whole.names ≡ ms ++ (rest ms (length b)).names
+
+abbrev pub PartsGo : (Octets → ℕ) → List Part → Octets → List Kept → List Part → Octets → List Kept → Type 0
+PartsGo head ps₀ b₀ ks₀ ps b ks =
+    (ms₀ : List Placed) → Holds head ms₀ b₀ ks₀ → Goes head (data_laid ms₀ (length b₀) ps₀) ms₀ b₀ (λ ms p. data_laid ms p ps) b ks
+
+pub parts_begin : (head : Octets → ℕ) (ps : List Part) (b : Octets) (ks : List Kept) → PartsGo head ps b ks ps b ks
+parts_begin head ps b ks ms holds = record { ms = ms; holds = holds; written = refl; names = refl }
+
+pub parts_octets : (head : Octets → ℕ) (ps₀ ps : List Part) (b₀ b b' : Octets) (ks₀ ks : List Kept) (o : Octets) → PartsGo head ps₀ b₀ ks₀ (octets o ∷ ps) b ks
+    → b' ≡ b ++ (o ++ []) → PartsGo head ps₀ b₀ ks₀ ps b' ks
+parts_octets head ps₀ ps b₀ b b' ks₀ ks o go e ms₀ holds₀ =
+    let g = go ms₀ holds₀ in
+    let own : b' ≡ b ++ o = e ∙ ap (λ z. b ++ z) (append-nil o) in
+    let place : length b + length o ≡ length b' = sym (ap length own ∙ length-append b o) in
+    let laid = data-octets g.ms (length b) o ps ∙ ap (λ p. laid_front o [] (data_laid g.ms p ps)) place in
+    record {
+      ms = g.ms;
+      holds = subst (λ x. Holds head g.ms x ks) (sym own) (holds_octets o g.holds);
+      written = g.written ∙ ap (λ (l : Laid). b ++ l.written) laid ∙ sym (append_assoc b o (data_laid g.ms (length b') ps).written)
+          ∙ ap (λ z. z ++ (data_laid g.ms (length b') ps).written) (sym own);
+      names = g.names ∙ ap (λ (l : Laid). g.ms ++ l.names) laid;
+    }
+
+pub parts_name : (head : Octets → ℕ) (ps₀ ps : List Part) (b₀ b b' : Octets) (ks₀ ks ks' : List Kept) (n : DomainName) → PartsGo head ps₀ b₀ ks₀ (name n ∷ ps) b ks
+    → ((ms : List Placed) → Holds head ms b ks → b' ≡ b ++ shared_octets ms n)
+    → ((ms : List Placed) → Holds head ms b ks → Holds head (ms ++ (n, length b) ∷ []) b' ks') → PartsGo head ps₀ b₀ ks₀ ps b' ks'
+parts_name head ps₀ ps b₀ b b' ks₀ ks ks' n go octets_of holds_of ms₀ holds₀ =
+    let g = go ms₀ holds₀ in
+    let w = shared_octets g.ms n in
+    let own = octets_of g.ms g.holds in
+    let more = g.ms ++ (n, length b) ∷ [] in
+    let place : length b + length w ≡ length b' = sym (ap length own ∙ length-append b w) in
+    let laid = data-name g.ms (length b) n ps ∙ ap (λ p. laid_front w ((n, length b) ∷ []) (data_laid more p ps)) place in
+    record {
+      ms = more;
+      holds = holds_of g.ms g.holds;
+      written = g.written ∙ ap (λ (l : Laid). b ++ l.written) laid ∙ sym (append_assoc b w (data_laid more (length b') ps).written)
+          ∙ ap (λ z. z ++ (data_laid more (length b') ps).written) (sym own);
+      names = g.names ∙ ap (λ (l : Laid). g.ms ++ l.names) laid ∙ sym (append_assoc g.ms ((n, length b) ∷ []) (data_laid more (length b') ps).names);
+    }
+
+-- all parts are written
+pub parts_written : (head : Octets → ℕ) (limit : ℕ) (ps₀ : List Part) (b₀ b : Octets) (ks₀ ks : List Kept) → length b ≤ limit → PartsGo head ps₀ b₀ ks₀ [] b ks
+    → (ms : List Placed) → Holds head ms b₀ ks₀ → IsWritten head limit ms b₀ (data_laid ms (length b₀) ps₀) true b ks
+parts_written head limit ps₀ b₀ b ks₀ ks within go ms₀ holds₀ =
+    let g = go ms₀ holds₀ in
+    let none = data-none g.ms (length b) in
+    let whole = g.written ∙ ap (λ (l : Laid). b ++ l.written) none ∙ append-nil b in
+    let all = g.names ∙ ap (λ (l : Laid). g.ms ++ l.names) none ∙ append-nil g.ms in
+    record {
+      exactly = (λ yes. omega (arith, ap length whole, within), λ fits. refl);
+      written = sym whole;
+      holds = subst (λ x. Holds head x b ks) (sym all) g.holds;
+    }
+
+-- a part does not fit, and so the whole
+pub parts_past : (head : Octets → ℕ) (limit : ℕ) (ps₀ ps : List Part) (b₀ b b' : Octets) (ks₀ ks ks' : List Kept) → PartsGo head ps₀ b₀ ks₀ ps b ks
+    → ((ms : List Placed) → Holds head ms b ks → limit < length (b ++ (data_laid ms (length b) ps).written))
+    → (ms : List Placed) → Holds head ms b₀ ks₀ → IsWritten head limit ms b₀ (data_laid ms (length b₀) ps₀) false b' ks'
+parts_past head limit ps₀ ps b₀ b b' ks₀ ks ks' go past ms₀ holds₀ =
+    let g = go ms₀ holds₀ in
+    let over = past g.ms g.holds in
+    record {
+      exactly = (λ no. absurd (false≢true no), λ fits. absurd (omega (arith, fits, over, ap length g.written)));
+      written = tt;
+      holds = tt;
+    }
+
+pub past_octets : (limit : ℕ) (ms : List Placed) (b o : Octets) (ps : List Part) → limit < length b + (length o + 0) → limit < length (b ++ (data_laid ms (length b) (octets o ∷ ps)).written)
+past_octets limit ms b o ps past =
+    let rest = (data_laid ms (length b + length o) ps).written in
+    omega (arith, past, ap (λ (l : Laid). length (b ++ l.written)) (data-octets ms (length b) o ps), length-append b (o ++ rest), length-append o rest)
+
+pub past_name : (limit : ℕ) (ms : List Placed) (b : Octets) (n : DomainName) (ps : List Part) → limit < length b + cost ms n → limit < length (b ++ (data_laid ms (length b) (name n ∷ ps)).written)
+past_name limit ms b n ps past =
+    let w = shared_octets ms n in
+    let rest = (data_laid (ms ++ (n, length b) ∷ []) (length b + length w) ps).written in
+    omega (arith, past, length-shared_octets ms n, ap (λ (l : Laid). length (b ++ l.written)) (data-name ms (length b) n ps), length-append b (w ++ rest), length-append w rest)
+
+pub parts_none : (ps : List Part) → map with_octets ps ≡ [] → ps ≡ []
+parts_none [] e = refl
+parts_none (p ∷ ps) e = absurd (let z = ap length e in omega (arith, z))
+
+-- octets that are no name to a writer
+pub octets_written : {head : Octets → ℕ} {limit : ℕ} {ms : List Placed} {b b' : Octets} {ks ks' : List Kept} (o : Octets) (fits : Bool) → Holds head ms b ks
+    → ((fits ≡ true) ↔ (length b + (length o + 0) ≤ limit)) → OnTrue fits (b' ≡ b ++ (o ++ [])) → ks' ≡ ks
+    → IsWritten head limit ms b (data_laid ms (length b) (octets o ∷ [])) fits b' ks'
+octets_written {head} {limit} {ms} {b} {b'} {ks} {ks'} o fits holds exactly written places =
+    let laid : data_laid ms (length b) (octets o ∷ []) ≡ record { written = o ++ []; names = [] } =
+    data-octets ms (length b) o [] ∙ ap (laid_front o []) (data-none ms (length b + length o)) in
+    subst (λ l. IsWritten head limit ms b l fits b' ks') (sym laid) (record {
+      exactly = (λ yes. let h = exactly.0 yes in omega (arith, h, length-append b (o ++ []), length-append o []), λ h. exactly.1 (omega (arith, h, length-append b (o ++ []), length-append o [])));
+      written = written;
+      holds = go fits written;
+    })
+  where
+    go : (t : Bool) → OnTrue t (b' ≡ b ++ (o ++ [])) → OnTrue t (Holds head (ms ++ []) b' ks')
+    go false e = tt
+    go true e =
+        subst (λ x. Holds head x b' ks') (sym (append-nil ms))
+        (subst (λ x. Holds head ms b' x) (sym places) (subst (λ x. Holds head ms x ks) (sym e) (holds_octets (o ++ []) holds)))
+
+pub octets_extend : {b b' : Octets} {ks ks' : List Kept} (o : Octets) (fits : Bool) → OnTrue fits (b' ≡ b ++ o) → OnFalse fits (b' ≡ b) → ks' ≡ ks → Extends b ks b' ks'
+octets_extend {b} {b'} {ks} {ks'} o true e f places = record { more_octets = o; octets = e; more_places = []; places = places ∙ sym (append-nil ks) }
+octets_extend {b} {b'} {ks} {ks'} o false e f places = record { more_octets = []; octets = f ∙ sym (append-nil b); more_places = []; places = places ∙ sym (append-nil ks) }
+
+-- what is written after octets that were written, and what does not fit
+pub written_after : {head : Octets → ℕ} {limit : ℕ} {ms ms' : List Placed} {b b' b'' : Octets} {ks : List Kept} {laid laid' : Laid} {fits : Bool} (w : Octets) → b' ≡ b ++ w
+    → laid.written ≡ w ++ laid'.written → ms ++ laid.names ≡ ms' ++ laid'.names → IsWritten head limit ms' b' laid' fits b'' ks → IsWritten head limit ms b laid fits b'' ks
+written_after {head} {limit} {ms} {ms'} {b} {b'} {b''} {ks} {laid} {laid'} {fits} w e f names done =
+    let whole : b' ++ laid'.written ≡ b ++ laid.written = ap (λ z. z ++ laid'.written) e ∙ append_assoc b w laid'.written ∙ ap (λ z. b ++ z) (sym f) in
+    record {
+      exactly = (λ yes. let h = done.exactly.0 yes in omega (arith, h, ap length whole), λ h. done.exactly.1 (omega (arith, h, ap length whole)));
+      written = subst (λ x. OnTrue fits (b'' ≡ x)) whole done.written;
+      holds = subst (λ x. OnTrue fits (Holds head x b'' ks)) (sym names) done.holds;
+    }
+
+pub not_written : {head : Octets → ℕ} {limit : ℕ} {ms : List Placed} {b b' : Octets} {ks : List Kept} {laid : Laid} → limit < length (b ++ laid.written) → IsWritten head limit ms b laid false b' ks
+not_written past = record { exactly = (λ no. absurd (false≢true no), λ h. absurd (omega (arith, h, past))); written = tt; holds = tt }
+
+pub extends_same : {b b' : Octets} {ks ks' : List Kept} → b' ≡ b → ks' ≡ ks → Extends b ks b' ks'
+extends_same {b} {ks = ks} e f = record { more_octets = []; octets = e ∙ sym (append-nil b); more_places = []; places = f ∙ sym (append-nil ks) }
+
+-- the length of data, by writing it 10 octets further on
+measured_place : (b b' z : Octets) → b' ≡ b ++ z → length z ≡ 10 → length b' ≡ length b + 10
+measured_place b b' z e ten = ap length e ∙ length-append b z ∙ ap (λ k. length b + k) ten
+
+pub measured : {head : Octets → ℕ} {limit : ℕ} {ms : List Placed} {b' b'' : Octets} {ks : List Kept} (b : Octets) (ps : List Part) (z : Octets) → b' ≡ b ++ z → length z ≡ 10
+    → IsWritten head limit ms b' (data_laid ms (length b') ps) true b'' ks → length b'' ≡ length b + 10 + length (data_laid ms (length b + 10) ps).written
+measured {ms = ms} {b'} b ps z e ten done =
+    let at = measured_place b b' z e ten in
+    ap length done.written ∙ length-append b' (data_laid ms (length b') ps).written ∙ ap₂ (λ k p. k + length (data_laid ms p ps).written) at at
+
+pub unmeasured : {head : Octets → ℕ} {limit : ℕ} {ms : List Placed} {b' b'' : Octets} {ks : List Kept} (b : Octets) (ps : List Part) (z : Octets) → b' ≡ b ++ z → length z ≡ 10
+    → IsWritten head limit ms b' (data_laid ms (length b') ps) false b'' ks → limit < length b + (10 + length (data_laid ms (length b + 10) ps).written)
+unmeasured {limit = limit} {ms} {b'} b ps z e ten done =
+    let at = measured_place b b' z e ten in
+    let over : limit < length (b' ++ (data_laid ms (length b') ps).written) = lt_of_not-le (λ fits. false≢true (done.exactly.1 fits)) in
+    omega (arith, over, at, length-append b' (data_laid ms (length b') ps).written, ap (λ p. length (data_laid ms p ps).written) at)
+
+-- what follows an owner
+abbrev numbers_of : ℕ → ℕ → ℕ → Octets
+numbers_of t ttl k = octets16 t ++ octets16 class_in ++ octets32 ttl ++ octets16 k
+
+pub tail_written : {head : Octets → ℕ} {limit : ℕ} {ms : List Placed} {b b' b'' : Octets} {ks : List Kept} {fits : Bool} (t ttl k : ℕ) (o : Octets) → b' ≡ b ++ (numbers_of t ttl k ++ [])
+    → k ≡ length (data_laid ms (length b + 10) (laid_parts t o)).written → IsWritten head limit ms b' (data_laid ms (length b') (laid_parts t o)) fits b'' ks
+    → IsWritten head limit ms b (tail_laid ms (length b) t ttl o) fits b'' ks
+tail_written {head} {limit} {ms} {b} {b'} {b''} {ks} {fits} t ttl k o e long done =
+    let own = e ∙ ap (λ z. b ++ z) (append-nil (numbers_of t ttl k)) in
+    let at = measured_place b b' (numbers_of t ttl k) own refl in
+    let same = subst (λ p. IsWritten head limit ms b' (data_laid ms p (laid_parts t o)) fits b'' ks) at done in
+    written_after (numbers_of t ttl k) own (ap (λ j. numbers_of t ttl j ++ (data_laid ms (length b + 10) (laid_parts t o)).written) (sym long)) refl same
+
+pub tail_past : (limit : ℕ) (ms : List Placed) (b : Octets) (t ttl : ℕ) (o : Octets) → limit < length b + (10 + length (data_laid ms (length b + 10) (laid_parts t o)).written)
+    → limit < length (b ++ (tail_laid ms (length b) t ttl o).written)
+tail_past limit ms b t ttl o past =
+    let d = (data_laid ms (length b + 10) (laid_parts t o)).written in
+    omega (arith, past, length-append b (record_tail (shown [] t ttl o) d), length-record_tail (shown [] t ttl o) d)
+
+-- a record
+pub record_written : {head : Octets → ℕ} {limit : ℕ} {ms : List Placed} {b b' b'' : Octets} {ks : List Kept} {fits : Bool} (n : DomainName) (t ttl : ℕ) (o : Octets) → b' ≡ b ++ shared_octets ms n
+    → IsWritten head limit (ms ++ (n, length b) ∷ []) b' (tail_laid (ms ++ (n, length b) ∷ []) (length b') t ttl o) fits b'' ks
+    → IsWritten head limit ms b (record_laid ms (length b) (shown n t ttl o)) fits b'' ks
+record_written {head} {limit} {ms} {b} {b'} {b''} {ks} {fits} n t ttl o e done =
+    let w = shared_octets ms n in
+    let more = ms ++ (n, length b) ∷ [] in
+    let at : length b' ≡ length b + length w = ap length e ∙ length-append b w in
+    let d = data_laid more (length b + length w + 10) (laid_parts t o) in
+    let same = subst (λ p. IsWritten head limit more b' (tail_laid more p t ttl o) fits b'' ks) at done in
+    written_after w e refl (sym (append_assoc ms ((n, length b) ∷ []) d.names)) same
+
+pub record_past : (limit : ℕ) (ms : List Placed) (b : Octets) (n : DomainName) (t ttl : ℕ) (o : Octets) → limit < length b + cost ms n
+    → limit < length (b ++ (record_laid ms (length b) (shown n t ttl o)).written)
+record_past limit ms b n t ttl o past =
+    let w = shared_octets ms n in
+    let d = (data_laid (ms ++ (n, length b) ∷ []) (length b + length w + 10) (laid_parts t o)).written in
+    let tail = record_tail (shown n t ttl o) d in
+    omega (arith, past, length-shared_octets ms n, length-append b (w ++ tail), length-append w tail)
+
+pub on_true : {A : Type 0} (t : Bool) → A → OnTrue t A
+on_true true a = a
+on_true false a = tt

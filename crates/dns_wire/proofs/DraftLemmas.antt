@@ -1,0 +1,172 @@
+-- A set more in a draft: its size is that of the layout, and it has one set more.
+use Rattle.std.proofs.Common.{◌≡◌, ◌↔◌, ℕ, ◌+◌, ◌≤◌, Bool, true, false, cond, List, [], ◌∷◌, ◌++◌, map, length, take, drop, replicate, filter, Option, refl, sym, ap, ap₂, ◌∙◌, subst, subst₂, arith, append_assoc, append-nil, length-append, add-zero, ◌<◌, lt_of_not-le}
+use Rattle.std.proofs.lemmas.Bool.{false≢true}
+use Rattle.std.proofs.lemmas.List.{length-map, length-drop}
+use Rattle.std.proofs.lemmas.List.Concat.{flat_map-append}
+use Rattle.std.proofs.Math.Seq.{take-append-add}
+use Rattle.dns_spec.specs.Names.{Octets, DomainName}
+use Rattle.dns_spec.specs.Records.{ResourceRecord}
+use Rattle.dns_spec.specs.Sets.{RecordSet, records_at}
+use Rattle.std.specs.Option.{option_to_list}
+use Rattle.dns_spec.specs.Reading.{Header, MessageQuestion}
+use Rattle.dns_spec.specs.Layout as Layout
+use Rattle.dns_spec.specs.Layout.{Item, Placed, Laid, laid_front, record_laid, records_octets, records_of, in_section, is_section, asked_octets, asked_placed, answer, authority, additional, size, records_size, layout, header_octets, reply_header}
+use Rattle.dns_spec.specs.Sharing.{Sharing}
+use Rattle.dns_spec.proofs.LeastSize.{past_limit}
+use Rattle.dns_spec.proofs.LayoutSize.{length-records_octets, length-layout}
+use Rattle.dns_wire.specs.declared.page.Section.{Section}
+use Rattle.dns_wire.specs.Kept.{Kept}
+use Rattle.dns_wire.specs.Writing.{Holds, IsWritten, records_laid, shown}
+use Rattle.dns_wire.specs.Draft.{Draft, IsDraft, section_of, item_of, names_so_far}
+use Rattle.dns_wire.proofs.RecordsWritten.{octets_of_records, records-more, records-none}
+
+-- records after others
+records_split : (ms : List Placed) (p : ℕ) (rs ss : List ResourceRecord)
+    → records_laid ms p (rs ++ ss) ≡ laid_front (records_laid ms p rs).written (records_laid ms p rs).names (records_laid (ms ++ (records_laid ms p rs).names) (p + length (records_laid ms p rs).written) ss)
+records_split ms p [] ss =
+    let none = records-none ms p in
+    ap₂ (λ m k. records_laid m k ss) (sym (append-nil ms)) (sym (add-zero p))
+    ∙ ap (λ (l : Laid). laid_front l.written l.names (records_laid (ms ++ l.names) (p + length l.written) ss)) (sym none)
+records_split ms p (r ∷ rs) ss =
+    let l = record_laid ms p r in
+    let later = ms ++ l.names in
+    let place = p + length l.written in
+    let rest = records_laid later place rs in
+    let more = records_laid (later ++ rest.names) (place + length rest.written) ss in
+    let split = records_split later place rs ss in
+    let at : place + length rest.written ≡ p + length (l.written ++ rest.written) = omega (arith, length-append l.written rest.written) in
+    let moved = ap₂ (λ m k. records_laid m k ss) (append_assoc ms l.names rest.names) at in
+    records-more ms p r (rs ++ ss)
+    ∙ ap (λ (x : Laid). laid_front l.written l.names x) split
+    ∙ ap₂ (λ w n. record { written = w; names = n }) (sym (append_assoc l.written rest.written more.written)) (sym (append_assoc l.names rest.names more.names))
+    ∙ ap (λ (x : Laid). laid_front (l.written ++ rest.written) (l.names ++ rest.names) x) moved
+    ∙ ap (λ (x : Laid). laid_front x.written x.names (records_laid (ms ++ x.names) (p + length x.written) ss)) (sym (records-more ms p r rs))
+
+records_pushed : (items : List Item) (i : Item) → records_of (items ++ i ∷ []) ≡ records_of items ++ i.records
+records_pushed items i = flat_map-append (λ (x : Item). x.records) items (i ∷ []) ∙ ap (λ z. records_of items ++ z) (append-nil i.records)
+
+-- how many records a section has
+abbrev pub count : Layout.Section → Section → ℕ → ℕ
+count s section k = cond (is_section s (section_of section)) k 0
+
+section_pushed : (s : Layout.Section) (items : List Item) (i : Item) → length (in_section s (items ++ i ∷ [])) ≡ length (in_section s items) + cond (is_section s i.section) (length i.records) 0
+section_pushed s [] i = go (is_section s i.section)
+  where
+    go : (t : Bool) → length (records_of (cond t (i ∷ []) [])) ≡ 0 + cond t (length i.records) 0
+    go true = omega (arith, length-append i.records [])
+    go false = refl
+section_pushed s (x ∷ items) i = go (is_section s x.section) (section_pushed s items i)
+  where
+    go : (t : Bool) → length (in_section s (items ++ i ∷ [])) ≡ length (in_section s items) + cond (is_section s i.section) (length i.records) 0
+        → length (records_of (cond t (x ∷ filter (λ (j : Item). is_section s j.section) (items ++ i ∷ [])) (filter (λ (j : Item). is_section s j.section) (items ++ i ∷ []))))
+        ≡ length (records_of (cond t (x ∷ filter (λ (j : Item). is_section s j.section) items) (filter (λ (j : Item). is_section s j.section) items))) + cond (is_section s i.section) (length i.records) 0
+    go true h = omega (arith, h, length-append x.records (in_section s (items ++ i ∷ [])), length-append x.records (in_section s items))
+    go false h = h
+
+section_counted : (s : Layout.Section) (items : List Item) (section : Section) (owner : DomainName) (ttl : ℕ) (set : RecordSet)
+    → length (in_section s (items ++ item_of section owner ttl set ∷ [])) ≡ length (in_section s items) + count s section (length set.rdata)
+section_counted s items section owner ttl set =
+    section_pushed s items (item_of section owner ttl set)
+    ∙ ap (λ k. length (in_section s items) + cond (is_section s (section_of section)) k 0) (length-map set.rdata (λ (d : Octets). shown owner set.rtype ttl d))
+
+module _ (head : Octets → ℕ) (q : Option MessageQuestion) (items : List Item) (d : Draft) (draft : IsDraft head q items d) where
+  abbrev so_far : Laid
+  so_far = records_laid (asked_placed q) (12 + length (asked_octets q)) (records_of items)
+
+  next_place : length d.octets ≡ 12 + length (asked_octets q) + length (records_laid (asked_placed q) (12 + length (asked_octets q)) (records_of items)).written
+  next_place =
+      let w = (records_laid (asked_placed q) (12 + length (asked_octets q)) (records_of items)).written in
+      ap length draft.written ∙ omega (arith, length-append (replicate 12 0 ++ asked_octets q) w, length-append (replicate 12 0) (asked_octets q))
+
+  whole : (i : Item) → records_laid (asked_placed q) (12 + length (asked_octets q)) (records_of (items ++ i ∷ []))
+      ≡ laid_front (records_laid (asked_placed q) (12 + length (asked_octets q)) (records_of items)).written (records_laid (asked_placed q) (12 + length (asked_octets q)) (records_of items)).names (records_laid (names_so_far q items) (length d.octets) i.records)
+  whole i =
+      let ms = asked_placed q in
+      let p : ℕ = 12 + length (asked_octets q) in
+      let l = records_laid ms p (records_of items) in
+      ap (records_laid ms p) (records_pushed items i) ∙ records_split ms p (records_of items) i.records
+      ∙ ap (λ k. laid_front l.written l.names (records_laid (names_so_far q items) k i.records)) (sym next_place)
+
+  pub draft_size : (i : Item) → size q (items ++ i ∷ []) ≡ length (d.octets ++ (records_laid (names_so_far q items) (length d.octets) i.records).written)
+  unfolding size
+  draft_size i =
+      let ms = asked_placed q in
+      let p : ℕ = 12 + length (asked_octets q) in
+      let l = (records_laid ms p (records_of items)).written in
+      let more = (records_laid (names_so_far q items) (length d.octets) i.records).written in
+      let rs = records_of (items ++ i ∷ []) in
+      let written = sym (length-records_octets ms p rs) ∙ ap length (sym (octets_of_records ms p rs)) ∙ ap (λ (x : Laid). length x.written) (whole i) in
+      omega (arith, written, next_place, length-append l more, length-append d.octets more)
+
+  pub draft_put : (limit : ℕ) (section : Section) (owner : DomainName) (ttl : ℕ) (set : RecordSet) (d' : Draft)
+      → IsWritten head limit (names_so_far q items) d.octets (records_laid (names_so_far q items) (length d.octets) (records_at owner ttl set)) true d'.octets d'.kept
+      → d'.questions ≡ d.questions → d'.answers ≡ d.answers + count answer section (length set.rdata)
+      → d'.authorities ≡ d.authorities + count authority section (length set.rdata) → d'.additionals ≡ d.additionals + count additional section (length set.rdata)
+      → IsDraft head q (items ++ item_of section owner ttl set ∷ []) d'
+  draft_put limit section owner ttl set d' done questions answers authorities additionals =
+      let i = item_of section owner ttl set in
+      let ms = asked_placed q in
+      let p : ℕ = 12 + length (asked_octets q) in
+      let l = records_laid ms p (records_of items) in
+      let more = records_laid (names_so_far q items) (length d.octets) i.records in
+      let all = whole i in
+      let front = replicate 12 0 ++ asked_octets q in
+      record {
+        written = done.written ∙ ap (λ z. z ++ more.written) draft.written ∙ append_assoc front l.written more.written ∙ ap (λ (x : Laid). front ++ x.written) (sym all);
+        holds = subst (λ x. Holds head x d'.octets d'.kept) (append_assoc ms l.names more.names ∙ ap (λ (x : Laid). ms ++ x.names) (sym all)) done.holds;
+        questions = questions ∙ draft.questions;
+        answers = answers ∙ ap (λ k. k + count answer section (length set.rdata)) draft.answers ∙ sym (section_counted answer items section owner ttl set);
+        authorities = authorities ∙ ap (λ k. k + count authority section (length set.rdata)) draft.authorities ∙ sym (section_counted authority items section owner ttl set);
+        additionals = additionals ∙ ap (λ k. k + count additional section (length set.rdata)) draft.additionals ∙ sym (section_counted additional items section owner ttl set);
+      }
+
+-- a draft without sets
+pub draft_begins : (head : Octets → ℕ) (q : Option MessageQuestion) (d : Draft) → d.octets ≡ replicate 12 0 ++ asked_octets q → Holds head (asked_placed q) d.octets d.kept
+    → d.questions ≡ length (option_to_list q) → d.answers ≡ 0 → d.authorities ≡ 0 → d.additionals ≡ 0 → IsDraft head q [] d
+draft_begins head q d octets holds questions answers authorities additionals =
+    let none = records-none (asked_placed q) (12 + length (asked_octets q)) in
+    let front = replicate 12 0 ++ asked_octets q in
+    record {
+      written = octets ∙ sym (append-nil front) ∙ ap (λ (l : Laid). front ++ l.written) (sym none);
+      holds = subst (λ ms. Holds head ms d.octets d.kept) (sym (append-nil (asked_placed q)) ∙ ap (λ (l : Laid). asked_placed q ++ l.names) (sym none)) holds;
+      questions = questions;
+      answers = answers;
+      authorities = authorities;
+      additionals = additionals;
+    }
+
+-- the layout is its header, and what is in the draft after room for one
+pub draft_laid : {head : Octets → ℕ} (h : Header) (q : Option MessageQuestion) (items : List Item) (d : Draft) → IsDraft head q items d
+    → header_octets h d.questions d.answers d.authorities d.additionals ++ drop 12 d.octets ≡ layout h q items
+unfolding layout
+draft_laid h q items d draft =
+    let rest = (records_laid (asked_placed q) (12 + length (asked_octets q)) (records_of items)).written in
+    let body : drop 12 d.octets ≡ asked_octets q ++ rest = ap (drop 12) draft.written in
+    let front = reply_header h q items in
+    let counts : header_octets h d.questions d.answers d.authorities d.additionals ≡ front =
+    ap₂ (λ a b. header_octets h a b d.authorities d.additionals) draft.questions draft.answers
+    ∙ ap₂ (λ a b. header_octets h (length (option_to_list q)) (length (in_section answer items)) a b) draft.authorities draft.additionals in
+    ap₂ ◌++◌ counts body ∙ sym (append_assoc front (asked_octets q) rest)
+    ∙ ap (λ z. front ++ asked_octets q ++ z) (octets_of_records (asked_placed q) (12 + length (asked_octets q)) (records_of items))
+
+pub draft_length : {head : Octets → ℕ} (q : Option MessageQuestion) (items : List Item) (d : Draft) → IsDraft head q items d → length d.octets ≡ size q items
+draft_length q items d draft =
+    let h : Header = record { id = 0; flags = 0 } in
+    let w = drop 12 d.octets in
+    let long = ap length (draft_laid h q items d draft) ∙ length-layout h q items in
+    let some = draft.holds.after_header in
+    omega (arith, long, length-append (header_octets h d.questions d.answers d.authorities d.additionals) w, length-drop 12 d.octets, some)
+
+-- the header and what follows it, taken from the front of what was lent
+pub finished : (front w out body : Octets) (n : ℕ) → out ≡ front ++ w → length front ≡ 12 → n ≡ 12 + length body → take (length body) w ≡ body → take n out ≡ front ++ body
+finished front w out body n e twelve long is =
+    let at : n ≡ length front + length body = omega (arith, long, twelve) in
+    ap₂ take at e ∙ take-append-add front w (length body) ∙ ap (λ z. front ++ z) is
+
+-- where the layout is refused, each size that sharing allows is past the limit
+pub least_of : (q : Option MessageQuestion) (items : List Item) (limit : ℕ) (t : Bool) → ((t ≡ true) ↔ (size q items ≤ limit)) → limit ≤ 16384
+    → (t ≡ false) ↔ ((z : ℕ) → Sharing q items z → limit < z)
+least_of q items limit true exactly low =
+    (λ no. absurd (false≢true (sym no)), λ all. let fits = exactly.0 refl in let past = (past_limit q items limit low).1 all in absurd (omega (arith, fits, past)))
+least_of q items limit false exactly low =
+    (λ no z s. (past_limit q items limit low).0 (lt_of_not-le (λ fits. false≢true (exactly.1 fits))) z s, λ all. refl)

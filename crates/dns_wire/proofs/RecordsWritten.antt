@@ -1,0 +1,87 @@
+-- Records are written one after the other: those that are written and those that are to come are all.
+use Rattle.std.proofs.Common.{◌≡◌, ℕ, zero, suc, ◌+◌, ◌-◌, ◌<◌, ◌≤◌, true, false, List, [], ◌∷◌, ◌++◌, map, length, drop, get_or, refl, sym, ap, ap₂, ◌∙◌, subst, arith, append_assoc, append-nil, length-append, lt_of_not-le}
+use Rattle.std.proofs.lemmas.Bool.{false≢true}
+use Rattle.dns_spec.specs.Names.{Octets, DomainName}
+use Rattle.dns_spec.specs.Records.{ResourceRecord}
+use Rattle.dns_spec.specs.Sets.{RecordSet, records_at}
+use Rattle.dns_spec.specs.Layout.{Placed, Laid, laid_front, record_laid, records_octets}
+use Rattle.dns_wire.specs.Kept.{Kept}
+use Rattle.dns_wire.specs.Writing.{Holds, IsWritten, shown, records_laid}
+use Rattle.dns_wire.proofs.DataWritten.{Goes, not_written}
+
+pub records-more : (ms : List Placed) (p : ℕ) (r : ResourceRecord) (rs : List ResourceRecord)
+    → records_laid ms p (r ∷ rs) ≡ laid_front (record_laid ms p r).written (record_laid ms p r).names (records_laid (ms ++ (record_laid ms p r).names) (p + length (record_laid ms p r).written) rs)
+unfolding records_laid
+records-more ms p r rs = refl
+
+pub records-none : (ms : List Placed) (p : ℕ) → records_laid ms p [] ≡ record { written = []; names = [] }
+unfolding records_laid
+records-none ms p = refl
+
+pub octets_of_records : (ms : List Placed) (p : ℕ) (rs : List ResourceRecord) → (records_laid ms p rs).written ≡ records_octets ms p rs
+unfolding records_laid records_octets
+octets_of_records ms p [] = refl
+octets_of_records ms p (r ∷ rs) =
+    let l = record_laid ms p r in
+    ap (λ z. l.written ++ z) (octets_of_records (ms ++ l.names) (p + length l.written) rs)
+
+abbrev pub RecordsGo : (Octets → ℕ) → List ResourceRecord → Octets → List Kept → List ResourceRecord → Octets → List Kept → Type 0
+RecordsGo head rs₀ b₀ ks₀ rs b ks =
+    (ms₀ : List Placed) → Holds head ms₀ b₀ ks₀ → Goes head (records_laid ms₀ (length b₀) rs₀) ms₀ b₀ (λ ms p. records_laid ms p rs) b ks
+
+pub records_begin : (head : Octets → ℕ) (rs : List ResourceRecord) (b : Octets) (ks : List Kept) → RecordsGo head rs b ks rs b ks
+records_begin head rs b ks ms holds = record { ms = ms; holds = holds; written = refl; names = refl }
+
+pub records_step : (head : Octets → ℕ) (limit : ℕ) (rs₀ rs : List ResourceRecord) (r : ResourceRecord) (b₀ b b' : Octets) (ks₀ ks ks' : List Kept) → RecordsGo head rs₀ b₀ ks₀ (r ∷ rs) b ks
+    → ((ms : List Placed) → Holds head ms b ks → IsWritten head limit ms b (record_laid ms (length b) r) true b' ks') → RecordsGo head rs₀ b₀ ks₀ rs b' ks'
+records_step head limit rs₀ rs r b₀ b b' ks₀ ks ks' go done ms₀ holds₀ =
+    let g = go ms₀ holds₀ in
+    let l = record_laid g.ms (length b) r in
+    let d = done g.ms g.holds in
+    let more = g.ms ++ l.names in
+    let place : length b + length l.written ≡ length b' = sym (ap length d.written ∙ length-append b l.written) in
+    let laid = records-more g.ms (length b) r rs ∙ ap (λ p. laid_front l.written l.names (records_laid more p rs)) place in
+    let rest = records_laid more (length b') rs in
+    record {
+      ms = more;
+      holds = d.holds;
+      written = g.written ∙ ap (λ (x : Laid). b ++ x.written) laid ∙ sym (append_assoc b l.written rest.written) ∙ ap (λ z. z ++ rest.written) (sym d.written);
+      names = g.names ∙ ap (λ (x : Laid). g.ms ++ x.names) laid ∙ sym (append_assoc g.ms l.names rest.names);
+    }
+
+pub records_written : (head : Octets → ℕ) (limit : ℕ) (rs₀ : List ResourceRecord) (b₀ b : Octets) (ks₀ ks : List Kept) → length b ≤ limit → RecordsGo head rs₀ b₀ ks₀ [] b ks
+    → (ms : List Placed) → Holds head ms b₀ ks₀ → IsWritten head limit ms b₀ (records_laid ms (length b₀) rs₀) true b ks
+records_written head limit rs₀ b₀ b ks₀ ks within go ms₀ holds₀ =
+    let g = go ms₀ holds₀ in
+    let none = records-none g.ms (length b) in
+    let whole = g.written ∙ ap (λ (l : Laid). b ++ l.written) none ∙ append-nil b in
+    let all = g.names ∙ ap (λ (l : Laid). g.ms ++ l.names) none ∙ append-nil g.ms in
+    record {
+      exactly = (λ yes. omega (arith, ap length whole, within), λ fits. refl);
+      written = sym whole;
+      holds = subst (λ x. Holds head x b ks) (sym all) g.holds;
+    }
+
+pub records_past : (head : Octets → ℕ) (limit : ℕ) (rs₀ rs : List ResourceRecord) (r : ResourceRecord) (b₀ b b' b'' : Octets) (ks₀ ks ks' ks'' : List Kept) → RecordsGo head rs₀ b₀ ks₀ (r ∷ rs) b ks
+    → ((ms : List Placed) → Holds head ms b ks → IsWritten head limit ms b (record_laid ms (length b) r) false b' ks')
+    → (ms : List Placed) → Holds head ms b₀ ks₀ → IsWritten head limit ms b₀ (records_laid ms (length b₀) rs₀) false b'' ks''
+records_past head limit rs₀ rs r b₀ b b' b'' ks₀ ks ks' ks'' go done ms₀ holds₀ =
+    let g = go ms₀ holds₀ in
+    let l = record_laid g.ms (length b) r in
+    let d = done g.ms g.holds in
+    let over : limit < length (b ++ l.written) = lt_of_not-le (λ fits. false≢true (d.exactly.1 fits)) in
+    let rest = (records_laid (g.ms ++ l.names) (length b + length l.written) rs).written in
+    not_written (omega (arith, over, ap length g.written, ap (λ (x : Laid). length (b ++ x.written)) (records-more g.ms (length b) r rs), length-append b l.written, length-append b (l.written ++ rest), length-append l.written rest))
+
+-- the records of a set from one on
+pub record_at : (owner : DomainName) (ttl t : ℕ) (ds : List Octets) (i : ℕ) → i < length ds
+    → drop i (map (λ (d : Octets). shown owner t ttl d) ds) ≡ shown owner t ttl (get_or ds i []) ∷ drop (suc i) (map (λ (d : Octets). shown owner t ttl d) ds)
+record_at owner ttl t [] i h = absurd (omega arith)
+record_at owner ttl t (d ∷ ds) zero h = refl
+record_at owner ttl t (d ∷ ds) (suc i) h = record_at owner ttl t ds i (omega arith)
+
+pub no_records_left : (owner : DomainName) (ttl t : ℕ) (ds : List Octets) (i : ℕ) → length ds ≤ i → drop i (map (λ (d : Octets). shown owner t ttl d) ds) ≡ []
+no_records_left owner ttl t [] zero h = refl
+no_records_left owner ttl t [] (suc i) h = refl
+no_records_left owner ttl t (d ∷ ds) zero h = absurd (omega arith)
+no_records_left owner ttl t (d ∷ ds) (suc i) h = no_records_left owner ttl t ds i (omega arith)

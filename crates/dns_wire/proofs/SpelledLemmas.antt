@@ -1,0 +1,85 @@
+-- What is spelled from a place on is decided by what stands there and by what comes after it.
+use Rattle.std.proofs.Common.{◌≡◌, ℕ, ◌+◌, ◌<◌, ◌≤◌, true, false, IfSome, IsNone, MatchOption, [], ◌∷◌, ◌++◌, length, take, drop, slice_get, Option, None, Some, refl, sym, ap, ap₂, ◌∙◌, subst, arith, eqb, take_at, drop_at, take-append-drop}
+use Rattle.std.proofs.lemmas.Bool.{false≢true, true≢false}
+use Rattle.std.proofs.lemmas.Option.{same_Some}
+use Rattle.std.specs.Borrow.{Bor}
+use Rattle.std.specs.Cmp.Lexicographic.{pointwise}
+use Rattle.dns_spec.specs.Names.{Octets, DomainName, wire}
+use Rattle.dns_spec.specs.Reading.{pointer_place, RunAt}
+use Rattle.dns_spec.specs.Reading.RunAt.{ends, goes_on, jumps}
+use Rattle.dns_spec.proofs.NameLaws.{octets_equal-decides}
+use Rattle.dns_wire.specs.Labels.{LabelAt, PointerAt}
+use Rattle.dns_wire.specs.Kept.{SpelledFrom}
+use Rattle.dns_wire.proofs.Runs.{GoesOn, at_end, at_label, at_pointer, goes_on_at}
+
+-- the label is compared with the octets
+pub after_some : (w label rest : Octets) (o : Option (Bor Octets)) → w ≡ length label ∷ rest
+    → MatchOption o (pointwise eqb (take (length label) rest) label ≡ false) (λ x. (pointwise eqb (take (length label) rest) label ≡ true) × (x.now ≡ drop (length label) rest) × (length x.now + length label ≡ length rest))
+    → IfSome o (λ x. w ≡ length label ∷ (label ++ x.now))
+after_some w label rest None e m = tt
+after_some w label rest (Some x) e m =
+    let front = (octets_equal-decides (take (length label) rest) label).0 m.0 in
+    e ∙ ap (λ z. length label ∷ z) (sym (take-append-drop (length label) rest) ∙ ap₂ ◌++◌ front (sym m.1))
+
+pub after_none : (w label rest : Octets) (o : Option (Bor Octets)) → w ≡ length label ∷ rest
+    → MatchOption o (pointwise eqb (take (length label) rest) label ≡ false) (λ x. (pointwise eqb (take (length label) rest) label ≡ true) × (x.now ≡ drop (length label) rest) × (length x.now + length label ≡ length rest))
+    → IsNone o → (more : Octets) → w ≡ length label ∷ (label ++ more) → ⊥
+after_none w label rest None e m none more f =
+    let same : rest ≡ label ++ more = ap (drop 1) (sym e ∙ f) in
+    let front : take (length label) rest ≡ label = ap (take (length label)) same ∙ take_at label more (length label) refl in
+    false≢true (sym m ∙ (octets_equal-decides (take (length label) rest) label).1 front)
+after_none w label rest (Some x) e m none more f = true≢false none
+
+-- the root's length ends a name
+pub spelled_end : {b : Octets} {s i : ℕ} {o : Octets} → slice_get b i ≡ Some 0 → (o ≡ 0 ∷ [] → SpelledFrom b s i o) × (SpelledFrom b s i o → o ≡ 0 ∷ [])
+spelled_end {b} {s} {i} {o} root = (λ e. ([], i + 1, ends i root, sym e), λ h. back h.0 h.1 h.3 (goes_on_at h.2))
+  where
+    back : (n : DomainName) (e : ℕ) → wire n ≡ o → GoesOn b s i n e → o ≡ 0 ∷ []
+    back n e w (at_end there none end) = sym w ∙ ap wire none
+    back n e w (at_label l m there shape rest) = absurd (omega (arith, same_Some (length l) 0 (sym there.length_there ∙ root), there.some))
+    back n e w (at_pointer p d there end rest) = absurd (omega (arith, same_Some there.first 0 (sym there.first_there ∙ root), there.high))
+
+-- a label
+pub spelled_label : {b : Octets} {s i : ℕ} {o after : Octets} (l : Octets) → LabelAt b i l → o ≡ length l ∷ (l ++ after)
+    → (SpelledFrom b s (i + (1 + length l)) after → SpelledFrom b s i o) × (SpelledFrom b s i o → SpelledFrom b s (i + (1 + length l)) after)
+spelled_label {b} {s} {i} {o} {after} l there is = (forth, λ h. back h.0 h.1 h.3 (goes_on_at h.2))
+  where
+    next : i + (1 + length l) ≡ i + 1 + length l
+    next = omega arith
+
+    forth : SpelledFrom b s (i + (1 + length l)) after → SpelledFrom b s i o
+    forth h = (
+      l ∷ h.0,
+      h.1,
+      goes_on i (length l) l h.0 h.1 there.length_there there.some there.short there.within there.label (subst (λ j. RunAt b s j h.0 h.1) next h.2),
+      ap (λ z. length l ∷ (l ++ z)) h.3 ∙ sym is,
+    )
+
+    back : (n : DomainName) (e : ℕ) → wire n ≡ o → GoesOn b s i n e → SpelledFrom b s (i + (1 + length l)) after
+    back n e w (at_end root none end) = absurd (omega (arith, same_Some (length l) 0 (sym there.length_there ∙ root), there.some))
+    back n e w (at_label k m label shape run) =
+        let long : length k ≡ length l = same_Some (length k) (length l) (sym label.length_there ∙ there.length_there) in
+        let same : k ≡ l = label.label ∙ ap (λ j. take j (drop (i + 1) b)) long ∙ sym there.label in
+        let whole : l ++ wire m ≡ l ++ after = ap (drop 1) (sym (ap (λ x. length x ∷ (x ++ wire m)) same) ∙ sym (ap wire shape) ∙ w ∙ is) in (
+          m,
+          e,
+          subst (λ j. RunAt b s j m e) (ap (λ j. i + 1 + j) long ∙ sym next) run,
+          sym (drop_at l (wire m) (length l) refl) ∙ ap (drop (length l)) whole ∙ drop_at l after (length l) refl,
+        )
+    back n e w (at_pointer p d pointer end run) = absurd (omega (arith, same_Some (length l) pointer.first (sym there.length_there ∙ pointer.first_there), there.short, pointer.high))
+
+-- a pointer
+pub spelled_jump : {b : Octets} {s i p : ℕ} {o : Octets} → PointerAt b s i p → (SpelledFrom b p p o → SpelledFrom b s i o) × (SpelledFrom b s i o → SpelledFrom b p p o)
+spelled_jump {b} {s} {i} {p} {o} there = (forth, λ h. back h.0 h.1 h.3 (goes_on_at h.2))
+  where
+    forth : SpelledFrom b p p o → SpelledFrom b s i o
+    forth h = (h.0, i + 2, jumps i there.first there.second p h.0 h.1 there.first_there there.high there.second_there there.place there.after_header there.before_run h.2, h.3)
+
+    back : (n : DomainName) (e : ℕ) → wire n ≡ o → GoesOn b s i n e → SpelledFrom b p p o
+    back n e w (at_end root none end) = absurd (omega (arith, same_Some there.first 0 (sym there.first_there ∙ root), there.high))
+    back n e w (at_label k m label shape run) = absurd (omega (arith, same_Some (length k) there.first (sym label.length_there ∙ there.first_there), label.short, there.high))
+    back n e w (at_pointer q d pointer end run) =
+        let one = same_Some pointer.first there.first (sym pointer.first_there ∙ there.first_there) in
+        let two = same_Some pointer.second there.second (sym pointer.second_there ∙ there.second_there) in
+        let same : q ≡ p = pointer.place ∙ ap₂ pointer_place one two ∙ sym there.place in
+        (n, d, subst (λ j. RunAt b j j n d) same run, w)

@@ -1,0 +1,333 @@
+-- What is found for a suffix is where it is shared, and what is kept of a name is just what later names may share of it.
+use Rattle.std.proofs.Common.{◌≡◌, ℕ, zero, suc, ◌+◌, ◌-◌, ◌*◌, ◌<◌, ◌≤◌, Bool, true, false, cond, nat_le, List, [], ◌∷◌, ◌++◌, length, take, drop, get_or, slice_get, Option, None, Some, refl, sym, ap, ap₂, ◌∙◌, subst, arith, append_assoc, append-nil, length-append, drop_at, take_at, le-leb}
+use Rattle.std.proofs.lemmas.Bool.{le-ltb, leb-true, leb-false, false≢true}
+use Rattle.std.proofs.lemmas.Option.{none-some, same_Some}
+use Rattle.dns_spec.specs.Names.{Octets, DomainName, wire, is_name}
+use Rattle.dns_spec.specs.Reading.{RunAt}
+use Rattle.dns_spec.specs.Layout.{Placed, pointer, place_of, last_place, shared_place, shared_octets, cost}
+use Rattle.std.proofs.lemmas.List.{length-drop, length-take-le}
+use Rattle.dns_spec.proofs.Places.{label_parts}
+use Rattle.dns_spec.proofs.NameLaws.{is_name-tail, is_label-head, wire-injective}
+use Rattle.dns_spec.specs.Reading.{pointer_place}
+use Rattle.dns_spec.specs.Reading.RunAt.{ends, goes_on, jumps}
+use Rattle.dns_wire.specs.Labels.{LabelAt, PointerAt}
+use Rattle.dns_wire.proofs.Runs.{GoesOn, at_end, at_label, at_pointer, goes_on_at}
+use Rattle.dns_wire.specs.Kept.{Kept, IsKept, SpelledAt, NoneSpelled}
+use Rattle.dns_wire.specs.Writing.{front_size, pointed_place, end_octets, new_places, Answers, Holds, Grows, Extends}
+
+-- how a name is laid out, by whether its first suffix is shared
+module _ (ms : List Placed) (l : Octets) (n : DomainName) where
+  pub front-none : shared_place ms (l ∷ n) ≡ None → front_size ms (l ∷ n) ≡ 1 + length l + front_size ms n
+  unfolding front_size
+  front-none e = ap (λ (x : Option ℕ). elim x as (λ _. ℕ) [ None ↦ 1 + length l + front_size ms n | Some p ↦ 0 ]) e
+
+  pub front-some : (p : ℕ) → shared_place ms (l ∷ n) ≡ Some p → front_size ms (l ∷ n) ≡ 0
+  unfolding front_size
+  front-some p e = ap (λ (x : Option ℕ). elim x as (λ _. ℕ) [ None ↦ 1 + length l + front_size ms n | Some q ↦ 0 ]) e
+
+  pub pointed-none : shared_place ms (l ∷ n) ≡ None → pointed_place ms (l ∷ n) ≡ pointed_place ms n
+  unfolding pointed_place
+  pointed-none e = ap (λ (x : Option ℕ). elim x as (λ _. Option ℕ) [ None ↦ pointed_place ms n | Some p ↦ Some p ]) e
+
+  pub pointed-some : (p : ℕ) → shared_place ms (l ∷ n) ≡ Some p → pointed_place ms (l ∷ n) ≡ Some p
+  unfolding pointed_place
+  pointed-some p e = ap (λ (x : Option ℕ). elim x as (λ _. Option ℕ) [ None ↦ pointed_place ms n | Some q ↦ Some q ]) e
+
+pub front-root : (ms : List Placed) → front_size ms [] ≡ 0
+unfolding front_size
+front-root ms = refl
+
+pub pointed-root : (ms : List Placed) → pointed_place ms [] ≡ None
+unfolding pointed_place
+pointed-root ms = refl
+
+-- a place of a message spells at most one name
+one_from : {b : Octets} {s i e f : ℕ} {n m : DomainName} → RunAt b s i n e → GoesOn b s i m f → n ≡ m
+one_from (ends i at) (at_end root none end) = sym none
+one_from (ends i at) (at_label l m there shape run) = absurd (omega (arith, same_Some (length l) 0 (sym there.length_there ∙ at), there.some))
+one_from (ends i at) (at_pointer q d there end run) = absurd (omega (arith, same_Some there.first 0 (sym there.first_there ∙ at), there.high))
+one_from (goes_on i k l n e at some short within is rest) (at_end root none end) = absurd (omega (arith, same_Some k 0 (sym at ∙ root), some))
+one_from {b} {s} {f = f} (goes_on i k l n e at some short within is rest) (at_label l' m there shape run) =
+    let long : length l' ≡ k = same_Some (length l') k (sym there.length_there ∙ at) in
+    let same : l ≡ l' = is ∙ ap (λ j. take j (drop (i + 1) b)) (sym long) ∙ sym there.label in
+    ap₂ (λ x y. x ∷ y) same (one_from rest (goes_on_at (subst (λ j. RunAt b s (i + 1 + j) m f) long run))) ∙ sym shape
+one_from (goes_on i k l n e at some short within is rest) (at_pointer q d there end run) = absurd (omega (arith, same_Some k there.first (sym at ∙ there.first_there), short, there.high))
+one_from (jumps i o o' p n e at high at' is from before rest) (at_end root none end) = absurd (omega (arith, same_Some o 0 (sym at ∙ root), high))
+one_from (jumps i o o' p n e at high at' is from before rest) (at_label l m there shape run) = absurd (omega (arith, same_Some (length l) o (sym there.length_there ∙ at), there.short, high))
+one_from {b} {m = m} (jumps i o o' p n e at high at' is from before rest) (at_pointer q d there end run) =
+    let one = same_Some there.first o (sym there.first_there ∙ at) in
+    let two = same_Some there.second o' (sym there.second_there ∙ at') in
+    let same : q ≡ p = there.place ∙ ap₂ pointer_place one two ∙ sym is in
+    one_from rest (goes_on_at (subst (λ j. RunAt b j j m d) same run))
+
+one_run : {b : Octets} {s i e f : ℕ} {n m : DomainName} → RunAt b s i n e → RunAt b s i m f → n ≡ m
+one_run h g = one_from h (goes_on_at g)
+
+-- what is found is the place, and where nothing is found there is none
+pub found : {head : Octets → ℕ} {ms : List Placed} {b : Octets} {ks : List Kept} (l : Octets) (n : DomainName) (p h : ℕ) → Holds head ms b ks → is_name (l ∷ n) ≡ true
+    → IsKept ks p h → SpelledAt b p (wire (l ∷ n)) → shared_place ms (l ∷ n) ≡ Some p
+found {head} {ms} {b} {ks} l n p h holds ok kept there =
+    let s = holds.answers.sound p h kept in
+    let run = (holds.spelled s.0 s.1 p s.2).3 in
+    let same : there.0 ≡ s.0 ∷ s.1 = one_run there.2 run in
+    let is : s.0 ∷ s.1 ≡ l ∷ n = wire-injective (s.0 ∷ s.1) (l ∷ n) s.3 ok (sym (ap wire same) ∙ there.3) in
+    sym (ap (shared_place ms) is) ∙ s.2
+
+pub not_found : {head : Octets → ℕ} {ms : List Placed} {b : Octets} {ks : List Kept} (l : Octets) (n : DomainName) → Holds head ms b ks
+    → NoneSpelled ks (head (wire (l ∷ n))) b (wire (l ∷ n)) → shared_place ms (l ∷ n) ≡ None
+not_found {head} {ms} {b} {ks} l n holds none = go (shared_place ms (l ∷ n)) refl
+  where
+    go : (x : Option ℕ) → shared_place ms (l ∷ n) ≡ x → shared_place ms (l ∷ n) ≡ None
+    go None e = e
+    go (Some p) e =
+        let s = holds.spelled l n p e in
+        absurd (none p (holds.answers.complete l n p e) (l ∷ n, s.2, s.3, refl))
+
+-- What is left to look at of a name: a name whose layout ends that of the whole.
+pub record LeftOf (ms : List Placed) (name rest : Octets) (n : DomainName) : Type 0 where
+  pub left : DomainName
+  pub spelled : rest ≡ wire left
+  pub is_name : is_name left ≡ true
+  pub front : front_size ms n + length rest ≡ length name + front_size ms left
+  pub place : pointed_place ms n ≡ pointed_place ms left
+
+pub record Left (head : Octets → ℕ) (b : Octets) (ks : List Kept) (name rest : Octets) : Type 0 where
+  pub shorter : length rest ≤ length name
+  pub all : (ms : List Placed) (n : DomainName) → Holds head ms b ks → name ≡ wire n → is_name n ≡ true → LeftOf ms name rest n
+
+pub left_begins : (head : Octets → ℕ) (b : Octets) (ks : List Kept) (name : Octets) → Left head b ks name name
+left_begins head b ks name = record {
+  shorter = omega arith;
+  all = λ ms n holds e ok. record { left = n; spelled = e; is_name = ok; front = omega arith; place = refl };
+}
+
+-- a first octet that is not 0 is the length of a first label
+pub record FirstLabel (rest others : Octets) (k : ℕ) (n : DomainName) : Type 0 where
+  pub label : Octets
+  pub labels : DomainName
+  pub whole : n ≡ label ∷ labels
+  pub long : k ≡ length label
+  pub behind : others ≡ label ++ wire labels
+
+pub first_label : (rest others : Octets) (k : ℕ) (n : DomainName) → rest ≡ wire n → rest ≡ k ∷ others → (k ≡ 0 → ⊥) → FirstLabel rest others k n
+first_label rest others k [] e f some = absurd (some (ap (λ x. get_or x 0 0) (sym f ∙ e)))
+first_label rest others k (l ∷ n) e f some =
+    let same : k ∷ others ≡ length l ∷ (l ++ wire n) = sym f ∙ e in
+    record { label = l; labels = n; whole = refl; long = ap (λ x. get_or x 0 0) same; behind = ap (drop 1) same }
+
+pub left_label : {head : Octets → ℕ} {b : Octets} {ks : List Kept} {name rest others after : Octets} (k : ℕ) → Left head b ks name rest → rest ≡ k ∷ others → (k ≡ 0 → ⊥)
+    → k ≤ length others → after ≡ drop k others → NoneSpelled ks (head rest) b rest → Left head b ks name after
+left_label {head} {b} {ks} {name} {rest} {others} {after} k left first some fits cut none = record {
+  shorter = let s = left.shorter in omega (arith, s, ap length first, ap length cut, length-drop k others);
+  all = all;
+}
+  where
+    all : (ms : List Placed) (n : DomainName) → Holds head ms b ks → name ≡ wire n → is_name n ≡ true → LeftOf ms name after n
+    all ms n holds e ok =
+        let a = left.all ms n holds e ok in
+        let f = first_label rest others k a.left a.spelled first some in
+        let l = f.label in
+        let m = f.labels in
+        let ok' : is_name (l ∷ m) ≡ true = subst (λ x. is_name x ≡ true) f.whole a.is_name in
+        let w : rest ≡ wire (l ∷ m) = a.spelled ∙ ap wire f.whole in
+        let out = not_found l m holds (subst (λ x. NoneSpelled ks (head x) b x) w none) in
+        let rest_is : after ≡ wire m = cut ∙ ap (drop k) f.behind ∙ drop_at l (wire m) k (sym f.long) in
+        let size = front-none ms l m out in
+        let front = a.front in
+        record {
+          left = m;
+          spelled = rest_is;
+          is_name = is_name-tail l m ok';
+          front = omega (arith, front, ap (front_size ms) f.whole, size, ap length w, ap length rest_is, length-append l (wire m));
+          place = a.place ∙ ap (pointed_place ms) f.whole ∙ pointed-none ms l m out;
+        }
+
+-- where nothing is left to look at, the name is written whole; where a suffix is found, its front is
+pub left_root : {head : Octets → ℕ} {b : Octets} {ks : List Kept} {name rest : Octets} (ms : List Placed) (n : DomainName) → Left head b ks name rest
+    → ((m : DomainName) → rest ≡ wire m → is_name m ≡ true → m ≡ []) → Holds head ms b ks → name ≡ wire n → is_name n ≡ true
+    → (front_size ms n ≡ length name - length rest) × (pointed_place ms n ≡ None)
+left_root {name = name} {rest} ms n left root holds e ok =
+    let a = left.all ms n holds e ok in
+    let none = root a.left a.spelled a.is_name in
+    let front = a.front in
+    (omega (arith, front, ap (front_size ms) none, front-root ms), a.place ∙ ap (pointed_place ms) none ∙ pointed-root ms)
+
+pub left_found : {head : Octets → ℕ} {b : Octets} {ks : List Kept} {name rest others : Octets} (k p : ℕ) (ms : List Placed) (n : DomainName) → Left head b ks name rest → rest ≡ k ∷ others → (k ≡ 0 → ⊥)
+    → IsKept ks p (head rest) → SpelledAt b p rest → Holds head ms b ks → name ≡ wire n → is_name n ≡ true
+    → (front_size ms n ≡ length name - length rest) × (pointed_place ms n ≡ Some p)
+left_found {head} {b} {ks} {name} {rest} {others} k p ms n left first some kept there holds e ok =
+    let a = left.all ms n holds e ok in
+    let f = first_label rest others k a.left a.spelled first some in
+    let w : rest ≡ wire (f.label ∷ f.labels) = a.spelled ∙ ap wire f.whole in
+    let at = found f.label f.labels p (head rest) holds (subst (λ x. is_name x ≡ true) f.whole a.is_name) kept (subst (SpelledAt b p) w there) in
+    let front = a.front in
+    (omega (arith, front, ap (front_size ms) f.whole, front-some ms f.label f.labels p at), a.place ∙ ap (pointed_place ms) f.whole ∙ pointed-some ms f.label f.labels p at)
+
+-- which places are kept of a name, by whether its first suffix is shared
+module _ (head : Octets → ℕ) (ms : List Placed) (l : Octets) (n : DomainName) (p : ℕ) where
+  pub kept-none : shared_place ms (l ∷ n) ≡ None
+      → new_places head ms (l ∷ n) p ≡ cond (nat_le p last_place) (record { place = p; head = head (wire (l ∷ n)) } ∷ new_places head ms n (p + 1 + length l)) []
+  unfolding new_places
+  kept-none e = ap (λ (x : Option ℕ). elim x as (λ _. List Kept) [
+    | None ↦ cond (nat_le p last_place) (record { place = p; head = head (wire (l ∷ n)) } ∷ new_places head ms n (p + 1 + length l)) []
+    | Some q ↦ []
+  ]) e
+
+  pub kept-some : (q : ℕ) → shared_place ms (l ∷ n) ≡ Some q → new_places head ms (l ∷ n) p ≡ []
+  unfolding new_places
+  kept-some q e = ap (λ (x : Option ℕ). elim x as (λ _. List Kept) [
+    | None ↦ cond (nat_le p last_place) (record { place = p; head = head (wire (l ∷ n)) } ∷ new_places head ms n (p + 1 + length l)) []
+    | Some r ↦ []
+  ]) e
+
+  pub kept-more : shared_place ms (l ∷ n) ≡ None → p ≤ last_place → new_places head ms (l ∷ n) p ≡ record { place = p; head = head (wire (l ∷ n)) } ∷ new_places head ms n (p + 1 + length l)
+  kept-more e low = kept-none e ∙ ap (λ t. cond t (record { place = p; head = head (wire (l ∷ n)) } ∷ new_places head ms n (p + 1 + length l)) []) (le-leb p last_place low)
+
+  -- nothing is kept past the reach of a pointer, or of a shared suffix
+  kept-high : last_place < p → new_places head ms (l ∷ n) p ≡ []
+  kept-high high = go (shared_place ms (l ∷ n)) refl (nat_le p last_place) refl
+    where
+      go : (x : Option ℕ) → shared_place ms (l ∷ n) ≡ x → (t : Bool) → nat_le p last_place ≡ t → new_places head ms (l ∷ n) p ≡ []
+      go None e true q = absurd (let low = leb-true p last_place q in omega (arith, low, high))
+      go None e false q = kept-none e ∙ ap (λ t. cond t (record { place = p; head = head (wire (l ∷ n)) } ∷ new_places head ms n (p + 1 + length l)) []) q
+      go (Some r) e t q = kept-some r e
+
+  kept-shared : front_size ms (l ∷ n) < 1 + length l → new_places head ms (l ∷ n) p ≡ []
+  kept-shared short = go (shared_place ms (l ∷ n)) refl
+    where
+      go : (x : Option ℕ) → shared_place ms (l ∷ n) ≡ x → new_places head ms (l ∷ n) p ≡ []
+      go None e = absurd (omega (arith, short, front-none ms l n e))
+      go (Some r) e = kept-some r e
+
+pub kept-root : (head : Octets → ℕ) (ms : List Placed) (p : ℕ) → new_places head ms [] p ≡ []
+unfolding new_places
+kept-root head ms p = refl
+
+-- What is left to keep of a name.
+pub record KeepOf (head : Octets → ℕ) (ms : List Placed) (old ks : List Kept) (rest : Octets) (front at place : ℕ) (n : DomainName) : Type 0 where
+  pub left : DomainName
+  pub spelled : rest ≡ wire left
+  pub is_name : is_name left ≡ true
+  pub kept : old ++ new_places head ms n at ≡ ks ++ new_places head ms left place
+  pub fits : place + front_size ms left ≡ at + front
+
+pub record Keep (head : Octets → ℕ) (old ks : List Kept) (name rest : Octets) (front at place : ℕ) : Type 0 where
+  pub few : 2 * length ks ≤ place
+  pub within : place ≤ at + front
+  pub all : (ms : List Placed) (n : DomainName) → name ≡ wire n → is_name n ≡ true → front ≡ front_size ms n → KeepOf head ms old ks rest front at place n
+
+pub keep_begins : (head : Octets → ℕ) (old : List Kept) (name : Octets) (front at : ℕ) → 2 * length old ≤ at → Keep head old old name name front at at
+keep_begins head old name front at few = record {
+  few = few;
+  within = omega arith;
+  all = λ ms n e ok f. record { left = n; spelled = e; is_name = ok; kept = refl; fits = omega (arith, f) };
+}
+
+pub keep_label : {head : Octets → ℕ} {old ks : List Kept} {name rest others after : Octets} {front at place : ℕ} (k h : ℕ) → Keep head old ks name rest front at place → rest ≡ k ∷ others → (k ≡ 0 → ⊥)
+    → k ≤ length others → after ≡ drop k others → place + 1 + k ≤ at + front → place ≤ last_place → h ≡ head rest
+    → Keep head old (ks ++ record { place = place; head = h } ∷ []) name after front at (place + 1 + k)
+keep_label {head} {old} {ks} {name} {rest} {others} {after} {front} {at} {place} k h keep first some fits cut room low number = record {
+  few = let f = keep.few in let positive = pos k some in omega (arith, f, positive, length-append ks (record { place = place; head = h } ∷ []));
+  within = room;
+  all = all;
+}
+  where
+    pos : (j : ℕ) → (j ≡ 0 → ⊥) → 1 ≤ j
+    pos zero not_zero = absurd (not_zero refl)
+    pos (suc j) not_zero = omega arith
+
+    all : (ms : List Placed) (n : DomainName) → name ≡ wire n → is_name n ≡ true → front ≡ front_size ms n → KeepOf head ms old (ks ++ record { place = place; head = h } ∷ []) after front at (place + 1 + k) n
+    all ms n e ok f =
+        let a = keep.all ms n e ok f in
+        let g = first_label rest others k a.left a.spelled first some in
+        let l = g.label in
+        let m = g.labels in
+        let w : rest ≡ wire (l ∷ m) = a.spelled ∙ ap wire g.whole in
+        let fit = a.fits in
+        go ms n a g (shared_place ms (l ∷ m)) refl
+      where
+        go : (ms : List Placed) (n : DomainName) (a : KeepOf head ms old ks rest front at place n) (g : FirstLabel rest others k a.left) → (x : Option ℕ) → shared_place ms (g.label ∷ g.labels) ≡ x
+            → KeepOf head ms old (ks ++ record { place = place; head = h } ∷ []) after front at (place + 1 + k) n
+        go ms n a g (Some r) q = absurd (let fit = a.fits in omega (arith, fit, room, ap (front_size ms) g.whole, front-some ms g.label g.labels r q))
+        go ms n a g None q =
+            let l = g.label in
+            let m = g.labels in
+            let one : Kept = record { place = place; head = h } in
+            let w : rest ≡ wire (l ∷ m) = a.spelled ∙ ap wire g.whole in
+            let named : record { place = place; head = head (wire (l ∷ m)) } ≡ one = ap (λ j. record { place = place; head = j }) (ap head (sym w) ∙ sym number) in
+            let next : place + 1 + length l ≡ place + 1 + k = ap (λ j. place + 1 + j) (sym g.long) in
+            let more = kept-more head ms l m place q low ∙ ap₂ (λ (x : Kept) j. x ∷ new_places head ms m j) named next in
+            let fit = a.fits in
+            record {
+              left = m;
+              spelled = cut ∙ ap (drop k) g.behind ∙ drop_at l (wire m) k (sym g.long);
+              is_name = is_name-tail l m (subst (λ x. is_name x ≡ true) g.whole a.is_name);
+              kept = a.kept ∙ ap (λ x. ks ++ new_places head ms x place) g.whole ∙ ap (λ x. ks ++ x) more ∙ sym (append_assoc ks (one ∷ []) (new_places head ms m (place + 1 + k)));
+              fits = omega (arith, fit, ap (front_size ms) g.whole, front-none ms l m q, g.long);
+            }
+
+-- where the loop ends nothing is left to keep
+pub keep_root : {head : Octets → ℕ} {old ks : List Kept} {name rest : Octets} {front at place : ℕ} → Keep head old ks name rest front at place
+    → ((m : DomainName) → rest ≡ wire m → is_name m ≡ true → m ≡ [])
+    → (ms : List Placed) (n : DomainName) → name ≡ wire n → is_name n ≡ true → front ≡ front_size ms n → ks ≡ old ++ new_places head ms n at
+keep_root {head} {old} {ks} {place = place} keep root ms n e ok f =
+    let a = keep.all ms n e ok f in
+    let none = ap (λ m. new_places head ms m place) (root a.left a.spelled a.is_name) ∙ kept-root head ms place in
+    sym (a.kept ∙ ap (λ x. ks ++ x) none ∙ append-nil ks)
+
+pub keep_high : {head : Octets → ℕ} {old ks : List Kept} {name rest : Octets} {front at place : ℕ} → Keep head old ks name rest front at place → last_place < place
+    → (ms : List Placed) (n : DomainName) → name ≡ wire n → is_name n ≡ true → front ≡ front_size ms n → ks ≡ old ++ new_places head ms n at
+keep_high {head} {old} {ks} {place = place} keep high ms n e ok f =
+    let a = keep.all ms n e ok f in
+    sym (a.kept ∙ ap (λ x. ks ++ x) (none a.left) ∙ append-nil ks)
+  where
+    none : (m : DomainName) → new_places head ms m place ≡ []
+    none [] = kept-root head ms place
+    none (l ∷ m) = kept-high head ms l m place high
+
+pub keep_past : {head : Octets → ℕ} {old ks : List Kept} {name rest others : Octets} {front at place : ℕ} (k : ℕ) → Keep head old ks name rest front at place → rest ≡ k ∷ others → (k ≡ 0 → ⊥)
+    → at + front < place + 1 + k → (ms : List Placed) (n : DomainName) → name ≡ wire n → is_name n ≡ true → front ≡ front_size ms n → ks ≡ old ++ new_places head ms n at
+keep_past {head} {old} {ks} {rest = rest} {others} {place = place} k keep first some past ms n e ok f =
+    let a = keep.all ms n e ok f in
+    let g = first_label rest others k a.left a.spelled first some in
+    let fit = a.fits in
+    let none = kept-shared head ms g.label g.labels place (omega (arith, fit, past, g.long, ap (front_size ms) g.whole)) in
+    sym (a.kept ∙ ap (λ x. ks ++ new_places head ms x place) g.whole ∙ ap (λ x. ks ++ x) none ∙ append-nil ks)
+
+-- octets that have no first label are the wire form of no other name than the root
+pub root_empty : (o : Octets) (n : DomainName) → o ≡ wire n → length o ≡ 0 → n ≡ []
+root_empty o [] e none = refl
+root_empty o (l ∷ n) e none = absurd (omega (arith, ap length e, none))
+
+pub root_zero : (o others : Octets) (n : DomainName) → o ≡ wire n → is_name n ≡ true → o ≡ 0 ∷ others → n ≡ []
+root_zero o others [] e ok first = refl
+root_zero o others (l ∷ n) e ok first =
+    let some = (label_parts l (is_label-head l n ok)).0 in
+    absurd (omega (arith, some, ap (λ x. get_or x 0 0) (sym e ∙ first)))
+
+pub root_cut : (o others : Octets) (k : ℕ) (n : DomainName) → o ≡ wire n → o ≡ k ∷ others → length others < k → n ≡ []
+root_cut o others k [] e first short = refl
+root_cut o others k (l ∷ n) e first short =
+    let same : k ∷ others ≡ length l ∷ (l ++ wire n) = sym first ∙ e in
+    absurd (omega (arith, ap (λ x. get_or x 0 0) same, ap length same, length-append l (wire n), short))
+
+pub grows_none : (ks : List Kept) → Grows ks ks
+grows_none ks = record { more = []; places = sym (append-nil ks) }
+
+pub grows_more : {ks ks' ks'' : List Kept} (x : Kept) → Grows ks ks' → ks'' ≡ ks' ++ x ∷ [] → Grows ks ks''
+grows_more {ks} x g e = record { more = g.more ++ x ∷ []; places = e ∙ ap (λ z. z ++ x ∷ []) g.places ∙ append_assoc ks g.more (x ∷ []) }
+
+pub extends_none : (b : Octets) (ks : List Kept) → Extends b ks b ks
+extends_none b ks = record { more_octets = []; octets = sym (append-nil b); more_places = []; places = sym (append-nil ks) }
+
+pub extends_again : {b b' b'' : Octets} {ks ks' ks'' : List Kept} → Extends b ks b' ks' → Extends b' ks' b'' ks'' → Extends b ks b'' ks''
+extends_again {b} {ks = ks} e f = record {
+  more_octets = e.more_octets ++ f.more_octets;
+  octets = f.octets ∙ ap (λ z. z ++ f.more_octets) e.octets ∙ append_assoc b e.more_octets f.more_octets;
+  more_places = e.more_places ++ f.more_places;
+  places = f.places ∙ ap (λ z. z ++ f.more_places) e.places ∙ append_assoc ks e.more_places f.more_places;
+}
+
+-- what was there is what is left when the rest is taken back
+pub taken_back : {A : Type 0} (xs ys zs : List A) → zs ≡ xs ++ ys → take (length xs) zs ≡ xs
+taken_back xs ys zs e = ap (take (length xs)) e ∙ take_at xs ys (length xs) refl

@@ -1,0 +1,34 @@
+use Rattle.std.proofs.Common.{◌≡◌, ◌+◌, ◌*◌, ◌<◌, ◌∙◌, refl, sym, ap, subst, arith, length, ◌∷◌, [], ◌++◌}
+use Rattle.dns_wire.specs.Kept.{Kept}
+use Rattle.dns_wire.proofs.Suffixes.{Keep, grows_none, grows_more, keep_begins, keep_label, keep_root, keep_high, keep_past}
+use Rattle.dns_wire.proofs.room.keep_suffixes.Goals.{then-next-at-via-then-next-at, then-next-at-via-else-next-at+then-place-gt-LAST_PLACE}
+use Rattle.dns_wire.proofs.room.keep_suffixes.Goals as goal
+
+pub suffixes-init : goal.suffixes-init
+suffixes-init g c = record {
+  keep = keep_begins (g.H.SuffixHash.numbers c.args.hash.now) c.args.places.now c.args.name.now c.args.front c.args.at c.requires.few;
+  grows = grows_none c.args.places.now;
+  same = refl;
+}
+
+pub suffixes-preserved : goal.suffixes-preserved
+suffixes-preserved g c =
+    let a = c.in-Some.ensures.some in
+    let number = c.head-head.ensures.value ∙ ap (λ f. f c.suffixes.rest.now) c.suffixes.invariant.same in
+    let more = keep_label c.in-Some.length c.head-head.result c.suffixes.invariant.keep a.first a.some a.fits a.cut c.if-next-at.false c.if-place-gt-LAST_PLACE.false number in
+    record {
+      keep = rw c.insert.ensures more;
+      grows = grows_more _ c.suffixes.invariant.grows c.insert.ensures;
+      same = c.head-head.ensures.same ∙ c.suffixes.invariant.same;
+    }
+
+pub returns-then-next-at-clause-kept : goal.returns-then-next-at-clause-kept
+returns-then-next-at-clause-kept g c = λ ms n e ok front.
+    let a = c.in-Some.ensures.some in
+    elim c.then-next-at.branch [
+      | then-next-at-via-then-next-at w ↦ keep_past c.in-Some.length c.suffixes.invariant.keep a.first a.some w.if-next-at.true ms n e ok front
+      | then-next-at-via-else-next-at+then-place-gt-LAST_PLACE w ↦ keep_high c.suffixes.invariant.keep w.if-place-gt-LAST_PLACE.true ms n e ok front
+    ]
+
+pub returns-clause-kept : goal.returns-clause-kept
+returns-clause-kept g c = λ ms n e ok front. keep_root c.suffixes.invariant.keep (c.in_default.ensures.root refl) ms n e ok front

@@ -1,0 +1,13 @@
+use Rattle.std.proofs.Common.{◌≡◌, length}
+use Rattle.dns_wire.proofs.Suffixes.{Left}
+use Rattle.dns_wire.proofs.room.shared_suffix.Given as goal
+
+-- the rest of the name is laid out as the whole ends
+abbrev pub invariant-suffixes : goal.invariant-suffixes
+invariant-suffixes g l = record {
+  left : Left (g.H.SuffixHash.numbers l.initial.hash) l.message l.places l.name l.rest;
+  same : g.H.SuffixHash.numbers l.hash ≡ g.H.SuffixHash.numbers l.initial.hash;
+}
+
+abbrev pub decreases-suffixes : goal.decreases-suffixes
+decreases-suffixes g l = length l.rest

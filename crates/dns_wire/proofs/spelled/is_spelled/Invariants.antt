@@ -1,0 +1,15 @@
+use Rattle.std.proofs.Common.{◌≤◌, length, ◌+◌, ◌-◌, ◌*◌}
+use Rattle.dns_wire.specs.Kept.{SpelledFrom}
+use Rattle.dns_wire.proofs.spelled.is_spelled.Given as goal
+
+-- what is left to compare decides as the whole does
+abbrev pub invariant-steps : goal.invariant-steps
+invariant-steps l = record {
+  forth : SpelledFrom l.message l.run l.place l.rest → SpelledFrom l.message l.at l.at l.suffix;
+  back : SpelledFrom l.message l.at l.at l.suffix → SpelledFrom l.message l.run l.place l.rest;
+  begun : l.run ≤ l.place;
+}
+
+-- a label leaves fewer octets, and a pointer goes to a run that began earlier
+abbrev pub decreases-steps : goal.decreases-steps
+decreases-steps l = l.run * (length l.message + 1) + (length l.message - l.place)

@@ -1,0 +1,54 @@
+-- What a reader learns here: what a writer has written of a message so far.
+use Rattle.std.specs.Prelude.{◌≡◌, ℕ, ◌+◌, ◌≤◌, List, [], ◌∷◌, ◌++◌, length, replicate, Option}
+use Rattle.std.specs.Option.{option_to_list}
+use Rattle.dns_spec.specs.Names.{Octets, DomainName}
+use Rattle.dns_spec.specs.Sets.{RecordSet, records_at}
+use Rattle.dns_spec.specs.Reading.{MessageQuestion}
+use Rattle.dns_spec.specs.Layout as Layout
+use Rattle.dns_spec.specs.Layout.{Item, Placed, records_of, in_section, asked_octets, asked_placed, answer, authority, additional}
+use Rattle.dns_wire.specs.Kept.{Kept}
+use Rattle.dns_wire.specs.Writing.{Holds, IsSound, records_laid}
+use Rattle.dns_wire.specs.declared.page.Section.{Section}
+use Rattle.dns_wire.specs.declared.page.Section.TheVariants.{Answer, Authority, Additional}
+
+abbrev pub section_of : Section → Layout.Section
+section_of Answer = answer
+section_of Authority = authority
+section_of Additional = additional
+
+-- the records of a set, in a section of a message
+abbrev pub item_of : Section → DomainName → ℕ → RecordSet → Item
+item_of section owner ttl set = record { section = section_of section; records = records_at owner ttl set }
+
+-- a message that is being written: its limit, its octets after room for a header, the places kept, and how many questions
+-- and records it has
+pub record Draft : Type 0 where
+  pub limit : ℕ
+  pub octets : Octets
+  pub kept : List Kept
+  pub questions : ℕ
+  pub answers : ℕ
+  pub authorities : ℕ
+  pub additionals : ℕ
+
+-- the names of the records so far, with their places
+abbrev pub names_so_far : Option MessageQuestion → List Item → List Placed
+names_so_far q items =
+    asked_placed q ++ (records_laid (asked_placed q) (12 + length (asked_octets q)) (records_of items)).names
+
+-- The draft has this question, and these sets, laid out.
+pub record IsDraft (head : Octets → ℕ) (q : Option MessageQuestion) (items : List Item) (d : Draft) : Type 0 where
+  pub written : d.octets
+      ≡ replicate 12 0 ++ asked_octets q
+      ++ (records_laid (asked_placed q) (12 + length (asked_octets q)) (records_of items)).written
+  pub holds : Holds head (names_so_far q items) d.octets d.kept
+  pub questions : d.questions ≡ length (option_to_list q)
+  pub answers : d.answers ≡ length (in_section answer items)
+  pub authorities : d.authorities ≡ length (in_section authority items)
+  pub additionals : d.additionals ≡ length (in_section additional items)
+
+-- there are no more records than octets
+pub record IsWellKept (N size : ℕ) (d : Draft) : Type 0 where
+  pub sound : IsSound N size d.limit d.octets d.kept
+  pub header : 12 ≤ length d.octets
+  pub few : d.answers + d.authorities + d.additionals ≤ length d.octets

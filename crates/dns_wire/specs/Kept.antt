@@ -1,0 +1,24 @@
+-- What a reader learns here: which places a writer keeps for the suffixes of names, and what it means that one is found.
+use Rattle.std.specs.Prelude.{◌≡◌, ℕ, List, slice_get, Some}
+use Rattle.dns_spec.specs.Names.{Octets, DomainName, wire}
+use Rattle.dns_spec.specs.Reading.{RunAt}
+
+-- a place, and the number of the suffix that stands there
+pub record Kept : Type 0 where
+  pub place : ℕ
+  pub head : ℕ
+
+-- such a pair is among those kept
+abbrev pub IsKept : List Kept → ℕ → ℕ → Type 0
+IsKept ks p h = (k : ℕ) × (slice_get ks k ≡ Some (record { place = p; head = h }))
+
+-- from place i of a message on, in a run that began at place s, stands a name with this wire form; and at a place
+abbrev pub SpelledFrom : Octets → ℕ → ℕ → Octets → Type 0
+SpelledFrom b s i o = (n : DomainName) × (e : ℕ) × RunAt b s i n e × (wire n ≡ o)
+
+abbrev pub SpelledAt : Octets → ℕ → Octets → Type 0
+SpelledAt b p o = SpelledFrom b p p o
+
+-- at none of the places kept with this number the message spells the suffix
+abbrev pub NoneSpelled : List Kept → ℕ → Octets → Octets → Type 0
+NoneSpelled ks h b o = (p : ℕ) → IsKept ks p h → SpelledAt b p o → ⊥

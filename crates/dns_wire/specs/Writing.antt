@@ -1,0 +1,105 @@
+-- What a reader learns here: how a writer lays a name out, which places it keeps for later names, and what must hold of
+-- the places kept, and of the octets written so far, that later names share rightly.
+use Rattle.std.specs.Prelude.{◌≡◌, ◌↔◌, ℕ, ◌+◌, ◌*◌, ◌<◌, ◌≤◌, ◌^◌, Bool, List, [], ◌∷◌, ◌++◌, length, drop, min, nat_le, IsTrue, if◌then◌else◌}
+use Rattle.std.specs.Prelude.{Option, None, Some}
+use Rattle.std.specs.Bool.{OnTrue}
+use Rattle.dns_spec.specs.Names.{Octets, DomainName, wire, is_name}
+use Rattle.dns_spec.specs.Data.{laid_parts}
+use Rattle.dns_spec.specs.Records.{ResourceRecord}
+use Rattle.dns_spec.specs.Reading.{RunAt}
+use Rattle.dns_spec.specs.Layout.{Placed, Laid, laid_front, data_laid, record_laid, record_tail, pointer, place_of, last_place, shared_place}
+use Rattle.dns_wire.specs.Kept.{Kept, IsKept}
+
+-- octets begin with a length k that is not 0, and after so many octets come these
+pub record AfterLabel (octets : Octets) (k : ℕ) (after : Octets) : Type 0 where
+  pub others : Octets
+  pub first : octets ≡ k ∷ others
+  pub some : k ≡ 0 → ⊥
+  pub fits : k ≤ length others
+  pub cut : after ≡ drop k others
+
+-- the octets of a name's labels before the suffix that it shares
+unfoldable pub front_size : List Placed → DomainName → ℕ
+front_size ms [] = 0
+front_size ms (l ∷ n) =
+    elim (shared_place ms (l ∷ n)) [ None ↦ 1 + length l + front_size ms n | Some p ↦ 0 ]
+
+-- the place of that suffix
+unfoldable pub pointed_place : List Placed → DomainName → Option ℕ
+pointed_place ms [] = None
+pointed_place ms (l ∷ n) =
+    elim (shared_place ms (l ∷ n)) [ None ↦ pointed_place ms n | Some p ↦ Some p ]
+
+-- a name ends with the root's length, or with a pointer
+abbrev pub end_octets : Option ℕ → Octets
+end_octets None = 0 ∷ []
+end_octets (Some p) = pointer p
+
+-- the places that are kept of a name that is laid out from place p on: those of the suffixes written out, as far as a
+-- pointer reaches
+unfoldable pub new_places : (Octets → ℕ) → List Placed → DomainName → ℕ → List Kept
+new_places head ms [] p = []
+new_places head ms (l ∷ n) p = elim (shared_place ms (l ∷ n)) [
+  | None ↦ if nat_le p last_place
+      then record { place = p; head = head (wire (l ∷ n)) } ∷ new_places head ms n (p + 1 + length l)
+      else []
+  | Some q ↦ []
+]
+
+-- The places kept are just those of the suffixes that are shared, each with its number.
+pub record Answers (head : Octets → ℕ) (ms : List Placed) (ks : List Kept) : Type 0 where
+  pub complete : (l : Octets) (n : DomainName) (p : ℕ) → shared_place ms (l ∷ n) ≡ Some p
+      → IsKept ks p (head (wire (l ∷ n)))
+  pub sound : (p h : ℕ) → IsKept ks p h
+      → (l : Octets) × (n : DomainName) × (shared_place ms (l ∷ n) ≡ Some p) × IsTrue (is_name (l ∷ n))
+
+-- The message spells each suffix that is shared, and all places are in it.
+pub record Holds (head : Octets → ℕ) (ms : List Placed) (b : Octets) (ks : List Kept) : Type 0 where
+  pub spelled : (l : Octets) (n : DomainName) (p : ℕ) → shared_place ms (l ∷ n) ≡ Some p
+      → (12 ≤ p) × (p < length b) × (e : ℕ) × RunAt b p p (l ∷ n) e
+  pub before : (l : Octets) (n : DomainName) (p : ℕ) → place_of ms (l ∷ n) ≡ Some p → p < length b
+  pub after_header : 12 ≤ length b
+  pub answers : Answers head ms ks
+
+-- a writer's room: N places and so many octets, of which a limit may be used
+pub record IsSound (N size limit : ℕ) (b : Octets) (ks : List Kept) : Type 0 where
+  pub within : length b ≤ limit
+  pub fits : limit ≤ size
+  pub short : limit < 2 ^ 16
+  pub few : 2 * length ks ≤ length b
+  pub enough : min size 16384 ≤ 2 * N
+  pub most : N ≤ 8192
+
+-- octets and places come after those that were there
+pub record Extends (b : Octets) (ks : List Kept) (b' : Octets) (ks' : List Kept) : Type 0 where
+  pub more_octets : Octets
+  pub octets : b' ≡ b ++ more_octets
+  pub more_places : List Kept
+  pub places : ks' ≡ ks ++ more_places
+
+-- places come after those that were there
+pub record Grows (ks ks' : List Kept) : Type 0 where
+  pub more : List Kept
+  pub places : ks' ≡ ks ++ more
+
+-- What was laid out after these octets is written exactly where it fits the limit, and its names are earlier names then.
+pub record IsWritten (head : Octets → ℕ) (limit : ℕ) (ms : List Placed) (b : Octets) (laid : Laid) (fits : Bool) (b' : Octets) (ks' : List Kept) : Type 0 where
+  pub exactly : IsTrue fits ↔ (length (b ++ laid.written) ≤ limit)
+  pub written : OnTrue fits (b' ≡ b ++ laid.written)
+  pub holds : OnTrue fits (Holds head (ms ++ laid.names) b' ks')
+
+-- a record, and what is laid out of it after its owner
+abbrev pub shown : DomainName → ℕ → ℕ → Octets → ResourceRecord
+shown owner rtype ttl rdata = record { owner = owner; ttl = ttl; rtype = rtype; rdata = rdata }
+
+abbrev pub tail_laid : List Placed → ℕ → ℕ → ℕ → Octets → Laid
+tail_laid ms p rtype ttl rdata =
+    let d = data_laid ms (p + 10) (laid_parts rtype rdata) in
+    record { written = record_tail (shown [] rtype ttl rdata) d.written; names = d.names }
+
+-- records laid out from place p on, with their names
+unfoldable pub records_laid : List Placed → ℕ → List ResourceRecord → Laid
+records_laid ms p [] = record { written = []; names = [] }
+records_laid ms p (r ∷ rs) =
+    let l = record_laid ms p r in
+    laid_front l.written l.names (records_laid (ms ++ l.names) (p + length l.written) rs)

@@ -1,0 +1,175 @@
+//! A message that is being written: a question, and sets in their sections, within a limit (RFC 1035 4.1).
+ghost use Rattle.std.specs.Prelude.{◌≡◌, ◌↔◌, ◌+◌, ◌<◌, ◌≤◌, List, [], ◌∷◌, ◌++◌, ℕ, ◌*◌, length, take, drop, min, IsTrue, IsFalse, Option};
+ghost use Rattle.std.specs.Option.{option_copied};
+ghost use Rattle.dns_spec.specs.Names.{Octets};
+ghost use Rattle.std.specs.Bool.{OnTrue, OnFalse};
+ghost use Rattle.dns_spec.specs.Reading.{MessageQuestion};
+ghost use Rattle.dns_spec.specs.Layout.{Item, size, layout, header_octets};
+ghost use Rattle.dns_spec.specs.Sharing.{Sharing};
+ghost use Rattle.dns_wire.specs.Writing.{IsSound};
+
+use crate::message::{Head, Question};
+use crate::places::SuffixHash;
+use crate::room::Room;
+use byteorder::{BigEndian, ByteOrder};
+use dns_name::Name;
+use dns_rdata::SetView;
+use std::marker::Model;
+
+/// The sections of a message after its question (RFC 1035 4.1).
+#[derive(Clone, Copy, Debug, PartialEq, Eq)]
+pub enum Section {
+    /// Records that answer the question.
+    Answer,
+    /// Records that point to an authority.
+    Authority,
+    /// Records that help with those of the others.
+    Additional,
+}
+
+/// A message that is being written, in room for so many places and octets.
+#[derive(Drop)]
+pub struct Page<const N: usize, const SIZE: usize> {
+    room: Room<N, SIZE>,
+    questions: u16,
+    answers: u16,
+    authorities: u16,
+    additionals: u16,
+}
+
+impl<const N: usize, const SIZE: usize> Model for Page<N, SIZE> {
+    ghost use Rattle.dns_wire.specs.Draft.{Draft, IsWellKept};
+
+    ghost Value = { Draft };
+
+    ghost view = { λ p. record { limit = p.room.limit; octets = p.room.octets.items; kept = p.room.places; questions = p.questions; answers = p.answers; authorities = p.authorities; additionals = p.additionals } };
+
+    ghost invariant = { λ p. IsWellKept N SIZE (record { limit = p.room.limit; octets = p.room.octets.items; kept = p.room.places; questions = p.questions; answers = p.answers; authorities = p.authorities; additionals = p.additionals }) };
+}
+
+impl<const N: usize, const SIZE: usize> Page<N, SIZE> {
+    ghost use Rattle.dns_wire.specs.Draft.{IsDraft, item_of};
+
+    /// An empty message of at most `limit` octets, 512 to 65,535, with the question that it repeats, if any.
+    ///
+    /// Condition: there are as many octets as the limit, and places for one in two of the octets that a pointer reaches.
+    pub fn new<H: SuffixHash>(
+        limit: usize,
+        question: Option<&Question>,
+        hash: &mut H,
+    ) -> Page<N, SIZE>
+        requires from { 512 ≤ limit }
+        requires upto { limit ≤ 65535 }
+        requires octets { limit ≤ SIZE }
+        requires places { min SIZE 16384 ≤ 2 * N }
+        requires most { N ≤ 8192 }
+        ensures draft { IsDraft (H.numbers hash.old) (option_copied question.entry) [] result }
+        ensures limit { result.limit ≡ limit }
+        ensures same { H.numbers hash.new ≡ H.numbers hash.old }
+    {
+        let mut room = Room::new(limit);
+        match question {
+            Some(question) => {
+                room.put_question(hash, question);
+                Page::begun(room, 1)
+            }
+            None => Page::begun(room, 0),
+        }
+    }
+
+    fn begun(room: Room<N, SIZE>, questions: u16) -> Page<N, SIZE>
+        requires sound { IsSound N SIZE room.limit room.octets.items room.places }
+        requires header { 12 ≤ length room.octets.items }
+        ensures { result ≡ record { limit = room.entry.limit; octets = room.entry.octets.items; kept = room.entry.places; questions = questions; answers = 0; authorities = 0; additionals = 0 } }
+    {
+        Page {
+            room,
+            questions,
+            answers: 0,
+            authorities: 0,
+            additionals: 0,
+        }
+    }
+
+    /// Writes the records of a set at an owner, with a TTL in seconds, into a section: all of them, or none where with
+    /// them the message is past its limit.
+    pub fn put_set<H: SuffixHash, S: SetView>(
+        &mut self,
+        hash: &mut H,
+        section: Section,
+        owner: &Name,
+        ttl: u32,
+        set: &S,
+    ) -> bool
+        ensures fits { (q : Option MessageQuestion) (items : List Item) → IsDraft (H.numbers hash.old) q items self.old → IsTrue result ↔ (size q (items ++ item_of section owner.now ttl (S.set set.now) ∷ []) ≤ self.old.limit) }
+        ensures put { (q : Option MessageQuestion) (items : List Item) → IsDraft (H.numbers hash.old) q items self.old → OnTrue result (IsDraft (H.numbers hash.old) q (items ++ item_of section owner.now ttl (S.set set.now) ∷ []) self.new) }
+        ensures least { (q : Option MessageQuestion) (items : List Item) → IsDraft (H.numbers hash.old) q items self.old → self.old.limit ≤ 16384 → IsFalse result ↔ ((z : ℕ) → Sharing q (items ++ item_of section owner.now ttl (S.set set.now) ∷ []) z → self.old.limit < z) }
+        ensures unchanged { OnFalse result (self.new ≡ self.old) }
+        ensures limit { self.new.limit ≡ self.old.limit }
+        ensures same { H.numbers hash.new ≡ H.numbers hash.old }
+    {
+        if !self.room.put_set(hash, owner, ttl, set) {
+            return false;
+        }
+        let count = set.len() as u16;
+        match section {
+            Section::Answer => self.answers += count,
+            Section::Authority => self.authorities += count,
+            Section::Additional => self.additionals += count,
+        }
+        true
+    }
+
+    /// Puts the message at the front of `out`, with its header and counts, and answers its length in octets.
+    ///
+    /// Condition: `out` is as long as the limit.
+    pub fn finish(self, head: Head, out: &mut [u8]) -> usize
+        requires { self.limit ≤ length out.old }
+        ensures length { (h : Octets → ℕ) (q : Option MessageQuestion) (items : List Item) → IsDraft h q items self.entry → result ≡ size q items }
+        ensures layout { (h : Octets → ℕ) (q : Option MessageQuestion) (items : List Item) → IsDraft h q items self.entry → take result out.new ≡ layout head q items }
+    {
+        let octets = self.room.octets.as_slice();
+        let length = octets.len();
+        let (_, body) = octets.split_at(HEADER_OCTETS);
+        put_body(out, body);
+        put_header(
+            out,
+            &head,
+            self.questions,
+            self.answers,
+            self.authorities,
+            self.additionals,
+        );
+        length
+    }
+}
+
+// The octets of a header (RFC 1035 4.1.1).
+const HEADER_OCTETS: usize = 12;
+
+fn put_body(out: &mut [u8], body: &[u8])
+    requires { 12 + length body.now ≤ length out.old }
+    ensures body { take (length body.now) (drop 12 out.new) ≡ body.now }
+    ensures length { length out.new ≡ length out.old }
+{
+    out[HEADER_OCTETS..HEADER_OCTETS + body.len()].copy_from_slice(body);
+}
+
+fn put_header(
+    out: &mut [u8],
+    head: &Head,
+    questions: u16,
+    answers: u16,
+    authorities: u16,
+    additionals: u16,
+)
+    requires { 12 ≤ length out.old }
+    ensures { out.new ≡ header_octets head.now questions answers authorities additionals ++ drop 12 out.old }
+{
+    BigEndian::write_u16(out, head.id);
+    BigEndian::write_u16(&mut out[2..], head.flags);
+    BigEndian::write_u16(&mut out[4..], questions);
+    BigEndian::write_u16(&mut out[6..], answers);
+    BigEndian::write_u16(&mut out[8..], authorities);
+    BigEndian::write_u16(&mut out[10..], additionals);
+}

@@ -1,0 +1,132 @@
+//! The places of the suffixes that a message has so far, found by a hash of the suffix (RFC 1035 4.1.4).
+ghost use Rattle.std.specs.Prelude.{◌≡◌, ◌-◌, ◌<◌, ◌≤◌, [], ◌∷◌, ◌++◌, length, take, replicate, get_or, IsTrue, IfSome, IsNone};
+ghost use Rattle.dns_wire.specs.Kept.{IsKept, SpelledAt, NoneSpelled};
+
+use crate::spelled::is_spelled;
+use arrayvec::ArrayVec;
+use std::marker::Model;
+
+// Chains of places are found by so many numbers.
+const HEADS: usize = 1024;
+
+/// Chooses the chain in which a suffix is looked for: a number below 1,024, the same at every call for the same octets.
+///
+/// What a writer writes does not depend on which number that is.
+pub trait SuffixHash {
+    ghost use Rattle.std.specs.Prelude.{ℕ};
+    ghost use Rattle.dns_spec.specs.Names.{Octets};
+
+    /// The number of each suffix.
+    ghost numbers: { Self → Octets → ℕ };
+
+    /// The number of a suffix, given in its wire form.
+    fn head(&mut self, suffix: &[u8]) -> u16
+        ensures value { result ≡ numbers self.old suffix.now }
+        ensures low { result < 1024 }
+        ensures same { numbers self.new ≡ numbers self.old };
+}
+
+// A place, the number of its suffix, and which entry with this number was kept before it, counted from 1; 0 is none.
+#[derive(Clone, Copy, Default)]
+struct Entry {
+    place: u16,
+    head: u16,
+    next: u16,
+}
+
+/// The places that are kept, each with the number of its suffix, in the order in which they came. What a suffix is called
+/// stands in the message alone.
+#[derive(Drop)]
+pub(crate) struct Places<const N: usize> {
+    // Which entry with each number is the newest, counted from 1; 0 is none.
+    heads: [u16; HEADS],
+    entries: ArrayVec<Entry, N>,
+}
+
+impl<const N: usize> Model for Places<N> {
+    ghost use Rattle.std.specs.Prelude.{List};
+    ghost use Rattle.dns_wire.specs.Kept.{Kept};
+
+    ghost Value = { List Kept };
+
+    ghost use Rattle.std.specs.Prelude.{map};
+    ghost use Rattle.dns_wire.specs.Chains.{kept_in, AreChains};
+
+    ghost view = { λ p. map kept_in p.entries.items };
+
+    ghost invariant = { λ p. AreChains p.heads p.entries.items };
+}
+
+impl<const N: usize> Places<N> {
+    pub(crate) fn new() -> Places<N>
+        ensures { result ≡ [] }
+    {
+        Places {
+            heads: no_heads(),
+            entries: ArrayVec::new(),
+        }
+    }
+
+    /// How many places are kept.
+    pub(crate) fn len(&self) -> usize
+        ensures value { result ≡ length self.now }
+        ensures fits { result ≤ N }
+    {
+        self.entries.len()
+    }
+
+    /// Keeps a place more, of a suffix with this number.
+    pub(crate) fn insert(&mut self, place: u16, head: u16)
+        requires few { N ≤ 8192 }
+        requires room { length self.old < N }
+        requires low { head < 1024 }
+        requires reached { place < 16384 }
+        ensures { self.new ≡ self.old ++ record { place = place; head = head } ∷ [] }
+    {
+        let next = self.heads[usize::from(head)];
+        self.entries.push(Entry { place, head, next });
+        self.heads[usize::from(head)] = self.entries.len() as u16;
+    }
+
+    /// Keeps only the places that came first, as if the others had never come.
+    pub(crate) fn take_back(&mut self, count: usize)
+        ensures { self.new ≡ take count self.old }
+    {
+        'places: while self.len() > count {
+            self.drop_newest();
+        }
+    }
+
+    fn drop_newest(&mut self)
+        ensures { self.new ≡ take (length self.old - 1) self.old }
+    {
+        if let Some(newest) = self.entries.pop() {
+            self.heads[usize::from(newest.head)] = newest.next;
+        }
+    }
+
+    /// A place at which the message spells the suffix, among those that are kept with this number; the newest of them.
+    pub(crate) fn find(&self, head: u16, message: &[u8], suffix: &[u8]) -> Option<u16>
+        requires { head < 1024 }
+        ensures kept { IfSome result (λ place. IsKept self.now place head) }
+        ensures spelled { IfSome result (λ place. SpelledAt message.now place suffix.now) }
+        ensures reached { IfSome result (λ place. place < 16384) }
+        ensures none { IsNone result → NoneSpelled self.now head message.now suffix.now }
+    {
+        let mut number = self.heads[usize::from(head)];
+        'chain: while number > 0 {
+            let entry = self.entries.as_slice()[usize::from(number) - 1];
+            if is_spelled(message, usize::from(entry.place), suffix) {
+                return Some(entry.place);
+            }
+            number = entry.next;
+        }
+        None
+    }
+}
+
+fn no_heads() -> [u16; HEADS]
+    ensures { result ≡ replicate 1024 0 }
+{
+    [0; HEADS]
+}

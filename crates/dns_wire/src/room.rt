@@ -1,0 +1,410 @@
+//! The room of a writer: octets up to a limit, and the places of suffixes in them. Names are laid out here
+//! (RFC 1035 4.1.4).
+ghost use Rattle.std.specs.Prelude.{◌≡◌, ◌↔◌, List, ◌+◌, ◌*◌, ◌≤◌, ◌<◌, ◌^◌, [], ◌∷◌, ◌++◌, length, take, replicate, min, All, IsTrue, IfSome, IsNone};
+ghost use Rattle.std.specs.Bool.{OnTrue, OnFalse};
+ghost use Rattle.dns_spec.specs.Names.{DomainName, wire, is_name};
+ghost use Rattle.dns_spec.specs.Data.{Valid, class_in, laid_parts};
+ghost use Rattle.dns_spec.specs.Layout.{Placed, question_octets, octets16, octets32, pointer, shared_octets, cost, data_laid, record_laid};
+ghost use Rattle.dns_wire.specs.Writing.{front_size, pointed_place, new_places, end_octets, Extends, Grows, AfterLabel, Holds, IsSound, IsWritten, shown, tail_laid, records_laid};
+ghost use Rattle.dns_spec.specs.Sets.{records_at};
+ghost use Rattle.dns_rdata.specs.Parts.{HasName};
+
+use crate::message::{CLASS_IN, Question};
+use crate::places::{Places, SuffixHash};
+use arrayvec::ArrayVec;
+use byteorder::{BigEndian, ByteOrder};
+use dns_name::Name;
+use dns_rdata::{Part, Parts, RType, Rdata, SetView};
+
+// The last place that the 14 bits of a pointer reach.
+const LAST_PLACE: usize = 16383;
+
+/// A message that is being written: its octets so far, and the places in them that later names may point to.
+#[derive(Drop)]
+pub(crate) struct Room<const N: usize, const SIZE: usize> {
+    pub(crate) octets: ArrayVec<u8, SIZE>,
+    pub(crate) places: Places<N>,
+    pub(crate) limit: usize,
+}
+
+impl<const N: usize, const SIZE: usize> Room<N, SIZE> {
+    /// Room for a message of so many octets, with 12 for its header.
+    pub(crate) fn new(limit: usize) -> Room<N, SIZE>
+        requires room { 12 ≤ SIZE }
+        ensures octets { result.octets.items ≡ replicate 12 0 }
+        ensures places { result.places ≡ [] }
+        ensures limit { result.limit ≡ limit }
+    {
+        let mut octets = ArrayVec::new();
+        if octets.try_extend_from_slice(&[0; 12]).is_err() {
+            unreachable!();
+        }
+        Room {
+            octets,
+            places: Places::new(),
+            limit,
+        }
+    }
+
+    /// Writes the question, which nothing stands before but the room for a header.
+    pub(crate) fn put_question<H: SuffixHash>(&mut self, hash: &mut H, question: &Question)
+        requires sound { IsSound N SIZE self.old.limit self.old.octets.items self.old.places }
+        requires room { 512 ≤ self.old.limit }
+        requires blank { self.old.octets.items ≡ replicate 12 0 }
+        requires first { self.old.places ≡ [] }
+        ensures octets { self.new.octets.items ≡ replicate 12 0 ++ question_octets question.now }
+        ensures holds { Holds (H.numbers hash.old) ((question.now.qname, 12) ∷ []) self.new.octets.items self.new.places }
+        ensures limit { self.new.limit ≡ self.old.limit }
+        ensures same { H.numbers hash.new ≡ H.numbers hash.old }
+        ensures sound { IsSound N SIZE self.new.limit self.new.octets.items self.new.places }
+    {
+        let _ = self.put_name(hash, question.name.octets());
+        let _ = self.append(
+            &number_octets(question.qtype),
+            &number_octets(question.qclass),
+        );
+    }
+
+    /// Appends two runs of octets. False, with nothing written, where they do not fit the limit.
+    pub(crate) fn append(&mut self, front: &[u8], end: &[u8]) -> bool
+        requires { IsSound N SIZE self.old.limit self.old.octets.items self.old.places }
+        ensures fits { IsTrue result ↔ (length self.old.octets.items + (length front.now + length end.now) ≤ self.old.limit) }
+        ensures octets { OnTrue result (self.new.octets.items ≡ self.old.octets.items ++ (front.now ++ end.now)) }
+        ensures unchanged { OnFalse result (self.new.octets.items ≡ self.old.octets.items) }
+        ensures places { self.new.places ≡ self.old.places }
+        ensures limit { self.new.limit ≡ self.old.limit }
+        ensures sound { IsSound N SIZE self.new.limit self.new.octets.items self.new.places }
+    {
+        let room = self.limit - self.octets.len();
+        if room < front.len() || room - front.len() < end.len() {
+            return false;
+        }
+        self.extend(front);
+        self.extend(end);
+        true
+    }
+
+    fn extend(&mut self, octets: &[u8])
+        requires sound { IsSound N SIZE self.old.limit self.old.octets.items self.old.places }
+        requires room { length self.old.octets.items + length octets.now ≤ self.old.limit }
+        ensures octets { self.new.octets.items ≡ self.old.octets.items ++ octets.now }
+        ensures places { self.new.places ≡ self.old.places }
+        ensures limit { self.new.limit ≡ self.old.limit }
+        ensures sound { IsSound N SIZE self.new.limit self.new.octets.items self.new.places }
+    {
+        if self.octets.try_extend_from_slice(octets).is_err() {
+            unreachable!();
+        }
+    }
+
+    /// Writes a name, given in its wire form: its labels before the longest suffix that is shared, and a pointer to
+    /// that; or the whole name. False, with nothing written, where it does not fit the limit.
+    pub(crate) fn put_name<H: SuffixHash>(&mut self, hash: &mut H, name: &[u8]) -> bool
+        requires { IsSound N SIZE self.old.limit self.old.octets.items self.old.places }
+        ensures fits { (ms : List Placed) (n : DomainName) → Holds (H.numbers hash.old) ms self.old.octets.items self.old.places → name.now ≡ wire n → IsTrue (is_name n) → IsTrue result ↔ (length self.old.octets.items + cost ms n ≤ self.old.limit) }
+        ensures octets { (ms : List Placed) (n : DomainName) → Holds (H.numbers hash.old) ms self.old.octets.items self.old.places → name.now ≡ wire n → IsTrue (is_name n) → OnTrue result (self.new.octets.items ≡ self.old.octets.items ++ shared_octets ms n) }
+        ensures holds { (ms : List Placed) (n : DomainName) → Holds (H.numbers hash.old) ms self.old.octets.items self.old.places → name.now ≡ wire n → IsTrue (is_name n) → OnTrue result (Holds (H.numbers hash.old) (ms ++ (n, length self.old.octets.items) ∷ []) self.new.octets.items self.new.places) }
+        ensures extends { Extends self.old.octets.items self.old.places self.new.octets.items self.new.places }
+        ensures unchanged { OnFalse result ((self.new.octets.items ≡ self.old.octets.items) × (self.new.places ≡ self.old.places)) }
+        ensures limit { self.new.limit ≡ self.old.limit }
+        ensures same { H.numbers hash.new ≡ H.numbers hash.old }
+        ensures sound { IsSound N SIZE self.new.limit self.new.octets.items self.new.places }
+    {
+        let shared = shared_suffix(&self.places, self.octets.as_slice(), hash, name);
+        let (front, _) = name.split_at(shared.front);
+        let at = self.octets.len();
+        if !self.append_end(front, shared.place) {
+            return false;
+        }
+        keep_suffixes(&mut self.places, hash, name, shared.front, at);
+        true
+    }
+
+    // Writes parts of data one after the other. False where they do not fit; then some of them may be written.
+    fn put_parts<H: SuffixHash>(&mut self, hash: &mut H, parts: Parts<'_>) -> bool
+        requires sound { IsSound N SIZE self.old.limit self.old.octets.items self.old.places }
+        requires names { All HasName parts }
+        ensures written { (ms : List Placed) → Holds (H.numbers hash.old) ms self.old.octets.items self.old.places → IsWritten (H.numbers hash.old) self.old.limit ms self.old.octets.items (data_laid ms (length self.old.octets.items) parts.entry) result self.new.octets.items self.new.places }
+        ensures extends { Extends self.old.octets.items self.old.places self.new.octets.items self.new.places }
+        ensures limit { self.new.limit ≡ self.old.limit }
+        ensures same { H.numbers hash.new ≡ H.numbers hash.old }
+        ensures sound { IsSound N SIZE self.new.limit self.new.octets.items self.new.places }
+    {
+        let mut parts = parts;
+        'parts: while let Some(part) = parts.next() {
+            let fits = match part {
+                Part::Octets(octets) => self.append(octets, &[]),
+                Part::Name(name) => self.put_name(hash, name),
+            };
+            if !fits {
+                return false;
+            }
+        }
+        true
+    }
+
+    // Writes data as it is laid out, all of it or, where it does not fit, a part of it.
+    fn put_data<H: SuffixHash>(&mut self, hash: &mut H, rtype: RType, rdata: &[u8]) -> bool
+        requires sound { IsSound N SIZE self.old.limit self.old.octets.items self.old.places }
+        requires valid { Valid rtype.0 rdata.now }
+        ensures written { (ms : List Placed) → Holds (H.numbers hash.old) ms self.old.octets.items self.old.places → IsWritten (H.numbers hash.old) self.old.limit ms self.old.octets.items (data_laid ms (length self.old.octets.items) (laid_parts rtype.0 rdata.now)) result self.new.octets.items self.new.places }
+        ensures extends { Extends self.old.octets.items self.old.places self.new.octets.items self.new.places }
+        ensures limit { self.new.limit ≡ self.old.limit }
+        ensures same { H.numbers hash.new ≡ H.numbers hash.old }
+        ensures sound { IsSound N SIZE self.new.limit self.new.octets.items self.new.places }
+    {
+        if rtype.compresses() {
+            self.put_parts(hash, Rdata::parts(rtype, rdata))
+        } else {
+            self.append(rdata, &[])
+        }
+    }
+
+    // Takes octets and places back, but for those that came first.
+    fn take_back(&mut self, octets: usize, places: usize)
+        requires fewer { 2 * places ≤ octets }
+        requires sound { IsSound N SIZE self.old.limit self.old.octets.items self.old.places }
+        ensures octets { self.new.octets.items ≡ take octets self.old.octets.items }
+        ensures places { self.new.places ≡ take places self.old.places }
+        ensures limit { self.new.limit ≡ self.old.limit }
+    {
+        self.octets.truncate(octets);
+        self.places.take_back(places);
+    }
+
+    /// Writes the records of a set at an owner, with this TTL in seconds. False, with nothing written, where they do not
+    /// all fit.
+    pub(crate) fn put_set<H: SuffixHash, S: SetView>(
+        &mut self,
+        hash: &mut H,
+        owner: &Name,
+        ttl: u32,
+        set: &S,
+    ) -> bool
+        requires { IsSound N SIZE self.old.limit self.old.octets.items self.old.places }
+        ensures written { (ms : List Placed) → Holds (H.numbers hash.old) ms self.old.octets.items self.old.places → IsWritten (H.numbers hash.old) self.old.limit ms self.old.octets.items (records_laid ms (length self.old.octets.items) (records_at owner.now ttl (S.set set.now))) result self.new.octets.items self.new.places }
+        ensures unchanged { OnFalse result ((self.new.octets.items ≡ self.old.octets.items) × (self.new.places ≡ self.old.places)) }
+        ensures longer { OnTrue result (length self.old.octets.items + length (S.set set.now).rdata ≤ length self.new.octets.items) }
+        ensures limit { self.new.limit ≡ self.old.limit }
+        ensures same { H.numbers hash.new ≡ H.numbers hash.old }
+        ensures sound { IsSound N SIZE self.new.limit self.new.octets.items self.new.places }
+    {
+        let octets = self.octets.len();
+        let places = self.places.len();
+        'records: for i in 0..set.len() {
+            if !self.put_record(hash, owner, set.rtype(), ttl, set.rdata(i)) {
+                self.take_back(octets, places);
+                return false;
+            }
+        }
+        true
+    }
+
+    /// Writes a record of class IN. False where it does not fit; then a part of it may be written.
+    pub(crate) fn put_record<H: SuffixHash>(
+        &mut self,
+        hash: &mut H,
+        owner: &Name,
+        rtype: RType,
+        ttl: u32,
+        rdata: &[u8],
+    ) -> bool
+        requires sound { IsSound N SIZE self.old.limit self.old.octets.items self.old.places }
+        requires valid { Valid rtype.0 rdata.now }
+        ensures written { (ms : List Placed) → Holds (H.numbers hash.old) ms self.old.octets.items self.old.places → IsWritten (H.numbers hash.old) self.old.limit ms self.old.octets.items (record_laid ms (length self.old.octets.items) (shown owner.now rtype.0 ttl rdata.now)) result self.new.octets.items self.new.places }
+        ensures longer { OnTrue result (length self.old.octets.items + 10 ≤ length self.new.octets.items) }
+        ensures extends { Extends self.old.octets.items self.old.places self.new.octets.items self.new.places }
+        ensures limit { self.new.limit ≡ self.old.limit }
+        ensures same { H.numbers hash.new ≡ H.numbers hash.old }
+        ensures sound { IsSound N SIZE self.new.limit self.new.octets.items self.new.places }
+    {
+        self.put_name(hash, owner.octets()) && self.put_tail(hash, rtype, ttl, rdata)
+    }
+
+    // Writes what follows the owner of a record.
+    fn put_tail<H: SuffixHash>(
+        &mut self,
+        hash: &mut H,
+        rtype: RType,
+        ttl: u32,
+        rdata: &[u8],
+    ) -> bool
+        requires sound { IsSound N SIZE self.old.limit self.old.octets.items self.old.places }
+        requires valid { Valid rtype.0 rdata.now }
+        ensures written { (ms : List Placed) → Holds (H.numbers hash.old) ms self.old.octets.items self.old.places → IsWritten (H.numbers hash.old) self.old.limit ms self.old.octets.items (tail_laid ms (length self.old.octets.items) rtype.0 ttl rdata.now) result self.new.octets.items self.new.places }
+        ensures longer { OnTrue result (length self.old.octets.items + 10 ≤ length self.new.octets.items) }
+        ensures extends { Extends self.old.octets.items self.old.places self.new.octets.items self.new.places }
+        ensures limit { self.new.limit ≡ self.old.limit }
+        ensures same { H.numbers hash.new ≡ H.numbers hash.old }
+        ensures sound { IsSound N SIZE self.new.limit self.new.octets.items self.new.places }
+    {
+        let Some(length) = self.data_length(hash, rtype, rdata) else {
+            return false;
+        };
+        let numbers = record_numbers(rtype, ttl, length);
+        self.append(&numbers, &[]) && self.put_data(hash, rtype, rdata)
+    }
+
+    // The length of data that is laid out 10 octets further on. `None` where it does not fit. Nothing is written.
+    fn data_length<H: SuffixHash>(
+        &mut self,
+        hash: &mut H,
+        rtype: RType,
+        rdata: &[u8],
+    ) -> Option<u16>
+        requires sound { IsSound N SIZE self.old.limit self.old.octets.items self.old.places }
+        requires valid { Valid rtype.0 rdata.now }
+        ensures some { (ms : List Placed) → Holds (H.numbers hash.old) ms self.old.octets.items self.old.places → IfSome result (λ k. k ≡ length (data_laid ms (length self.old.octets.items + 10) (laid_parts rtype.0 rdata.now)).written) }
+        ensures none { (ms : List Placed) → Holds (H.numbers hash.old) ms self.old.octets.items self.old.places → IsNone result → self.old.limit < length self.old.octets.items + (10 + length (data_laid ms (length self.old.octets.items + 10) (laid_parts rtype.0 rdata.now)).written) }
+        ensures octets { self.new.octets.items ≡ self.old.octets.items }
+        ensures places { self.new.places ≡ self.old.places }
+        ensures limit { self.new.limit ≡ self.old.limit }
+        ensures same { H.numbers hash.new ≡ H.numbers hash.old }
+        ensures sound { IsSound N SIZE self.new.limit self.new.octets.items self.new.places }
+    {
+        let octets = self.octets.len();
+        let places = self.places.len();
+        if !self.append(&[0; 10], &[]) {
+            return None;
+        }
+        let fits = self.put_data(hash, rtype, rdata);
+        let end = self.octets.len();
+        self.take_back(octets, places);
+        if fits {
+            Some((end - octets - 10) as u16)
+        } else {
+            None
+        }
+    }
+
+    // Appends the front of a name and what ends it: a pointer to a place, or the root's length.
+    fn append_end(&mut self, front: &[u8], place: Option<u16>) -> bool
+        requires sound { IsSound N SIZE self.old.limit self.old.octets.items self.old.places }
+        requires reached { IfSome place (λ p. p < 16384) }
+        ensures fits { IsTrue result ↔ (length self.old.octets.items + (length front.now + length (end_octets place)) ≤ self.old.limit) }
+        ensures octets { OnTrue result (self.new.octets.items ≡ self.old.octets.items ++ (front.now ++ end_octets place)) }
+        ensures unchanged { OnFalse result (self.new.octets.items ≡ self.old.octets.items) }
+        ensures places { self.new.places ≡ self.old.places }
+        ensures limit { self.new.limit ≡ self.old.limit }
+        ensures sound { IsSound N SIZE self.new.limit self.new.octets.items self.new.places }
+    {
+        match place {
+            Some(place) => self.append(front, &pointer_octets(place)),
+            None => self.append(front, &[0]),
+        }
+    }
+}
+
+// A pointer to a place (RFC 1035 4.1.4).
+fn pointer_octets(place: u16) -> [u8; 2]
+    requires { place < 16384 }
+    ensures { result ≡ pointer place }
+{
+    let mut octets = [0; 2];
+    BigEndian::write_u16(&mut octets, 0xc000 + place);
+    octets
+}
+
+// How a name is laid out: the octets of its labels before the suffix that it shares, and the place of that suffix.
+#[derive(Clone, Copy)]
+struct Shared {
+    front: usize,
+    place: Option<u16>,
+}
+
+// The longest suffix of a name, in its wire form, that a pointer may stand for.
+fn shared_suffix<H: SuffixHash, const N: usize>(
+    places: &Places<N>,
+    message: &[u8],
+    hash: &mut H,
+    name: &[u8],
+) -> Shared
+    ensures front { (ms : List Placed) (n : DomainName) → Holds (H.numbers hash.old) ms message.now places.now → name.now ≡ wire n → IsTrue (is_name n) → result.front ≡ front_size ms n }
+    ensures place { (ms : List Placed) (n : DomainName) → Holds (H.numbers hash.old) ms message.now places.now → name.now ≡ wire n → IsTrue (is_name n) → result.place ≡ pointed_place ms n }
+    ensures inside { result.front ≤ length name.now }
+    ensures reached { IfSome result.place (λ place. place < 16384) }
+    ensures same { H.numbers hash.new ≡ H.numbers hash.old }
+{
+    let mut rest = name;
+    'suffixes: while let Some((_, after)) = after_first_label(rest) {
+        let head = hash.head(rest);
+        if let Some(place) = places.find(head, message, rest) {
+            return Shared {
+                front: name.len() - rest.len(),
+                place: Some(place),
+            };
+        }
+        rest = after;
+    }
+    Shared {
+        front: name.len() - rest.len(),
+        place: None,
+    }
+}
+
+// Keeps the places of the suffixes that begin in the first `front` octets of a name laid out at a place.
+fn keep_suffixes<H: SuffixHash, const N: usize>(
+    places: &mut Places<N>,
+    hash: &mut H,
+    name: &[u8],
+    front: usize,
+    at: usize,
+)
+    requires short { at + front < 2 ^ 16 }
+    requires room { min (at + front) 16384 ≤ 2 * N }
+    requires few { 2 * length places.old ≤ at }
+    requires most { N ≤ 8192 }
+    ensures kept { (ms : List Placed) (n : DomainName) → name.now ≡ wire n → IsTrue (is_name n) → front ≡ front_size ms n → places.new ≡ places.old ++ new_places (H.numbers hash.old) ms n at }
+    ensures few { 2 * length places.new ≤ at + front }
+    ensures grows { Grows places.old places.new }
+    ensures same { H.numbers hash.new ≡ H.numbers hash.old }
+{
+    let mut rest = name;
+    let mut place = at;
+    'suffixes: while let Some((length, after)) = after_first_label(rest) {
+        let next = place + 1 + length;
+        if next > at + front || place > LAST_PLACE {
+            return;
+        }
+        let head = hash.head(rest);
+        places.insert(place as u16, head);
+        place = next;
+        rest = after;
+    }
+}
+
+// The length of the first label of a name in its wire form, and the octets after it. `None` of the root.
+fn after_first_label(name: &[u8]) -> Option<(usize, &[u8])>
+    ensures some { IfSome result (λ r. AfterLabel name.now r.0 r.1.now) }
+    ensures root { IsNone result → (n : DomainName) → name.now ≡ wire n → IsTrue (is_name n) → n ≡ [] }
+    ensures shorter { IfSome result (λ r. length r.1.now < length name.now) }
+    ensures bound { IfSome result (λ r. r.0 < 256) }
+{
+    let (length, others) = name.split_first()?;
+    let length = usize::from(*length);
+    if length == 0 {
+        return None;
+    }
+    let (_, after) = others.split_at_checked(length)?;
+    Some((length, after))
+}
+
+// Type, class IN, TTL and data length of a record (RFC 1035 4.1.3).
+fn record_numbers(rtype: RType, ttl: u32, length: u16) -> [u8; 10]
+    ensures { result ≡ octets16 rtype.0 ++ octets16 class_in ++ octets32 ttl ++ octets16 length }
+{
+    let mut octets = [0; 10];
+    BigEndian::write_u16(&mut octets, rtype.0);
+    BigEndian::write_u16(&mut octets[2..], CLASS_IN);
+    BigEndian::write_u32(&mut octets[4..], ttl);
+    BigEndian::write_u16(&mut octets[8..], length);
+    octets
+}
+
+fn number_octets(number: u16) -> [u8; 2]
+    ensures { result ≡ octets16 number }
+{
+    let mut octets = [0; 2];
+    BigEndian::write_u16(&mut octets, number);
+    octets
+}

@@ -1,0 +1,55 @@
+//! Whether a message spells a suffix at a place, pointers followed (RFC 1035 4.1.4).
+ghost use Rattle.std.specs.Prelude.{◌≡◌, ◌↔◌, [], ◌∷◌, ◌++◌, length, IsTrue, IfSome, IsNone};
+ghost use Rattle.dns_spec.specs.Names.{Octets};
+ghost use Rattle.dns_wire.specs.Kept.{SpelledAt};
+
+use crate::name::{Step, step_at};
+
+/// Whether the name that a message spells at a place has these octets as its wire form.
+pub(crate) fn is_spelled(message: &[u8], at: usize, suffix: &[u8]) -> bool
+    ensures { IsTrue result ↔ SpelledAt message.now at suffix.now }
+{
+    let mut run = at;
+    let mut place = at;
+    let mut rest = suffix;
+    'steps: loop {
+        let Ok(step) = step_at(message, run, place) else {
+            return false;
+        };
+        match step {
+            Step::End => return is_root(rest),
+            Step::Label(label) => {
+                let Some(after) = after_label(rest, label.octets()) else {
+                    return false;
+                };
+                rest = after;
+                place += 1 + label.octets().len();
+            }
+            Step::Jump(target) => {
+                run = target;
+                place = target;
+            }
+        }
+    }
+}
+
+fn is_root(wire: &[u8]) -> bool
+    ensures { IsTrue result ↔ (wire.now ≡ 0 ∷ []) }
+{
+    match wire {
+        [octet] => *octet == 0,
+        _ => false,
+    }
+}
+
+// What follows the label, where the octets begin with it.
+fn after_label<'a>(wire: &'a [u8], label: &[u8]) -> Option<&'a [u8]>
+    ensures some { IfSome result (λ rest. wire.now ≡ length label.now ∷ (label.now ++ rest.now)) }
+    ensures none { IsNone result → (rest : Octets) → wire.now ≡ length label.now ∷ (label.now ++ rest) → ⊥ }
+{
+    let (length, rest) = wire.split_first()?;
+    if usize::from(*length) != label.len() {
+        return None;
+    }
+    rest.strip_prefix(label)
+}
