@@ -10,3 +10,4 @@ mod NameWritten
 mod DataWritten
 mod RecordsWritten
 mod DraftLemmas
+mod NameLoop

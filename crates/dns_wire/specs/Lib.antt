@@ -6,3 +6,4 @@ pub mod Kept
 pub mod Chains
 pub mod Writing
 pub mod Draft
+pub mod QueryForm

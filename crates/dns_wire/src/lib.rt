@@ -1,4 +1,4 @@
-//! Messages on the wire (RFC 1035 4.1), read and written.
+//! Messages on the wire (RFC 1035 4.1), read and written; and queries, read.
 #![tactic(auto)]
 
 mod data;
@@ -8,6 +8,7 @@ mod name;
 mod number;
 mod page;
 mod places;
+mod query;
 mod quick_hash;
 mod reader;
 mod room;
@@ -17,6 +18,7 @@ pub use fault::WireFault;
 pub use message::{CLASS_IN, Head, Message, Question, WireRecord};
 pub use page::{Page, Section};
 pub use places::SuffixHash;
+pub use query::{QueryRead, Rcode, read_query};
 pub use quick_hash::QuickHash;
 pub use reader::read_message;
 

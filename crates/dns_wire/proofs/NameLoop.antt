@@ -1,0 +1,118 @@
+-- A name is read label by label from place 12 on: the labels read so far, and what the octets from the next place on
+-- spell, are the name.
+use Rattle.std.proofs.Common.{Bool, true, false, ◌≡◌, ℕ, ◌+◌, ◌-◌, ◌<◌, ◌≤◌, [], ◌∷◌, ◌++◌, length, take, drop, get_or, refl, sym, ◌∙◌, ap, arith, Option, None, Some, length-append, length-take, length-drop}
+use Rattle.std.proofs.lemmas.List.{append_assoc, append-nil}
+use Rattle.std.proofs.lemmas.Option.{slice_get-get_or, slice_get_past}
+use Rattle.std.specs.Prelude.{slice_get, ◌⊎◌}
+use Rattle.std.proofs.Common.{inl, inr}
+use Rattle.std.specs.Option.{option_map, option_and_then}
+use Rattle.dns_spec.specs.Names.{Octets, DomainName, wire, is_name, is_label}
+use Rattle.dns_spec.specs.ComputedReading.{name_at, name_if_short, with_label}
+use Rattle.dns_spec.proofs.NameLaws.{IsName-is_name, IsLabel-is_label, is_label-IsLabel}
+use Rattle.dns_spec.proofs.NameReading.{run12, run12_missing, run12_root, run12_label, run12_label_past, run12_high, name_at_12}
+
+-- labels in front of what was read
+abbrev pub in_front : DomainName → DomainName × ℕ → DomainName × ℕ
+in_front n (m, e) = (n ++ m, e)
+
+-- what is read where the labels n are read and the next stands at a place
+unfoldable pub read_on : Octets → DomainName → ℕ → Option (DomainName × ℕ)
+read_on d n at = option_and_then name_if_short (option_map (in_front n) (run12 d at))
+
+at_first : (x : Option (DomainName × ℕ)) → option_map (in_front []) x ≡ x
+at_first None = refl
+at_first (Some (m, e)) = refl
+
+pub read_on-start : (d : Octets) → read_on d [] 12 ≡ name_at d 12
+unfolding read_on
+read_on-start d = ap (option_and_then name_if_short) (at_first (run12 d 12)) ∙ sym (name_at_12 d)
+
+read_on-none : (d : Octets) (n : DomainName) (i : ℕ) → run12 d i ≡ None → read_on d n i ≡ None
+unfolding read_on
+read_on-none d n i e = ap (λ x. option_and_then name_if_short (option_map (in_front n) x)) e
+
+pub read_on-missing : (d : Octets) (n : DomainName) (i : ℕ) → length d ≤ i → read_on d n i ≡ None
+read_on-missing d n i h = read_on-none d n i (run12_missing d i (slice_get_past d i h))
+
+short_name : (n : DomainName) (e : ℕ) → is_name n ≡ true → name_if_short (n, e) ≡ Some (n, e)
+short_name n e h = rw h refl
+
+pub read_on-root : (d : Octets) (n : DomainName) (i : ℕ) → i < length d → get_or d i 0 ≡ 0 → is_name n ≡ true → read_on d n i ≡ Some (n, i + 1)
+unfolding read_on
+read_on-root d n i h z ok =
+    let at : slice_get d i ≡ Some 0 = slice_get-get_or d i 0 h ∙ ap (λ o. Some o) z in
+    ap (λ x. option_and_then name_if_short (option_map (in_front n) x)) (run12_root d i at)
+    ∙ ap (λ m. name_if_short (m, i + 1)) (append-nil n) ∙ short_name n (i + 1) ok
+
+with_front : (n : DomainName) (l : Octets) (x : Option (DomainName × ℕ)) → option_map (in_front n) (option_map (with_label l) x) ≡ option_map (in_front (n ++ l ∷ [])) x
+with_front n l None = refl
+with_front n l (Some (m, e)) = ap (λ k. Some (k, e)) (sym (append_assoc n (l ∷ []) m))
+
+pub read_on-label : (d : Octets) (n : DomainName) (i k : ℕ) → i < length d → get_or d i 0 ≡ k → 0 < k → k < 64 → i + 1 + k ≤ length d
+    → read_on d n i ≡ read_on d (n ++ take k (drop (i + 1) d) ∷ []) (i + 1 + k)
+unfolding read_on
+read_on-label d n i k h z pos low inside =
+    let at : slice_get d i ≡ Some k = slice_get-get_or d i 0 h ∙ ap (λ o. Some o) z in
+    ap (λ x. option_and_then name_if_short (option_map (in_front n) x)) (run12_label d i k at pos low inside)
+    ∙ ap (option_and_then name_if_short) (with_front n (take k (drop (i + 1) d)) (run12 d (i + 1 + k)))
+
+by_size : (d : Octets) (i k : ℕ) → slice_get d i ≡ Some k → 0 < k → length d < i + 1 + k → (k < 64) ⊎ (64 ≤ k) → run12 d i ≡ None
+by_size d i k at pos past (inl low) = run12_label_past d i k at pos low past
+by_size d i k at pos past (inr high) = run12_high d i k at high
+
+pub read_on-past : (d : Octets) (n : DomainName) (i k : ℕ) → i < length d → get_or d i 0 ≡ k → 0 < k → length d < i + 1 + k → read_on d n i ≡ None
+read_on-past d n i k h z pos past =
+    let at : slice_get d i ≡ Some k = slice_get-get_or d i 0 h ∙ ap (λ o. Some o) z in
+    let size : (k < 64) ⊎ (64 ≤ k) = grind arith in
+    read_on-none d n i (by_size d i k at pos past size)
+
+pub read_on-high : (d : Octets) (n : DomainName) (i k : ℕ) → i < length d → get_or d i 0 ≡ k → 64 ≤ k → read_on d n i ≡ None
+read_on-high d n i k h z high =
+    read_on-none d n i (run12_high d i k (slice_get-get_or d i 0 h ∙ ap (λ o. Some o) z) high)
+
+-- a beginning of a name is no longer than the name
+pub length-wire-front : (n m : DomainName) → length (wire n) ≤ length (wire (n ++ m))
+length-wire-front [] [] = omega arith
+length-wire-front [] (l ∷ m) = omega arith
+length-wire-front (l ∷ n) m =
+    let shorter = length-wire-front n m in
+    omega (arith, length-append l (wire n), length-append l (wire (n ++ m)))
+
+no_name : (n m : DomainName) (e : ℕ) → 255 < length (wire n) → (b : Bool) → is_name (n ++ m) ≡ b → name_if_short (n ++ m, e) ≡ None
+no_name n m e long true ok = let name = IsName-is_name (n ++ m) ok in absurd (omega (arith, length-wire-front n m, name.fits))
+no_name n m e long false ok = rw ok refl
+
+none_long : (n : DomainName) → 255 < length (wire n) → (x : Option (DomainName × ℕ)) → option_and_then name_if_short (option_map (in_front n) x) ≡ None
+none_long n long None = refl
+none_long n long (Some (m, e)) = no_name n m e long (is_name (n ++ m)) refl
+
+pub read_on-long : (d : Octets) (n : DomainName) (i : ℕ) → 255 < length (wire n) → read_on d n i ≡ None
+unfolding read_on
+read_on-long d n i long = none_long n long (run12 d i)
+
+-- One step of the loop: the octet k at place i is not 0, and the label l behind it is inside the octets.
+module _ (d : Octets) (n : DomainName) (i k : ℕ) (l : Octets) (h : i < length d) (z : get_or d i 0 ≡ k) (pos : k ≡ 0 → ⊥) (inside : i + 1 + k ≤ length d) (e : l ≡ take (i + 1 + k - (i + 1)) (drop (i + 1) d)) where
+  label_is : l ≡ take k (drop (i + 1) d)
+  label_is = let same : i + 1 + k - (i + 1) ≡ k = omega arith in e ∙ ap (λ m. take m (drop (i + 1) d)) same
+
+  label_length : length l ≡ k
+  label_length = ap length label_is ∙ simp (length-take, length-drop) (omega arith)
+
+  -- it is a label: it is read
+  pub step-label : is_label l ≡ true → read_on d n i ≡ read_on d (n ++ l ∷ []) (i + 1 + k)
+  step-label ok =
+      let label = IsLabel-is_label l ok in
+      read_on-label d n i k h z (omega arith) (omega (arith, label_length, label.fits)) inside
+      ∙ ap (λ m. read_on d (n ++ m ∷ []) (i + 1 + k)) (sym label_is)
+
+  -- it is none: no name is spelled
+  pub step-no_label : (is_label l ≡ true → ⊥) → read_on d n i ≡ None
+  step-no_label bad = by_high (grind arith)
+    where
+      by_high : (k < 64) ⊎ (64 ≤ k) → read_on d n i ≡ None
+      by_high (inl low) = absurd (bad (is_label-IsLabel l (omega (arith, label_length)) (omega (arith, label_length))))
+      by_high (inr high) = read_on-high d n i k h z high
+
+  -- the name with it is too long
+  pub step-long : is_label l ≡ true → (length (wire (n ++ l ∷ [])) ≤ 255 → ⊥) → read_on d n i ≡ None
+  step-long ok long = step-label ok ∙ read_on-long d (n ++ l ∷ []) (i + 1 + k) (grind (arith, long))
