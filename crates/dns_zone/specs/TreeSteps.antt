@@ -19,7 +19,8 @@ pub record IsChildOf (n : DomainName) (owner octets : Octets) : Type 0 where
 -- of each name one label below n, all records stand before a place or none
 abbrev pub IsBetween : List ResourceRecord → DomainName → ℕ → Type 0
 IsBetween rs n k =
-    (m : DomainName) → folded m ≡ m → at_or_below m n ≡ true → length m ≡ suc (length n) → (under m (take k rs) ≡ []) ⊎ (under m (drop k rs) ≡ [])
+    (m : DomainName) → folded m ≡ m → at_or_below m n ≡ true → length m ≡ suc (length n)
+    → (under m (take k rs) ≡ []) ⊎ (under m (drop k rs) ≡ [])
 
 -- the next record below a name whose child has no row yet
 pub record IsNext (rs : List ResourceRecord) (n : DomainName) (next : ℕ) : Type 0 where
