@@ -12,6 +12,7 @@ mod quick_hash;
 mod reader;
 mod room;
 mod spelled;
+mod writer;
 
 pub use fault::WireFault;
 pub use message::{CLASS_IN, Head, Message, Question, WireRecord};
@@ -19,6 +20,7 @@ pub use page::{Page, Section};
 pub use places::SuffixHash;
 pub use quick_hash::QuickHash;
 pub use reader::read_message;
+pub use writer::Writer;
 
 #[cfg(test)]
 mod tests;
