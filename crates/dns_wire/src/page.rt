@@ -1,10 +1,11 @@
 //! A message that is being written: a question, and sets in their sections, within a limit (RFC 1035 4.1).
-ghost use Rattle.std.specs.Prelude.{◌≡◌, ◌↔◌, ◌+◌, ◌<◌, ◌≤◌, List, [], ◌∷◌, ◌++◌, ℕ, ◌*◌, length, take, drop, min, IsTrue, IsFalse, Option};
+ghost use Rattle.std.specs.Prelude.{◌≡◌, ◌↔◌, ◌+◌, ◌<◌, ◌≤◌, ◌^◌, List, [], ◌∷◌, ◌++◌, ℕ, ◌*◌, length, take, drop, min, IsTrue, IsFalse, Option, All};
 ghost use Rattle.std.specs.Option.{option_copied};
 ghost use Rattle.dns_spec.specs.Names.{Octets};
 ghost use Rattle.std.specs.Bool.{OnTrue, OnFalse};
-ghost use Rattle.dns_spec.specs.Reading.{MessageQuestion};
-ghost use Rattle.dns_spec.specs.Layout.{Item, size, layout, header_octets};
+ghost use Rattle.dns_spec.specs.Reading.{MessageQuestion, Spells};
+ghost use Rattle.dns_spec.specs.Layout.{Item, size, layout, header_octets, message_of, records_of};
+ghost use Rattle.dns_spec.specs.Laws.{sections_in_order, IsWritable};
 ghost use Rattle.dns_spec.specs.Sharing.{Sharing};
 ghost use Rattle.dns_wire.specs.Writing.{IsSound};
 
@@ -127,6 +128,8 @@ impl<const N: usize, const SIZE: usize> Page<N, SIZE> {
         requires { self.limit ≤ length out.old }
         ensures length { (h : Octets → ℕ) (q : Option MessageQuestion) (items : List Item) → IsDraft h q items self.entry → result ≡ size q items }
         ensures layout { (h : Octets → ℕ) (q : Option MessageQuestion) (items : List Item) → IsDraft h q items self.entry → take result out.new ≡ layout head q items }
+        ensures spelled { (h : Octets → ℕ) (q : Option MessageQuestion) (items : List Item) → IsDraft h q items self.entry
+            → IsTrue (sections_in_order items) → All IsWritable (records_of items) → Spells (take result out.new) (message_of head q items) }
     {
         let octets = self.room.octets.as_slice();
         let length = octets.len();
@@ -164,10 +167,13 @@ fn put_header(
     additionals: u16,
 )
     requires { 12 ≤ length out.old }
-    ensures { out.new ≡ header_octets head.now questions answers authorities additionals ++ drop 12 out.old }
+    ensures octets { out.new ≡ header_octets head.now questions answers authorities additionals ++ drop 12 out.old }
+    ensures id { head.now.id < 2 ^ 16 }
+    ensures flags { head.now.flags < 2 ^ 16 }
 {
-    BigEndian::write_u16(out, head.id);
-    BigEndian::write_u16(&mut out[2..], head.flags);
+    let Head { id, flags } = *head;
+    BigEndian::write_u16(out, id);
+    BigEndian::write_u16(&mut out[2..], flags);
     BigEndian::write_u16(&mut out[4..], questions);
     BigEndian::write_u16(&mut out[6..], answers);
     BigEndian::write_u16(&mut out[8..], authorities);

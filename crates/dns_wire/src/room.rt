@@ -7,6 +7,7 @@ ghost use Rattle.dns_spec.specs.Data.{Valid, class_in, laid_parts};
 ghost use Rattle.dns_spec.specs.Layout.{Placed, question_octets, octets16, octets32, pointer, shared_octets, cost, data_laid, record_laid};
 ghost use Rattle.dns_wire.specs.Writing.{front_size, pointed_place, new_places, end_octets, Extends, Grows, AfterLabel, Holds, IsSound, IsWritten, shown, tail_laid, records_laid};
 ghost use Rattle.dns_spec.specs.Sets.{records_at};
+ghost use Rattle.dns_spec.specs.Laws.{IsAskable};
 ghost use Rattle.dns_rdata.specs.Parts.{HasName};
 
 use crate::message::{CLASS_IN, Question};
@@ -52,6 +53,7 @@ impl<const N: usize, const SIZE: usize> Room<N, SIZE> {
         requires room { 512 ≤ self.old.limit }
         requires blank { self.old.octets.items ≡ replicate 12 0 }
         requires first { self.old.places ≡ [] }
+        ensures askable { IsAskable question.now }
         ensures octets { self.new.octets.items ≡ replicate 12 0 ++ question_octets question.now }
         ensures holds { Holds (H.numbers hash.old) ((question.now.qname, 12) ∷ []) self.new.octets.items self.new.places }
         ensures limit { self.new.limit ≡ self.old.limit }
@@ -402,7 +404,8 @@ fn record_numbers(rtype: RType, ttl: u32, length: u16) -> [u8; 10]
 }
 
 fn number_octets(number: u16) -> [u8; 2]
-    ensures { result ≡ octets16 number }
+    ensures octets { result ≡ octets16 number }
+    ensures fits { number < 2 ^ 16 }
 {
     let mut octets = [0; 2];
     BigEndian::write_u16(&mut octets, number);
