@@ -35,7 +35,7 @@ pub record IsKidAt (rs : List ResourceRecord) (n : DomainName) (next : ℕ) (row
   pub first : row.first ≡ next
   pub more : next < row.end
 
--- the rows of a name's children stand behind the rows so far
+-- the rows of a name's children stand after the rows so far
 pub record AddsKids (rs : List ResourceRecord) (n : DomainName) (old new : List Row) : Type 0 where
   pub longer : length old ≤ length new
   pub kept : take (length old) new ≡ old

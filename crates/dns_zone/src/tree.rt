@@ -62,7 +62,7 @@ fn origin_row(origin: &Name, records: &[Record]) -> Row
     }
 }
 
-// Adds the rows of a row's children behind all rows.
+// Adds the rows of a row's children after all rows.
 fn add_kids(records: &[Record], number: usize, rows: &mut Vec<Row>) -> Result<(), AllocError>
     requires canonical { IsCanonical records.now }
     requires number { number < length rows.old.items }

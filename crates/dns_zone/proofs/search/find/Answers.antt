@@ -1,8 +1,8 @@
-use Rattle.std.proofs.Common.{◌≡◌, ◌+◌, ◌-◌, ◌/◌, ◌<◌, ◌≤◌, ◌⊎◌, inl, inr, ℕ, refl, ap, sym, ◌∙◌, subst, arith}
+use Rattle.std.proofs.Common.{◌≡◌, ◌+◌, ◌-◌, ◌<◌, ◌≤◌, ◌⊎◌, inl, inr, ℕ, ap, sym, ◌∙◌, subst, arith}
 use Rattle.std.proofs.lemmas.Bool.{cases_lt}
 use Rattle.dns_spec.specs.Names.{Octets, label_order}
 use Rattle.dns_zone.specs.Nodes.{Walk}
-use Rattle.dns_zone.specs.TreeForm.{row_label, row_at, room_after}
+use Rattle.dns_zone.specs.TreeForm.{room_after}
 use Rattle.dns_zone.proofs.NameTree.{label-tie}
 use Rattle.dns_zone.proofs.FoundKid.{Searching, half_room, moved, go_left, go_right, none_left}
 use Rattle.dns_zone.proofs.search.find.Goals as goal
