@@ -5,4 +5,5 @@ pub mod Read
 pub mod Kept
 pub mod Chains
 pub mod Writing
+pub mod Rooms
 pub mod Draft

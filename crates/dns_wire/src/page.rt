@@ -102,9 +102,18 @@ impl<const N: usize, const SIZE: usize> Page<N, SIZE> {
         ttl: u32,
         set: &S,
     ) -> bool
-        ensures fits { (q : Option MessageQuestion) (items : List Item) → IsDraft (H.numbers hash.old) q items self.old → IsTrue result ↔ (size q (items ++ item_of section owner.now ttl (S.set set.now) ∷ []) ≤ self.old.limit) }
-        ensures put { (q : Option MessageQuestion) (items : List Item) → IsDraft (H.numbers hash.old) q items self.old → OnTrue result (IsDraft (H.numbers hash.old) q (items ++ item_of section owner.now ttl (S.set set.now) ∷ []) self.new) }
-        ensures least { (q : Option MessageQuestion) (items : List Item) → IsDraft (H.numbers hash.old) q items self.old → self.old.limit ≤ 16384 → IsFalse result ↔ ((z : ℕ) → Sharing q (items ++ item_of section owner.now ttl (S.set set.now) ∷ []) z → self.old.limit < z) }
+        ensures fits { (q : Option MessageQuestion) (items : List Item)
+            → IsDraft (H.numbers hash.old) q items self.old
+            → IsTrue result ↔ (size q (items ++ item_of section owner.now ttl (S.set set.now) ∷ [])
+            ≤ self.old.limit) }
+        ensures put { (q : Option MessageQuestion) (items : List Item)
+            → IsDraft (H.numbers hash.old) q items self.old
+            → OnTrue result (IsDraft (H.numbers hash.old) q (items
+            ++ item_of section owner.now ttl (S.set set.now) ∷ []) self.new) }
+        ensures least { (q : Option MessageQuestion) (items : List Item)
+            → IsDraft (H.numbers hash.old) q items self.old → self.old.limit ≤ 16384
+            → IsFalse result ↔ ((z : ℕ) → Sharing q (items
+            ++ item_of section owner.now ttl (S.set set.now) ∷ []) z → self.old.limit < z) }
         ensures unchanged { OnFalse result (self.new ≡ self.old) }
         ensures limit { self.new.limit ≡ self.old.limit }
         ensures same { H.numbers hash.new ≡ H.numbers hash.old }
@@ -126,10 +135,14 @@ impl<const N: usize, const SIZE: usize> Page<N, SIZE> {
     /// Condition: `out` is as long as the limit.
     pub fn finish(self, head: Head, out: &mut [u8]) -> usize
         requires { self.limit ≤ length out.old }
-        ensures length { (h : Octets → ℕ) (q : Option MessageQuestion) (items : List Item) → IsDraft h q items self.entry → result ≡ size q items }
-        ensures layout { (h : Octets → ℕ) (q : Option MessageQuestion) (items : List Item) → IsDraft h q items self.entry → take result out.new ≡ layout head q items }
-        ensures spelled { (h : Octets → ℕ) (q : Option MessageQuestion) (items : List Item) → IsDraft h q items self.entry
-            → IsTrue (sections_in_order items) → All IsWritable (records_of items) → Spells (take result out.new) (message_of head q items) }
+        ensures length { (h : Octets → ℕ) (q : Option MessageQuestion) (items : List Item)
+            → IsDraft h q items self.entry → result ≡ size q items }
+        ensures layout { (h : Octets → ℕ) (q : Option MessageQuestion) (items : List Item)
+            → IsDraft h q items self.entry → take result out.new ≡ layout head q items }
+        ensures spelled { (h : Octets → ℕ) (q : Option MessageQuestion) (items : List Item)
+            → IsDraft h q items self.entry
+            → IsTrue (sections_in_order items) → All IsWritable (records_of items)
+            → Spells (take result out.new) (message_of head q items) }
     {
         let octets = self.room.octets.as_slice();
         let length = octets.len();
@@ -167,7 +180,8 @@ fn put_header(
     additionals: u16,
 )
     requires { 12 ≤ length out.old }
-    ensures octets { out.new ≡ header_octets head.now questions answers authorities additionals ++ drop 12 out.old }
+    ensures octets { out.new ≡ header_octets head.now questions answers authorities additionals
+        ++ drop 12 out.old }
     ensures id { head.now.id < 2 ^ 16 }
     ensures flags { head.now.flags < 2 ^ 16 }
 {
