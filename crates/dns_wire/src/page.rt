@@ -49,7 +49,7 @@ impl<const N: usize, const SIZE: usize> Model for Page<N, SIZE> {
 }
 
 impl<const N: usize, const SIZE: usize> Page<N, SIZE> {
-    ghost use Rattle.dns_wire.specs.Draft.{IsDraft, item_of};
+    ghost use Rattle.dns_wire.specs.Draft.{IsDraft, with_set};
 
     /// An empty message of at most `limit` octets, 512 to 65,535, with the question that it repeats, if any.
     ///
@@ -81,7 +81,15 @@ impl<const N: usize, const SIZE: usize> Page<N, SIZE> {
     fn begun(room: Room<N, SIZE>, questions: u16) -> Page<N, SIZE>
         requires sound { IsSound N SIZE room.limit room.octets.items room.places }
         requires header { 12 ≤ length room.octets.items }
-        ensures { result ≡ record { limit = room.entry.limit; octets = room.entry.octets.items; kept = room.entry.places; questions = questions; answers = 0; authorities = 0; additionals = 0 } }
+        ensures { result ≡ record {
+          limit = room.entry.limit;
+          octets = room.entry.octets.items;
+          kept = room.entry.places;
+          questions = questions;
+          answers = 0;
+          authorities = 0;
+          additionals = 0;
+        } }
     {
         Page {
             room,
@@ -104,16 +112,16 @@ impl<const N: usize, const SIZE: usize> Page<N, SIZE> {
     ) -> bool
         ensures fits { (q : Option MessageQuestion) (items : List Item)
             → IsDraft (H.numbers hash.old) q items self.old
-            → IsTrue result ↔ (size q (items ++ item_of section owner.now ttl (S.set set.now) ∷ [])
-            ≤ self.old.limit) }
+            → IsTrue result
+            ↔ (size q (with_set items section owner.now ttl (S.set set.now)) ≤ self.old.limit) }
         ensures put { (q : Option MessageQuestion) (items : List Item)
             → IsDraft (H.numbers hash.old) q items self.old
-            → OnTrue result (IsDraft (H.numbers hash.old) q (items
-            ++ item_of section owner.now ttl (S.set set.now) ∷ []) self.new) }
+            → OnTrue result (IsDraft (H.numbers hash.old) q
+            (with_set items section owner.now ttl (S.set set.now)) self.new) }
         ensures least { (q : Option MessageQuestion) (items : List Item)
             → IsDraft (H.numbers hash.old) q items self.old → self.old.limit ≤ 16384
-            → IsFalse result ↔ ((z : ℕ) → Sharing q (items
-            ++ item_of section owner.now ttl (S.set set.now) ∷ []) z → self.old.limit < z) }
+            → IsFalse result ↔ ((z : ℕ)
+            → Sharing q (with_set items section owner.now ttl (S.set set.now)) z → self.old.limit < z) }
         ensures unchanged { OnFalse result (self.new ≡ self.old) }
         ensures limit { self.new.limit ≡ self.old.limit }
         ensures same { H.numbers hash.new ≡ H.numbers hash.old }

@@ -71,8 +71,8 @@ impl<const N: usize, const SIZE: usize> Room<N, SIZE> {
     /// Appends two runs of octets. False, with nothing written, where they do not fit the limit.
     pub(crate) fn append(&mut self, front: &[u8], end: &[u8]) -> bool
         requires { IsSoundRoom self.old }
-        ensures fits { IsTrue result ↔ (length self.old.octets.items +
-            (length front.now + length end.now) ≤ self.old.limit) }
+        ensures fits { IsTrue result ↔ (length self.old.octets.items
+            + (length front.now + length end.now) ≤ self.old.limit) }
         ensures octets { OnTrue result (self.new.octets.items
             ≡ self.old.octets.items ++ (front.now ++ end.now)) }
         ensures unchanged { OnFalse result (self.new.octets.items ≡ self.old.octets.items) }
@@ -114,11 +114,11 @@ impl<const N: usize, const SIZE: usize> Room<N, SIZE> {
             → OnTrue result (self.new.octets.items ≡ self.old.octets.items ++ shared_octets ms n) }
         ensures holds { (ms : List Placed) (n : DomainName)
             → HasNames self.old (H.numbers hash.old) ms → name.now ≡ wire n → IsTrue (is_name n)
-            → OnTrue result (HasNames self.new (H.numbers hash.old) (ms
-            ++ (n, length self.old.octets.items) ∷ [])) }
+            → OnTrue result (HasNames self.new (H.numbers hash.old)
+            (ms ++ (n, length self.old.octets.items) ∷ [])) }
         ensures extends { HasGrown self.old self.new }
-        ensures unchanged { OnFalse result ((self.new.octets.items
-            ≡ self.old.octets.items) × (self.new.places ≡ self.old.places)) }
+        ensures unchanged { OnFalse result ((self.new.octets.items ≡ self.old.octets.items)
+            × (self.new.places ≡ self.old.places)) }
         ensures limit { self.new.limit ≡ self.old.limit }
         ensures same { H.numbers hash.new ≡ H.numbers hash.old }
         ensures sound { IsSoundRoom self.new }
@@ -138,8 +138,8 @@ impl<const N: usize, const SIZE: usize> Room<N, SIZE> {
         requires sound { IsSoundRoom self.old }
         requires names { All HasName parts }
         ensures written { (ms : List Placed) → HasNames self.old (H.numbers hash.old) ms
-            → HasWritten self.old self.new (H.numbers hash.old) ms (data_laid ms
-            (length self.old.octets.items) parts.entry) result }
+            → HasWritten self.old self.new (H.numbers hash.old) ms
+            (data_laid ms (length self.old.octets.items) parts.entry) result }
         ensures extends { HasGrown self.old self.new }
         ensures limit { self.new.limit ≡ self.old.limit }
         ensures same { H.numbers hash.new ≡ H.numbers hash.old }
@@ -163,8 +163,8 @@ impl<const N: usize, const SIZE: usize> Room<N, SIZE> {
         requires sound { IsSoundRoom self.old }
         requires valid { Valid rtype.0 rdata.now }
         ensures written { (ms : List Placed) → HasNames self.old (H.numbers hash.old) ms
-            → HasWritten self.old self.new (H.numbers hash.old) ms (data_laid ms
-            (length self.old.octets.items) (laid_parts rtype.0 rdata.now)) result }
+            → HasWritten self.old self.new (H.numbers hash.old) ms
+            (data_laid ms (length self.old.octets.items) (laid_parts rtype.0 rdata.now)) result }
         ensures extends { HasGrown self.old self.new }
         ensures limit { self.new.limit ≡ self.old.limit }
         ensures same { H.numbers hash.new ≡ H.numbers hash.old }
@@ -200,10 +200,11 @@ impl<const N: usize, const SIZE: usize> Room<N, SIZE> {
     ) -> bool
         requires { IsSoundRoom self.old }
         ensures written { (ms : List Placed) → HasNames self.old (H.numbers hash.old) ms
-            → HasWritten self.old self.new (H.numbers hash.old) ms (records_laid ms
-            (length self.old.octets.items) (records_at owner.now ttl (S.set set.now))) result }
-        ensures unchanged { OnFalse result ((self.new.octets.items
-            ≡ self.old.octets.items) × (self.new.places ≡ self.old.places)) }
+            → HasWritten self.old self.new (H.numbers hash.old) ms
+            (records_laid ms (length self.old.octets.items)
+            (records_at owner.now ttl (S.set set.now))) result }
+        ensures unchanged { OnFalse result ((self.new.octets.items ≡ self.old.octets.items)
+            × (self.new.places ≡ self.old.places)) }
         ensures longer { OnTrue result (length self.old.octets.items + length (S.set set.now).rdata
             ≤ length self.new.octets.items) }
         ensures limit { self.new.limit ≡ self.old.limit }
@@ -233,8 +234,9 @@ impl<const N: usize, const SIZE: usize> Room<N, SIZE> {
         requires sound { IsSoundRoom self.old }
         requires valid { Valid rtype.0 rdata.now }
         ensures written { (ms : List Placed) → HasNames self.old (H.numbers hash.old) ms
-            → HasWritten self.old self.new (H.numbers hash.old) ms (record_laid ms
-            (length self.old.octets.items) (shown owner.now rtype.0 ttl rdata.now)) result }
+            → HasWritten self.old self.new (H.numbers hash.old) ms
+            (record_laid ms (length self.old.octets.items)
+            (shown owner.now rtype.0 ttl rdata.now)) result }
         ensures longer { OnTrue result (length self.old.octets.items + 10
             ≤ length self.new.octets.items) }
         ensures extends { HasGrown self.old self.new }
@@ -256,8 +258,8 @@ impl<const N: usize, const SIZE: usize> Room<N, SIZE> {
         requires sound { IsSoundRoom self.old }
         requires valid { Valid rtype.0 rdata.now }
         ensures written { (ms : List Placed) → HasNames self.old (H.numbers hash.old) ms
-            → HasWritten self.old self.new (H.numbers hash.old) ms (tail_laid ms
-            (length self.old.octets.items) rtype.0 ttl rdata.now) result }
+            → HasWritten self.old self.new (H.numbers hash.old) ms
+            (tail_laid ms (length self.old.octets.items) rtype.0 ttl rdata.now) result }
         ensures longer { OnTrue result (length self.old.octets.items + 10
             ≤ length self.new.octets.items) }
         ensures extends { HasGrown self.old self.new }
@@ -285,8 +287,8 @@ impl<const N: usize, const SIZE: usize> Room<N, SIZE> {
             → IfSome result (λ k. k ≡ length (data_laid ms (length self.old.octets.items + 10)
             (laid_parts rtype.0 rdata.now)).written) }
         ensures none { (ms : List Placed) → HasNames self.old (H.numbers hash.old) ms
-            → IsNone result → self.old.limit < length self.old.octets.items + (10 + length
-            (data_laid ms (length self.old.octets.items + 10)
+            → IsNone result → self.old.limit < length self.old.octets.items + (10
+            + length (data_laid ms (length self.old.octets.items + 10)
             (laid_parts rtype.0 rdata.now)).written) }
         ensures octets { self.new.octets.items ≡ self.old.octets.items }
         ensures places { self.new.places ≡ self.old.places }
@@ -313,8 +315,8 @@ impl<const N: usize, const SIZE: usize> Room<N, SIZE> {
     fn append_end(&mut self, front: &[u8], place: Option<u16>) -> bool
         requires sound { IsSoundRoom self.old }
         requires reached { IfSome place (λ p. p < 16384) }
-        ensures fits { IsTrue result ↔ (length self.old.octets.items + (length front.now + length
-            (end_octets place)) ≤ self.old.limit) }
+        ensures fits { IsTrue result ↔ (length self.old.octets.items
+            + (length front.now + length (end_octets place)) ≤ self.old.limit) }
         ensures octets { OnTrue result (self.new.octets.items
             ≡ self.old.octets.items ++ (front.now ++ end_octets place)) }
         ensures unchanged { OnFalse result (self.new.octets.items ≡ self.old.octets.items) }
@@ -393,8 +395,8 @@ fn keep_suffixes<H: SuffixHash, const N: usize>(
     requires few { 2 * length places.old ≤ at }
     requires most { N ≤ 8192 }
     ensures kept { (ms : List Placed) (n : DomainName) → name.now ≡ wire n → IsTrue (is_name n)
-        → front ≡ front_size ms n → places.new ≡ places.old
-        ++ new_places (H.numbers hash.old) ms n at }
+        → front ≡ front_size ms n
+        → places.new ≡ places.old ++ new_places (H.numbers hash.old) ms n at }
     ensures few { 2 * length places.new ≤ at + front }
     ensures grows { Grows places.old places.new }
     ensures same { H.numbers hash.new ≡ H.numbers hash.old }

@@ -99,29 +99,29 @@ fn name(text: &[u8]) -> Result<Name, Fail> {
 fn offer<H: SuffixHash>(
     rt: HostRuntime,
     writer: &mut Writer<'_, H>,
-    record: &Offered<'_>,
+    offered: &Offered<'_>,
 ) -> Result<bool, Fail>
     ensures { writer.new.page.limit ≡ writer.old.page.limit }
 {
-    let rtype = record.rtype;
-    let Ok(rdata) = Rdata::from_wire(rt.alloc(), rtype, record.rdata) else {
+    let rtype = offered.rtype;
+    let Ok(rdata) = Rdata::from_wire(rt.alloc(), rtype, offered.rdata) else {
         return Err("data of the type".into());
     };
-    let owner = name(record.owner)?;
-    let ttl = record.ttl;
+    let owner = name(offered.owner)?;
+    let ttl = offered.ttl;
     let set = OneRecord { rtype, ttl, rdata };
-    Ok(writer.put_set(record.section, &owner, ttl, &set))
+    Ok(writer.put_set(offered.section, &owner, ttl, &set))
 }
 
 /// Puts a set of one record, for which there is room.
 pub(crate) fn put<H: SuffixHash>(
     rt: HostRuntime,
     writer: &mut Writer<'_, H>,
-    record: &Offered<'_>,
+    offered: &Offered<'_>,
 ) -> Result<(), Fail>
     ensures { writer.new.page.limit ≡ writer.old.page.limit }
 {
-    match offer(rt, writer, record) {
+    match offer(rt, writer, offered) {
         Ok(true) => Ok(()),
         Ok(false) => Err("room for a set".into()),
         Err(fail) => Err(fail),
@@ -132,11 +132,11 @@ pub(crate) fn put<H: SuffixHash>(
 fn refuse<H: SuffixHash>(
     rt: HostRuntime,
     writer: &mut Writer<'_, H>,
-    record: &Offered<'_>,
+    offered: &Offered<'_>,
 ) -> Result<(), Fail>
     ensures { writer.new.page.limit ≡ writer.old.page.limit }
 {
-    match offer(rt, writer, record) {
+    match offer(rt, writer, offered) {
         Ok(true) => Err("no room for a set".into()),
         Ok(false) => Ok(()),
         Err(fail) => Err(fail),
