@@ -72,6 +72,7 @@ mod TokenRows
 mod MeaningRows
 mod FileRows
 mod LimitRows
+mod LongRows
 mod TakenOverRows
 mod ParenthesisRows
 mod ZoneRows

@@ -21,6 +21,10 @@ section_of Additional = additional
 abbrev pub item_of : Section → DomainName → ℕ → RecordSet → Item
 item_of section owner ttl set = record { section = section_of section; records = records_at owner ttl set }
 
+-- the sets so far, and such a set after them
+abbrev pub with_set : List Item → Section → DomainName → ℕ → RecordSet → List Item
+with_set items section owner ttl set = items ++ item_of section owner ttl set ∷ []
+
 -- a message that is being written: its limit, its octets after room for a header, the places kept, and how many questions
 -- and records it has
 pub record Draft : Type 0 where

@@ -5,5 +5,6 @@ pub mod Read
 pub mod Kept
 pub mod Chains
 pub mod Writing
+pub mod Rooms
 pub mod Draft
 pub mod QueryForm

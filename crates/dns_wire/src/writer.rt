@@ -7,7 +7,7 @@ ghost use Rattle.dns_spec.specs.Reading.{MessageQuestion, Spells};
 ghost use Rattle.dns_spec.specs.Layout.{Item, size, layout, message_of, records_of};
 ghost use Rattle.dns_spec.specs.Laws.{sections_in_order, IsWritable};
 ghost use Rattle.dns_spec.specs.Sharing.{Sharing};
-ghost use Rattle.dns_wire.specs.Draft.{IsDraft, item_of};
+ghost use Rattle.dns_wire.specs.Draft.{IsDraft, with_set};
 
 use crate::message::{Head, Question};
 use crate::page::{Page, Section};
@@ -27,7 +27,8 @@ impl<'h, H: SuffixHash> Writer<'h, H> {
     pub fn new(limit: usize, question: Option<&Question>, hash: &'h mut H) -> Writer<'h, H>
         requires from { 512 ≤ limit }
         requires upto { limit ≤ 65535 }
-        ensures draft { IsDraft (H.numbers result.hash.now) (option_copied question.entry) [] result.page }
+        ensures draft { IsDraft (H.numbers result.hash.now)
+            (option_copied question.entry) [] result.page }
         ensures limit { result.page.limit ≡ limit }
     {
         let page = Page::new(limit, question, hash);
@@ -39,10 +40,16 @@ impl<'h, H: SuffixHash> Writer<'h, H> {
     pub fn put_set<S: SetView>(&mut self, section: Section, owner: &Name, ttl: u32, set: &S) -> bool
         ensures fits { (q : Option MessageQuestion) (items : List Item)
             → IsDraft (H.numbers self.old.hash.now) q items self.old.page
-            → IsTrue result ↔ (size q (items ++ item_of section owner.now ttl (S.set set.now) ∷ []) ≤ self.old.page.limit) }
+            → IsTrue result
+            ↔ (size q (with_set items section owner.now ttl (S.set set.now)) ≤ self.old.page.limit) }
         ensures put { (q : Option MessageQuestion) (items : List Item)
             → IsDraft (H.numbers self.old.hash.now) q items self.old.page
-            → OnTrue result (IsDraft (H.numbers self.new.hash.now) q (items ++ item_of section owner.now ttl (S.set set.now) ∷ []) self.new.page) }
+            → OnTrue result (IsDraft (H.numbers self.new.hash.now) q
+            (with_set items section owner.now ttl (S.set set.now)) self.new.page) }
+        ensures least { (q : Option MessageQuestion) (items : List Item)
+            → IsDraft (H.numbers self.old.hash.now) q items self.old.page → self.old.page.limit ≤ 16384
+            → IsFalse result ↔ ((z : ℕ)
+            → Sharing q (with_set items section owner.now ttl (S.set set.now)) z → self.old.page.limit < z) }
         ensures unchanged { OnFalse result (self.new.page ≡ self.old.page) }
         ensures limit { self.new.page.limit ≡ self.old.page.limit }
         ensures same { H.numbers self.new.hash.now ≡ H.numbers self.old.hash.now }
@@ -60,7 +67,8 @@ impl<'h, H: SuffixHash> Writer<'h, H> {
         ensures layout { (h : Octets → ℕ) (q : Option MessageQuestion) (items : List Item)
             → IsDraft h q items self.entry.page → take result out.new ≡ layout head q items }
         ensures spelled { (h : Octets → ℕ) (q : Option MessageQuestion) (items : List Item)
-            → IsDraft h q items self.entry.page → IsTrue (sections_in_order items) → All IsWritable (records_of items)
+            → IsDraft h q items self.entry.page → IsTrue (sections_in_order items)
+            → All IsWritable (records_of items)
             → Spells (take result out.new) (message_of head q items) }
     {
         let Writer { page, .. } = self;
