@@ -1,5 +1,5 @@
 -- A set more in a draft: its size is that of the layout, and it has one set more.
-use Rattle.std.proofs.Common.{◌≡◌, ◌↔◌, ℕ, ◌+◌, ◌≤◌, ◌^◌, Bool, true, false, cond, List, [], ◌∷◌, ◌++◌, map, length, take, drop, replicate, filter, Option, refl, sym, ap, ap₂, ◌∙◌, subst, subst₂, arith, All, IfSome, append_assoc, append-nil, length-append, add-zero, ◌<◌, lt_of_not-le}
+use Rattle.std.proofs.Common.{◌≡◌, ◌↔◌, ℕ, ◌+◌, ◌≤◌, ◌^◌, Bool, true, false, cond, List, [], ◌∷◌, ◌++◌, length, take, drop, replicate, filter, Option, refl, sym, ap, ap₂, ◌∙◌, subst, arith, All, IfSome, append_assoc, append-nil, length-append, add-zero, ◌<◌, lt_of_not-le}
 use Rattle.std.proofs.lemmas.Bool.{false≢true}
 use Rattle.std.proofs.lemmas.List.{length-map, length-drop}
 use Rattle.std.proofs.lemmas.List.Concat.{flat_map-append}
@@ -12,12 +12,11 @@ use Rattle.dns_spec.specs.Reading.{Header, MessageQuestion, Spells}
 use Rattle.dns_spec.specs.Layout as Layout
 use Rattle.dns_spec.specs.Layout.{Item, Placed, Laid, laid_front, record_laid, records_octets, records_of, in_section, is_section, asked_octets, asked_placed, answer, authority, additional, size, records_size, layout, header_octets, reply_header, message_of}
 use Rattle.dns_spec.specs.Sharing.{Sharing}
-use Rattle.dns_spec.specs.Laws.{IsWritable, IsAskable, HasRoom, sections_in_order}
+use Rattle.dns_spec.specs.Laws.{IsWritable, IsAskable, sections_in_order}
 use Rattle.dns_spec.proofs.SharedLayout.{layout_spells}
 use Rattle.dns_spec.proofs.LeastSize.{past_limit}
 use Rattle.dns_spec.proofs.LayoutSize.{length-records_octets, length-layout}
 use Rattle.dns_wire.specs.declared.page.Section.{Section}
-use Rattle.dns_wire.specs.Kept.{Kept}
 use Rattle.dns_wire.specs.Writing.{Holds, IsWritten, records_laid, shown}
 use Rattle.dns_wire.specs.Draft.{Draft, IsDraft, section_of, item_of, names_so_far}
 use Rattle.dns_wire.proofs.RecordsWritten.{octets_of_records, records-more, records-none}

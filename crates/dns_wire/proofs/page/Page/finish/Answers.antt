@@ -1,4 +1,4 @@
-use Rattle.std.proofs.Common.{◌≡◌, ℕ, ◌+◌, ◌≤◌, ◌∙◌, refl, sym, ap, ap₂, subst, arith, length, take, drop, ◌++◌}
+use Rattle.std.proofs.Common.{◌≡◌, ◌+◌, ◌∙◌, refl, sym, ap, subst, arith, length, drop, ◌++◌}
 use Rattle.std.proofs.lemmas.List.{length-drop}
 use Rattle.dns_spec.specs.Reading.{Spells}
 use Rattle.dns_spec.specs.Layout.{header_octets, message_of}

@@ -1,4 +1,4 @@
-use Rattle.std.proofs.Common.{◌≡◌, ◌∙◌, refl, sym, ap, subst, subst₂, replicate, [], ◌++◌, Option, Some, None}
+use Rattle.std.proofs.Common.{refl, sym, subst₂, [], Option, Some, None}
 use Rattle.std.specs.Borrow.{Bor}
 use Rattle.std.specs.Option.{option_copied}
 use Rattle.dns_spec.specs.Reading.{MessageQuestion}

@@ -1,4 +1,4 @@
-use Rattle.std.proofs.Common.{◌≡◌, ℕ, ◌+◌, ◌≤◌, ◌∙◌, List, refl, sym, ap, ap₂, subst, subst₂, arith, length, replicate, [], ◌∷◌, ◌++◌, append_assoc, length-append}
+use Rattle.std.proofs.Common.{◌≡◌, ◌∙◌, List, sym, ap, ap₂, subst, subst₂, arith, length, replicate, [], ◌∷◌, ◌++◌, append_assoc, length-append}
 use Rattle.std.specs.Bool.{OnTrue}
 use Rattle.dns_spec.specs.Names.{wire}
 use Rattle.dns_spec.specs.Reading.{MessageQuestion}
