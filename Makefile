@@ -65,10 +65,11 @@ docs-check: built
 test:
 	rt ci
 
-# Runs the programs on wrong words, on files that can't be read, on faulty files, and on outputs that take nothing. It is
-# no part of the gate.
+# Runs the programs on wrong words, on files that can't be read, on faulty files, and on outputs that take nothing, and sees
+# that callers which misuse a walk over a zone don't compile. It is no part of the gate.
 misuse: programs
 	tools/misuse crates/zonecheck/out/zonecheck crates/zoneserve/out/zoneserve
+	tools/must-not-compile
 
 # Refuses each program each of its allocations in turn. It proves nothing, and is no part of the gate.
 memory:

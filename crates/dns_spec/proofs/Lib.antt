@@ -73,6 +73,7 @@ mod TokenRows
 mod MeaningRows
 mod FileRows
 mod LimitRows
+mod LongRows
 mod TakenOverRows
 mod ParenthesisRows
 mod ZoneRows

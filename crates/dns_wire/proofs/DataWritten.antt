@@ -1,15 +1,14 @@
 -- Data and records are written part by part: what is written and what is to come are the whole.
-use Rattle.std.proofs.Common.{◌≡◌, ◌↔◌, ℕ, zero, suc, ◌+◌, ◌-◌, ◌<◌, ◌≤◌, Bool, true, false, All, List, [], ◌∷◌, ◌++◌, map, length, take, drop, get_or, refl, sym, ap, ap₂, ◌∙◌, subst, arith, append_assoc, append-nil, length-append, lt_of_not-le}
+use Rattle.std.proofs.Common.{◌≡◌, ◌↔◌, ℕ, ◌+◌, ◌<◌, ◌≤◌, Bool, true, false, List, [], ◌∷◌, ◌++◌, map, length, refl, sym, ap, ap₂, ◌∙◌, subst, arith, append_assoc, append-nil, length-append, lt_of_not-le}
 use Rattle.std.proofs.lemmas.Bool.{false≢true}
 use Rattle.std.specs.Bool.{OnTrue, OnFalse}
-use Rattle.dns_spec.specs.Names.{Octets, DomainName, wire, is_name}
+use Rattle.dns_spec.specs.Names.{Octets, DomainName}
 use Rattle.dns_spec.specs.Data.{class_in, Part, octets, name, laid_parts}
 use Rattle.dns_spec.specs.Layout.{Placed, Laid, laid_front, octets16, octets32, shared_octets, cost, data_laid, record_laid, record_tail}
 use Rattle.dns_spec.proofs.LayoutSize.{length-shared_octets, length-record_tail}
 use Rattle.dns_rdata.specs.Parts.{with_octets}
 use Rattle.dns_wire.specs.Kept.{Kept}
 use Rattle.dns_wire.specs.Writing.{Holds, IsWritten, Extends, shown, tail_laid}
-use Rattle.dns_wire.proofs.Suffixes.{extends_none, extends_again}
 use Rattle.dns_wire.proofs.NameWritten.{holds_octets}
 
 -- data after octets, and after a name

@@ -1,5 +1,5 @@
 -- A set more in a draft: its size is that of the layout, and it has one set more.
-use Rattle.std.proofs.Common.{◌≡◌, ◌↔◌, ℕ, ◌+◌, ◌≤◌, Bool, true, false, cond, List, [], ◌∷◌, ◌++◌, map, length, take, drop, replicate, filter, Option, refl, sym, ap, ap₂, ◌∙◌, subst, subst₂, arith, append_assoc, append-nil, length-append, add-zero, ◌<◌, lt_of_not-le}
+use Rattle.std.proofs.Common.{◌≡◌, ◌↔◌, ℕ, ◌+◌, ◌≤◌, ◌^◌, Bool, true, false, cond, List, [], ◌∷◌, ◌++◌, length, take, drop, replicate, filter, Option, refl, sym, ap, ap₂, ◌∙◌, subst, arith, All, IfSome, append_assoc, append-nil, length-append, add-zero, ◌<◌, lt_of_not-le}
 use Rattle.std.proofs.lemmas.Bool.{false≢true}
 use Rattle.std.proofs.lemmas.List.{length-map, length-drop}
 use Rattle.std.proofs.lemmas.List.Concat.{flat_map-append}
@@ -8,14 +8,15 @@ use Rattle.dns_spec.specs.Names.{Octets, DomainName}
 use Rattle.dns_spec.specs.Records.{ResourceRecord}
 use Rattle.dns_spec.specs.Sets.{RecordSet, records_at}
 use Rattle.std.specs.Option.{option_to_list}
-use Rattle.dns_spec.specs.Reading.{Header, MessageQuestion}
+use Rattle.dns_spec.specs.Reading.{Header, MessageQuestion, Spells}
 use Rattle.dns_spec.specs.Layout as Layout
-use Rattle.dns_spec.specs.Layout.{Item, Placed, Laid, laid_front, record_laid, records_octets, records_of, in_section, is_section, asked_octets, asked_placed, answer, authority, additional, size, records_size, layout, header_octets, reply_header}
+use Rattle.dns_spec.specs.Layout.{Item, Placed, Laid, laid_front, record_laid, records_octets, records_of, in_section, is_section, asked_octets, asked_placed, answer, authority, additional, size, records_size, layout, header_octets, reply_header, message_of}
 use Rattle.dns_spec.specs.Sharing.{Sharing}
+use Rattle.dns_spec.specs.Laws.{IsWritable, IsAskable, sections_in_order}
+use Rattle.dns_spec.proofs.SharedLayout.{layout_spells}
 use Rattle.dns_spec.proofs.LeastSize.{past_limit}
 use Rattle.dns_spec.proofs.LayoutSize.{length-records_octets, length-layout}
 use Rattle.dns_wire.specs.declared.page.Section.{Section}
-use Rattle.dns_wire.specs.Kept.{Kept}
 use Rattle.dns_wire.specs.Writing.{Holds, IsWritten, records_laid, shown}
 use Rattle.dns_wire.specs.Draft.{Draft, IsDraft, section_of, item_of, names_so_far}
 use Rattle.dns_wire.proofs.RecordsWritten.{octets_of_records, records-more, records-none}
@@ -118,12 +119,13 @@ module _ (head : Octets → ℕ) (q : Option MessageQuestion) (items : List Item
         answers = answers ∙ ap (λ k. k + count answer section (length set.rdata)) draft.answers ∙ sym (section_counted answer items section owner ttl set);
         authorities = authorities ∙ ap (λ k. k + count authority section (length set.rdata)) draft.authorities ∙ sym (section_counted authority items section owner ttl set);
         additionals = additionals ∙ ap (λ k. k + count additional section (length set.rdata)) draft.additionals ∙ sym (section_counted additional items section owner ttl set);
+        askable = draft.askable;
       }
 
 -- a draft without sets
 pub draft_begins : (head : Octets → ℕ) (q : Option MessageQuestion) (d : Draft) → d.octets ≡ replicate 12 0 ++ asked_octets q → Holds head (asked_placed q) d.octets d.kept
-    → d.questions ≡ length (option_to_list q) → d.answers ≡ 0 → d.authorities ≡ 0 → d.additionals ≡ 0 → IsDraft head q [] d
-draft_begins head q d octets holds questions answers authorities additionals =
+    → d.questions ≡ length (option_to_list q) → d.answers ≡ 0 → d.authorities ≡ 0 → d.additionals ≡ 0 → IfSome q IsAskable → IsDraft head q [] d
+draft_begins head q d octets holds questions answers authorities additionals askable =
     let none = records-none (asked_placed q) (12 + length (asked_octets q)) in
     let front = replicate 12 0 ++ asked_octets q in
     record {
@@ -133,6 +135,7 @@ draft_begins head q d octets holds questions answers authorities additionals =
       answers = answers;
       authorities = authorities;
       additionals = additionals;
+      askable = askable;
     }
 
 -- the layout is its header, and what is in the draft after room for one
@@ -170,3 +173,10 @@ least_of q items limit true exactly low =
     (λ no. absurd (false≢true (sym no)), λ all. let fits = exactly.0 refl in let past = (past_limit q items limit low).1 all in absurd (omega (arith, fits, past)))
 least_of q items limit false exactly low =
     (λ no z s. (past_limit q items limit low).0 (lt_of_not-le (λ fits. false≢true (exactly.1 fits))) z s, λ all. refl)
+
+-- the layout of a draft spells its message
+pub draft_spelled : {head : Octets → ℕ} (h : Header) (q : Option MessageQuestion) (items : List Item) (d : Draft) → IsDraft head q items d
+    → h.id < 2 ^ 16 → h.flags < 2 ^ 16 → sections_in_order items ≡ true → All IsWritable (records_of items) → length d.octets ≤ 65535
+    → Spells (layout h q items) (message_of h q items)
+draft_spelled h q items d draft id flags order writable short =
+    layout_spells h q items (record { id = id; flags = flags; question = draft.askable; in_order = order }) writable (omega (arith, short, draft_length q items d draft))

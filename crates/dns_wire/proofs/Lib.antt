@@ -11,3 +11,4 @@ mod NameWritten
 mod DataWritten
 mod RecordsWritten
 mod DraftLemmas
+mod NameLoop

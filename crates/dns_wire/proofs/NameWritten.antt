@@ -1,6 +1,6 @@
 -- A name laid out is one more earlier name: the message spells its suffixes, and the places kept answer for them.
-use Rattle.std.proofs.Common.{◌≡◌, ℕ, zero, suc, ◌+◌, ◌-◌, ◌*◌, ◌<◌, ◌≤◌, Bool, true, false, cond, nat_le, ◌⊎◌, inl, inr, List, [], ◌∷◌, ◌++◌, length, take, drop, replicate, slice_get, Option, None, Some, refl, sym, ap, ap₂, ◌∙◌, subst, arith, append_assoc, append-nil, length-append}
-use Rattle.std.proofs.lemmas.Bool.{and_parts, leb-true, leb-false}
+use Rattle.std.proofs.Common.{◌≡◌, ℕ, zero, suc, ◌+◌, ◌-◌, ◌<◌, ◌≤◌, Bool, true, false, cond, nat_le, ◌⊎◌, inl, inr, List, [], ◌∷◌, ◌++◌, length, take, drop, replicate, slice_get, Option, None, Some, refl, sym, ap, ap₂, ◌∙◌, subst, arith, append_assoc, append-nil, length-append}
+use Rattle.std.proofs.lemmas.Bool.{and_parts, leb-true}
 use Rattle.std.proofs.lemmas.Option.{none-some, same_Some}
 use Rattle.std.proofs.lemmas.List.{length-take-le, take-append-le}
 use Rattle.std.proofs.Math.Seq.{take-append-add}
@@ -8,12 +8,12 @@ use Rattle.std.specs.List.{list_all}
 use Rattle.dns_spec.specs.Names.{Octets, DomainName, wire, is_name, is_label}
 use Rattle.dns_spec.specs.Reading.{RunAt}
 use Rattle.dns_spec.specs.Reading.RunAt.{ends, goes_on, jumps}
-use Rattle.dns_spec.specs.Layout.{Placed, pointer, has_suffix, suffix_place, place_of, last_place, shared_place, shared_octets, cost}
+use Rattle.dns_spec.specs.Layout.{Placed, has_suffix, suffix_place, place_of, last_place, shared_place, shared_octets, cost}
 use Rattle.dns_spec.proofs.NameLaws.{is_name-tail}
 use Rattle.dns_spec.proofs.Places.{Stands}
 use Rattle.dns_spec.proofs.LayoutSize.{length-shared_octets}
 use Rattle.dns_spec.proofs.SameLayout.{begins_inside}
-use Rattle.dns_spec.proofs.SharedNames.{Suffix, suffix_from, suffix_to, place_again, place_pushed, shared_is, shared_to, shared_none, shared_whole, shared_pointed, shared_root, shared_alone, Found, Known, known_more}
+use Rattle.dns_spec.proofs.SharedNames.{suffix_from, suffix_to, place_again, place_pushed, shared_is, shared_to, shared_none, shared_whole, shared_pointed, shared_root, shared_alone, Known, known_more}
 use Rattle.dns_wire.specs.Kept.{Kept, IsKept}
 use Rattle.dns_wire.specs.Writing.{front_size, pointed_place, end_octets, new_places, Answers, Holds}
 use Rattle.dns_wire.proofs.Suffixes.{front-none, front-some, front-root, pointed-none, pointed-some, pointed-root, kept-none, kept-more, kept-some, kept-root}

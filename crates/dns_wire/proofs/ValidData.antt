@@ -1,15 +1,14 @@
 -- Data that is read is data of its type, of at most 65,535 octets.
-use Rattle.std.proofs.Common.{◌≡◌, ℕ, zero, suc, ◌+◌, ◌-◌, ◌*◌, ◌<◌, ◌≤◌, ◌⊎◌, inl, inr, Bool, true, false, ◌&&◌, ◌||◌, not, nat_le, ◌==◌, List, [], ◌∷◌, ◌++◌, length, take, drop, slice_get, get_or, Option, None, Some, option_map, is_some, unwrap_or, refl, sym, ap, ap₂, ◌∙◌, subst, arith, append_assoc, append-nil, add-zero, length-append, if◌then◌else◌}
-use Rattle.std.proofs.lemmas.Bool.{and_parts, and_from, le-leb, leb-true, ne_eqb, eqb-true, false≢true}
-use Rattle.std.proofs.lemmas.Option.{none-some, same_Some, slice_get_within, slice_get-get_or}
+use Rattle.std.proofs.Common.{◌≡◌, ℕ, suc, ◌+◌, ◌-◌, ◌<◌, ◌≤◌, Bool, true, false, ◌&&◌, ◌||◌, not, nat_le, ◌==◌, List, [], ◌∷◌, ◌++◌, length, drop, slice_get, get_or, Option, None, Some, option_map, is_some, unwrap_or, refl, sym, ap, ◌∙◌, subst, arith, append-nil, add-zero, length-append, if◌then◌else◌}
+use Rattle.std.proofs.lemmas.Bool.{and_from, le-leb, leb-true, ne_eqb, eqb-true, false≢true}
+use Rattle.std.proofs.lemmas.Option.{same_Some, slice_get_within, slice_get-get_or}
 use Rattle.std.proofs.lemmas.List.{length-take-le, length-drop, take_at, drop_at, nil_from_length, get_or-take, get_or-drop}
 use Rattle.std.specs.List.{find}
-use Rattle.dns_spec.specs.Names.{Octets, DomainName, wire, name_of}
-use Rattle.dns_spec.specs.Data.{class_in, Fixed, numbers, ipv4, ipv6, width, Piece, fixed, domain, string, strings, anything, TypeRow, type_table, other_type, row_of, pieces_of, Part, octets, name, octets_front, string_front, strings_front, piece_front, are_strings, cut, valid}
-use Rattle.dns_spec.specs.Reading.{OctetsAt, NameAt, PiecesAt, DataAt}
+use Rattle.dns_spec.specs.Names.{Octets, DomainName, wire}
+use Rattle.dns_spec.specs.Data.{class_in, width, Piece, fixed, domain, string, strings, anything, TypeRow, type_table, other_type, pieces_of, Part, octets, name, octets_front, string_front, strings_front, piece_front, are_strings, cut, valid}
+use Rattle.dns_spec.specs.Reading.{OctetsAt, PiecesAt, DataAt}
 use Rattle.dns_spec.proofs.NameLaws.{IsName-is_name}
 use Rattle.dns_spec.proofs.WireNames.{name_of-wire}
-use Rattle.dns_wire.specs.Pieces.{PieceAt}
 use Rattle.dns_wire.proofs.PieceLemmas.{all_forward, run_past}
 
 -- the octets between two places are as many as there are places

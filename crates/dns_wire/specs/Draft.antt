@@ -1,11 +1,12 @@
 -- What a reader learns here: what a writer has written of a message so far.
-use Rattle.std.specs.Prelude.{◌≡◌, ℕ, ◌+◌, ◌≤◌, List, [], ◌∷◌, ◌++◌, length, replicate, Option}
+use Rattle.std.specs.Prelude.{◌≡◌, ℕ, ◌+◌, ◌≤◌, List, [], ◌∷◌, ◌++◌, length, replicate, Option, IfSome}
 use Rattle.std.specs.Option.{option_to_list}
 use Rattle.dns_spec.specs.Names.{Octets, DomainName}
 use Rattle.dns_spec.specs.Sets.{RecordSet, records_at}
 use Rattle.dns_spec.specs.Reading.{MessageQuestion}
 use Rattle.dns_spec.specs.Layout as Layout
 use Rattle.dns_spec.specs.Layout.{Item, Placed, records_of, in_section, asked_octets, asked_placed, answer, authority, additional}
+use Rattle.dns_spec.specs.Laws.{IsAskable}
 use Rattle.dns_wire.specs.Kept.{Kept}
 use Rattle.dns_wire.specs.Writing.{Holds, IsSound, records_laid}
 use Rattle.dns_wire.specs.declared.page.Section.{Section}
@@ -19,6 +20,10 @@ section_of Additional = additional
 -- the records of a set, in a section of a message
 abbrev pub item_of : Section → DomainName → ℕ → RecordSet → Item
 item_of section owner ttl set = record { section = section_of section; records = records_at owner ttl set }
+
+-- the sets so far, and such a set after them
+abbrev pub with_set : List Item → Section → DomainName → ℕ → RecordSet → List Item
+with_set items section owner ttl set = items ++ item_of section owner ttl set ∷ []
 
 -- a message that is being written: its limit, its octets after room for a header, the places kept, and how many questions
 -- and records it has
@@ -36,7 +41,7 @@ abbrev pub names_so_far : Option MessageQuestion → List Item → List Placed
 names_so_far q items =
     asked_placed q ++ (records_laid (asked_placed q) (12 + length (asked_octets q)) (records_of items)).names
 
--- The draft has this question, and these sets, laid out.
+-- The draft has this question, and these sets, laid out, and the question fits its fields.
 pub record IsDraft (head : Octets → ℕ) (q : Option MessageQuestion) (items : List Item) (d : Draft) : Type 0 where
   pub written : d.octets
       ≡ replicate 12 0 ++ asked_octets q
@@ -46,6 +51,7 @@ pub record IsDraft (head : Octets → ℕ) (q : Option MessageQuestion) (items :
   pub answers : d.answers ≡ length (in_section answer items)
   pub authorities : d.authorities ≡ length (in_section authority items)
   pub additionals : d.additionals ≡ length (in_section additional items)
+  pub askable : IfSome q IsAskable
 
 -- there are no more records than octets
 pub record IsWellKept (N size : ℕ) (d : Draft) : Type 0 where

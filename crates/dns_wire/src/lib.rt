@@ -13,6 +13,7 @@ mod quick_hash;
 mod reader;
 mod room;
 mod spelled;
+mod writer;
 
 pub use fault::WireFault;
 pub use message::{CLASS_IN, Head, Message, Question, WireRecord};
@@ -21,6 +22,7 @@ pub use places::SuffixHash;
 pub use query::{QueryRead, Rcode, read_query};
 pub use quick_hash::QuickHash;
 pub use reader::read_message;
+pub use writer::Writer;
 
 #[cfg(test)]
 mod tests;

@@ -1,10 +1,11 @@
 //! A message that is being written: a question, and sets in their sections, within a limit (RFC 1035 4.1).
-ghost use Rattle.std.specs.Prelude.{◌≡◌, ◌↔◌, ◌+◌, ◌<◌, ◌≤◌, List, [], ◌∷◌, ◌++◌, ℕ, ◌*◌, length, take, drop, min, IsTrue, IsFalse, Option};
+ghost use Rattle.std.specs.Prelude.{◌≡◌, ◌↔◌, ◌+◌, ◌<◌, ◌≤◌, ◌^◌, List, [], ◌∷◌, ◌++◌, ℕ, ◌*◌, length, take, drop, min, IsTrue, IsFalse, Option, All};
 ghost use Rattle.std.specs.Option.{option_copied};
 ghost use Rattle.dns_spec.specs.Names.{Octets};
 ghost use Rattle.std.specs.Bool.{OnTrue, OnFalse};
-ghost use Rattle.dns_spec.specs.Reading.{MessageQuestion};
-ghost use Rattle.dns_spec.specs.Layout.{Item, size, layout, header_octets};
+ghost use Rattle.dns_spec.specs.Reading.{MessageQuestion, Spells};
+ghost use Rattle.dns_spec.specs.Layout.{Item, size, layout, header_octets, message_of, records_of};
+ghost use Rattle.dns_spec.specs.Laws.{sections_in_order, IsWritable};
 ghost use Rattle.dns_spec.specs.Sharing.{Sharing};
 ghost use Rattle.dns_wire.specs.Writing.{IsSound};
 
@@ -48,7 +49,7 @@ impl<const N: usize, const SIZE: usize> Model for Page<N, SIZE> {
 }
 
 impl<const N: usize, const SIZE: usize> Page<N, SIZE> {
-    ghost use Rattle.dns_wire.specs.Draft.{IsDraft, item_of};
+    ghost use Rattle.dns_wire.specs.Draft.{IsDraft, with_set};
 
     /// An empty message of at most `limit` octets, 512 to 65,535, with the question that it repeats, if any.
     ///
@@ -80,7 +81,15 @@ impl<const N: usize, const SIZE: usize> Page<N, SIZE> {
     fn begun(room: Room<N, SIZE>, questions: u16) -> Page<N, SIZE>
         requires sound { IsSound N SIZE room.limit room.octets.items room.places }
         requires header { 12 ≤ length room.octets.items }
-        ensures { result ≡ record { limit = room.entry.limit; octets = room.entry.octets.items; kept = room.entry.places; questions = questions; answers = 0; authorities = 0; additionals = 0 } }
+        ensures { result ≡ record {
+          limit = room.entry.limit;
+          octets = room.entry.octets.items;
+          kept = room.entry.places;
+          questions = questions;
+          answers = 0;
+          authorities = 0;
+          additionals = 0;
+        } }
     {
         Page {
             room,
@@ -101,9 +110,18 @@ impl<const N: usize, const SIZE: usize> Page<N, SIZE> {
         ttl: u32,
         set: &S,
     ) -> bool
-        ensures fits { (q : Option MessageQuestion) (items : List Item) → IsDraft (H.numbers hash.old) q items self.old → IsTrue result ↔ (size q (items ++ item_of section owner.now ttl (S.set set.now) ∷ []) ≤ self.old.limit) }
-        ensures put { (q : Option MessageQuestion) (items : List Item) → IsDraft (H.numbers hash.old) q items self.old → OnTrue result (IsDraft (H.numbers hash.old) q (items ++ item_of section owner.now ttl (S.set set.now) ∷ []) self.new) }
-        ensures least { (q : Option MessageQuestion) (items : List Item) → IsDraft (H.numbers hash.old) q items self.old → self.old.limit ≤ 16384 → IsFalse result ↔ ((z : ℕ) → Sharing q (items ++ item_of section owner.now ttl (S.set set.now) ∷ []) z → self.old.limit < z) }
+        ensures fits { (q : Option MessageQuestion) (items : List Item)
+            → IsDraft (H.numbers hash.old) q items self.old
+            → IsTrue result
+            ↔ (size q (with_set items section owner.now ttl (S.set set.now)) ≤ self.old.limit) }
+        ensures put { (q : Option MessageQuestion) (items : List Item)
+            → IsDraft (H.numbers hash.old) q items self.old
+            → OnTrue result (IsDraft (H.numbers hash.old) q
+            (with_set items section owner.now ttl (S.set set.now)) self.new) }
+        ensures least { (q : Option MessageQuestion) (items : List Item)
+            → IsDraft (H.numbers hash.old) q items self.old → self.old.limit ≤ 16384
+            → IsFalse result ↔ ((z : ℕ)
+            → Sharing q (with_set items section owner.now ttl (S.set set.now)) z → self.old.limit < z) }
         ensures unchanged { OnFalse result (self.new ≡ self.old) }
         ensures limit { self.new.limit ≡ self.old.limit }
         ensures same { H.numbers hash.new ≡ H.numbers hash.old }
@@ -125,8 +143,14 @@ impl<const N: usize, const SIZE: usize> Page<N, SIZE> {
     /// Condition: `out` is as long as the limit.
     pub fn finish(self, head: Head, out: &mut [u8]) -> usize
         requires { self.limit ≤ length out.old }
-        ensures length { (h : Octets → ℕ) (q : Option MessageQuestion) (items : List Item) → IsDraft h q items self.entry → result ≡ size q items }
-        ensures layout { (h : Octets → ℕ) (q : Option MessageQuestion) (items : List Item) → IsDraft h q items self.entry → take result out.new ≡ layout head q items }
+        ensures length { (h : Octets → ℕ) (q : Option MessageQuestion) (items : List Item)
+            → IsDraft h q items self.entry → result ≡ size q items }
+        ensures layout { (h : Octets → ℕ) (q : Option MessageQuestion) (items : List Item)
+            → IsDraft h q items self.entry → take result out.new ≡ layout head q items }
+        ensures spelled { (h : Octets → ℕ) (q : Option MessageQuestion) (items : List Item)
+            → IsDraft h q items self.entry
+            → IsTrue (sections_in_order items) → All IsWritable (records_of items)
+            → Spells (take result out.new) (message_of head q items) }
     {
         let octets = self.room.octets.as_slice();
         let length = octets.len();
@@ -164,10 +188,14 @@ fn put_header(
     additionals: u16,
 )
     requires { 12 ≤ length out.old }
-    ensures { out.new ≡ header_octets head.now questions answers authorities additionals ++ drop 12 out.old }
+    ensures octets { out.new ≡ header_octets head.now questions answers authorities additionals
+        ++ drop 12 out.old }
+    ensures id { head.now.id < 2 ^ 16 }
+    ensures flags { head.now.flags < 2 ^ 16 }
 {
-    BigEndian::write_u16(out, head.id);
-    BigEndian::write_u16(&mut out[2..], head.flags);
+    let Head { id, flags } = *head;
+    BigEndian::write_u16(out, id);
+    BigEndian::write_u16(&mut out[2..], flags);
     BigEndian::write_u16(&mut out[4..], questions);
     BigEndian::write_u16(&mut out[6..], answers);
     BigEndian::write_u16(&mut out[8..], authorities);

@@ -5,8 +5,10 @@ ghost use Rattle.std.specs.Bool.{OnTrue, OnFalse};
 ghost use Rattle.dns_spec.specs.Names.{DomainName, wire, is_name};
 ghost use Rattle.dns_spec.specs.Data.{Valid, class_in, laid_parts};
 ghost use Rattle.dns_spec.specs.Layout.{Placed, question_octets, octets16, octets32, pointer, shared_octets, cost, data_laid, record_laid};
-ghost use Rattle.dns_wire.specs.Writing.{front_size, pointed_place, new_places, end_octets, Extends, Grows, AfterLabel, Holds, IsSound, IsWritten, shown, tail_laid, records_laid};
+ghost use Rattle.dns_wire.specs.Writing.{front_size, pointed_place, new_places, end_octets, Grows, AfterLabel, Holds, shown, tail_laid, records_laid};
+ghost use Rattle.dns_wire.specs.Rooms.{IsSoundRoom, HasNames, HasGrown, HasWritten};
 ghost use Rattle.dns_spec.specs.Sets.{records_at};
+ghost use Rattle.dns_spec.specs.Laws.{IsAskable};
 ghost use Rattle.dns_rdata.specs.Parts.{HasName};
 
 use crate::message::{CLASS_IN, Question};
@@ -48,15 +50,16 @@ impl<const N: usize, const SIZE: usize> Room<N, SIZE> {
 
     /// Writes the question, which nothing stands before but the room for a header.
     pub(crate) fn put_question<H: SuffixHash>(&mut self, hash: &mut H, question: &Question)
-        requires sound { IsSound N SIZE self.old.limit self.old.octets.items self.old.places }
+        requires sound { IsSoundRoom self.old }
         requires room { 512 ≤ self.old.limit }
         requires blank { self.old.octets.items ≡ replicate 12 0 }
         requires first { self.old.places ≡ [] }
+        ensures askable { IsAskable question.now }
         ensures octets { self.new.octets.items ≡ replicate 12 0 ++ question_octets question.now }
-        ensures holds { Holds (H.numbers hash.old) ((question.now.qname, 12) ∷ []) self.new.octets.items self.new.places }
+        ensures holds { HasNames self.new (H.numbers hash.old) ((question.now.qname, 12) ∷ []) }
         ensures limit { self.new.limit ≡ self.old.limit }
         ensures same { H.numbers hash.new ≡ H.numbers hash.old }
-        ensures sound { IsSound N SIZE self.new.limit self.new.octets.items self.new.places }
+        ensures sound { IsSoundRoom self.new }
     {
         let _ = self.put_name(hash, question.name.octets());
         let _ = self.append(
@@ -67,13 +70,15 @@ impl<const N: usize, const SIZE: usize> Room<N, SIZE> {
 
     /// Appends two runs of octets. False, with nothing written, where they do not fit the limit.
     pub(crate) fn append(&mut self, front: &[u8], end: &[u8]) -> bool
-        requires { IsSound N SIZE self.old.limit self.old.octets.items self.old.places }
-        ensures fits { IsTrue result ↔ (length self.old.octets.items + (length front.now + length end.now) ≤ self.old.limit) }
-        ensures octets { OnTrue result (self.new.octets.items ≡ self.old.octets.items ++ (front.now ++ end.now)) }
+        requires { IsSoundRoom self.old }
+        ensures fits { IsTrue result ↔ (length self.old.octets.items
+            + (length front.now + length end.now) ≤ self.old.limit) }
+        ensures octets { OnTrue result (self.new.octets.items
+            ≡ self.old.octets.items ++ (front.now ++ end.now)) }
         ensures unchanged { OnFalse result (self.new.octets.items ≡ self.old.octets.items) }
         ensures places { self.new.places ≡ self.old.places }
         ensures limit { self.new.limit ≡ self.old.limit }
-        ensures sound { IsSound N SIZE self.new.limit self.new.octets.items self.new.places }
+        ensures sound { IsSoundRoom self.new }
     {
         let room = self.limit - self.octets.len();
         if room < front.len() || room - front.len() < end.len() {
@@ -85,12 +90,12 @@ impl<const N: usize, const SIZE: usize> Room<N, SIZE> {
     }
 
     fn extend(&mut self, octets: &[u8])
-        requires sound { IsSound N SIZE self.old.limit self.old.octets.items self.old.places }
+        requires sound { IsSoundRoom self.old }
         requires room { length self.old.octets.items + length octets.now ≤ self.old.limit }
         ensures octets { self.new.octets.items ≡ self.old.octets.items ++ octets.now }
         ensures places { self.new.places ≡ self.old.places }
         ensures limit { self.new.limit ≡ self.old.limit }
-        ensures sound { IsSound N SIZE self.new.limit self.new.octets.items self.new.places }
+        ensures sound { IsSoundRoom self.new }
     {
         if self.octets.try_extend_from_slice(octets).is_err() {
             unreachable!();
@@ -100,15 +105,23 @@ impl<const N: usize, const SIZE: usize> Room<N, SIZE> {
     /// Writes a name, given in its wire form: its labels before the longest suffix that is shared, and a pointer to
     /// that; or the whole name. False, with nothing written, where it does not fit the limit.
     pub(crate) fn put_name<H: SuffixHash>(&mut self, hash: &mut H, name: &[u8]) -> bool
-        requires { IsSound N SIZE self.old.limit self.old.octets.items self.old.places }
-        ensures fits { (ms : List Placed) (n : DomainName) → Holds (H.numbers hash.old) ms self.old.octets.items self.old.places → name.now ≡ wire n → IsTrue (is_name n) → IsTrue result ↔ (length self.old.octets.items + cost ms n ≤ self.old.limit) }
-        ensures octets { (ms : List Placed) (n : DomainName) → Holds (H.numbers hash.old) ms self.old.octets.items self.old.places → name.now ≡ wire n → IsTrue (is_name n) → OnTrue result (self.new.octets.items ≡ self.old.octets.items ++ shared_octets ms n) }
-        ensures holds { (ms : List Placed) (n : DomainName) → Holds (H.numbers hash.old) ms self.old.octets.items self.old.places → name.now ≡ wire n → IsTrue (is_name n) → OnTrue result (Holds (H.numbers hash.old) (ms ++ (n, length self.old.octets.items) ∷ []) self.new.octets.items self.new.places) }
-        ensures extends { Extends self.old.octets.items self.old.places self.new.octets.items self.new.places }
-        ensures unchanged { OnFalse result ((self.new.octets.items ≡ self.old.octets.items) × (self.new.places ≡ self.old.places)) }
+        requires { IsSoundRoom self.old }
+        ensures fits { (ms : List Placed) (n : DomainName)
+            → HasNames self.old (H.numbers hash.old) ms → name.now ≡ wire n → IsTrue (is_name n)
+            → IsTrue result ↔ (length self.old.octets.items + cost ms n ≤ self.old.limit) }
+        ensures octets { (ms : List Placed) (n : DomainName)
+            → HasNames self.old (H.numbers hash.old) ms → name.now ≡ wire n → IsTrue (is_name n)
+            → OnTrue result (self.new.octets.items ≡ self.old.octets.items ++ shared_octets ms n) }
+        ensures holds { (ms : List Placed) (n : DomainName)
+            → HasNames self.old (H.numbers hash.old) ms → name.now ≡ wire n → IsTrue (is_name n)
+            → OnTrue result (HasNames self.new (H.numbers hash.old)
+            (ms ++ (n, length self.old.octets.items) ∷ [])) }
+        ensures extends { HasGrown self.old self.new }
+        ensures unchanged { OnFalse result ((self.new.octets.items ≡ self.old.octets.items)
+            × (self.new.places ≡ self.old.places)) }
         ensures limit { self.new.limit ≡ self.old.limit }
         ensures same { H.numbers hash.new ≡ H.numbers hash.old }
-        ensures sound { IsSound N SIZE self.new.limit self.new.octets.items self.new.places }
+        ensures sound { IsSoundRoom self.new }
     {
         let shared = shared_suffix(&self.places, self.octets.as_slice(), hash, name);
         let (front, _) = name.split_at(shared.front);
@@ -122,13 +135,15 @@ impl<const N: usize, const SIZE: usize> Room<N, SIZE> {
 
     // Writes parts of data one after the other. False where they do not fit; then some of them may be written.
     fn put_parts<H: SuffixHash>(&mut self, hash: &mut H, parts: Parts<'_>) -> bool
-        requires sound { IsSound N SIZE self.old.limit self.old.octets.items self.old.places }
+        requires sound { IsSoundRoom self.old }
         requires names { All HasName parts }
-        ensures written { (ms : List Placed) → Holds (H.numbers hash.old) ms self.old.octets.items self.old.places → IsWritten (H.numbers hash.old) self.old.limit ms self.old.octets.items (data_laid ms (length self.old.octets.items) parts.entry) result self.new.octets.items self.new.places }
-        ensures extends { Extends self.old.octets.items self.old.places self.new.octets.items self.new.places }
+        ensures written { (ms : List Placed) → HasNames self.old (H.numbers hash.old) ms
+            → HasWritten self.old self.new (H.numbers hash.old) ms
+            (data_laid ms (length self.old.octets.items) parts.entry) result }
+        ensures extends { HasGrown self.old self.new }
         ensures limit { self.new.limit ≡ self.old.limit }
         ensures same { H.numbers hash.new ≡ H.numbers hash.old }
-        ensures sound { IsSound N SIZE self.new.limit self.new.octets.items self.new.places }
+        ensures sound { IsSoundRoom self.new }
     {
         let mut parts = parts;
         'parts: while let Some(part) = parts.next() {
@@ -145,13 +160,15 @@ impl<const N: usize, const SIZE: usize> Room<N, SIZE> {
 
     // Writes data as it is laid out, all of it or, where it does not fit, a part of it.
     fn put_data<H: SuffixHash>(&mut self, hash: &mut H, rtype: RType, rdata: &[u8]) -> bool
-        requires sound { IsSound N SIZE self.old.limit self.old.octets.items self.old.places }
+        requires sound { IsSoundRoom self.old }
         requires valid { Valid rtype.0 rdata.now }
-        ensures written { (ms : List Placed) → Holds (H.numbers hash.old) ms self.old.octets.items self.old.places → IsWritten (H.numbers hash.old) self.old.limit ms self.old.octets.items (data_laid ms (length self.old.octets.items) (laid_parts rtype.0 rdata.now)) result self.new.octets.items self.new.places }
-        ensures extends { Extends self.old.octets.items self.old.places self.new.octets.items self.new.places }
+        ensures written { (ms : List Placed) → HasNames self.old (H.numbers hash.old) ms
+            → HasWritten self.old self.new (H.numbers hash.old) ms
+            (data_laid ms (length self.old.octets.items) (laid_parts rtype.0 rdata.now)) result }
+        ensures extends { HasGrown self.old self.new }
         ensures limit { self.new.limit ≡ self.old.limit }
         ensures same { H.numbers hash.new ≡ H.numbers hash.old }
-        ensures sound { IsSound N SIZE self.new.limit self.new.octets.items self.new.places }
+        ensures sound { IsSoundRoom self.new }
     {
         if rtype.compresses() {
             self.put_parts(hash, Rdata::parts(rtype, rdata))
@@ -163,7 +180,7 @@ impl<const N: usize, const SIZE: usize> Room<N, SIZE> {
     // Takes octets and places back, but for those that came first.
     fn take_back(&mut self, octets: usize, places: usize)
         requires fewer { 2 * places ≤ octets }
-        requires sound { IsSound N SIZE self.old.limit self.old.octets.items self.old.places }
+        requires sound { IsSoundRoom self.old }
         ensures octets { self.new.octets.items ≡ take octets self.old.octets.items }
         ensures places { self.new.places ≡ take places self.old.places }
         ensures limit { self.new.limit ≡ self.old.limit }
@@ -181,13 +198,18 @@ impl<const N: usize, const SIZE: usize> Room<N, SIZE> {
         ttl: u32,
         set: &S,
     ) -> bool
-        requires { IsSound N SIZE self.old.limit self.old.octets.items self.old.places }
-        ensures written { (ms : List Placed) → Holds (H.numbers hash.old) ms self.old.octets.items self.old.places → IsWritten (H.numbers hash.old) self.old.limit ms self.old.octets.items (records_laid ms (length self.old.octets.items) (records_at owner.now ttl (S.set set.now))) result self.new.octets.items self.new.places }
-        ensures unchanged { OnFalse result ((self.new.octets.items ≡ self.old.octets.items) × (self.new.places ≡ self.old.places)) }
-        ensures longer { OnTrue result (length self.old.octets.items + length (S.set set.now).rdata ≤ length self.new.octets.items) }
+        requires { IsSoundRoom self.old }
+        ensures written { (ms : List Placed) → HasNames self.old (H.numbers hash.old) ms
+            → HasWritten self.old self.new (H.numbers hash.old) ms
+            (records_laid ms (length self.old.octets.items)
+            (records_at owner.now ttl (S.set set.now))) result }
+        ensures unchanged { OnFalse result ((self.new.octets.items ≡ self.old.octets.items)
+            × (self.new.places ≡ self.old.places)) }
+        ensures longer { OnTrue result (length self.old.octets.items + length (S.set set.now).rdata
+            ≤ length self.new.octets.items) }
         ensures limit { self.new.limit ≡ self.old.limit }
         ensures same { H.numbers hash.new ≡ H.numbers hash.old }
-        ensures sound { IsSound N SIZE self.new.limit self.new.octets.items self.new.places }
+        ensures sound { IsSoundRoom self.new }
     {
         let octets = self.octets.len();
         let places = self.places.len();
@@ -209,14 +231,18 @@ impl<const N: usize, const SIZE: usize> Room<N, SIZE> {
         ttl: u32,
         rdata: &[u8],
     ) -> bool
-        requires sound { IsSound N SIZE self.old.limit self.old.octets.items self.old.places }
+        requires sound { IsSoundRoom self.old }
         requires valid { Valid rtype.0 rdata.now }
-        ensures written { (ms : List Placed) → Holds (H.numbers hash.old) ms self.old.octets.items self.old.places → IsWritten (H.numbers hash.old) self.old.limit ms self.old.octets.items (record_laid ms (length self.old.octets.items) (shown owner.now rtype.0 ttl rdata.now)) result self.new.octets.items self.new.places }
-        ensures longer { OnTrue result (length self.old.octets.items + 10 ≤ length self.new.octets.items) }
-        ensures extends { Extends self.old.octets.items self.old.places self.new.octets.items self.new.places }
+        ensures written { (ms : List Placed) → HasNames self.old (H.numbers hash.old) ms
+            → HasWritten self.old self.new (H.numbers hash.old) ms
+            (record_laid ms (length self.old.octets.items)
+            (shown owner.now rtype.0 ttl rdata.now)) result }
+        ensures longer { OnTrue result (length self.old.octets.items + 10
+            ≤ length self.new.octets.items) }
+        ensures extends { HasGrown self.old self.new }
         ensures limit { self.new.limit ≡ self.old.limit }
         ensures same { H.numbers hash.new ≡ H.numbers hash.old }
-        ensures sound { IsSound N SIZE self.new.limit self.new.octets.items self.new.places }
+        ensures sound { IsSoundRoom self.new }
     {
         self.put_name(hash, owner.octets()) && self.put_tail(hash, rtype, ttl, rdata)
     }
@@ -229,14 +255,17 @@ impl<const N: usize, const SIZE: usize> Room<N, SIZE> {
         ttl: u32,
         rdata: &[u8],
     ) -> bool
-        requires sound { IsSound N SIZE self.old.limit self.old.octets.items self.old.places }
+        requires sound { IsSoundRoom self.old }
         requires valid { Valid rtype.0 rdata.now }
-        ensures written { (ms : List Placed) → Holds (H.numbers hash.old) ms self.old.octets.items self.old.places → IsWritten (H.numbers hash.old) self.old.limit ms self.old.octets.items (tail_laid ms (length self.old.octets.items) rtype.0 ttl rdata.now) result self.new.octets.items self.new.places }
-        ensures longer { OnTrue result (length self.old.octets.items + 10 ≤ length self.new.octets.items) }
-        ensures extends { Extends self.old.octets.items self.old.places self.new.octets.items self.new.places }
+        ensures written { (ms : List Placed) → HasNames self.old (H.numbers hash.old) ms
+            → HasWritten self.old self.new (H.numbers hash.old) ms
+            (tail_laid ms (length self.old.octets.items) rtype.0 ttl rdata.now) result }
+        ensures longer { OnTrue result (length self.old.octets.items + 10
+            ≤ length self.new.octets.items) }
+        ensures extends { HasGrown self.old self.new }
         ensures limit { self.new.limit ≡ self.old.limit }
         ensures same { H.numbers hash.new ≡ H.numbers hash.old }
-        ensures sound { IsSound N SIZE self.new.limit self.new.octets.items self.new.places }
+        ensures sound { IsSoundRoom self.new }
     {
         let Some(length) = self.data_length(hash, rtype, rdata) else {
             return false;
@@ -252,15 +281,20 @@ impl<const N: usize, const SIZE: usize> Room<N, SIZE> {
         rtype: RType,
         rdata: &[u8],
     ) -> Option<u16>
-        requires sound { IsSound N SIZE self.old.limit self.old.octets.items self.old.places }
+        requires sound { IsSoundRoom self.old }
         requires valid { Valid rtype.0 rdata.now }
-        ensures some { (ms : List Placed) → Holds (H.numbers hash.old) ms self.old.octets.items self.old.places → IfSome result (λ k. k ≡ length (data_laid ms (length self.old.octets.items + 10) (laid_parts rtype.0 rdata.now)).written) }
-        ensures none { (ms : List Placed) → Holds (H.numbers hash.old) ms self.old.octets.items self.old.places → IsNone result → self.old.limit < length self.old.octets.items + (10 + length (data_laid ms (length self.old.octets.items + 10) (laid_parts rtype.0 rdata.now)).written) }
+        ensures some { (ms : List Placed) → HasNames self.old (H.numbers hash.old) ms
+            → IfSome result (λ k. k ≡ length (data_laid ms (length self.old.octets.items + 10)
+            (laid_parts rtype.0 rdata.now)).written) }
+        ensures none { (ms : List Placed) → HasNames self.old (H.numbers hash.old) ms
+            → IsNone result → self.old.limit < length self.old.octets.items + (10
+            + length (data_laid ms (length self.old.octets.items + 10)
+            (laid_parts rtype.0 rdata.now)).written) }
         ensures octets { self.new.octets.items ≡ self.old.octets.items }
         ensures places { self.new.places ≡ self.old.places }
         ensures limit { self.new.limit ≡ self.old.limit }
         ensures same { H.numbers hash.new ≡ H.numbers hash.old }
-        ensures sound { IsSound N SIZE self.new.limit self.new.octets.items self.new.places }
+        ensures sound { IsSoundRoom self.new }
     {
         let octets = self.octets.len();
         let places = self.places.len();
@@ -279,14 +313,16 @@ impl<const N: usize, const SIZE: usize> Room<N, SIZE> {
 
     // Appends the front of a name and what ends it: a pointer to a place, or the root's length.
     fn append_end(&mut self, front: &[u8], place: Option<u16>) -> bool
-        requires sound { IsSound N SIZE self.old.limit self.old.octets.items self.old.places }
+        requires sound { IsSoundRoom self.old }
         requires reached { IfSome place (λ p. p < 16384) }
-        ensures fits { IsTrue result ↔ (length self.old.octets.items + (length front.now + length (end_octets place)) ≤ self.old.limit) }
-        ensures octets { OnTrue result (self.new.octets.items ≡ self.old.octets.items ++ (front.now ++ end_octets place)) }
+        ensures fits { IsTrue result ↔ (length self.old.octets.items
+            + (length front.now + length (end_octets place)) ≤ self.old.limit) }
+        ensures octets { OnTrue result (self.new.octets.items
+            ≡ self.old.octets.items ++ (front.now ++ end_octets place)) }
         ensures unchanged { OnFalse result (self.new.octets.items ≡ self.old.octets.items) }
         ensures places { self.new.places ≡ self.old.places }
         ensures limit { self.new.limit ≡ self.old.limit }
-        ensures sound { IsSound N SIZE self.new.limit self.new.octets.items self.new.places }
+        ensures sound { IsSoundRoom self.new }
     {
         match place {
             Some(place) => self.append(front, &pointer_octets(place)),
@@ -319,8 +355,12 @@ fn shared_suffix<H: SuffixHash, const N: usize>(
     hash: &mut H,
     name: &[u8],
 ) -> Shared
-    ensures front { (ms : List Placed) (n : DomainName) → Holds (H.numbers hash.old) ms message.now places.now → name.now ≡ wire n → IsTrue (is_name n) → result.front ≡ front_size ms n }
-    ensures place { (ms : List Placed) (n : DomainName) → Holds (H.numbers hash.old) ms message.now places.now → name.now ≡ wire n → IsTrue (is_name n) → result.place ≡ pointed_place ms n }
+    ensures front { (ms : List Placed) (n : DomainName)
+        → Holds (H.numbers hash.old) ms message.now places.now → name.now ≡ wire n
+        → IsTrue (is_name n) → result.front ≡ front_size ms n }
+    ensures place { (ms : List Placed) (n : DomainName)
+        → Holds (H.numbers hash.old) ms message.now places.now → name.now ≡ wire n
+        → IsTrue (is_name n) → result.place ≡ pointed_place ms n }
     ensures inside { result.front ≤ length name.now }
     ensures reached { IfSome result.place (λ place. place < 16384) }
     ensures same { H.numbers hash.new ≡ H.numbers hash.old }
@@ -354,7 +394,9 @@ fn keep_suffixes<H: SuffixHash, const N: usize>(
     requires room { min (at + front) 16384 ≤ 2 * N }
     requires few { 2 * length places.old ≤ at }
     requires most { N ≤ 8192 }
-    ensures kept { (ms : List Placed) (n : DomainName) → name.now ≡ wire n → IsTrue (is_name n) → front ≡ front_size ms n → places.new ≡ places.old ++ new_places (H.numbers hash.old) ms n at }
+    ensures kept { (ms : List Placed) (n : DomainName) → name.now ≡ wire n → IsTrue (is_name n)
+        → front ≡ front_size ms n
+        → places.new ≡ places.old ++ new_places (H.numbers hash.old) ms n at }
     ensures few { 2 * length places.new ≤ at + front }
     ensures grows { Grows places.old places.new }
     ensures same { H.numbers hash.new ≡ H.numbers hash.old }
@@ -376,7 +418,8 @@ fn keep_suffixes<H: SuffixHash, const N: usize>(
 // The length of the first label of a name in its wire form, and the octets after it. `None` of the root.
 fn after_first_label(name: &[u8]) -> Option<(usize, &[u8])>
     ensures some { IfSome result (λ r. AfterLabel name.now r.0 r.1.now) }
-    ensures root { IsNone result → (n : DomainName) → name.now ≡ wire n → IsTrue (is_name n) → n ≡ [] }
+    ensures root { IsNone result → (n : DomainName) → name.now ≡ wire n → IsTrue (is_name n)
+        → n ≡ [] }
     ensures shorter { IfSome result (λ r. length r.1.now < length name.now) }
     ensures bound { IfSome result (λ r. r.0 < 256) }
 {
@@ -402,7 +445,8 @@ fn record_numbers(rtype: RType, ttl: u32, length: u16) -> [u8; 10]
 }
 
 fn number_octets(number: u16) -> [u8; 2]
-    ensures { result ≡ octets16 number }
+    ensures octets { result ≡ octets16 number }
+    ensures fits { number < 2 ^ 16 }
 {
     let mut octets = [0; 2];
     BigEndian::write_u16(&mut octets, number);

@@ -1,2 +1,5 @@
+mod long;
 mod plain;
 mod reading;
+mod writing;
+mod written;

@@ -20,43 +20,57 @@ use Rattle.dns_zone.specs.ZoneForm.{IsBuilt}
 use Rattle.dns_zone.proofs.NameOrder.{same-from, lower_twice}
 use Rattle.dns_zone.proofs.NameTree.{itself-under}
 
-any_more : {X : Type 0} (p q : X → Bool) (xs : List X) → ((x : X) → p x ≡ true → q x ≡ true) → list_any p xs ≡ true → list_any q xs ≡ true
+any_more : {X : Type 0} (p q : X → Bool) (xs : List X) → ((x : X) → p x ≡ true → q x ≡ true)
+    → list_any p xs ≡ true → list_any q xs ≡ true
 any_more p q [] f e = absurd (false≢true e)
 any_more p q (x ∷ xs) f e = go (p x) refl e (any_more p q xs f)
   where
-    go : (t : Bool) → p x ≡ t → (t || list_any p xs) ≡ true → (list_any p xs ≡ true → list_any q xs ≡ true) → (q x || list_any q xs) ≡ true
+    go : (t : Bool) → p x ≡ t → (t || list_any p xs) ≡ true
+        → (list_any p xs ≡ true → list_any q xs ≡ true) → (q x || list_any q xs) ≡ true
     go true a b r = ap (λ t. t || list_any q xs) (f x a)
     go false a b r = or_right (q x) (list_any q xs) (r b)
 
 -- only the lower case of a name counts
-pub under-lower : (n a b : DomainName) → folded a ≡ folded b → length a ≡ length b → at_or_below n a ≡ at_or_below n b
+pub under-lower : (n a b : DomainName) → folded a ≡ folded b → length a ≡ length b
+    → at_or_below n a ≡ at_or_below n b
 under-lower n a b e l =
-    ap₂ (λ (k : ℕ) (m : DomainName). nat_le k (length n) && names_equal (folded (drop (length n - k) n)) m) l e
+    ap₂ (λ (k : ℕ) (m : DomainName). nat_le k (length n) && names_equal
+    (folded (drop (length n - k) n)) m) l e
 
-pub exists-lower : (z : ZoneContents) (a b : DomainName) → folded a ≡ folded b → length a ≡ length b → exists z a ≡ exists z b
+pub exists-lower : (z : ZoneContents) (a b : DomainName) → folded a ≡ folded b → length a ≡ length b
+    → exists z a ≡ exists z b
 exists-lower z a b e l = go z.records
   where
-    go : (rs : List ResourceRecord) → list_any (λ (r : ResourceRecord). at_or_below r.owner a) rs ≡ list_any (λ (r : ResourceRecord). at_or_below r.owner b) rs
+    go : (rs : List ResourceRecord)
+        → list_any (λ (r : ResourceRecord). at_or_below r.owner a) rs
+        ≡ list_any (λ (r : ResourceRecord). at_or_below r.owner b) rs
     go [] = refl
     go (r ∷ rs) = ap₂ ◌||◌ (under-lower r.owner a b e l) (go rs)
 
 -- what exists is a name
-pub exists-fits : (z : ZoneContents) (n : DomainName) → IsBuilt z → exists z n ≡ true → length (wire n) ≤ 255
+pub exists-fits : (z : ZoneContents) (n : DomainName) → IsBuilt z → exists z n ≡ true
+    → length (wire n) ≤ 255
 exists-fits z n kept e = go z.records (each_all IsReadRecord z.records kept.each) e
   where
-    go : (rs : List ResourceRecord) → Each IsReadRecord rs → list_any (λ (r : ResourceRecord). at_or_below r.owner n) rs ≡ true → length (wire n) ≤ 255
+    go : (rs : List ResourceRecord) → Each IsReadRecord rs
+        → list_any (λ (r : ResourceRecord). at_or_below r.owner n) rs ≡ true → length (wire n) ≤ 255
     go [] h e = absurd (false≢true e)
     go (r ∷ rs) h e = here (at_or_below r.owner n) refl e (go rs h.1)
       where
-        here : (t : Bool) → at_or_below r.owner n ≡ t → (t || list_any (λ (s : ResourceRecord). at_or_below s.owner n) rs) ≡ true
-            → (list_any (λ (s : ResourceRecord). at_or_below s.owner n) rs ≡ true → length (wire n) ≤ 255) → length (wire n) ≤ 255
-        here true a b f = let name = IsName-is_name r.owner h.0.owner in omega (arith, at_or_below-length-wire r.owner n a)
+        here : (t : Bool) → at_or_below r.owner n ≡ t
+            → (t || list_any (λ (s : ResourceRecord). at_or_below s.owner n) rs) ≡ true
+            → (list_any (λ (s : ResourceRecord). at_or_below s.owner n) rs ≡ true
+            → length (wire n) ≤ 255) → length (wire n) ≤ 255
+        here true a b f =
+            let name = IsName-is_name r.owner h.0.owner in
+            omega (arith, at_or_below-length-wire r.owner n a)
         here false a b f = f b
 
 -- the origin owns an SOA, so that it exists
 pub origin-soa : (z : ZoneContents) → IsBuilt z → owns z z.origin type_soa ≡ true
 origin-soa z kept =
-    let none : (same z.origin z.origin && not (owns z z.origin type_soa)) ≡ false = (checks_of_origin z kept.low kept.passes).0 in
+    let none : (same z.origin z.origin && not (owns z z.origin type_soa)) ≡ false =
+    (checks_of_origin z kept.low kept.passes).0 in
     let here : same z.origin z.origin ≡ true = same-from z.origin z.origin refl in
     has (owns z z.origin type_soa) (sym (ap (λ b. b && not (owns z z.origin type_soa)) here) ∙ none)
   where
@@ -68,19 +82,29 @@ pub origin-node : (z : ZoneContents) → IsBuilt z → IsNode z z.origin
 origin-node z kept = record {
   built = kept;
   lower = kept.low;
-  stands = any_more (λ (r : ResourceRecord). same r.owner z.origin && r.rtype == type_soa) (λ (r : ResourceRecord). at_or_below r.owner z.origin) z.records
-      (λ r h. itself-under r.owner z.origin (and_parts (same r.owner z.origin) (r.rtype == type_soa) h).0) (origin-soa z kept);
+  stands =
+      any_more (λ (r : ResourceRecord). same r.owner z.origin && r.rtype == type_soa)
+      (λ (r : ResourceRecord). at_or_below r.owner z.origin) z.records
+      (λ r h. itself-under r.owner z.origin
+      (and_parts (same r.owner z.origin) (r.rtype == type_soa) h).0) (origin-soa z kept);
 }
 
 -- all records of a built zone are at or below its origin
-pub all-inside : (z : ZoneContents) → IsBuilt z → Each (λ (r : ResourceRecord). at_or_below r.owner z.origin ≡ true) z.records
+pub all-inside : (z : ZoneContents) → IsBuilt z
+    → Each (λ (r : ResourceRecord). at_or_below r.owner z.origin ≡ true) z.records
 all-inside z kept =
     each_among (λ (r : ResourceRecord). at_or_below r.owner z.origin ≡ true) z.records (λ r m.
-    let lows = each_weaker IsReadRecord (λ (s : ResourceRecord). folded s.owner ≡ s.owner) z.records (λ s h. h.lower_owner) (each_all IsReadRecord z.records kept.each) in
-    let fine : (is_owner z r.owner && not (at_or_below r.owner z.origin)) ≡ false = (checks_at z kept.low lows kept.passes r m).1.1.1.1.0 in
-    let own : Among r (at z r.owner) = filter_among (λ (s : ResourceRecord). same s.owner r.owner) r z.records (same-from r.owner r.owner refl) m in
+    let lows =
+    each_weaker IsReadRecord (λ (s : ResourceRecord). folded s.owner ≡ s.owner) z.records
+    (λ s h. h.lower_owner) (each_all IsReadRecord z.records kept.each) in
+    let fine : (is_owner z r.owner && not (at_or_below r.owner z.origin)) ≡ false =
+    (checks_at z kept.low lows kept.passes r m).1.1.1.1.0 in
+    let own : Among r (at z r.owner) =
+    filter_among (λ (s : ResourceRecord). same s.owner r.owner) r z.records
+    (same-from r.owner r.owner refl) m in
     let owner : is_owner z r.owner ≡ true = lt-ltb 0 _ (some_length r (at z r.owner) own) in
-    inside (at_or_below r.owner z.origin) (sym (ap (λ b. b && not (at_or_below r.owner z.origin)) owner) ∙ fine))
+    inside (at_or_below r.owner z.origin)
+    (sym (ap (λ b. b && not (at_or_below r.owner z.origin)) owner) ∙ fine))
   where
     some_length : (r : ResourceRecord) (rs : List ResourceRecord) → Among r rs → 0 < length rs
     some_length r [] m = absurd m
@@ -91,17 +115,24 @@ all-inside z kept =
     inside false e = absurd (false≢true (sym e))
 
 -- a child by its label: only the lower case counts
-pub child-exists : (z : ZoneContents) (l : Octets) (n : DomainName) → folded n ≡ n → exists z (map to_ascii_lowercase l ∷ n) ≡ exists z (l ∷ n)
+pub child-exists : (z : ZoneContents) (l : Octets) (n : DomainName) → folded n ≡ n
+    → exists z (map to_ascii_lowercase l ∷ n) ≡ exists z (l ∷ n)
 child-exists z l n low =
     ap (λ (m : DomainName). exists z (map to_ascii_lowercase l ∷ m)) (sym low)
-    ∙ exists-lower z (folded (l ∷ n)) (l ∷ n) (lower_twice (l ∷ n)) (length-map (l ∷ n) (map to_ascii_lowercase))
+    ∙ exists-lower z (folded (l ∷ n)) (l ∷ n) (lower_twice (l ∷ n))
+    (length-map (l ∷ n) (map to_ascii_lowercase))
 
-pub child-absent : (z : ZoneContents) (l : Octets) (n : DomainName) → IsBuilt z → 255 < length (wire (l ∷ n)) → exists z (l ∷ n) ≡ false
-child-absent z l n kept long = false_from_ne_true _ (λ e. let fits = exists-fits z (l ∷ n) kept e in absurd (omega arith))
+pub child-absent : (z : ZoneContents) (l : Octets) (n : DomainName) → IsBuilt z
+    → 255 < length (wire (l ∷ n)) → exists z (l ∷ n) ≡ false
+child-absent z l n kept long =
+    false_from_ne_true _ (λ e. let fits = exists-fits z (l ∷ n) kept e in absurd (omega arith))
 
-pub child-node : (z : ZoneContents) (l : Octets) (n : DomainName) → IsNode z n → exists z (map to_ascii_lowercase l ∷ n) ≡ true → IsNode z (map to_ascii_lowercase l ∷ n)
+pub child-node : (z : ZoneContents) (l : Octets) (n : DomainName) → IsNode z n
+    → exists z (map to_ascii_lowercase l ∷ n) ≡ true → IsNode z (map to_ascii_lowercase l ∷ n)
 child-node z l n node e = record {
   built = node.built;
-  lower = ap (λ (m : DomainName). map to_ascii_lowercase (map to_ascii_lowercase l) ∷ m) node.lower ∙ ap (λ (m : DomainName). m ++ n) (lower_twice (l ∷ []));
+  lower =
+      ap (λ (m : DomainName). map to_ascii_lowercase (map to_ascii_lowercase l) ∷ m) node.lower
+      ∙ ap (λ (m : DomainName). m ++ n) (lower_twice (l ∷ []));
   stands = e;
 }

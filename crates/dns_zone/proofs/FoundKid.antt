@@ -1,5 +1,5 @@
 -- A label among those of children, which rise.
-use Rattle.std.proofs.Common.{◌≡◌, ℕ, zero, suc, ◌+◌, ◌-◌, ◌/◌, ◌<◌, ◌≤◌, ◌⊎◌, inl, inr, List, [], ◌∷◌, map, length, get_or, sym, ap, ◌∙◌, add-one, arith, subst, is_lt, is_gt, Less, Equal, Greater}
+use Rattle.std.proofs.Common.{◌≡◌, ℕ, zero, suc, ◌+◌, ◌/◌, ◌<◌, ◌≤◌, ◌⊎◌, inl, inr, List, [], ◌∷◌, map, length, get_or, sym, ap, ◌∙◌, add-one, arith, subst, is_lt, is_gt, Less, Equal, Greater}
 use Rattle.std.proofs.lemmas.Bool.{cases_lt, false≢true}
 use Rattle.std.proofs.lemmas.Cmp.{nat_list_cmp_total, tied_itself}
 use Rattle.std.proofs.lemmas.List.{get_or-map, length-map}
@@ -13,23 +13,30 @@ use Rattle.dns_zone.specs.declared.row.Row.{Row}
 use Rattle.dns_zone.proofs.Pairs.{each_get}
 use Rattle.dns_zone.proofs.Spans.{get_or_any}
 
-rises_at : (ls : List Octets) (i j : ℕ) → Rises label_order ls → i < j → j < length ls → label_order (get_or ls i []) (get_or ls j []) ≡ Less
+rises_at : (ls : List Octets) (i j : ℕ) → Rises label_order ls → i < j → j < length ls
+    → label_order (get_or ls i []) (get_or ls j []) ≡ Less
 rises_at [] i j r h l = absurd (omega arith)
 rises_at (x ∷ ls) zero zero r h l = absurd (omega arith)
-rises_at (x ∷ ls) zero (suc j) r h l = each_get (λ y. label_order x y ≡ Less) ls j [] r.0 (omega arith)
+rises_at (x ∷ ls) zero (suc j) r h l =
+    each_get (λ y. label_order x y ≡ Less) ls j [] r.0 (omega arith)
 rises_at (x ∷ ls) (suc i) zero r h l = absurd (omega arith)
 rises_at (x ∷ ls) (suc i) (suc j) r h l = rises_at ls i j r.1 (omega arith) (omega arith)
 
 -- what holds while the children between two places are left to look at
-pub record Searching (rs : List ResourceRecord) (kids : List Row) (label : Octets) (low high turn : ℕ) : Type 0 where
+pub record Searching (rs : List ResourceRecord) (kids : List Row) (label : Octets)
+    (low high turn : ℕ) : Type 0 where
   pub order : low ≤ high
   pub inside : high ≤ length kids
   pub room : high ≤ low + room_after turn
   pub before : (k : ℕ) → k < low → label_order (row_label rs (row_at kids k)) label ≡ Less
-  pub behind : (k : ℕ) → high ≤ k → k < length kids → label_order (row_label rs (row_at kids k)) label ≡ Greater
+  pub behind : (k : ℕ) → high ≤ k → k < length kids
+      → label_order (row_label rs (row_at kids k)) label ≡ Greater
 
-halved : (a b : ℕ) → a ≤ b → a / 2 ≤ b / 2
-halved a b h = omega arith
+-- half of a room, rounded, is the room after one more comparison
+pub half_room : (left turn : ℕ) → left ≤ room_after turn → left / 2 ≤ room_after (turn + 1)
+half_room left turn h =
+    let next : room_after (turn + 1) ≡ room_after turn / 2 = ap room_after (add-one turn) in
+    omega arith
 
 module _ (rs : List ResourceRecord) (kids : List Row) (label : Octets) where
   pub start : length kids ≤ 100000 → Searching rs kids label 0 (length kids) 0
@@ -41,70 +48,96 @@ module _ (rs : List ResourceRecord) (kids : List Row) (label : Octets) where
     behind = λ k l m. absurd (omega arith);
   }
 
+  pub moved : {low high low' high' turn : ℕ} → low' ≡ low → high' ≡ high
+      → Searching rs kids label low high turn → Searching rs kids label low' high' turn
+  moved {low} {high} {low'} {high'} {turn} l h s =
+      subst (λ (k : ℕ). Searching rs kids label k high' turn) (sym l)
+      (subst (λ (k : ℕ). Searching rs kids label low k turn) (sym h) s)
+
   module _ (rising : Rises label_order (map (row_label rs) kids)) where
-    label_at : (k : ℕ) → k < length kids → get_or (map (row_label rs) kids) k [] ≡ row_label rs (row_at kids k)
+    label_at : (k : ℕ) → k < length kids
+        → get_or (map (row_label rs) kids) k [] ≡ row_label rs (row_at kids k)
     label_at k h = get_or-map (row_label rs) kids k _ [] h
 
-    between : (i j : ℕ) → i < j → j < length kids → label_order (row_label rs (row_at kids i)) (row_label rs (row_at kids j)) ≡ Less
+    between : (i j : ℕ) → i < j → j < length kids
+        → label_order (row_label rs (row_at kids i)) (row_label rs (row_at kids j)) ≡ Less
     between i j h l =
-        subst (λ (x : Octets). label_order x (row_label rs (row_at kids j)) ≡ Less) (label_at i (omega arith))
-        (subst (λ (y : Octets). label_order (get_or (map (row_label rs) kids) i []) y ≡ Less) (label_at j l)
-        (rises_at (map (row_label rs) kids) i j rising h (omega (arith, length-map kids (row_label rs)))))
+        subst (λ (x : Octets). label_order x (row_label rs (row_at kids j)) ≡ Less)
+        (label_at i (omega arith))
+        (subst (λ (y : Octets). label_order (get_or (map (row_label rs) kids) i []) y ≡ Less)
+        (label_at j l)
+        (rises_at (map (row_label rs) kids) i j rising h
+        (omega (arith, length-map kids (row_label rs)))))
 
-    module _ (low high turn : ℕ) (s : Searching rs kids label low high turn) (middle : ℕ) (is_middle : middle ≡ low + (high - low) / 2) (some : low < high) where
-      inside : middle < length kids
-      inside = let a = s.inside in omega arith
-
-      next_room : room_after (turn + 1) ≡ room_after turn / 2
-      next_room = ap room_after (add-one turn)
-
-      half : (high - low) / 2 ≤ room_after turn / 2
-      half = let r = s.room in halved (high - low) (room_after turn) (omega arith)
-
-      pub go_right : label_order (row_label rs (row_at kids middle)) label ≡ Less → Searching rs kids label (middle + 1) high (turn + 1)
-      go_right e = record {
+    -- A child between the two places is looked at. The room that is left after it is half of what there was.
+    module _ (low high turn : ℕ) (s : Searching rs kids label low high turn) (middle : ℕ) where
+      pub go_right : label_order (row_label rs (row_at kids middle)) label ≡ Less → middle < high
+          → high ≤ middle + 1 + room_after (turn + 1)
+          → Searching rs kids label (middle + 1) high (turn + 1)
+      go_right e h room = record {
         order = omega arith;
         inside = s.inside;
-        room = omega (arith, next_room, half);
+        room = room;
         before = λ k l. here k (cases_lt k middle) l;
         behind = s.behind;
       }
         where
-          here : (k : ℕ) → (k < middle) ⊎ (middle ≤ k) → k < middle + 1 → label_order (row_label rs (row_at kids k)) label ≡ Less
-          here k (inl l) h = nat_list_cmp_total.trans (row_label rs (row_at kids k)) (row_label rs (row_at kids middle)) label (between k middle l inside) e
-          here k (inr l) h =
+          inside : middle < length kids
+          inside = let a = s.inside in omega arith
+
+          here : (k : ℕ) → (k < middle) ⊎ (middle ≤ k) → k < middle + 1
+              → label_order (row_label rs (row_at kids k)) label ≡ Less
+          here k (inl l) _ =
+              nat_list_cmp_total.trans (row_label rs (row_at kids k))
+              (row_label rs (row_at kids middle)) label (between k middle l inside) e
+          here k (inr l) m =
               let same : middle ≡ k = omega arith in
               subst (λ (j : ℕ). label_order (row_label rs (row_at kids j)) label ≡ Less) same e
 
-      pub go_left : label_order (row_label rs (row_at kids middle)) label ≡ Greater → Searching rs kids label low middle (turn + 1)
-      go_left e = record {
-        order = omega arith;
-        inside = let a = inside in omega arith;
-        room = omega (arith, next_room, half);
+      pub go_left : label_order (row_label rs (row_at kids middle)) label ≡ Greater → low ≤ middle
+          → middle < high → middle ≤ low + room_after (turn + 1)
+          → Searching rs kids label low middle (turn + 1)
+      go_left e order h room = record {
+        order = order;
+        inside = let a = s.inside in omega arith;
+        room = room;
         before = s.before;
-        behind = λ k l h. here k (cases_lt middle k) l h;
+        behind = λ k l m. here k (cases_lt middle k) l m;
       }
         where
-          here : (k : ℕ) → (middle < k) ⊎ (k ≤ middle) → middle ≤ k → k < length kids → label_order (row_label rs (row_at kids k)) label ≡ Greater
-          here k (inl l) m h =
-              let back : label_order label (row_label rs (row_at kids middle)) ≡ Less = nat_list_cmp_total.antisymm label (row_label rs (row_at kids middle)) ∙ ap ordering_reverse e in
-              let on = nat_list_cmp_total.trans label (row_label rs (row_at kids middle)) (row_label rs (row_at kids k)) back (between middle k l h) in
-              nat_list_cmp_total.antisymm (row_label rs (row_at kids k)) label ∙ ap ordering_reverse on
-          here k (inr l) m h =
+          here : (k : ℕ) → (middle < k) ⊎ (k ≤ middle) → middle ≤ k → k < length kids
+              → label_order (row_label rs (row_at kids k)) label ≡ Greater
+          here k (inl l) m g =
+              let back : label_order label (row_label rs (row_at kids middle)) ≡ Less =
+              nat_list_cmp_total.antisymm label (row_label rs (row_at kids middle))
+              ∙ ap ordering_reverse e in
+              let on = nat_list_cmp_total.trans label (row_label rs (row_at kids middle))
+              (row_label rs (row_at kids k)) back (between middle k l g) in
+              nat_list_cmp_total.antisymm (row_label rs (row_at kids k)) label
+              ∙ ap ordering_reverse on
+          here k (inr l) m g =
               let same : middle ≡ k = omega arith in
               subst (λ (j : ℕ). label_order (row_label rs (row_at kids j)) label ≡ Greater) same e
 
-    pub none_left : (at turn : ℕ) → Searching rs kids label at at turn → Among label (map (row_label rs) kids) → ⊥
+    pub none_left : (at turn : ℕ) → Searching rs kids label at at turn
+        → Among label (map (row_label rs) kids) → ⊥
     none_left at turn s m =
         let c = among_contains label (map (row_label rs) kids) m in
         let l = c.1 in
         let fits : c.0 < length kids = omega (arith, length-map kids (row_label rs)) in
-        let is : row_label rs (row_at kids c.0) ≡ label = sym (label_at c.0 fits) ∙ get_or_any (map (row_label rs) kids) c.0 [] label c.1 ∙ c.2 in
+        let is : row_label rs (row_at kids c.0) ≡ label =
+        sym (label_at c.0 fits) ∙ get_or_any (map (row_label rs) kids) c.0 [] label c.1 ∙ c.2 in
         go c.0 fits is (cases_lt c.0 at)
       where
         tied : label_order label label ≡ Equal
         tied = tied_itself nat_list_cmp_total label
 
-        go : (k : ℕ) → k < length kids → row_label rs (row_at kids k) ≡ label → (k < at) ⊎ (at ≤ k) → ⊥
-        go k h is (inl l) = false≢true (ap is_lt (sym tied ∙ ap (λ (x : Octets). label_order x label) (sym is) ∙ s.before k l))
-        go k h is (inr l) = false≢true (ap is_gt (sym tied ∙ ap (λ (x : Octets). label_order x label) (sym is) ∙ s.behind k l h))
+        go : (k : ℕ) → k < length kids → row_label rs (row_at kids k) ≡ label → (k < at) ⊎ (at ≤ k)
+            → ⊥
+        go k h is (inl l) =
+            false≢true
+            (ap is_lt (sym tied ∙ ap (λ (x : Octets). label_order x label) (sym is) ∙ s.before k l))
+        go k h is (inr l) =
+            false≢true
+            (ap is_gt
+            (sym tied ∙ ap (λ (x : Octets). label_order x label) (sym is) ∙ s.behind k l h))

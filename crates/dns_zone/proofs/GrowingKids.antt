@@ -24,23 +24,29 @@ use Rattle.dns_zone.proofs.Spans.{drop_again, drop_span, take_span, none_before,
 use Rattle.dns_zone.proofs.ChildNames.{cons_under, one_above, labels_in_order, other_below, under-longer}
 use Rattle.dns_zone.proofs.KidRows.{is_under, pairs_drop}
 
-pub row_is : (rs : List ResourceRecord) (row : Row) (n : DomainName) → IsRow rs row n → row_name rs row ≡ n
+pub row_is : (rs : List ResourceRecord) (row : Row) (n : DomainName) → IsRow rs row n
+    → row_name rs row ≡ n
 unfolding row_name
 row_is rs row n h = labels_of_spelled (row_octets rs row) n h.octets h.is_name
 
 -- an element that rises above all
-rises_push : (xs : List Octets) (y : Octets) → Rises label_order xs → Each (λ x. label_order x y ≡ Less) xs → Rises label_order (xs ++ y ∷ [])
+rises_push : (xs : List Octets) (y : Octets) → Rises label_order xs
+    → Each (λ x. label_order x y ≡ Less) xs → Rises label_order (xs ++ y ∷ [])
 rises_push [] y r e = (tt, tt)
-rises_push (x ∷ xs) y r e = (each_push (λ z. label_order x z ≡ Less) xs y r.0 e.0, rises_push xs y r.1 e.1)
+rises_push (x ∷ xs) y r e =
+    (each_push (λ z. label_order x z ≡ Less) xs y r.0 e.0, rises_push xs y r.1 e.1)
 
 -- the children of the records before a place have their rows, behind the rows so far
-pub record Adding (rs : List ResourceRecord) (n : DomainName) (own_end : ℕ) (old new : List Row) (next : ℕ) : Type 0 where
+pub record Adding (rs : List ResourceRecord) (n : DomainName) (own_end : ℕ) (old new : List Row)
+    (next : ℕ) : Type 0 where
   pub kids : List Row
   pub are : new ≡ old ++ kids
   pub each : Each (IsKid rs n) kids
   pub rising : Rises label_order (map (row_label rs) kids)
-  pub ahead : (l : Octets) → list_any (is_under (l ∷ n)) (drop next rs) ≡ true → Each (λ k. label_order k (map to_ascii_lowercase l) ≡ Less) (map (row_label rs) kids)
-  pub all : (l : Octets) → list_any (is_under (l ∷ n)) (take next rs) ≡ true → Among (map to_ascii_lowercase l) (map (row_label rs) kids)
+  pub ahead : (l : Octets) → list_any (is_under (l ∷ n)) (drop next rs) ≡ true
+      → Each (λ k. label_order k (map to_ascii_lowercase l) ≡ Less) (map (row_label rs) kids)
+  pub all : (l : Octets) → list_any (is_under (l ∷ n)) (take next rs) ≡ true
+      → Among (map to_ascii_lowercase l) (map (row_label rs) kids)
   pub few : length kids ≤ next
   pub from : own_end ≤ next
   pub fits : next ≤ length rs
@@ -49,23 +55,34 @@ pub record Adding (rs : List ResourceRecord) (n : DomainName) (own_end : ℕ) (o
 blank : ResourceRecord
 blank = record { owner = []; ttl = 0; rtype = 0; rdata = [] }
 
-module _ (rs : List ResourceRecord) (canonical : IsCanonical rs) (n : DomainName) (row : Row) (is_row : IsRow rs row n) where
-  within : (m : DomainName) → at_or_below m n ≡ true → (xs : List ResourceRecord) → under n xs ≡ [] → under m xs ≡ []
+module _ (rs : List ResourceRecord) (canonical : IsCanonical rs) (n : DomainName) (row : Row)
+    (is_row : IsRow rs row n) where
+  within : (m : DomainName) → at_or_below m n ≡ true → (xs : List ResourceRecord) → under n xs ≡ []
+      → under m xs ≡ []
   within m h xs e =
-      sym (filter_within (is_under n) (is_under m) xs (λ r u. under-trans r.owner m n u h)) ∙ ap (under m) e
+      sym (filter_within (is_under n) (is_under m) xs (λ r u. under-trans r.owner m n u h))
+      ∙ ap (under m) e
 
-  none_own : (m : DomainName) → at_or_below m n ≡ true → length m ≡ suc (length n) → under m (take row.own_end rs) ≡ []
+  none_own : (m : DomainName) → at_or_below m n ≡ true → length m ≡ suc (length n)
+      → under m (take row.own_end rs) ≡ []
   none_own m h len =
-      let order : row.first ≤ row.end = let a = is_row.first_own in let b = is_row.own_end in omega arith in
-      let before : under m (take row.first rs) ≡ [] = within m h (take row.first rs) (none_before (is_under n) rs row.first row.end order is_row.below) in
+      let order : row.first ≤ row.end = let a = is_row.first_own in let b = is_row.own_end in
+      omega arith in
+      let before : under m (take row.first rs) ≡ [] =
+      within m h (take row.first rs)
+      (none_before (is_under n) rs row.first row.end order is_row.below) in
       let own : under m (span rs row.first row.own_end) ≡ [] =
       each_nothing (is_under m) (span rs row.first row.own_end)
       (subst (Each (λ r. is_under m r ≡ false)) (sym is_row.own)
-      (each_weaker (λ (r : ResourceRecord). same r.owner n ≡ true) (λ r. is_under m r ≡ false) (filter (is_at n) rs)
-      (λ r s. false_from_ne_true _ (λ u. let a = under-longer r.owner m u in let b = same-length r.owner n s in absurd (omega arith)))
+      (each_weaker (λ (r : ResourceRecord). same r.owner n ≡ true) (λ r. is_under m r ≡ false)
+      (filter (is_at n) rs)
+      (λ r s. false_from_ne_true _
+      (λ u. let a = under-longer r.owner m u in let b = same-length r.owner n s in
+      absurd (omega arith)))
       (filter_each (is_at n) rs)))
       in
-      ap (under m) (take_span row.first row.own_end rs is_row.first_own) ∙ filter-append (is_under m) (take row.first rs) (span rs row.first row.own_end)
+      ap (under m) (take_span row.first row.own_end rs is_row.first_own)
+      ∙ filter-append (is_under m) (take row.first rs) (span rs row.first row.own_end)
       ∙ ap₂ (λ xs ys. xs ++ ys) before own
 
   pub start : (old : List Row) → Adding rs n row.own_end old old row.own_end
@@ -75,32 +92,47 @@ module _ (rs : List ResourceRecord) (canonical : IsCanonical rs) (n : DomainName
     each = tt;
     rising = tt;
     ahead = λ l h. tt;
-    all = λ l h. absurd (false≢true (sym (any_nothing (is_under (l ∷ n)) (take row.own_end rs) (none_own (l ∷ n) (cons_under l n) refl)) ∙ h));
+    all =
+        λ l h. absurd
+        (false≢true
+        (sym (any_nothing (is_under (l ∷ n)) (take row.own_end rs)
+        (none_own (l ∷ n) (cons_under l n) refl)) ∙ h));
     few = omega arith;
     from = omega arith;
     fits = let a = is_row.own_end in let b = is_row.end_fits in omega arith;
     between = λ m low h len. inl (none_own m h len);
   }
 
-  pub next_is : (old new : List Row) (k : ℕ) → Adding rs n row.own_end old new k → k < row.end → IsNext rs n k
+  pub next_is : (old new : List Row) (k : ℕ) → Adding rs n row.own_end old new k → k < row.end
+      → IsNext rs n k
   next_is old new k a h =
-      let order : row.first ≤ row.end = let a = is_row.first_own in let b = is_row.own_end in omega arith in
+      let order : row.first ≤ row.end = let a = is_row.first_own in let b = is_row.own_end in
+      omega arith in
       let end = is_row.end_fits in
       let from = a.from in
       let first = is_row.first_own in
       let inside : k < length rs = omega arith in
-      let at : get_or (owners rs) k [] ≡ (get_or rs k blank).owner = get_or-map (λ (r : ResourceRecord). r.owner) rs k blank [] inside in
-      let under_it = in_span (is_under n) rs row.first row.end order is_row.below k blank (omega arith) h is_row.end_fits in
-      let none : filter (is_at n) (drop row.own_end rs) ≡ [] = none_behind (is_at n) rs row.first row.own_end is_row.first_own is_row.own in
-      let other = nothing_there (is_at n) rs k blank (nothing_further (is_at n) rs row.own_end k a.from none) inside in
+      let at : get_or (owners rs) k [] ≡ (get_or rs k blank).owner =
+      get_or-map (λ (r : ResourceRecord). r.owner) rs k blank [] inside in
+      let under_it =
+      in_span (is_under n) rs row.first row.end order is_row.below k blank (omega arith) h
+      is_row.end_fits in
+      let none : filter (is_at n) (drop row.own_end rs) ≡ [] =
+      none_behind (is_at n) rs row.first row.own_end is_row.first_own is_row.own in
+      let other =
+      nothing_there (is_at n) rs k blank
+      (nothing_further (is_at n) rs row.own_end k a.from none) inside in
       record {
         lower = is_row.lower;
         fits = inside;
-        under_it = subst (λ (m : DomainName). below m n ≡ true) (sym at) (other_below (get_or rs k blank).owner n under_it other);
+        under_it =
+            subst (λ (m : DomainName). below m n ≡ true) (sym at)
+            (other_below (get_or rs k blank).owner n under_it other);
         between = a.between;
       }
 
-  module _ (old new : List Row) (k : ℕ) (a : Adding rs n row.own_end old new k) (kid : Row) (h : IsKidAt rs n k kid) where
+  module _ (old new : List Row) (k : ℕ) (a : Adding rs n row.own_end old new k) (kid : Row)
+      (h : IsKidAt rs n k kid) where
     m : DomainName
     m = h.kid.label ∷ n
 
@@ -134,50 +166,71 @@ module _ (rs : List ResourceRecord) (canonical : IsCanonical rs) (n : DomainName
 
     first_under : is_under m first ≡ true
     unfolding first
-    first_under = in_span (is_under m) rs k kid.end order group k blank (omega arith) h.more is_kid.end_fits
+    first_under =
+        in_span (is_under m) rs k kid.end order group k blank (omega arith) h.more is_kid.end_fits
 
     rest : drop k rs ≡ first ∷ drop (k + 1) rs
     unfolding first
     rest = drop_more rs k blank k_inside
 
     any_here : list_any (is_under m) (drop k rs) ≡ true
-    any_here = any_there (is_under m) (drop k rs) first (subst (Among first) (sym rest) (inl refl)) first_under
+    any_here =
+        any_there (is_under m) (drop k rs) first (subst (Among first) (sym rest) (inl refl))
+        first_under
 
-    any_later : (p : ResourceRecord → Bool) → list_any p (drop kid.end rs) ≡ true → list_any p (drop k rs) ≡ true
+    any_later : (p : ResourceRecord → Bool) → list_any p (drop kid.end rs) ≡ true
+        → list_any p (drop k rs) ≡ true
     any_later p e =
-        ap (list_any p) (drop_span k kid.end rs order) ∙ any_append p (span rs k kid.end) (drop kid.end rs) ∙ or_right (list_any p (span rs k kid.end)) _ e
+        ap (list_any p) (drop_span k kid.end rs order)
+        ∙ any_append p (span rs k kid.end) (drop kid.end rs)
+        ∙ or_right (list_any p (span rs k kid.end)) _ e
 
     after_first : Each (OwnerNotAfter first) (drop kid.end rs)
     after_first =
-        let all = (subst (Pairs OwnerNotAfter) rest (pairs_drop OwnerNotAfter k rs (owners_in_order rs canonical.ordered))).0 in
+        let all =
+        (subst (Pairs OwnerNotAfter) rest
+        (pairs_drop OwnerNotAfter k rs (owners_in_order rs canonical.ordered))).0 in
         let b = h.more in
         let at : (k + 1) + (kid.end - (k + 1)) ≡ kid.end = omega arith in
-        subst (Each (OwnerNotAfter first)) (drop_again (k + 1) (kid.end - (k + 1)) rs ∙ ap (λ i. drop i rs) at)
+        subst (Each (OwnerNotAfter first))
+        (drop_again (k + 1) (kid.end - (k + 1)) rs ∙ ap (λ i. drop i rs) at)
         (each_drop (OwnerNotAfter first) (kid.end - (k + 1)) (drop (k + 1) rs) all)
 
     -- the same name in lower case
-    lower_child : (s : ResourceRecord) (l : Octets) → is_under (l ∷ n) s ≡ true → is_under (map to_ascii_lowercase l ∷ n) s ≡ true
+    lower_child : (s : ResourceRecord) (l : Octets) → is_under (l ∷ n) s ≡ true
+        → is_under (map to_ascii_lowercase l ∷ n) s ≡ true
     lower_child s l u =
-        sym (under-lower s.owner (l ∷ n) (map to_ascii_lowercase l ∷ n) (ap (λ (x : DomainName). x ++ folded n) (sym (lower_twice (l ∷ [])))) refl) ∙ u
+        sym (under-lower s.owner (l ∷ n) (map to_ascii_lowercase l ∷ n)
+        (ap (λ (x : DomainName). x ++ folded n) (sym (lower_twice (l ∷ [])))) refl) ∙ u
 
-    labels_now : map (row_label rs) (a.kids ++ kid ∷ []) ≡ map (row_label rs) a.kids ++ row_label rs kid ∷ []
+    labels_now : map (row_label rs) (a.kids ++ kid ∷ []) ≡ map (row_label rs) a.kids
+        ++ row_label rs kid ∷ []
     labels_now = map-append (row_label rs) a.kids (kid ∷ [])
 
-    later : (l : Octets) → list_any (is_under (l ∷ n)) (drop kid.end rs) ≡ true → label_order (row_label rs kid) (map to_ascii_lowercase l) ≡ Less
+    later : (l : Octets) → list_any (is_under (l ∷ n)) (drop kid.end rs) ≡ true
+        → label_order (row_label rs kid) (map to_ascii_lowercase l) ≡ Less
     unfolding m
     later l e =
         let s = some_passes (is_under (l ∷ n)) (drop kid.end rs) e in
         let l' = map to_ascii_lowercase l in
         let under_l = lower_child s.0 l s.2 in
         let lower_l : map to_ascii_lowercase l' ≡ l' = ap first_of (lower_twice (l ∷ [])) in
-        let not_gt = labels_in_order first.owner s.0.owner n h.kid.label l' is_row.lower label_lower lower_l first_under under_l (each_at (OwnerNotAfter first) s.0 (drop kid.end rs) after_first s.1) in
+        let not_gt =
+        labels_in_order first.owner s.0.owner n h.kid.label l' is_row.lower label_lower lower_l
+        first_under under_l
+        (each_at (OwnerNotAfter first) s.0 (drop kid.end rs) after_first s.1) in
         let apart : h.kid.label ≡ l' → ⊥ =
-        λ q. false≢true (sym (each_at (λ r. is_under m r ≡ false) s.0 (drop kid.end rs) (nothing_each (is_under m) (drop kid.end rs) none_after) s.1)
+        λ q. false≢true
+        (sym (each_at (λ r. is_under m r ≡ false) s.0 (drop kid.end rs)
+        (nothing_each (is_under m) (drop kid.end rs) none_after) s.1)
         ∙ ap (λ (x : Octets). is_under (x ∷ n) s.0) q ∙ under_l)
         in
-        ap (λ (x : Octets). label_order x l') label_is ∙ less h.kid.label l' (label_order h.kid.label l') refl not_gt (λ q. apart (label-tie h.kid.label l' q))
+        ap (λ (x : Octets). label_order x l') label_is
+        ∙ less h.kid.label l' (label_order h.kid.label l') refl not_gt
+        (λ q. apart (label-tie h.kid.label l' q))
       where
-        less : (x y : Octets) (c : Ordering) → label_order x y ≡ c → is_gt c ≡ false → (label_order x y ≡ Equal → ⊥) → c ≡ Less
+        less : (x y : Octets) (c : Ordering) → label_order x y ≡ c → is_gt c ≡ false
+            → (label_order x y ≡ Equal → ⊥) → c ≡ Less
         less x y Less q g f = refl
         less x y Equal q g f = absurd (f q)
         less x y Greater q g f = absurd (true≢false g)
@@ -188,25 +241,34 @@ module _ (rs : List ResourceRecord) (canonical : IsCanonical rs) (n : DomainName
     before_it : Each (λ x. label_order x (row_label rs kid) ≡ Less) (map (row_label rs) a.kids)
     unfolding m
     before_it =
-        subst (λ (y : Octets). Each (λ x. label_order x y ≡ Less) (map (row_label rs) a.kids)) (label_lower ∙ sym label_is) (a.ahead h.kid.label any_here)
+        subst (λ (y : Octets). Each (λ x. label_order x y ≡ Less) (map (row_label rs) a.kids))
+        (label_lower ∙ sym label_is) (a.ahead h.kid.label any_here)
 
-    all_now : (l : Octets) → list_any (is_under (l ∷ n)) (take kid.end rs) ≡ true → Among (map to_ascii_lowercase l) (map (row_label rs) (a.kids ++ kid ∷ []))
+    all_now : (l : Octets) → list_any (is_under (l ∷ n)) (take kid.end rs) ≡ true
+        → Among (map to_ascii_lowercase l) (map (row_label rs) (a.kids ++ kid ∷ []))
     unfolding m
     all_now l e =
         let p = is_under (l ∷ n) in
         subst (Among (map to_ascii_lowercase l)) (sym labels_now)
-        (go (or_cases (list_any p (take k rs)) (list_any p (under m rs)) (sym (any_append p (take k rs) (under m rs)) ∙ ap (list_any p) (sym take_now) ∙ e)))
+        (go (or_cases (list_any p (take k rs)) (list_any p (under m rs))
+        (sym (any_append p (take k rs) (under m rs)) ∙ ap (list_any p) (sym take_now) ∙ e)))
       where
-        go : (list_any (is_under (l ∷ n)) (take k rs) ≡ true) ⊎ (list_any (is_under (l ∷ n)) (under m rs) ≡ true)
+        go : (list_any (is_under (l ∷ n)) (take k rs) ≡ true)
+            ⊎ (list_any (is_under (l ∷ n)) (under m rs) ≡ true)
             → Among (map to_ascii_lowercase l) (map (row_label rs) a.kids ++ row_label rs kid ∷ [])
-        go (inl f) = among_left (map to_ascii_lowercase l) (map (row_label rs) a.kids) (row_label rs kid ∷ []) (a.all l f)
+        go (inl f) =
+            among_left (map to_ascii_lowercase l) (map (row_label rs) a.kids)
+            (row_label rs kid ∷ []) (a.all l f)
         go (inr f) =
             let s = some_passes (is_under (l ∷ n)) (under m rs) f in
             let one : m ≡ map to_ascii_lowercase l ∷ n =
-            one_above s.0.owner m (map to_ascii_lowercase l ∷ n) (filter_test (is_under m) s.0 rs s.1) (lower_child s.0 l s.2) refl is_kid.lower
-            (ap₂ (λ (x : Octets) (y : DomainName). x ∷ y) (ap first_of (lower_twice (l ∷ []))) is_row.lower)
+            one_above s.0.owner m (map to_ascii_lowercase l ∷ n)
+            (filter_test (is_under m) s.0 rs s.1) (lower_child s.0 l s.2) refl is_kid.lower
+            (ap₂ (λ (x : Octets) (y : DomainName). x ∷ y) (ap first_of (lower_twice (l ∷ [])))
+            is_row.lower)
             in
-            among_right (map to_ascii_lowercase l) (map (row_label rs) a.kids) (row_label rs kid ∷ []) (inl (sym (ap first_of one) ∙ sym label_is))
+            among_right (map to_ascii_lowercase l) (map (row_label rs) a.kids)
+            (row_label rs kid ∷ []) (inl (sym (ap first_of one) ∙ sym label_is))
 
     between_now : IsBetween rs n kid.end
     unfolding m
@@ -216,15 +278,25 @@ module _ (rs : List ResourceRecord) (canonical : IsCanonical rs) (n : DomainName
         other q =
             each_nothing (is_under m') (under m rs)
             (each_weaker (λ r. is_under m r ≡ true) (λ r. is_under m' r ≡ false) (under m rs)
-            (λ r u. false_from_ne_true _ (λ v. false≢true (sym q ∙ (names_equal-decides m' m).1 (one_above r.owner m' m v u len low is_kid.lower))))
+            (λ r u. false_from_ne_true _
+            (λ v. false≢true
+            (sym q ∙ (names_equal-decides m' m).1
+            (one_above r.owner m' m v u len low is_kid.lower))))
             (filter_each (is_under m) rs))
 
-        side : (names_equal m' m ≡ false) → (under m' (take k rs) ≡ []) ⊎ (under m' (drop k rs) ≡ []) → (under m' (take kid.end rs) ≡ []) ⊎ (under m' (drop kid.end rs) ≡ [])
-        side q (inl e) = inl (ap (under m') take_now ∙ filter-append (is_under m') (take k rs) (under m rs) ∙ ap₂ (λ xs ys. xs ++ ys) e (other q))
+        side : (names_equal m' m ≡ false)
+            → (under m' (take k rs) ≡ []) ⊎ (under m' (drop k rs) ≡ [])
+            → (under m' (take kid.end rs) ≡ []) ⊎ (under m' (drop kid.end rs) ≡ [])
+        side q (inl e) =
+            inl (ap (under m') take_now ∙ filter-append (is_under m') (take k rs) (under m rs)
+            ∙ ap₂ (λ xs ys. xs ++ ys) e (other q))
         side q (inr e) = inr (nothing_further (is_under m') rs k kid.end order e)
 
-        go : (t : Bool) → names_equal m' m ≡ t → (under m' (take kid.end rs) ≡ []) ⊎ (under m' (drop kid.end rs) ≡ [])
-        go true q = inr (subst (λ (x : DomainName). under x (drop kid.end rs) ≡ []) (sym ((names_equal-decides m' m).0 q)) none_after)
+        go : (t : Bool) → names_equal m' m ≡ t
+            → (under m' (take kid.end rs) ≡ []) ⊎ (under m' (drop kid.end rs) ≡ [])
+        go true q =
+            inr (subst (λ (x : DomainName). under x (drop kid.end rs) ≡ [])
+            (sym ((names_equal-decides m' m).0 q)) none_after)
         go false q = side q (a.between m' low under_n len)
 
     pub step : Adding rs n row.own_end old (new ++ kid ∷ []) kid.end
@@ -232,9 +304,15 @@ module _ (rs : List ResourceRecord) (canonical : IsCanonical rs) (n : DomainName
       kids = a.kids ++ kid ∷ [];
       are = ap (λ xs. xs ++ kid ∷ []) a.are ∙ append_assoc old a.kids (kid ∷ []);
       each = each_push (IsKid rs n) a.kids kid a.each h.kid;
-      rising = subst (Rises label_order) (sym labels_now) (rises_push (map (row_label rs) a.kids) (row_label rs kid) a.rising before_it);
-      ahead = λ l e. subst (Each (λ k. label_order k (map to_ascii_lowercase l) ≡ Less)) (sym labels_now)
-          (each_push (λ k. label_order k (map to_ascii_lowercase l) ≡ Less) (map (row_label rs) a.kids) (row_label rs kid) (a.ahead l (any_later (is_under (l ∷ n)) e)) (later l e));
+      rising =
+          subst (Rises label_order) (sym labels_now)
+          (rises_push (map (row_label rs) a.kids) (row_label rs kid) a.rising before_it);
+      ahead =
+          λ l e. subst (Each (λ k. label_order k (map to_ascii_lowercase l) ≡ Less))
+          (sym labels_now)
+          (each_push (λ k. label_order k (map to_ascii_lowercase l) ≡ Less)
+          (map (row_label rs) a.kids) (row_label rs kid)
+          (a.ahead l (any_later (is_under (l ∷ n)) e)) (later l e));
       all = all_now;
       few = let b = h.more in let c = a.few in omega (arith, length-append a.kids (kid ∷ []));
       from = let b = h.more in let c = a.from in omega arith;
@@ -243,9 +321,11 @@ module _ (rs : List ResourceRecord) (canonical : IsCanonical rs) (n : DomainName
     }
 
   -- all children have theirs
-  pub done : (old new : List Row) (k : ℕ) → Adding rs n row.own_end old new k → row.end ≤ k → AddsKids rs n old new
+  pub done : (old new : List Row) (k : ℕ) → Adding rs n row.own_end old new k → row.end ≤ k
+      → AddsKids rs n old new
   done old new k a h =
-      let behind : drop (length old) new ≡ a.kids = ap (drop (length old)) a.are ∙ drop_at old a.kids _ refl in
+      let behind : drop (length old) new ≡ a.kids =
+      ap (drop (length old)) a.are ∙ drop_at old a.kids _ refl in
       record {
         longer = omega (arith, ap length a.are, length-append old a.kids);
         kept = ap (take (length old)) a.are ∙ take_at old a.kids _ refl;
@@ -263,12 +343,20 @@ module _ (rs : List ResourceRecord) (canonical : IsCanonical rs) (n : DomainName
       none : (l : Octets) → under (l ∷ n) (drop k rs) ≡ []
       none l =
           within (l ∷ n) (cons_under l n) (drop k rs)
-          (nothing_further (is_under n) rs row.end k h (none_behind (is_under n) rs row.first row.end order is_row.below))
+          (nothing_further (is_under n) rs row.end k h
+          (none_behind (is_under n) rs row.first row.end order is_row.below))
 
-      found : (l : Octets) → list_any (is_under (l ∷ n)) rs ≡ true → list_any (is_under (l ∷ n)) (take k rs) ≡ true
-      found l e = go (or_cases (list_any (is_under (l ∷ n)) (take k rs)) (list_any (is_under (l ∷ n)) (drop k rs))
-          (sym (any_append (is_under (l ∷ n)) (take k rs) (drop k rs)) ∙ ap (list_any (is_under (l ∷ n))) (take-append-drop k rs) ∙ e))
+      found : (l : Octets) → list_any (is_under (l ∷ n)) rs ≡ true
+          → list_any (is_under (l ∷ n)) (take k rs) ≡ true
+      found l e =
+          go (or_cases (list_any (is_under (l ∷ n)) (take k rs))
+          (list_any (is_under (l ∷ n)) (drop k rs))
+          (sym (any_append (is_under (l ∷ n)) (take k rs) (drop k rs))
+          ∙ ap (list_any (is_under (l ∷ n))) (take-append-drop k rs) ∙ e))
         where
-          go : (list_any (is_under (l ∷ n)) (take k rs) ≡ true) ⊎ (list_any (is_under (l ∷ n)) (drop k rs) ≡ true) → list_any (is_under (l ∷ n)) (take k rs) ≡ true
+          go : (list_any (is_under (l ∷ n)) (take k rs) ≡ true)
+              ⊎ (list_any (is_under (l ∷ n)) (drop k rs) ≡ true)
+              → list_any (is_under (l ∷ n)) (take k rs) ≡ true
           go (inl f) = f
-          go (inr f) = absurd (false≢true (sym (any_nothing (is_under (l ∷ n)) (drop k rs) (none l)) ∙ f))
+          go (inr f) =
+              absurd (false≢true (sym (any_nothing (is_under (l ∷ n)) (drop k rs) (none l)) ∙ f))

@@ -12,7 +12,8 @@ use Rattle.dns_zone.proofs.Spans.{span_front}
 use Rattle.dns_zone.proofs.GrowingKids.{row_is}
 
 -- the rows before row i have their children
-pub record Growing (o : DomainName) (rs : List ResourceRecord) (rows : List Row) (bounds : List ℕ) (i : ℕ) : Type 0 where
+pub record Growing (o : DomainName) (rs : List ResourceRecord) (rows : List Row) (bounds : List ℕ)
+    (i : ℕ) : Type 0 where
   pub origin : IsRow rs (row_at rows 0) o
   pub some : 0 < length rows
   pub upto : i ≤ length rows
@@ -23,10 +24,12 @@ pub record Growing (o : DomainName) (rs : List ResourceRecord) (rows : List Row)
   pub within : (k : ℕ) → k < i → get_or bounds (k + 1) 0 ≤ length rows
   pub kids : (k : ℕ) → k < i → AreKids rs (row_name rs (row_at rows k)) (kids_at rows bounds k)
 
-pub own_name : (rs : List ResourceRecord) (row : Row) (n : DomainName) → IsRow rs row n → IsRow rs row (row_name rs row)
+pub own_name : (rs : List ResourceRecord) (row : Row) (n : DomainName) → IsRow rs row n
+    → IsRow rs row (row_name rs row)
 own_name rs row n h = subst (IsRow rs row) (sym (row_is rs row n h)) h
 
-pub begin : (o : DomainName) (rs : List ResourceRecord) (row : Row) → IsRow rs row o → Growing o rs (row ∷ []) (1 ∷ []) 0
+pub begin : (o : DomainName) (rs : List ResourceRecord) (row : Row) → IsRow rs row o
+    → Growing o rs (row ∷ []) (1 ∷ []) 0
 begin o rs row h = record {
   origin = h;
   some = omega arith;
@@ -43,13 +46,17 @@ begin o rs row h = record {
     only zero l = own_name rs row o h
     only (suc k) l = absurd (omega arith)
 
-module _ (o : DomainName) (rs : List ResourceRecord) (rows : List Row) (bounds : List ℕ) (i : ℕ) (g : Growing o rs rows bounds i) where
-  module _ (h : i < length rows) (rows' : List Row) (a : AddsKids rs (row_name rs (row_at rows i)) rows rows') where
+module _ (o : DomainName) (rs : List ResourceRecord) (rows : List Row) (bounds : List ℕ) (i : ℕ)
+    (g : Growing o rs rows bounds i) where
+  module _ (h : i < length rows) (rows' : List Row)
+      (a : AddsKids rs (row_name rs (row_at rows i)) rows rows') where
     abbrev bounds' : List ℕ
     bounds' = bounds ++ length rows' ∷ []
 
     whole : rows' ≡ rows ++ drop (length rows) rows'
-    whole = sym (take-append-drop (length rows) rows') ∙ ap (λ xs. xs ++ drop (length rows) rows') a.kept
+    whole =
+        sym (take-append-drop (length rows) rows')
+        ∙ ap (λ xs. xs ++ drop (length rows) rows') a.kept
 
     keep : (k : ℕ) → k < length rows → row_at rows' k ≡ row_at rows k
     keep k l = sym (get_or-take (length rows) rows' k _ l) ∙ ap (λ xs. row_at xs k) a.kept
@@ -70,22 +77,29 @@ module _ (o : DomainName) (rs : List ResourceRecord) (rows : List Row) (bounds :
     each_now : (k : ℕ) → k < length rows' → IsRow rs (row_at rows' k) (row_name rs (row_at rows' k))
     each_now k l = go (cases_lt k (length rows))
       where
-        go : (k < length rows) ⊎ (length rows ≤ k) → IsRow rs (row_at rows' k) (row_name rs (row_at rows' k))
+        go : (k < length rows) ⊎ (length rows ≤ k)
+            → IsRow rs (row_at rows' k) (row_name rs (row_at rows' k))
         go (inl m) = subst (λ (r : Row). IsRow rs r (row_name rs r)) (sym (keep k m)) (g.each k m)
         go (inr m) =
             let d : Row = record { first = 0; own_end = 0; end = 0; place = 0 } in
             let n = row_name rs (row_at rows i) in
-            let fits : k - length rows < length (drop (length rows) rows') = omega (arith, length-drop (length rows) rows') in
+            let fits : k - length rows < length (drop (length rows) rows') =
+            omega (arith, length-drop (length rows) rows') in
             let at : length rows + (k - length rows) ≡ k = omega arith in
-            let kid = each_get (IsKid rs n) (drop (length rows) rows') (k - length rows) d a.kids.each fits in
-            let there : get_or (drop (length rows) rows') (k - length rows) d ≡ row_at rows' k = get_or-drop (length rows) rows' (k - length rows) d ∙ ap (row_at rows') at in
-            subst (λ (r : Row). IsRow rs r (row_name rs r)) there (own_name rs _ (kid.label ∷ n) kid.is_row)
+            let kid =
+            each_get (IsKid rs n) (drop (length rows) rows') (k - length rows) d a.kids.each
+            fits in
+            let there : get_or (drop (length rows) rows') (k - length rows) d ≡ row_at rows' k =
+            get_or-drop (length rows) rows' (k - length rows) d ∙ ap (row_at rows') at in
+            subst (λ (r : Row). IsRow rs r (row_name rs r)) there
+            (own_name rs _ (kid.label ∷ n) kid.is_row)
 
     rise_now : (k : ℕ) → k < i + 1 → get_or bounds' k 0 ≤ get_or bounds' (k + 1) 0
     rise_now k l = go (now k l)
       where
         go : (k < i) ⊎ (k ≡ i) → get_or bounds' k 0 ≤ get_or bounds' (k + 1) 0
-        go (inl m) = let r = g.rise k m in omega (arith, bound k (omega arith), bound (k + 1) (omega arith))
+        go (inl m) =
+            let r = g.rise k m in omega (arith, bound k (omega arith), bound (k + 1) (omega arith))
         go (inr m) =
             subst (λ (j : ℕ). get_or bounds' j 0 ≤ get_or bounds' (j + 1) 0) (sym m)
             (let c = a.longer in omega (arith, bound i (omega arith), g.last, last_bound))
@@ -94,10 +108,14 @@ module _ (o : DomainName) (rs : List ResourceRecord) (rows : List Row) (bounds :
     within_now k l = go (now k l)
       where
         go : (k < i) ⊎ (k ≡ i) → get_or bounds' (k + 1) 0 ≤ length rows'
-        go (inl m) = let w = g.within k m in let c = a.longer in omega (arith, bound (k + 1) (omega arith))
-        go (inr m) = subst (λ (j : ℕ). get_or bounds' (j + 1) 0 ≤ length rows') (sym m) (omega (arith, last_bound))
+        go (inl m) =
+            let w = g.within k m in let c = a.longer in omega (arith, bound (k + 1) (omega arith))
+        go (inr m) =
+            subst (λ (j : ℕ). get_or bounds' (j + 1) 0 ≤ length rows') (sym m)
+            (omega (arith, last_bound))
 
-    kids_now : (k : ℕ) → k < i + 1 → AreKids rs (row_name rs (row_at rows' k)) (kids_at rows' bounds' k)
+    kids_now : (k : ℕ) → k < i + 1
+        → AreKids rs (row_name rs (row_at rows' k)) (kids_at rows' bounds' k)
     kids_now k l = go (now k l)
       where
         go : (k < i) ⊎ (k ≡ i) → AreKids rs (row_name rs (row_at rows' k)) (kids_at rows' bounds' k)
@@ -107,19 +125,24 @@ module _ (o : DomainName) (rs : List ResourceRecord) (rows : List Row) (bounds :
             ap (λ (b : ℕ). span rows' b (get_or bounds' (k + 1) 0)) (bound k (omega arith))
             ∙ ap (λ (b : ℕ). span rows' (get_or bounds k 0) b) (bound (k + 1) (omega arith))
             ∙ ap (λ xs. span xs (get_or bounds k 0) (get_or bounds (k + 1) 0)) whole
-            ∙ span_front rows (drop (length rows) rows') (get_or bounds k 0) (get_or bounds (k + 1) 0) (g.within k m)
+            ∙ span_front rows (drop (length rows) rows') (get_or bounds k 0)
+            (get_or bounds (k + 1) 0) (g.within k m)
             in
             let named : row_at rows' k ≡ row_at rows k = keep k (omega arith) in
-            subst (λ (r : Row). AreKids rs (row_name rs r) (kids_at rows' bounds' k)) (sym named) (subst (AreKids rs (row_name rs (row_at rows k))) (sym same) (g.kids k m))
+            subst (λ (r : Row). AreKids rs (row_name rs r) (kids_at rows' bounds' k)) (sym named)
+            (subst (AreKids rs (row_name rs (row_at rows k))) (sym same) (g.kids k m))
         go (inr m) =
             let same : kids_at rows' bounds' i ≡ drop (length rows) rows' =
             ap (λ (b : ℕ). span rows' b (get_or bounds' (i + 1) 0)) (bound i (omega arith) ∙ g.last)
             ∙ ap (λ (b : ℕ). span rows' (length rows) b) last_bound
-            ∙ take_all (length rows' - length rows) (drop (length rows) rows') (omega (arith, length-drop (length rows) rows'))
+            ∙ take_all (length rows' - length rows) (drop (length rows) rows')
+            (omega (arith, length-drop (length rows) rows'))
             in
             let named : row_at rows' i ≡ row_at rows i = keep i h in
-            subst (λ (j : ℕ). AreKids rs (row_name rs (row_at rows' j)) (kids_at rows' bounds' j)) (sym m)
-            (subst (λ (r : Row). AreKids rs (row_name rs r) (kids_at rows' bounds' i)) (sym named) (subst (AreKids rs (row_name rs (row_at rows i))) (sym same) a.kids))
+            subst (λ (j : ℕ). AreKids rs (row_name rs (row_at rows' j)) (kids_at rows' bounds' j))
+            (sym m)
+            (subst (λ (r : Row). AreKids rs (row_name rs r) (kids_at rows' bounds' i)) (sym named)
+            (subst (AreKids rs (row_name rs (row_at rows i))) (sym same) a.kids))
 
     pub advance : Growing o rs rows' bounds' (i + 1)
     advance = record {

@@ -25,13 +25,15 @@ use Rattle.dns_zone.proofs.AtName.{unmoved, record_order_total, ordered_records,
 abbrev pub is_under : DomainName → ResourceRecord → Bool
 is_under m r = at_or_below r.owner m
 
-pub pairs_drop : {X : Type 0} (R : X → X → Type 0) (k : ℕ) (xs : List X) → Pairs R xs → Pairs R (drop k xs)
+pub pairs_drop : {X : Type 0} (R : X → X → Type 0) (k : ℕ) (xs : List X) → Pairs R xs
+    → Pairs R (drop k xs)
 pairs_drop R zero xs h = h
 pairs_drop R (suc k) [] h = h
 pairs_drop R (suc k) (x ∷ xs) h = pairs_drop R k xs h.1
 
 -- records from the first that is at or below a name on
-module _ (m : DomainName) (r : ResourceRecord) (xs : List ResourceRecord) (h : Pairs OwnerNotAfter (r ∷ xs)) (here : at_or_below r.owner m ≡ true) where
+module _ (m : DomainName) (r : ResourceRecord) (xs : List ResourceRecord)
+    (h : Pairs OwnerNotAfter (r ∷ xs)) (here : at_or_below r.owner m ≡ true) where
   not_before : Each (λ (s : ResourceRecord). is_gt (name_order m s.owner) ≡ false) (r ∷ xs)
   not_before = (
     under-order r.owner m here,
@@ -42,32 +44,45 @@ module _ (m : DomainName) (r : ResourceRecord) (xs : List ResourceRecord) (h : P
   pub under_parted : IsPartitionedBy (is_under m) (r ∷ xs)
   under_parted =
       parted (is_under m) (r ∷ xs)
-      (pairs_of (λ (s : ResourceRecord). is_gt (name_order m s.owner) ≡ false) OwnerNotAfter (λ s t. is_under m t ≡ true → is_under m s ≡ true) (r ∷ xs)
+      (pairs_of (λ (s : ResourceRecord). is_gt (name_order m s.owner) ≡ false) OwnerNotAfter
+      (λ s t. is_under m t ≡ true → is_under m s ≡ true) (r ∷ xs)
       (λ s t p q e f. between m s.owner t.owner p e f) not_before h)
 
   each_not_before : Each (λ s. not (is_before m s) ≡ true) (r ∷ xs)
   each_not_before =
-      each_weaker (λ (s : ResourceRecord). is_gt (name_order m s.owner) ≡ false) (λ s. not (is_before m s) ≡ true) (r ∷ xs) turn not_before
+      each_weaker (λ (s : ResourceRecord). is_gt (name_order m s.owner) ≡ false)
+      (λ s. not (is_before m s) ≡ true) (r ∷ xs) turn not_before
     where
-      turn : (s : ResourceRecord) → is_gt (name_order m s.owner) ≡ false → not (is_before m s) ≡ true
+      turn : (s : ResourceRecord) → is_gt (name_order m s.owner) ≡ false
+          → not (is_before m s) ≡ true
       turn s e = go (name_order m s.owner) refl e
         where
-          go : (c : Ordering) → name_order m s.owner ≡ c → is_gt c ≡ false → not (is_before m s) ≡ true
-          go Less f g = ap (λ c. not (is_lt c)) (name_order_total.antisymm s.owner m ∙ ap ordering_reverse f)
-          go Equal f g = ap (λ c. not (is_lt c)) (name_order_total.antisymm s.owner m ∙ ap ordering_reverse f)
+          go : (c : Ordering) → name_order m s.owner ≡ c → is_gt c ≡ false
+              → not (is_before m s) ≡ true
+          go Less f g =
+              ap (λ c. not (is_lt c)) (name_order_total.antisymm s.owner m ∙ ap ordering_reverse f)
+          go Equal f g =
+              ap (λ c. not (is_lt c)) (name_order_total.antisymm s.owner m ∙ ap ordering_reverse f)
           go Greater f g = absurd (true≢false g)
 
   pub at_in_front : AreOrdered (r ∷ xs) → IsPartitionedBy (is_at m) (r ∷ xs)
-  at_in_front o = subst (IsPartitionedBy (is_at m)) (filter_all (λ s. not (is_before m s)) (r ∷ xs) each_not_before) (at_parted m (r ∷ xs) o)
+  at_in_front o =
+      subst (IsPartitionedBy (is_at m))
+      (filter_all (λ s. not (is_before m s)) (r ∷ xs) each_not_before) (at_parted m (r ∷ xs) o)
 
-pub length-take-of : {X : Type 0} (k : ℕ) (xs ys : List X) → k ≤ length xs → take k xs ≡ ys → length ys ≡ k
+pub length-take-of : {X : Type 0} (k : ℕ) (xs ys : List X) → k ≤ length xs → take k xs ≡ ys
+    → length ys ≡ k
 length-take-of k xs ys h e = let l = ap length e in omega (arith, length-take k xs)
 
-pub owner_at : (rs : List ResourceRecord) (k : ℕ) (r : ResourceRecord) → k < length rs → r ≡ get_or rs k r → get_or (owners rs) k [] ≡ r.owner
-owner_at rs k r h e = get_or-map (λ (s : ResourceRecord). s.owner) rs k r [] h ∙ ap (λ (s : ResourceRecord). s.owner) (sym e)
+pub owner_at : (rs : List ResourceRecord) (k : ℕ) (r : ResourceRecord) → k < length rs
+    → r ≡ get_or rs k r → get_or (owners rs) k [] ≡ r.owner
+owner_at rs k r h e =
+    get_or-map (λ (s : ResourceRecord). s.owner) rs k r [] h
+    ∙ ap (λ (s : ResourceRecord). s.owner) (sym e)
 
 -- the next record, and the name that its child has
-module _ (rs : List ResourceRecord) (canonical : IsCanonical rs) (n : DomainName) (next : ℕ) (is_next : IsNext rs n next) (r : ResourceRecord) (r_is : r ≡ get_or rs next r) where
+module _ (rs : List ResourceRecord) (canonical : IsCanonical rs) (n : DomainName) (next : ℕ)
+    (is_next : IsNext rs n next) (r : ResourceRecord) (r_is : r ≡ get_or rs next r) where
   pub owner_is : get_or (owners rs) next [] ≡ r.owner
   owner_is = owner_at rs next r is_next.fits r_is
 
@@ -87,12 +102,16 @@ module _ (rs : List ResourceRecord) (canonical : IsCanonical rs) (n : DomainName
   owner_below = subst (λ (m : DomainName). below m n ≡ true) owner_is is_next.under_it
 
   in_order : Pairs OwnerNotAfter (r ∷ drop (next + 1) rs)
-  in_order = subst (Pairs OwnerNotAfter) rest_is (pairs_drop OwnerNotAfter next rs (owners_in_order rs canonical.ordered))
+  in_order =
+      subst (Pairs OwnerNotAfter) rest_is
+      (pairs_drop OwnerNotAfter next rs (owners_in_order rs canonical.ordered))
 
   ordered_rest : AreOrdered (r ∷ drop (next + 1) rs)
   ordered_rest =
       unmoved record_order record_order_total (r ∷ drop (next + 1) rs)
-      (subst (Pairs (λ s t. is_gt (record_order s t) ≡ false)) rest_is (pairs_drop (λ s t. is_gt (record_order s t) ≡ false) next rs (ordered_records rs canonical.ordered)))
+      (subst (Pairs (λ s t. is_gt (record_order s t) ≡ false)) rest_is
+      (pairs_drop (λ s t. is_gt (record_order s t) ≡ false) next rs
+      (ordered_records rs canonical.ordered)))
 
   module _ (octets : Octets) (child : IsChildOf n (wire r.owner) octets) where
     m : DomainName
@@ -100,19 +119,24 @@ module _ (rs : List ResourceRecord) (canonical : IsCanonical rs) (n : DomainName
 
     under_it : at_or_below r.owner m ≡ true
     unfolding m
-    under_it = subst (λ (k : DomainName). at_or_below r.owner k ≡ true) child.labels (subst (λ (k : DomainName). at_or_below k (labels_of octets) ≡ true) (labels_of-wire r.owner owner_name) child.above)
+    under_it =
+        subst (λ (k : DomainName). at_or_below r.owner k ≡ true) child.labels
+        (subst (λ (k : DomainName). at_or_below k (labels_of octets) ≡ true)
+        (labels_of-wire r.owner owner_name) child.above)
 
     pub under_front : IsPartitionedBy (is_under (labels_of octets)) (drop next rs)
     unfolding m
     under_front =
         subst (λ (k : DomainName). IsPartitionedBy (is_under k) (drop next rs)) (sym child.labels)
-        (subst (IsPartitionedBy (is_under m)) (sym rest_is) (under_parted m r (drop (next + 1) rs) in_order under_it))
+        (subst (IsPartitionedBy (is_under m)) (sym rest_is)
+        (under_parted m r (drop (next + 1) rs) in_order under_it))
 
     pub own_front : IsPartitionedBy (is_at (labels_of octets)) (drop next rs)
     unfolding m
     own_front =
         subst (λ (k : DomainName). IsPartitionedBy (is_at k) (drop next rs)) (sym child.labels)
-        (subst (IsPartitionedBy (is_at m)) (sym rest_is) (at_in_front m r (drop (next + 1) rs) in_order under_it ordered_rest))
+        (subst (IsPartitionedBy (is_at m)) (sym rest_is)
+        (at_in_front m r (drop (next + 1) rs) in_order under_it ordered_rest))
 
     lower : folded m ≡ m
     unfolding m
@@ -126,15 +150,19 @@ module _ (rs : List ResourceRecord) (canonical : IsCanonical rs) (n : DomainName
     unfolding m
     none_before_it = go (is_next.between m lower (cons_under child.label n) refl)
       where
-        go : (under m (take next rs) ≡ []) ⊎ (under m (drop next rs) ≡ []) → under m (take next rs) ≡ []
+        go : (under m (take next rs) ≡ []) ⊎ (under m (drop next rs) ≡ [])
+            → under m (take next rs) ≡ []
         go (inl a) = a
         go (inr b) =
-            let first : Each (λ s. is_under m s ≡ false) (r ∷ drop (next + 1) rs) = subst (Each (λ s. is_under m s ≡ false)) rest_is (nothing_each (is_under m) (drop next rs) b) in
+            let first : Each (λ s. is_under m s ≡ false) (r ∷ drop (next + 1) rs) =
+            subst (Each (λ s. is_under m s ≡ false)) rest_is
+            (nothing_each (is_under m) (drop next rs) b) in
             absurd (false≢true (sym first.0 ∙ under_it))
 
     all_from : under m rs ≡ under m (drop next rs)
     all_from =
-        ap (under m) (sym (take-append-drop next rs)) ∙ filter-append (is_under m) (take next rs) (drop next rs)
+        ap (under m) (sym (take-append-drop next rs))
+        ∙ filter-append (is_under m) (take next rs) (drop next rs)
         ∙ ap (λ xs. xs ++ under m (drop next rs)) none_before_it
 
     own_within : (xs : List ResourceRecord) → filter (is_at m) (under m xs) ≡ filter (is_at m) xs
@@ -146,25 +174,36 @@ module _ (rs : List ResourceRecord) (canonical : IsCanonical rs) (n : DomainName
     some_under : 0 < length (under m (drop next rs))
     some_under =
         let first : under m (drop next rs) ≡ r ∷ under m (drop (next + 1) rs) =
-        ap (under m) rest_is ∙ ap (λ t. cond t (r ∷ under m (drop (next + 1) rs)) (under m (drop (next + 1) rs))) under_it
+        ap (under m) rest_is
+        ∙ ap (λ t. cond t (r ∷ under m (drop (next + 1) rs)) (under m (drop (next + 1) rs)))
+        under_it
         in
         let size = ap length first in
         omega arith
 
     pub made : (own count place : ℕ) → own ≤ length (drop next rs) → count ≤ length (drop next rs)
-        → take own (drop next rs) ≡ filter (is_at (labels_of octets)) (drop next rs) → take count (drop next rs) ≡ under (labels_of octets) (drop next rs)
+        → take own (drop next rs) ≡ filter (is_at (labels_of octets)) (drop next rs)
+        → take count (drop next rs) ≡ under (labels_of octets) (drop next rs)
         → place ≡ length (wire r.owner) - length octets
-        → IsKidAt rs n next (record { first = next; own_end = next + own; end = next + count; place = place })
+        → IsKidAt rs n next
+        (record { first = next; own_end = next + own; end = next + count; place = place })
     unfolding m row_octets
     made own count place own_fits fits o u p =
-        let own_is : take own (drop next rs) ≡ filter (is_at m) (drop next rs) = o ∙ ap (λ (k : DomainName). filter (is_at k) (drop next rs)) child.labels in
-        let under_is : take count (drop next rs) ≡ under m (drop next rs) = u ∙ ap (λ (k : DomainName). under k (drop next rs)) child.labels in
+        let own_is : take own (drop next rs) ≡ filter (is_at m) (drop next rs) =
+        o ∙ ap (λ (k : DomainName). filter (is_at k) (drop next rs)) child.labels in
+        let under_is : take count (drop next rs) ≡ under m (drop next rs) =
+        u ∙ ap (λ (k : DomainName). under k (drop next rs)) child.labels in
         let sizes : length (drop next rs) ≡ length rs - next = length-drop next rs in
         let in_bounds = is_next.fits in
         let count_is = length-take-of count (drop next rs) (under m (drop next rs)) fits under_is in
-        let own_count = length-take-of own (drop next rs) (filter (is_at m) (drop next rs)) own_fits own_is in
+        let own_count =
+        length-take-of own (drop next rs) (filter (is_at m) (drop next rs)) own_fits own_is in
         let fewer : length (filter (is_at m) (drop next rs)) ≤ length (under m (drop next rs)) =
-        omega (arith, length-filter-le (is_at m) (under m (drop next rs)), ap length (own_within (drop next rs)))
+        omega (
+          arith,
+          length-filter-le (is_at m) (under m (drop next rs)),
+          ap length (own_within (drop next rs)),
+        )
         in
         let some = some_under in
         let at_count : next + count - next ≡ count = omega arith in
@@ -173,7 +212,9 @@ module _ (rs : List ResourceRecord) (canonical : IsCanonical rs) (n : DomainName
           kid = record {
             label = child.label;
             is_row = record {
-              octets = ap₂ (λ (i : ℕ) (k : DomainName). drop i (wire k)) p owner_is ∙ child.end ∙ sym child.wire.wire_is ∙ ap wire child.labels;
+              octets =
+                  ap₂ (λ (i : ℕ) (k : DomainName). drop i (wire k)) p owner_is ∙ child.end
+                  ∙ sym child.wire.wire_is ∙ ap wire child.labels;
               is_name = name;
               lower = lower;
               some = is_next.fits;

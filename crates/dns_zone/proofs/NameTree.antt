@@ -20,7 +20,9 @@ under-is n a h =
     let k = length n - length a in
     let parts = and_parts (nat_le (length a) (length n)) (same (last_labels (length a) n) a) h in (
       take k (folded n),
-      sym (take-append-drop k (folded n)) ∙ ap (λ x. take k (folded n) ++ x) (drop-map (map to_ascii_lowercase) k n ∙ same-is (drop k n) a parts.1),
+      sym (take-append-drop k (folded n))
+          ∙ ap (λ x. take k (folded n) ++ x)
+          (drop-map (map to_ascii_lowercase) k n ∙ same-is (drop k n) a parts.1),
     )
 
 pub under-from : (n a : DomainName) → Under n a → at_or_below n a ≡ true
@@ -28,14 +30,18 @@ under-from n a (p, e) =
     let k = length n - length a in
     let len_n : length (folded n) ≡ length n = length-map n (map to_ascii_lowercase) in
     let len_a : length (folded a) ≡ length a = length-map a (map to_ascii_lowercase) in
-    let both : length (folded n) ≡ length p + length (folded a) = ap length e ∙ length-append p (folded a) in
+    let both : length (folded n) ≡ length p + length (folded a) =
+    ap length e ∙ length-append p (folded a) in
     let fits : length a ≤ length n = omega arith in
-    let rest : drop (length (folded n) - length (folded a)) (folded n) ≡ folded a = end_rest (folded n) (folded a) p e in
+    let rest : drop (length (folded n) - length (folded a)) (folded n) ≡ folded a =
+    end_rest (folded n) (folded a) p e in
     let at : length (folded n) - length (folded a) ≡ k = omega arith in
     and_from _ _ (le-leb _ _ fits)
-    (same-from (drop k n) a (sym (drop-map (map to_ascii_lowercase) k n) ∙ ap (λ i. drop i (folded n)) (sym at) ∙ rest))
+    (same-from (drop k n) a
+    (sym (drop-map (map to_ascii_lowercase) k n) ∙ ap (λ i. drop i (folded n)) (sym at) ∙ rest))
 
-pub under-trans : (n m a : DomainName) → at_or_below n m ≡ true → at_or_below m a ≡ true → at_or_below n a ≡ true
+pub under-trans : (n m a : DomainName) → at_or_below n m ≡ true → at_or_below m a ≡ true
+    → at_or_below n a ≡ true
 under-trans n m a h k = under-from n a (joined (under-is n m h) (under-is m a k))
   where
     joined : Under n m → Under m a → Under n a
@@ -45,7 +51,8 @@ under-trans n m a h k = under-from n a (joined (under-is n m h) (under-is m a k)
 pub same-under : (n m a : DomainName) → same n m ≡ true → at_or_below n a ≡ at_or_below m a
 same-under n m a h =
     let e = same-is n m h in
-    same_tests _ _ (λ k. under-from m a (go m n (sym e) (under-is n a k))) (λ k. under-from n a (go n m e (under-is m a k)))
+    same_tests _ _ (λ k. under-from m a (go m n (sym e) (under-is n a k)))
+    (λ k. under-from n a (go n m e (under-is m a k)))
   where
     go : (x y : DomainName) → folded x ≡ folded y → Under y a → Under x a
     go x y f (p, e) = (p, f ∙ e)
@@ -54,7 +61,8 @@ pub itself-under : (n m : DomainName) → same n m ≡ true → at_or_below n m 
 itself-under n m h = under-from n m ([], same-is n m h)
 
 pub same-below : (n m a : DomainName) → same n m ≡ true → below n a ≡ below m a
-same-below n m a h = ap₂ (λ (k : ℕ) b. nat_lt (length a) k && b) (same-length n m h) (same-under n m a h)
+same-below n m a h =
+    ap₂ (λ (k : ℕ) b. nat_lt (length a) k && b) (same-length n m h) (same-under n m a h)
 
 -- a name with a label more at its front is below those that it was at or below
 pub below-cons : (l : Octets) (n a : DomainName) → below (l ∷ n) a ≡ at_or_below n a
@@ -62,15 +70,21 @@ below-cons l n a = go (at_or_below n a) refl
   where
     go : (b : Bool) → at_or_below n a ≡ b → below (l ∷ n) a ≡ b
     go true e =
-        let fits = leb-true _ _ (and_parts (nat_le (length a) (length n)) (same (last_labels (length a) n) a) e).0 in
-        and_from _ _ (lt-ltb (length a) (suc (length n)) (omega arith)) (at_or_below-cons l n a ∙ or_right (same (l ∷ n) a) (at_or_below n a) e)
+        let fits =
+        leb-true _ _
+        (and_parts (nat_le (length a) (length n)) (same (last_labels (length a) n) a) e).0 in
+        and_from _ _ (lt-ltb (length a) (suc (length n)) (omega arith))
+        (at_or_below-cons l n a ∙ or_right (same (l ∷ n) a) (at_or_below n a) e)
     go false e = false_from_ne_true (below (l ∷ n) a) (λ h.
         let parts = and_parts (nat_lt (length a) (suc (length n))) (at_or_below (l ∷ n) a) h in
         let shorter = ltb-true _ _ parts.0 in
-        by_cases shorter (or_cases (same (l ∷ n) a) (at_or_below n a) (sym (at_or_below-cons l n a) ∙ parts.1)))
+        by_cases shorter
+        (or_cases (same (l ∷ n) a) (at_or_below n a) (sym (at_or_below-cons l n a) ∙ parts.1)))
       where
-        by_cases : length a < suc (length n) → (same (l ∷ n) a ≡ true) ⊎ (at_or_below n a ≡ true) → ⊥
-        by_cases s (inl k) = let level : suc (length n) ≡ length a = same-length (l ∷ n) a k in omega arith
+        by_cases : length a < suc (length n) → (same (l ∷ n) a ≡ true) ⊎ (at_or_below n a ≡ true)
+            → ⊥
+        by_cases s (inl k) =
+            let level : suc (length n) ≡ length a = same-length (l ∷ n) a k in omega arith
         by_cases s (inr k) = false≢true (sym e ∙ k)
 
 -- labels that tie are one
@@ -82,28 +96,40 @@ not_after_longer : (xs zs : List Octets) → is_gt (slice_cmp label_order xs (xs
 not_after_longer [] [] = refl
 not_after_longer [] (z ∷ zs) = refl
 not_after_longer (x ∷ xs) zs =
-    ap (λ c. is_gt (ordering_then c (slice_cmp label_order xs (xs ++ zs)))) (tied_itself nat_list_cmp_total x) ∙ not_after_longer xs zs
+    ap (λ c. is_gt (ordering_then c (slice_cmp label_order xs (xs ++ zs))))
+    (tied_itself nat_list_cmp_total x) ∙ not_after_longer xs zs
 
 -- what stands between a list and one that begins with it, begins with it
-list_between : (xs ys zs : List Octets) → is_gt (slice_cmp label_order xs ys) ≡ false → is_gt (slice_cmp label_order ys (xs ++ zs)) ≡ false → (ws : List Octets) × (ys ≡ xs ++ ws)
+list_between : (xs ys zs : List Octets) → is_gt (slice_cmp label_order xs ys) ≡ false
+    → is_gt (slice_cmp label_order ys (xs ++ zs)) ≡ false → (ws : List Octets) × (ys ≡ xs ++ ws)
 list_between [] ys zs p q = (ys, refl)
 list_between (x ∷ xs) [] zs p q = absurd (true≢false p)
 list_between (x ∷ xs) (y ∷ ys) zs p q = go (label_order x y) refl p q (list_between xs ys zs)
   where
-    go : (c : Ordering) → label_order x y ≡ c → is_gt (ordering_then c (slice_cmp label_order xs ys)) ≡ false
+    go : (c : Ordering) → label_order x y ≡ c
+        → is_gt (ordering_then c (slice_cmp label_order xs ys)) ≡ false
         → is_gt (ordering_then (label_order y x) (slice_cmp label_order ys (xs ++ zs))) ≡ false
-        → (is_gt (slice_cmp label_order xs ys) ≡ false → is_gt (slice_cmp label_order ys (xs ++ zs)) ≡ false → (ws : List Octets) × (ys ≡ xs ++ ws))
+        → (is_gt (slice_cmp label_order xs ys) ≡ false
+        → is_gt (slice_cmp label_order ys (xs ++ zs)) ≡ false
+        → (ws : List Octets) × (ys ≡ xs ++ ws))
         → (ws : List Octets) × (y ∷ ys ≡ x ∷ (xs ++ ws))
     go Less e a b f =
-        let back : label_order y x ≡ Greater = nat_list_cmp_total.antisymm y x ∙ ap ordering_reverse e in
-        absurd (true≢false (sym (ap (λ c. is_gt (ordering_then c (slice_cmp label_order ys (xs ++ zs)))) back) ∙ b))
+        let back : label_order y x ≡ Greater =
+        nat_list_cmp_total.antisymm y x ∙ ap ordering_reverse e in
+        absurd (true≢false
+        (sym (ap (λ c. is_gt (ordering_then c (slice_cmp label_order ys (xs ++ zs)))) back)
+        ∙ b))
     go Greater e a b f = absurd (true≢false a)
     go Equal e a b f =
-        let back : label_order y x ≡ Equal = nat_list_cmp_total.antisymm y x ∙ ap ordering_reverse e in
-        let rest = f a (sym (ap (λ c. is_gt (ordering_then c (slice_cmp label_order ys (xs ++ zs)))) back) ∙ b) in
+        let back : label_order y x ≡ Equal =
+        nat_list_cmp_total.antisymm y x ∙ ap ordering_reverse e in
+        let rest =
+        f a (sym (ap (λ c. is_gt (ordering_then c (slice_cmp label_order ys (xs ++ zs)))) back)
+        ∙ b) in
         (rest.0, ap₂ (λ w ws. w ∷ ws) (sym (label-tie x y e)) rest.1)
 
-turned_end : (n a p : DomainName) → folded n ≡ p ++ folded a → reverse (folded n) ≡ reverse (folded a) ++ reverse p
+turned_end : (n a p : DomainName) → folded n ≡ p ++ folded a
+    → reverse (folded n) ≡ reverse (folded a) ++ reverse p
 turned_end n a p e = ap reverse e ∙ reverse-append p (folded a)
 
 -- a name comes before those below it
@@ -111,18 +137,24 @@ pub under-order : (n a : DomainName) → at_or_below n a ≡ true → is_gt (nam
 under-order n a h = go (under-is n a h)
   where
     go : Under n a → is_gt (name_order a n) ≡ false
-    go (p, e) = ap (λ ks. is_gt (slice_cmp label_order (reverse (folded a)) ks)) (turned_end n a p e) ∙ not_after_longer (reverse (folded a)) (reverse p)
+    go (p, e) =
+        ap (λ ks. is_gt (slice_cmp label_order (reverse (folded a)) ks)) (turned_end n a p e)
+        ∙ not_after_longer (reverse (folded a)) (reverse p)
 
 -- and what stands between a name and one below it is below it
-pub between : (a b m : DomainName) → is_gt (name_order a b) ≡ false → is_gt (name_order b m) ≡ false → at_or_below m a ≡ true → at_or_below b a ≡ true
+pub between : (a b m : DomainName) → is_gt (name_order a b) ≡ false → is_gt (name_order b m) ≡ false
+    → at_or_below m a ≡ true → at_or_below b a ≡ true
 between a b m p q h = go (under-is m a h)
   where
     go : Under m a → at_or_below b a ≡ true
     go (r, e) =
         let found = list_between (reverse (folded a)) (reverse (folded b)) (reverse r) p
-        (sym (ap (λ ks. is_gt (slice_cmp label_order (reverse (folded b)) ks)) (turned_end m a r e)) ∙ q)
+        (sym (ap (λ ks. is_gt (slice_cmp label_order (reverse (folded b)) ks)) (turned_end m a r e))
+        ∙ q)
         in
         under-from b a (
           reverse found.0,
-          sym (reverse-reverse (folded b)) ∙ ap reverse found.1 ∙ reverse-append (reverse (folded a)) found.0 ∙ ap (λ x. reverse found.0 ++ x) (reverse-reverse (folded a)),
+          sym (reverse-reverse (folded b)) ∙ ap reverse found.1
+              ∙ reverse-append (reverse (folded a)) found.0
+              ∙ ap (λ x. reverse found.0 ++ x) (reverse-reverse (folded a)),
         )

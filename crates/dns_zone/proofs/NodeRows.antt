@@ -19,13 +19,17 @@ use Rattle.dns_zone.proofs.GrowingKids.{row_is}
 use Rattle.dns_zone.proofs.GrowingTree.{own_name}
 
 -- the name of a row exists
-pub row_exists : (rs : List ResourceRecord) (row : Row) (n : DomainName) → IsRow rs row n → list_any (λ (r : ResourceRecord). at_or_below r.owner n) rs ≡ true
+pub row_exists : (rs : List ResourceRecord) (row : Row) (n : DomainName) → IsRow rs row n
+    → list_any (λ (r : ResourceRecord). at_or_below r.owner n) rs ≡ true
 row_exists rs row n h =
     let d : ResourceRecord = record { owner = []; ttl = 0; rtype = 0; rdata = [] } in
     let order : row.first ≤ row.end = let a = h.more in omega arith in
-    let here = in_span (is_under n) rs row.first row.end order h.below row.first d (omega arith) h.more h.end_fits in
+    let here =
+    in_span (is_under n) rs row.first row.end order h.below row.first d (omega arith) h.more
+    h.end_fits in
     any_there (is_under n) rs (get_or rs row.first d)
-    (contains_among (get_or rs row.first d) rs (row.first, h.some, get_or_any rs row.first (get_or rs row.first d) d h.some)) here
+    (contains_among (get_or rs row.first d) rs
+    (row.first, h.some, get_or_any rs row.first (get_or rs row.first d) d h.some)) here
 
 module _ (t : Tree) (k : ℕ) (at : IsNodeAt t k) where
   abbrev rs : List ResourceRecord
@@ -60,7 +64,9 @@ module _ (t : Tree) (k : ℕ) (at : IsNodeAt t k) where
   are_kids = at.kept.tree.kids k at.row
 
   pub kid_rows : Each (λ c. IsRow rs c (row_name rs c)) kids
-  kid_rows = each_weaker (IsKid rs name) (λ c. IsRow rs c (row_name rs c)) kids (λ c h. own_name rs c (h.label ∷ name) h.is_row) are_kids.each
+  kid_rows =
+      each_weaker (IsKid rs name) (λ c. IsRow rs c (row_name rs c)) kids
+      (λ c h. own_name rs c (h.label ∷ name) h.is_row) are_kids.each
 
   -- a child by its place among the children
   module _ (i : ℕ) (fits : i < length kids) where
@@ -70,7 +76,8 @@ module _ (t : Tree) (k : ℕ) (at : IsNodeAt t k) where
     pub row_of_kid : row_at t.rows.items (start + i) ≡ row_at kids i
     row_of_kid =
         let s = size in
-        sym (get_or-take (end - start) (drop start t.rows.items) i _ (omega arith) ∙ get_or-drop start t.rows.items i _)
+        sym (get_or-take (end - start) (drop start t.rows.items) i _ (omega arith)
+        ∙ get_or-drop start t.rows.items i _)
 
     pub kid_in : start + i < length t.rows.items
     kid_in =
@@ -82,7 +89,8 @@ module _ (t : Tree) (k : ℕ) (at : IsNodeAt t k) where
     the_kid : IsKid rs name (row_at kids i)
     the_kid = each_get (IsKid rs name) kids i _ are_kids.each fits
 
-    pub kid_name : row_name rs (row_at t.rows.items (start + i)) ≡ row_label rs (row_at kids i) ∷ name
+    pub kid_name : row_name rs (row_at t.rows.items (start + i))
+        ≡ row_label rs (row_at kids i) ∷ name
     kid_name =
         let whole = row_is rs (row_at kids i) (the_kid.label ∷ name) the_kid.is_row in
         ap (row_name rs) row_of_kid ∙ whole ∙ ap (λ (n : DomainName). first_of n ∷ name) (sym whole)

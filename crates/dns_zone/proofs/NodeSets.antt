@@ -24,26 +24,36 @@ use Rattle.dns_zone.proofs.AtName.{data_order_total, ordered_records, unmoved, f
 use Rattle.dns_zone.proofs.SetTests.{each_map}
 
 -- records of one name and one type stand by their data
-data_in_order : (n : DomainName) (t : ℕ) (r s : ResourceRecord) → (same r.owner n ≡ true) × (r.rtype ≡ t) → (same s.owner n ≡ true) × (s.rtype ≡ t)
+data_in_order : (n : DomainName) (t : ℕ) (r s : ResourceRecord)
+    → (same r.owner n ≡ true) × (r.rtype ≡ t) → (same s.owner n ≡ true) × (s.rtype ≡ t)
     → is_gt (record_order r s) ≡ false → is_gt (data_order r s) ≡ false
 data_in_order n t r s p q h =
-    let names = same-tied r.owner s.owner (same-from r.owner s.owner (same-is r.owner n p.0 ∙ sym (same-is s.owner n q.0))) in
-    let types : nat_cmp r.rtype s.rtype ≡ Equal = ap (nat_cmp r.rtype) (q.1 ∙ sym p.1) ∙ tied_itself nat_cmp_total r.rtype in
+    let names =
+    same-tied r.owner s.owner
+    (same-from r.owner s.owner (same-is r.owner n p.0 ∙ sym (same-is s.owner n q.0))) in
+    let types : nat_cmp r.rtype s.rtype ≡ Equal =
+    ap (nat_cmp r.rtype) (q.1 ∙ sym p.1) ∙ tied_itself nat_cmp_total r.rtype in
     let rest = ordering_then (data_order r s) (nat_cmp r.ttl s.ttl) in
     first_part (data_order r s) (nat_cmp r.ttl s.ttl)
-    (sym (ap (λ o. is_gt (ordering_then o (ordering_then (nat_cmp r.rtype s.rtype) rest))) names ∙ ap (λ o. is_gt (ordering_then o rest)) types) ∙ h)
+    (sym (ap (λ o. is_gt (ordering_then o (ordering_then (nat_cmp r.rtype s.rtype) rest))) names
+    ∙ ap (λ o. is_gt (ordering_then o rest)) types) ∙ h)
 
 -- records of one type, as they are read, are lent as a set
-datas : (t : ℕ) (rs : List ResourceRecord) → Each (λ (r : ResourceRecord). IsReadRecord r × (r.rtype ≡ t)) rs → Each (Valid t) (data_of rs)
+datas : (t : ℕ) (rs : List ResourceRecord)
+    → Each (λ (r : ResourceRecord). IsReadRecord r × (r.rtype ≡ t)) rs → Each (Valid t) (data_of rs)
 datas t [] e = tt
 datas t (r ∷ rs) e = (subst (λ u. Valid u r.rdata) e.0.1 e.0.0.rdata, datas t rs e.1)
 
-of_one_type : (t : ℕ) (rs : List ResourceRecord) → Each (λ (r : ResourceRecord). IsReadRecord r × (r.rtype ≡ t)) rs → AreOfType rs
+of_one_type : (t : ℕ) (rs : List ResourceRecord)
+    → Each (λ (r : ResourceRecord). IsReadRecord r × (r.rtype ≡ t)) rs → AreOfType rs
 of_one_type t [] e = tt
-of_one_type t (r ∷ rs) e = subst (λ u. IsLent u (r ∷ rs)) (sym e.0.1) (all_each (Valid t) (data_of (r ∷ rs)) (datas t (r ∷ rs) e))
+of_one_type t (r ∷ rs) e =
+    subst (λ u. IsLent u (r ∷ rs)) (sym e.0.1)
+    (all_each (Valid t) (data_of (r ∷ rs)) (datas t (r ∷ rs) e))
 
 -- the lowest type is that of the first record
-rising_first : (t : ℕ) (ts : List ℕ) → Each (λ u. t ≤ u) ts → Each (λ u. is_gt (nat_cmp t u) ≡ false) ts
+rising_first : (t : ℕ) (ts : List ℕ) → Each (λ u. t ≤ u) ts
+    → Each (λ u. is_gt (nat_cmp t u) ≡ false) ts
 rising_first t [] e = tt
 rising_first t (u ∷ us) e = (not_above t u e.0, rising_first t us e.1)
   where
@@ -56,23 +66,33 @@ rising_first t (u ∷ us) e = (not_above t u e.0, rising_first t us e.1)
             ap (λ b. is_gt (cond b Less (cond (t == u) Equal Greater))) (le-ltb t u l)
             ∙ ap (λ b. is_gt (cond b Equal Greater)) (eq-eqb t u (omega arith))
 
-lowest_first : (r : ResourceRecord) (rs : List ResourceRecord) → IsNonDecreasingBy (λ (q : ResourceRecord). q.rtype) (r ∷ rs)
-    → rising_types (r ∷ rs) ≡ r.rtype ∷ sort_by nat_cmp (filter (λ u. not (r.rtype == u)) (distinct ◌==◌ (map (λ (q : ResourceRecord). q.rtype) rs)))
+lowest_first : (r : ResourceRecord) (rs : List ResourceRecord)
+    → IsNonDecreasingBy (λ (q : ResourceRecord). q.rtype) (r ∷ rs)
+    → rising_types (r ∷ rs)
+    ≡ r.rtype ∷ sort_by nat_cmp
+    (filter (λ u. not (r.rtype == u))
+    (distinct ◌==◌ (map (λ (q : ResourceRecord). q.rtype) rs)))
 lowest_first r rs h =
-    let others = filter (λ u. not (r.rtype == u)) (distinct ◌==◌ (map (λ (q : ResourceRecord). q.rtype) rs)) in
+    let others =
+    filter (λ u. not (r.rtype == u)) (distinct ◌==◌ (map (λ (q : ResourceRecord). q.rtype) rs))
+    in
     first_in nat_cmp nat_cmp_total r.rtype (sort_by nat_cmp others)
     (rising_first r.rtype (sort_by nat_cmp others)
     (each_sort nat_cmp (λ u. r.rtype ≤ u) others
-    (each_filter (λ u. r.rtype ≤ u) (λ u. not (r.rtype == u)) (distinct ◌==◌ (map (λ (q : ResourceRecord). q.rtype) rs))
+    (each_filter (λ u. r.rtype ≤ u) (λ u. not (r.rtype == u))
+    (distinct ◌==◌ (map (λ (q : ResourceRecord). q.rtype) rs))
     (each_distinct (λ u. r.rtype ≤ u) ◌==◌ (map (λ (q : ResourceRecord). q.rtype) rs)
-    (each_map (λ u. r.rtype ≤ u) (λ (q : ResourceRecord). q.rtype) rs (pairs_rising (λ (q : ResourceRecord). q.rtype) (r ∷ rs) h).0)))))
+    (each_map (λ u. r.rtype ≤ u) (λ (q : ResourceRecord). q.rtype) rs
+    (pairs_rising (λ (q : ResourceRecord). q.rtype) (r ∷ rs) h).0)))))
 
 module _ (z : ZoneContents) (kept : IsBuilt z) (n : DomainName) where
   reads : Each IsReadRecord z.records
   reads = each_all IsReadRecord z.records kept.each
 
   lows : Each (λ (r : ResourceRecord). folded r.owner ≡ r.owner) z.records
-  lows = each_weaker IsReadRecord (λ (r : ResourceRecord). folded r.owner ≡ r.owner) z.records (λ r h. h.lower_owner) reads
+  lows =
+      each_weaker IsReadRecord (λ (r : ResourceRecord). folded r.owner ≡ r.owner) z.records
+      (λ r h. h.lower_owner) reads
 
   module _ (t : ℕ) where
     abbrev typed : List ResourceRecord
@@ -82,16 +102,25 @@ module _ (z : ZoneContents) (kept : IsBuilt z) (n : DomainName) where
     pub of_type_is : typed ≡ rrset z n t
     of_type_is =
         sym (unmoved data_order data_order_total typed
-        (pairs_of (λ r. (same r.owner n ≡ true) × (r.rtype ≡ t)) (λ r s. is_gt (record_order r s) ≡ false) (λ r s. is_gt (data_order r s) ≡ false) typed
+        (pairs_of (λ r. (same r.owner n ≡ true) × (r.rtype ≡ t))
+        (λ r s. is_gt (record_order r s) ≡ false) (λ r s. is_gt (data_order r s) ≡ false) typed
         (data_in_order n t)
-        (each_both (λ r. same r.owner n ≡ true) (λ r. (r.rtype == t) ≡ true) (λ r. (same r.owner n ≡ true) × (r.rtype ≡ t)) typed (λ r p q. (p, eqb-true r.rtype t q))
-        (each_filter (λ r. same r.owner n ≡ true) (λ (r : ResourceRecord). r.rtype == t) (at z n) (filter_each (λ (r : ResourceRecord). same r.owner n) z.records))
+        (each_both (λ r. same r.owner n ≡ true) (λ r. (r.rtype == t) ≡ true)
+        (λ r. (same r.owner n ≡ true) × (r.rtype ≡ t)) typed
+        (λ r p q. (p, eqb-true r.rtype t q))
+        (each_filter (λ r. same r.owner n ≡ true) (λ (r : ResourceRecord). r.rtype == t) (at z n)
+        (filter_each (λ (r : ResourceRecord). same r.owner n) z.records))
         (filter_each (λ (r : ResourceRecord). r.rtype == t) (at z n)))
-        (pairs_filter (λ r s. is_gt (record_order r s) ≡ false) (λ (r : ResourceRecord). r.rtype == t) (at z n)
-        (pairs_filter (λ r s. is_gt (record_order r s) ≡ false) (λ (r : ResourceRecord). same r.owner n) z.records (ordered_records z.records kept.ordered)))))
+        (pairs_filter (λ r s. is_gt (record_order r s) ≡ false)
+        (λ (r : ResourceRecord). r.rtype == t) (at z n)
+        (pairs_filter (λ r s. is_gt (record_order r s) ≡ false)
+        (λ (r : ResourceRecord). same r.owner n) z.records
+        (ordered_records z.records kept.ordered)))))
 
     read_set : Each (λ (r : ResourceRecord). IsReadRecord r × (r.rtype ≡ t)) (rrset z n t)
-    read_set = each_typed t IsReadRecord (at z n) (each_filter IsReadRecord (λ (r : ResourceRecord). same r.owner n) z.records reads)
+    read_set =
+        each_typed t IsReadRecord (at z n)
+        (each_filter IsReadRecord (λ (r : ResourceRecord). same r.owner n) z.records reads)
 
     pub are_of_type : AreOfType (rrset z n t)
     are_of_type = of_one_type t (rrset z n t) read_set
@@ -100,13 +129,15 @@ module _ (z : ZoneContents) (kept : IsBuilt z) (n : DomainName) where
     few : length (rrset z n t) ≤ 64
     few = let bound = count_few z kept.low lows kept.passes n t in omega (arith, length-sort_by data_order typed, bound)
 
-    pub set_kept : folded n ≡ n → (s : RecordSet) → set_of (rrset z n t) ≡ Some s → (s.rtype ≡ t) × IsSetOf (record { zone = z; name = n }) s
+    pub set_kept : folded n ≡ n → (s : RecordSet) → set_of (rrset z n t) ≡ Some s
+        → (s.rtype ≡ t) × IsSetOf (record { zone = z; name = n }) s
     set_kept low s e = go (rrset z n t) refl e
       where
         k : ℕ
         k = first_ttl t (at z n)
 
-        shown : (r : ResourceRecord) (rs : List ResourceRecord) → rrset z n t ≡ r ∷ rs → Each (IsOf (folded n) k t) (r ∷ rs)
+        shown : (r : ResourceRecord) (rs : List ResourceRecord) → rrset z n t ≡ r ∷ rs
+            → Each (IsOf (folded n) k t) (r ∷ rs)
             → records_at n r.ttl (lent r.rtype r.ttl (r ∷ rs)) ≡ rrset z n r.rtype
         shown r rs p own =
             ap (λ (o : DomainName). records_at o r.ttl (lent r.rtype r.ttl (r ∷ rs))) (sym low)
@@ -114,18 +145,25 @@ module _ (z : ZoneContents) (kept : IsBuilt z) (n : DomainName) where
             ∙ ap (λ u. records_at (folded n) k (lent u k (r ∷ rs))) own.0.rtype
             ∙ sym (as_set (folded n) k t (r ∷ rs) own) ∙ sym p ∙ ap (rrset z n) (sym own.0.rtype)
 
-        go : (xs : List ResourceRecord) → rrset z n t ≡ xs → set_of xs ≡ Some s → (s.rtype ≡ t) × IsSetOf (record { zone = z; name = n }) s
+        go : (xs : List ResourceRecord) → rrset z n t ≡ xs → set_of xs ≡ Some s
+            → (s.rtype ≡ t) × IsSetOf (record { zone = z; name = n }) s
         go [] p e = absurd (none-some s e)
         go (r ∷ rs) p e =
             let own = subst (Each (IsOf (folded n) k t)) p (own_records z kept.low lows kept.passes n t) in
             let read = subst (Each (λ (q : ResourceRecord). IsReadRecord q × (q.rtype ≡ t))) p read_set in
             let bound = few in
             let set : RecordSet = lent r.rtype r.ttl (r ∷ rs) in
-            subst (λ (y : RecordSet). (y.rtype ≡ t) × IsSetOf (record { zone = z; name = n }) y) (same_Some set s e) (
+            subst (λ (y : RecordSet). (y.rtype ≡ t) × IsSetOf (record { zone = z; name = n }) y)
+            (same_Some set s e) (
               own.0.rtype,
               record {
                 records = shown r rs p own;
-                few = omega (arith, length-map (r ∷ rs) (λ (q : ResourceRecord). q.rdata), ap length p);
+                few =
+                    omega (
+                      arith,
+                      length-map (r ∷ rs) (λ (q : ResourceRecord). q.rdata),
+                      ap length p,
+                    );
                 ttl = read.0.0.ttl;
                 valid = subst AreOfType p are_of_type;
               },
@@ -136,5 +174,10 @@ module _ (z : ZoneContents) (kept : IsBuilt z) (n : DomainName) where
     sets_kept low None e = (tt, tt)
     sets_kept low (Some s) e = set_kept low s (sym e)
 
-  pub lowest : (r : ResourceRecord) (rs : List ResourceRecord) → IsNonDecreasingBy (λ (q : ResourceRecord). q.rtype) (at z n) → at z n ≡ r ∷ rs → of_lowest_type (at z n) ≡ rrset z n r.rtype
-  lowest r rs h e = ap (λ ts. of_first_type ts (at z n)) (ap rising_types e ∙ lowest_first r rs (subst (IsNonDecreasingBy (λ (q : ResourceRecord). q.rtype)) e h))
+  pub lowest : (r : ResourceRecord) (rs : List ResourceRecord)
+      → IsNonDecreasingBy (λ (q : ResourceRecord). q.rtype) (at z n) → at z n ≡ r ∷ rs
+      → of_lowest_type (at z n) ≡ rrset z n r.rtype
+  lowest r rs h e =
+      ap (λ ts. of_first_type ts (at z n))
+      (ap rising_types e
+      ∙ lowest_first r rs (subst (IsNonDecreasingBy (λ (q : ResourceRecord). q.rtype)) e h))

@@ -17,12 +17,15 @@ use Rattle.dns_zone.proofs.Existing.{origin-soa, all-inside}
 use Rattle.dns_zone.proofs.Spans.{some_passes, get_or_any}
 use Rattle.dns_zone.proofs.KidRows.{is_under, at_in_front}
 
-module _ (o : DomainName) (rs : List ResourceRecord) (kept : IsBuilt (record { origin = o; records = rs })) where
+module _ (o : DomainName) (rs : List ResourceRecord)
+    (kept : IsBuilt (record { origin = o; records = rs })) where
   z : ZoneContents
   z = record { origin = o; records = rs }
 
   own_soa : (r : ResourceRecord) × (Among r rs) × ((same r.owner o && r.rtype == type_soa) ≡ true)
-  own_soa = some_passes (λ (r : ResourceRecord). same r.owner o && r.rtype == type_soa) rs (origin-soa (record { origin = o; records = rs }) kept)
+  own_soa =
+      some_passes (λ (r : ResourceRecord). same r.owner o && r.rtype == type_soa) rs
+      (origin-soa (record { origin = o; records = rs }) kept)
 
   pub own_in_front : IsPartitionedBy (is_at o) rs
   own_in_front = go rs refl
@@ -30,9 +33,12 @@ module _ (o : DomainName) (rs : List ResourceRecord) (kept : IsBuilt (record { o
       go : (xs : List ResourceRecord) → rs ≡ xs → IsPartitionedBy (is_at o) rs
       go [] e = absurd (subst (Among own_soa.0) e own_soa.1)
       go (r ∷ xs) e =
-          let inside = subst (Each (λ (s : ResourceRecord). at_or_below s.owner o ≡ true)) e (all-inside (record { origin = o; records = rs }) kept) in
+          let inside =
+          subst (Each (λ (s : ResourceRecord). at_or_below s.owner o ≡ true)) e
+          (all-inside (record { origin = o; records = rs }) kept) in
           let ordered = subst AreOrdered e kept.ordered in
-          subst (IsPartitionedBy (is_at o)) (sym e) (at_in_front o r xs (owners_in_order (r ∷ xs) ordered) inside.0 ordered)
+          subst (IsPartitionedBy (is_at o)) (sym e)
+          (at_in_front o r xs (owners_in_order (r ∷ xs) ordered) inside.0 ordered)
 
   -- the first record is the origin's own
   first_own : (d : ResourceRecord) → same (get_or rs 0 d).owner o ≡ true
@@ -40,7 +46,8 @@ module _ (o : DomainName) (rs : List ResourceRecord) (kept : IsBuilt (record { o
       let c = among_contains own_soa.0 rs own_soa.1 in
       let its = (and_parts (same own_soa.0.owner o) (own_soa.0.rtype == type_soa) own_soa.2).0 in
       let there : get_or rs c.0 d ≡ own_soa.0 = get_or_any rs c.0 d own_soa.0 c.1 ∙ c.2 in
-      own_in_front 0 c.0 d (omega arith) c.1 (subst (λ (r : ResourceRecord). same r.owner o ≡ true) (sym there) its)
+      own_in_front 0 c.0 d (omega arith) c.1
+      (subst (λ (r : ResourceRecord). same r.owner o ≡ true) (sym there) its)
 
   some : 0 < length rs
   some = let c = among_contains own_soa.0 rs own_soa.1 in let l = c.1 in omega arith
@@ -48,13 +55,16 @@ module _ (o : DomainName) (rs : List ResourceRecord) (kept : IsBuilt (record { o
   first_owner : get_or (owners rs) 0 [] ≡ o
   first_owner =
       let d : ResourceRecord = record { owner = []; ttl = 0; rtype = 0; rdata = [] } in
-      get_or-map (λ (r : ResourceRecord). r.owner) rs 0 d [] some ∙ sym (kept.each 0 d some).lower_owner
+      get_or-map (λ (r : ResourceRecord). r.owner) rs 0 d [] some
+      ∙ sym (kept.each 0 d some).lower_owner
       ∙ same-is (get_or rs 0 d).owner o (first_own d) ∙ kept.low
 
   origin_name : is_name o ≡ true
   origin_name =
       let d : ResourceRecord = record { owner = []; ttl = 0; rtype = 0; rdata = [] } in
-      subst (λ (n : DomainName). is_name n ≡ true) (sym (get_or-map (λ (r : ResourceRecord). r.owner) rs 0 d [] some) ∙ first_owner) (kept.each 0 d some).owner
+      subst (λ (n : DomainName). is_name n ≡ true)
+      (sym (get_or-map (λ (r : ResourceRecord). r.owner) rs 0 d [] some) ∙ first_owner)
+      (kept.each 0 d some).owner
 
   pub origin_is_row : (own : ℕ) → own ≤ length rs → take own rs ≡ filter (is_at o) rs
       → IsRow rs (record { first = 0; own_end = own; end = length rs; place = 0 }) o
@@ -72,6 +82,9 @@ module _ (o : DomainName) (rs : List ResourceRecord) (kept : IsBuilt (record { o
         first_own = omega arith;
         own_end = fits;
         end_fits = omega arith;
-        below = ap (λ i. take i rs) whole ∙ take_all (length rs) rs (omega arith) ∙ sym (filter_all (is_under o) rs (all-inside (record { origin = o; records = rs }) kept));
+        below =
+            ap (λ i. take i rs) whole ∙ take_all (length rs) rs (omega arith)
+            ∙ sym (filter_all (is_under o) rs
+            (all-inside (record { origin = o; records = rs }) kept));
         own = ap (λ i. take i rs) part ∙ e;
       }

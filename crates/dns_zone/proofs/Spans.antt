@@ -13,12 +13,16 @@ use Rattle.dns_zone.proofs.Pairs.{each_get, filter_all}
 pub drop_again : {X : Type 0} (a b : ℕ) (xs : List X) → drop b (drop a xs) ≡ drop (a + b) xs
 drop_again zero b xs = ap (λ k. drop k xs) (let e : b ≡ 0 + b = omega arith in e)
 drop_again (suc a) b [] = drop-nil b ∙ sym (drop-nil (suc a + b))
-drop_again (suc a) b (x ∷ xs) = drop_again a b xs ∙ ap (λ k. drop k (x ∷ xs)) (let e : suc (a + b) ≡ suc a + b = omega arith in e)
+drop_again (suc a) b (x ∷ xs) =
+    drop_again a b xs
+    ∙ ap (λ k. drop k (x ∷ xs)) (let e : suc (a + b) ≡ suc a + b = omega arith in e)
 
 pub drop_span : {X : Type 0} (a b : ℕ) (xs : List X) → a ≤ b → drop a xs ≡ span xs a b ++ drop b xs
 drop_span a b xs h =
     let e : a + (b - a) ≡ b = omega arith in
-    sym (take-append-drop (b - a) (drop a xs)) ∙ ap (λ ys. take (b - a) (drop a xs) ++ ys) (drop_again a (b - a) xs ∙ ap (λ k. drop k xs) e)
+    sym (take-append-drop (b - a) (drop a xs))
+    ∙ ap (λ ys. take (b - a) (drop a xs) ++ ys)
+    (drop_again a (b - a) xs ∙ ap (λ k. drop k xs) e)
 
 take-nil : {X : Type 0} (k : ℕ) → ◌≡◌ {A = List X} (take k []) []
 take-nil zero = refl
@@ -37,53 +41,71 @@ pub filter_again : {X : Type 0} (p : X → Bool) (xs : List X) → filter p (fil
 filter_again p xs = filter_all p (filter p xs) (filter_each p xs)
 
 -- where a part is all that passes, nothing before it or behind it passes
-module _ {X : Type 0} (p : X → Bool) (xs : List X) (a b : ℕ) (h : a ≤ b) (e : span xs a b ≡ filter p xs) where
-  lengths : length (filter p xs) ≡ length (filter p (take a xs)) + (length (filter p xs) + length (filter p (drop b xs)))
+module _ {X : Type 0} (p : X → Bool) (xs : List X) (a b : ℕ) (h : a ≤ b)
+    (e : span xs a b ≡ filter p xs) where
+  lengths : length (filter p xs)
+      ≡ length (filter p (take a xs)) + (length (filter p xs) + length (filter p (drop b xs)))
   lengths =
       let inner : filter p (span xs a b) ≡ filter p xs = ap (filter p) e ∙ filter_again p xs in
       let rest : filter p (drop a xs) ≡ filter p xs ++ filter p (drop b xs) =
-      ap (filter p) (drop_span a b xs h) ∙ filter-append p (span xs a b) (drop b xs) ∙ ap (λ ys. ys ++ filter p (drop b xs)) inner
+      ap (filter p) (drop_span a b xs h) ∙ filter-append p (span xs a b) (drop b xs)
+      ∙ ap (λ ys. ys ++ filter p (drop b xs)) inner
       in
       let whole : filter p xs ≡ filter p (take a xs) ++ (filter p xs ++ filter p (drop b xs)) =
-      ap (filter p) (sym (take-append-drop a xs)) ∙ filter-append p (take a xs) (drop a xs) ∙ ap (λ ys. filter p (take a xs) ++ ys) rest
+      ap (filter p) (sym (take-append-drop a xs)) ∙ filter-append p (take a xs) (drop a xs)
+      ∙ ap (λ ys. filter p (take a xs) ++ ys) rest
       in
       ap length whole ∙ length-append (filter p (take a xs)) (filter p xs ++ filter p (drop b xs))
-      ∙ ap (λ (k : ℕ). length (filter p (take a xs)) + k) (length-append (filter p xs) (filter p (drop b xs)))
+      ∙ ap (λ (k : ℕ). length (filter p (take a xs)) + k)
+      (length-append (filter p xs) (filter p (drop b xs)))
 
   pub none_before : filter p (take a xs) ≡ []
-  none_before = let n : length (filter p (take a xs)) ≡ 0 = omega (arith, lengths) in nil_from_length (filter p (take a xs)) n
+  none_before =
+      let n : length (filter p (take a xs)) ≡ 0 = omega (arith, lengths) in
+      nil_from_length (filter p (take a xs)) n
 
   pub none_behind : filter p (drop b xs) ≡ []
-  none_behind = let n : length (filter p (drop b xs)) ≡ 0 = omega (arith, lengths) in nil_from_length (filter p (drop b xs)) n
+  none_behind =
+      let n : length (filter p (drop b xs)) ≡ 0 = omega (arith, lengths) in
+      nil_from_length (filter p (drop b xs)) n
 
   -- and each element of it passes
   pub in_span : (k : ℕ) (d : X) → a ≤ k → k < b → b ≤ length xs → p (get_or xs k d) ≡ true
   in_span k d l m f =
       let at : a + (k - a) ≡ k = omega arith in
-      let fits : k - a < length (span xs a b) = omega (arith, length-take (b - a) (drop a xs), length-drop a xs) in
+      let fits : k - a < length (span xs a b) =
+      omega (arith, length-take (b - a) (drop a xs), length-drop a xs) in
       let here : get_or (span xs a b) (k - a) d ≡ get_or xs k d =
-      get_or-take (b - a) (drop a xs) (k - a) d (omega arith) ∙ get_or-drop a xs (k - a) d ∙ ap (λ i. get_or xs i d) at
+      get_or-take (b - a) (drop a xs) (k - a) d (omega arith) ∙ get_or-drop a xs (k - a) d
+      ∙ ap (λ i. get_or xs i d) at
       in
       subst (λ x. p x ≡ true) here
-      (each_get (λ x. p x ≡ true) (span xs a b) (k - a) d (subst (Each (λ x. p x ≡ true)) (sym e) (filter_each p xs)) fits)
+      (each_get (λ x. p x ≡ true) (span xs a b) (k - a) d
+      (subst (Each (λ x. p x ≡ true)) (sym e) (filter_each p xs)) fits)
 
 -- nothing passes
-pub nothing_each : {X : Type 0} (p : X → Bool) (xs : List X) → filter p xs ≡ [] → Each (λ x. p x ≡ false) xs
+pub nothing_each : {X : Type 0} (p : X → Bool) (xs : List X) → filter p xs ≡ []
+    → Each (λ x. p x ≡ false) xs
 nothing_each p [] e = tt
 nothing_each p (x ∷ xs) e = go (p x) refl e (nothing_each p xs)
   where
     none : x ∷ filter p xs ≡ [] → ⊥
     none e = cc
 
-    go : (t : Bool) → p x ≡ t → cond t (x ∷ filter p xs) (filter p xs) ≡ [] → (filter p xs ≡ [] → Each (λ x. p x ≡ false) xs) → (p x ≡ false) × Each (λ x. p x ≡ false) xs
+    go : (t : Bool) → p x ≡ t → cond t (x ∷ filter p xs) (filter p xs) ≡ []
+        → (filter p xs ≡ [] → Each (λ x. p x ≡ false) xs)
+        → (p x ≡ false) × Each (λ x. p x ≡ false) xs
     go true q f r = absurd (none f)
     go false q f r = (q, r f)
 
-pub each_nothing : {X : Type 0} (p : X → Bool) (xs : List X) → Each (λ x. p x ≡ false) xs → filter p xs ≡ []
+pub each_nothing : {X : Type 0} (p : X → Bool) (xs : List X) → Each (λ x. p x ≡ false) xs
+    → filter p xs ≡ []
 each_nothing p [] e = refl
-each_nothing p (x ∷ xs) e = ap (λ t. cond t (x ∷ filter p xs) (filter p xs)) e.0 ∙ each_nothing p xs e.1
+each_nothing p (x ∷ xs) e =
+    ap (λ t. cond t (x ∷ filter p xs) (filter p xs)) e.0 ∙ each_nothing p xs e.1
 
-pub nothing_there : {X : Type 0} (p : X → Bool) (xs : List X) (k : ℕ) (d : X) → filter p (drop k xs) ≡ [] → k < length xs → p (get_or xs k d) ≡ false
+pub nothing_there : {X : Type 0} (p : X → Bool) (xs : List X) (k : ℕ) (d : X)
+    → filter p (drop k xs) ≡ [] → k < length xs → p (get_or xs k d) ≡ false
 nothing_there p xs k d e h =
     let at : k + 0 ≡ k = omega arith in
     let some : 0 < length (drop k xs) = omega (arith, length-drop k xs) in
@@ -91,28 +113,35 @@ nothing_there p xs k d e h =
     (each_get (λ x. p x ≡ false) (drop k xs) 0 d (nothing_each p (drop k xs) e) some)
 
 -- an element that passes, and whether there is one
-pub some_passes : {X : Type 0} (p : X → Bool) (xs : List X) → list_any p xs ≡ true → (x : X) × (Among x xs) × (p x ≡ true)
+pub some_passes : {X : Type 0} (p : X → Bool) (xs : List X) → list_any p xs ≡ true
+    → (x : X) × (Among x xs) × (p x ≡ true)
 some_passes {X = X} p [] e = absurd (false≢true e)
 some_passes {X = X} p (x ∷ xs) e = go (p x) refl e (some_passes p xs)
   where
-    go : (t : Bool) → p x ≡ t → (t || list_any p xs) ≡ true → (list_any p xs ≡ true → (y : X) × (Among y xs) × (p y ≡ true)) → (y : X) × (Among y (x ∷ xs)) × (p y ≡ true)
+    go : (t : Bool) → p x ≡ t → (t || list_any p xs) ≡ true
+        → (list_any p xs ≡ true → (y : X) × (Among y xs) × (p y ≡ true))
+        → (y : X) × (Among y (x ∷ xs)) × (p y ≡ true)
     go true q f r = (x, inl refl, q)
     go false q f r = let s = r f in (s.0, inr s.1, s.2)
 
-pub any_there : {X : Type 0} (p : X → Bool) (xs : List X) (x : X) → Among x xs → p x ≡ true → list_any p xs ≡ true
+pub any_there : {X : Type 0} (p : X → Bool) (xs : List X) (x : X) → Among x xs → p x ≡ true
+    → list_any p xs ≡ true
 any_there p [] x m e = absurd m
 any_there p (y ∷ xs) x (inl q) e = ap (λ t. t || list_any p xs) (ap p (sym q) ∙ e)
 any_there p (y ∷ xs) x (inr m) e = or_right (p y) (list_any p xs) (any_there p xs x m e)
 
-pub any_append : {X : Type 0} (p : X → Bool) (xs ys : List X) → list_any p (xs ++ ys) ≡ (list_any p xs || list_any p ys)
+pub any_append : {X : Type 0} (p : X → Bool) (xs ys : List X)
+    → list_any p (xs ++ ys) ≡ (list_any p xs || list_any p ys)
 any_append p [] ys = refl
-any_append p (x ∷ xs) ys = ap (λ t. p x || t) (any_append p xs ys) ∙ assoc (p x) (list_any p xs) (list_any p ys)
+any_append p (x ∷ xs) ys =
+    ap (λ t. p x || t) (any_append p xs ys) ∙ assoc (p x) (list_any p xs) (list_any p ys)
   where
     assoc : (a b c : Bool) → (a || (b || c)) ≡ ((a || b) || c)
     assoc true b c = refl
     assoc false b c = refl
 
-pub any_nothing : {X : Type 0} (p : X → Bool) (xs : List X) → filter p xs ≡ [] → list_any p xs ≡ false
+pub any_nothing : {X : Type 0} (p : X → Bool) (xs : List X) → filter p xs ≡ []
+    → list_any p xs ≡ false
 any_nothing {X = X} p xs e = go xs (nothing_each p xs e)
   where
     go : (xs : List X) → Each (λ x. p x ≡ false) xs → list_any p xs ≡ false
@@ -120,10 +149,12 @@ any_nothing {X = X} p xs e = go xs (nothing_each p xs e)
     go (x ∷ xs) e = ap₂ ◌||◌ e.0 (go xs e.1)
 
 -- what passes comes first
-pub among_append : {X : Type 0} (x : X) (xs ys : List X) → Among x (xs ++ ys) → (Among x xs) ⊎ (Among x ys)
+pub among_append : {X : Type 0} (x : X) (xs ys : List X) → Among x (xs ++ ys)
+    → (Among x xs) ⊎ (Among x ys)
 among_append x [] ys m = inr m
 among_append x (z ∷ xs) ys (inl e) = inl (inl e)
-among_append x (z ∷ xs) ys (inr m) = elim (among_append x xs ys m) [ inl k ↦ inl (inr k) | inr k ↦ inr k ]
+among_append x (z ∷ xs) ys (inr m) =
+    elim (among_append x xs ys m) [ inl k ↦ inl (inr k) | inr k ↦ inr k ]
 
 pub among_left : {X : Type 0} (x : X) (xs ys : List X) → Among x xs → Among x (xs ++ ys)
 among_left x [] ys m = absurd m
@@ -138,10 +169,18 @@ pub length-filter-le : {X : Type 0} (p : X → Bool) (xs : List X) → length (f
 length-filter-le p xs = omega (arith, length-filter_both p (λ x. not (p x)) (λ x. refl) xs)
 
 -- what passes nowhere from a place on passes nowhere further on
-pub nothing_further : {X : Type 0} (p : X → Bool) (xs : List X) (a b : ℕ) → a ≤ b → filter p (drop a xs) ≡ [] → filter p (drop b xs) ≡ []
+pub nothing_further : {X : Type 0} (p : X → Bool) (xs : List X) (a b : ℕ) → a ≤ b
+    → filter p (drop a xs) ≡ [] → filter p (drop b xs) ≡ []
 nothing_further p xs a b h e =
-    let parts : filter p (span xs a b) ++ filter p (drop b xs) ≡ [] = sym (filter-append p (span xs a b) (drop b xs)) ∙ ap (filter p) (sym (drop_span a b xs h)) ∙ e in
-    let n : length (filter p (drop b xs)) ≡ 0 = omega (arith, ap length parts, length-append (filter p (span xs a b)) (filter p (drop b xs))) in
+    let parts : filter p (span xs a b) ++ filter p (drop b xs) ≡ [] =
+    sym (filter-append p (span xs a b) (drop b xs)) ∙ ap (filter p) (sym (drop_span a b xs h))
+    ∙ e in
+    let n : length (filter p (drop b xs)) ≡ 0 =
+    omega (
+      arith,
+      ap length parts,
+      length-append (filter p (span xs a b)) (filter p (drop b xs)),
+    ) in
     nil_from_length (filter p (drop b xs)) n
 
 pub each_drop : {X : Type 0} (P : X → Type 0) (k : ℕ) (xs : List X) → Each P xs → Each P (drop k xs)
@@ -149,23 +188,29 @@ each_drop P zero xs e = e
 each_drop P (suc k) [] e = e
 each_drop P (suc k) (x ∷ xs) e = each_drop P k xs e.1
 
-pub each_push : {X : Type 0} (P : X → Type 0) (xs : List X) (x : X) → Each P xs → P x → Each P (xs ++ x ∷ [])
+pub each_push : {X : Type 0} (P : X → Type 0) (xs : List X) (x : X) → Each P xs → P x
+    → Each P (xs ++ x ∷ [])
 each_push P [] x e p = (p, tt)
 each_push P (y ∷ xs) x e p = (e.0, each_push P xs x e.1 p)
 
 -- an element of a list, whatever stands for none
-pub get_or_any : {X : Type 0} (xs : List X) (k : ℕ) (d e : X) → k < length xs → get_or xs k d ≡ get_or xs k e
+pub get_or_any : {X : Type 0} (xs : List X) (k : ℕ) (d e : X) → k < length xs
+    → get_or xs k d ≡ get_or xs k e
 get_or_any [] k d e h = absurd (omega arith)
 get_or_any (x ∷ xs) zero d e h = refl
 get_or_any (x ∷ xs) (suc k) d e h = get_or_any xs k d e (omega arith)
 
 -- a part of a beginning
-pub span_front : {X : Type 0} (xs ys : List X) (a b : ℕ) → b ≤ length xs → span (xs ++ ys) a b ≡ span xs a b
+pub span_front : {X : Type 0} (xs ys : List X) (a b : ℕ) → b ≤ length xs
+    → span (xs ++ ys) a b ≡ span xs a b
 span_front xs ys zero b h = take-append-le (b - 0) xs ys (omega arith)
-span_front [] ys (suc a) b h = let e : b - suc a ≡ 0 = omega arith in ap (λ k. take k (drop (suc a) ys)) e ∙ sym (ap (λ k. take k []) e)
+span_front [] ys (suc a) b h =
+    let e : b - suc a ≡ 0 = omega arith in
+    ap (λ k. take k (drop (suc a) ys)) e ∙ sym (ap (λ k. take k []) e)
 span_front (x ∷ xs) ys (suc a) zero h =
     let e : zero - suc a ≡ 0 = omega arith in
     ap (λ k. take k (drop a (xs ++ ys))) e ∙ sym (ap (λ k. take k (drop a xs)) e)
 span_front (x ∷ xs) ys (suc a) (suc b) h =
     let e : suc b - suc a ≡ b - a = omega arith in
-    ap (λ k. take k (drop a (xs ++ ys))) e ∙ span_front xs ys a b (omega arith) ∙ ap (λ k. take k (drop a xs)) (sym e)
+    ap (λ k. take k (drop a (xs ++ ys))) e ∙ span_front xs ys a b (omega arith)
+    ∙ ap (λ k. take k (drop a xs)) (sym e)

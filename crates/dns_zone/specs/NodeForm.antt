@@ -17,7 +17,8 @@ pub record IsZoneTree (t : Tree) : Type 0 where
 
 -- the node of a row
 abbrev pub node_at : Tree → ℕ → ZoneNode
-node_at t k = record { zone = zone_of_tree t; name = row_name t.records.items (row_at t.rows.items k) }
+node_at t k =
+    record { zone = zone_of_tree t; name = row_name t.records.items (row_at t.rows.items k) }
 
 -- a node of the tree
 pub record IsNodeAt (t : Tree) (k : ℕ) : Type 0 where

@@ -57,7 +57,8 @@ pub record IsKid (rs : List ResourceRecord) (n : DomainName) (row : Row) : Type 
 pub record AreKids (rs : List ResourceRecord) (n : DomainName) (kids : List Row) : Type 0 where
   pub each : Each (IsKid rs n) kids
   pub rising : Rises label_order (map (row_label rs) kids)
-  pub all : (l : Octets) → list_any (λ (r : ResourceRecord). at_or_below r.owner (l ∷ n)) rs ≡ true → Among (map to_ascii_lowercase l) (map (row_label rs) kids)
+  pub all : (l : Octets) → list_any (λ (r : ResourceRecord). at_or_below r.owner (l ∷ n)) rs ≡ true
+      → Among (map to_ascii_lowercase l) (map (row_label rs) kids)
   pub few : length kids ≤ length rs
 
 abbrev pub row_at : List Row → ℕ → Row
@@ -68,14 +69,16 @@ abbrev pub kids_at : List Row → List ℕ → ℕ → List Row
 kids_at rows bounds k = span rows (get_or bounds k 0) (get_or bounds (k + 1) 0)
 
 -- rows for the origin and all names below it that exist, level by level
-pub record IsTree (o : DomainName) (rs : List ResourceRecord) (rows : List Row) (bounds : List ℕ) : Type 0 where
+pub record IsTree (o : DomainName) (rs : List ResourceRecord) (rows : List Row)
+    (bounds : List ℕ) : Type 0 where
   pub some : 0 < length rows
   pub origin : IsRow rs (row_at rows 0) o
   pub count : length bounds ≡ length rows + 1
   pub each : (k : ℕ) → k < length rows → IsRow rs (row_at rows k) (row_name rs (row_at rows k))
   pub rise : (k : ℕ) → k < length rows → get_or bounds k 0 ≤ get_or bounds (k + 1) 0
   pub within : (k : ℕ) → k < length rows → get_or bounds (k + 1) 0 ≤ length rows
-  pub kids : (k : ℕ) → k < length rows → AreKids rs (row_name rs (row_at rows k)) (kids_at rows bounds k)
+  pub kids : (k : ℕ) → k < length rows
+      → AreKids rs (row_name rs (row_at rows k)) (kids_at rows bounds k)
 
 -- how many children are left to look at after some comparisons, at most: a node has at most 100,000
 abbrev pub room_after : ℕ → ℕ

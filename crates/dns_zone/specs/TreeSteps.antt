@@ -19,7 +19,8 @@ pub record IsChildOf (n : DomainName) (owner octets : Octets) : Type 0 where
 -- of each name one label below n, all records stand before a place or none
 abbrev pub IsBetween : List ResourceRecord → DomainName → ℕ → Type 0
 IsBetween rs n k =
-    (m : DomainName) → folded m ≡ m → at_or_below m n ≡ true → length m ≡ suc (length n) → (under m (take k rs) ≡ []) ⊎ (under m (drop k rs) ≡ [])
+    (m : DomainName) → folded m ≡ m → at_or_below m n ≡ true → length m ≡ suc (length n)
+    → (under m (take k rs) ≡ []) ⊎ (under m (drop k rs) ≡ [])
 
 -- the next record below a name whose child has no row yet
 pub record IsNext (rs : List ResourceRecord) (n : DomainName) (next : ℕ) : Type 0 where
@@ -34,7 +35,7 @@ pub record IsKidAt (rs : List ResourceRecord) (n : DomainName) (next : ℕ) (row
   pub first : row.first ≡ next
   pub more : next < row.end
 
--- the rows of a name's children stand behind the rows so far
+-- the rows of a name's children stand after the rows so far
 pub record AddsKids (rs : List ResourceRecord) (n : DomainName) (old new : List Row) : Type 0 where
   pub longer : length old ≤ length new
   pub kept : take (length old) new ≡ old

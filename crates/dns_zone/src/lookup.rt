@@ -26,8 +26,10 @@ pub(crate) fn count_before(records: &[Record], name: &Name) -> usize
     requires ordered { AreOrdered records.now }
     requires lower { folded name.now ≡ name.now }
     ensures bound { result ≤ length records.now }
-    ensures before { take result records.now ≡ filter (λ (r : ResourceRecord). is_lt (name_order r.owner name.now)) records.now }
-    ensures others { drop result records.now ≡ filter (λ (r : ResourceRecord). not (is_lt (name_order r.owner name.now))) records.now }
+    ensures before { take result records.now
+        ≡ filter (λ (r : ResourceRecord). is_lt (name_order r.owner name.now)) records.now }
+    ensures others { drop result records.now
+        ≡ filter (λ (r : ResourceRecord). not (is_lt (name_order r.owner name.now))) records.now }
 {
     records.partition_point(|listed| is_before(listed, name))
 }
@@ -37,8 +39,10 @@ pub(crate) fn count_at(records: &[Record], name: &Name) -> usize
     requires in_front { IsPartitionedBy (λ (r : ResourceRecord). same r.owner name.now) records.now }
     requires lower { folded name.now ≡ name.now }
     ensures bound { result ≤ length records.now }
-    ensures own { take result records.now ≡ filter (λ (r : ResourceRecord). same r.owner name.now) records.now }
-    ensures others { drop result records.now ≡ filter (λ (r : ResourceRecord). not (same r.owner name.now)) records.now }
+    ensures own { take result records.now
+        ≡ filter (λ (r : ResourceRecord). same r.owner name.now) records.now }
+    ensures others { drop result records.now
+        ≡ filter (λ (r : ResourceRecord). not (same r.owner name.now)) records.now }
 {
     records.partition_point(|listed| is_at(listed, name))
 }
@@ -47,8 +51,10 @@ pub(crate) fn count_at(records: &[Record], name: &Name) -> usize
 pub(crate) fn count_under(records: &[Record], name: &Name) -> usize
     requires { IsPartitionedBy (λ (r : ResourceRecord). at_or_below r.owner name.now) records.now }
     ensures bound { result ≤ length records.now }
-    ensures own { take result records.now ≡ filter (λ (r : ResourceRecord). at_or_below r.owner name.now) records.now }
-    ensures others { drop result records.now ≡ filter (λ (r : ResourceRecord). not (at_or_below r.owner name.now)) records.now }
+    ensures own { take result records.now
+        ≡ filter (λ (r : ResourceRecord). at_or_below r.owner name.now) records.now }
+    ensures others { drop result records.now
+        ≡ filter (λ (r : ResourceRecord). not (at_or_below r.owner name.now)) records.now }
 {
     records.partition_point(|listed| listed.owner.at_or_below(name))
 }
@@ -89,7 +95,8 @@ pub(crate) fn of_type<'a>(records: &'a [Record], rtype: RType) -> &'a [Record]
 fn count_of(records: &[Record], rtype: RType) -> usize
     requires { IsPartitionedBy (λ (r : ResourceRecord). r.rtype == rtype.0) records.now }
     ensures bound { result ≤ length records.now }
-    ensures own { take result records.now ≡ filter (λ (r : ResourceRecord). r.rtype == rtype.0) records.now }
+    ensures own { take result records.now
+        ≡ filter (λ (r : ResourceRecord). r.rtype == rtype.0) records.now }
 {
     records.partition_point(|listed| listed.rtype == rtype)
 }
@@ -98,7 +105,8 @@ fn count_of(records: &[Record], rtype: RType) -> usize
 fn count_below(records: &[Record], rtype: RType) -> usize
     requires { IsNonDecreasingBy (λ (r : ResourceRecord). r.rtype) records.now }
     ensures bound { result ≤ length records.now }
-    ensures others { drop result records.now ≡ filter (λ (r : ResourceRecord). not (nat_lt r.rtype rtype.0)) records.now }
+    ensures others { drop result records.now
+        ≡ filter (λ (r : ResourceRecord). not (nat_lt r.rtype rtype.0)) records.now }
 {
     records.partition_point(|listed| listed.rtype.0 < rtype.0)
 }

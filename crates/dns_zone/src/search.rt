@@ -25,7 +25,8 @@ pub(crate) fn find(
     requires few { length kids.now ≤ most_records }
     requires comparisons { steps.old.comparisons ≤ 4294967278 }
 
-    ensures found { IfSome result (λ k. (k < length kids.now) × (row_label records.now (row_at kids.now k) ≡ label.now)) }
+    ensures found { IfSome result (λ k.
+        (k < length kids.now) × (row_label records.now (row_at kids.now k) ≡ label.now)) }
     ensures none { IsNone result → Among label.now (map (row_label records.now) kids.now) → ⊥ }
 
     ensures rise { steps.old.comparisons ≤ steps.new.comparisons }

@@ -25,7 +25,11 @@ impl<'z> Model for Steps<'z> {
 
     ghost Value = { Walk };
 
-    ghost view = { λ s. record { zone = s.zone.now; visits = s.visits; comparisons = s.comparisons } };
+    ghost view = { λ s. record {
+      zone = s.zone.now;
+      visits = s.visits;
+      comparisons = s.comparisons;
+    } };
 }
 
 impl<'z> Steps<'z> {

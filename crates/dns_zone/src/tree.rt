@@ -62,12 +62,14 @@ fn origin_row(origin: &Name, records: &[Record]) -> Row
     }
 }
 
-// Adds the rows of a row's children behind all rows.
+// Adds the rows of a row's children after all rows.
 fn add_kids(records: &[Record], number: usize, rows: &mut Vec<Row>) -> Result<(), AllocError>
     requires canonical { IsCanonical records.now }
     requires number { number < length rows.old.items }
-    requires row { IsRow records.now (row_at rows.old.items number) (row_name records.now (row_at rows.old.items number)) }
-    ensures { OnOk result (AddsKids records.now (row_name records.now (row_at rows.old.items number)) rows.old.items rows.new.items) }
+    requires row { IsRow records.now (row_at rows.old.items number)
+        (row_name records.now (row_at rows.old.items number)) }
+    ensures { OnOk result (AddsKids records.now
+        (row_name records.now (row_at rows.old.items number)) rows.old.items rows.new.items) }
 {
     let row = &rows[number];
     let parent = octets_of(records, row);

@@ -1,4 +1,4 @@
-use Rattle.std.proofs.Common.{◌≡◌, ◌∙◌, sym, ap, arith, length, ◌∷◌}
+use Rattle.std.proofs.Common.{◌∙◌, sym, ap, arith, ◌∷◌}
 use Rattle.dns_wire.proofs.Suffixes.{root_empty, root_zero, root_cut}
 use Rattle.dns_wire.proofs.room.after_first_label.Goals as goal
 

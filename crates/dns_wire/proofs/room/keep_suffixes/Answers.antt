@@ -1,6 +1,5 @@
-use Rattle.std.proofs.Common.{◌≡◌, ◌+◌, ◌*◌, ◌<◌, ◌∙◌, refl, sym, ap, subst, arith, length, ◌∷◌, [], ◌++◌}
-use Rattle.dns_wire.specs.Kept.{Kept}
-use Rattle.dns_wire.proofs.Suffixes.{Keep, grows_none, grows_more, keep_begins, keep_label, keep_root, keep_high, keep_past}
+use Rattle.std.proofs.Common.{◌∙◌, refl, ap}
+use Rattle.dns_wire.proofs.Suffixes.{grows_none, grows_more, keep_begins, keep_label, keep_root, keep_high, keep_past}
 use Rattle.dns_wire.proofs.room.keep_suffixes.Goals.{then-next-at-via-then-next-at, then-next-at-via-else-next-at+then-place-gt-LAST_PLACE}
 use Rattle.dns_wire.proofs.room.keep_suffixes.Goals as goal
 

@@ -1,4 +1,4 @@
-use Rattle.std.proofs.Common.{◌≡◌, ◌∙◌, refl, sym, ap, subst, length}
+use Rattle.std.proofs.Common.{◌∙◌, refl, sym, ap, subst}
 use Rattle.dns_wire.specs.Kept.{IsKept, NoneSpelled}
 use Rattle.dns_wire.proofs.Suffixes.{left_label, left_root, left_found}
 use Rattle.dns_wire.proofs.room.shared_suffix.Goals as goal

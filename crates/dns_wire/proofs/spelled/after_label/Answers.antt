@@ -1,4 +1,4 @@
-use Rattle.std.proofs.Common.{◌≡◌, ◌∙◌, sym, ap, length, ◌∷◌}
+use Rattle.std.proofs.Common.{◌∙◌, sym, ap, ◌∷◌}
 use Rattle.dns_wire.proofs.SpelledLemmas.{after_some, after_none}
 use Rattle.dns_wire.proofs.spelled.after_label.Goals as goal
 

@@ -1,6 +1,5 @@
-use Rattle.std.proofs.Common.{◌≡◌, ◌≤◌, ◌∙◌, sym, ap, subst, arith, length, ◌+◌, ◌∷◌, ◌++◌}
+use Rattle.std.proofs.Common.{◌≡◌, subst, arith, length, ◌∷◌, ◌++◌}
 use Rattle.dns_wire.specs.Labels.{StepAt}
-use Rattle.dns_wire.specs.Kept.{SpelledFrom}
 use Rattle.dns_wire.proofs.SpelledLemmas.{spelled_end, spelled_label, spelled_jump}
 use Rattle.dns_wire.proofs.spelled.is_spelled.Goals as goal
 

@@ -9,4 +9,5 @@ returns-clause-own c =
     let p = λ (r : ResourceRecord). r.rtype == c.args.rtype.0 in
     let rs = c.args.records.now in
     (halves p rs _ c.partition_point.ensures.bound
-    (IsPartitionPoint-from_clause p rs _ c.partition_point.ensures.partitioned c.requires (λ a r q k. search rules))).0
+    (IsPartitionPoint-from_clause p rs _ c.partition_point.ensures.partitioned c.requires
+    (λ a r q k. search rules))).0

@@ -1,10 +1,10 @@
-use Rattle.std.proofs.Common.{◌≡◌, ◌+◌, ◌-◌, ◌/◌, ◌<◌, ◌≤◌, ◌⊎◌, inl, inr, ℕ, refl, ap, sym, ◌∙◌, subst, arith}
+use Rattle.std.proofs.Common.{◌≡◌, ◌+◌, ◌-◌, ◌<◌, ◌≤◌, ◌⊎◌, inl, inr, ℕ, ap, sym, ◌∙◌, subst, arith}
 use Rattle.std.proofs.lemmas.Bool.{cases_lt}
 use Rattle.dns_spec.specs.Names.{Octets, label_order}
 use Rattle.dns_zone.specs.Nodes.{Walk}
-use Rattle.dns_zone.specs.TreeForm.{row_label, row_at, room_after}
+use Rattle.dns_zone.specs.TreeForm.{room_after}
 use Rattle.dns_zone.proofs.NameTree.{label-tie}
-use Rattle.dns_zone.proofs.FoundKid.{Searching, go_left, go_right, none_left}
+use Rattle.dns_zone.proofs.FoundKid.{Searching, half_room, moved, go_left, go_right, none_left}
 use Rattle.dns_zone.proofs.search.find.Goals as goal
 use Rattle.dns_zone.proofs.search.find.Goals.{in-Less, in-Greater}
 
@@ -20,7 +20,8 @@ returns-then-low-high-clause-none c h =
     let rs = c.args.records.now in
     let kids = c.args.kids.now in
     none_left rs kids c.args.label.now c.requires.rising c.turns.low c.turns.turn
-    (subst (λ (high : ℕ). Searching rs kids c.args.label.now c.turns.low high c.turns.turn) (sym c.if-low-high.true) c.turns.invariant.searching)
+    (subst (λ (high : ℕ). Searching rs kids c.args.label.now c.turns.low high c.turns.turn)
+    (sym c.if-low-high.true) c.turns.invariant.searching)
 
 pub returns-in-Equal-clause-found : goal.returns-in-Equal-clause-found
 returns-in-Equal-clause-found c =
@@ -29,7 +30,9 @@ returns-in-Equal-clause-found c =
     let less = less_than c.turns.low c.turns.high s.order c.if-low-high.false in
     let inside = s.inside in (
       omega arith,
-      label-tie _ label (ap (λ (x : Octets). label_order x label) (sym c.label_of.ensures) ∙ sym c.cmp.ensures ∙ c.in-Equal.is),
+      label-tie _ label
+          (ap (λ (x : Octets). label_order x label) (sym c.label_of.ensures) ∙ sym c.cmp.ensures
+          ∙ c.in-Equal.is),
     )
 
 pub turns-preserved : goal.turns-preserved
@@ -37,23 +40,28 @@ turns-preserved c =
     let rs = c.args.records.now in
     let kids = c.args.kids.now in
     let label = c.args.label.now in
+    let low = c.turns.low in
+    let high = c.turns.high in
+    let turn = c.turns.turn in
     let s = c.turns.invariant.searching in
-    let less = less_than c.turns.low c.turns.high s.order c.if-low-high.false in
-    let middle = c.turns.low + (c.turns.high - c.turns.low) / 2 in
-    let compared : label_order (row_label rs (row_at kids middle)) label ≡ c.cmp.result = ap (λ (x : Octets). label_order x label) (sym c.label_of.ensures) ∙ sym c.cmp.ensures in
+    let less = less_than low high s.order c.if-low-high.false in
+    let left : high - low ≤ room_after turn = let r = s.room in omega arith in
+    let half = half_room (high - low) turn left in
+    let compared =
+    ap (λ (x : Octets). label_order x label) (sym c.label_of.ensures) ∙ sym c.cmp.ensures in
     let counted = ap (λ (w : Walk). w.comparisons) c.count_comparison.ensures in
     let rise = c.turns.invariant.rise in
     let bound = c.turns.invariant.bound in
     record {
       searching = elim c.match-cmp.branch [
         | in-Less w ↦
-            subst (λ (low : ℕ). Searching rs kids label low c.match-cmp.high (c.turns.turn + 1)) (sym w.low-is)
-            (subst (λ (high : ℕ). Searching rs kids label (middle + 1) high (c.turns.turn + 1)) (sym w.high-is)
-            (go_right rs kids label c.requires.rising c.turns.low c.turns.high c.turns.turn s middle refl less (compared ∙ w.in-Less.is)))
+            moved rs kids label w.low-is w.high-is
+            (go_right rs kids label c.requires.rising low high turn s _
+            (compared ∙ w.in-Less.is) (omega arith) (omega arith))
         | in-Greater w ↦
-            subst (λ (low : ℕ). Searching rs kids label low c.match-cmp.high (c.turns.turn + 1)) (sym w.low-is)
-            (subst (λ (high : ℕ). Searching rs kids label c.turns.low high (c.turns.turn + 1)) (sym w.high-is)
-            (go_left rs kids label c.requires.rising c.turns.low c.turns.high c.turns.turn s middle refl less (compared ∙ w.in-Greater.is)))
+            moved rs kids label w.low-is w.high-is
+            (go_left rs kids label c.requires.rising low high turn s _
+            (compared ∙ w.in-Greater.is) (omega arith) (omega arith) (omega arith))
       ];
       rise = omega arith;
       bound = omega arith;
@@ -69,7 +77,8 @@ returns-clause-none c h =
     let past = c.turns-test.false in
     let last : c.turns.turn ≡ 17 = (let e = c.turns.auto.turn-end in omega arith) in
     let s = c.turns.invariant.searching in
-    let room : c.turns.high ≤ c.turns.low + room_after 17 = subst (λ (t : ℕ). c.turns.high ≤ c.turns.low + room_after t) last s.room in
+    let room : c.turns.high ≤ c.turns.low + room_after 17 =
+    subst (λ (t : ℕ). c.turns.high ≤ c.turns.low + room_after t) last s.room in
     let order = s.order in
     let level : c.turns.high ≡ c.turns.low = omega arith in
     none_left rs kids label c.requires.rising c.turns.low c.turns.turn

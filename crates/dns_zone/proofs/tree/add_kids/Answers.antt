@@ -13,18 +13,23 @@ kids-init c =
     let rs = c.args.records.now in
     let rows = c.args.rows.now.items in
     let row = row_at rows c.args.number in
-    let same : c.index-row.result.now ≡ row = c.index-row.ensures ∙ get_or_any rows c.args.number _ _ c.requires.number in
-    subst (λ (r : Row). Adding rs (row_name rs row) row.own_end rows rows r.own_end) (sym same) (start rs c.requires.canonical (row_name rs row) row c.requires.row rows)
+    let same : c.index-row.result.now ≡ row =
+    c.index-row.ensures ∙ get_or_any rows c.args.number _ _ c.requires.number in
+    subst (λ (r : Row). Adding rs (row_name rs row) row.own_end rows rows r.own_end) (sym same)
+    (start rs c.requires.canonical (row_name rs row) row c.requires.row rows)
 
 pub kid_at-kid-requires-clause-next : goal.kid_at-kid-requires-clause-next
 kid_at-kid-requires-clause-next c =
     let rs = c.args.records.now in
     let rows = c.args.rows.now.items in
     let row = row_at rows c.args.number in
-    let same : c.index-row.result.now ≡ row = c.index-row.ensures ∙ get_or_any rows c.args.number _ _ c.requires.number in
-    let named : labels_of c.octets_of-parent.result.now ≡ row_name rs row = c.octets_of-parent.ensures.name ∙ ap (row_name rs) same in
+    let same : c.index-row.result.now ≡ row =
+    c.index-row.ensures ∙ get_or_any rows c.args.number _ _ c.requires.number in
+    let named : labels_of c.octets_of-parent.result.now ≡ row_name rs row =
+    c.octets_of-parent.ensures.name ∙ ap (row_name rs) same in
     subst (λ (n : DomainName). IsNext rs n c.kids.next) (sym named)
-    (next_is rs c.requires.canonical (row_name rs row) row c.requires.row rows c.kids.rows.items c.kids.next c.kids.invariant
+    (next_is rs c.requires.canonical (row_name rs row) row c.requires.row rows c.kids.rows.items
+    c.kids.next c.kids.invariant
     (subst (λ (r : Row). c.kids.next < r.end) same c.kids-test.true))
 
 pub kids-preserved : goal.kids-preserved
@@ -32,17 +37,25 @@ kids-preserved c =
     let rs = c.args.records.now in
     let rows = c.args.rows.now.items in
     let row = row_at rows c.args.number in
-    let same : c.index-row.result.now ≡ row = c.index-row.ensures ∙ get_or_any rows c.args.number _ _ c.requires.number in
-    let named : labels_of c.octets_of-parent.result.now ≡ row_name rs row = c.octets_of-parent.ensures.name ∙ ap (row_name rs) same in
-    let kid = subst (λ (n : DomainName). IsKidAt rs n c.kids.next c.kid_at-kid.result) named c.kid_at-kid.ensures in
-    subst (λ (new : List Row). Adding rs (row_name rs row) row.own_end rows new c.kid_at-kid.result.end) (sym c.in_ok-push.ensures.items)
-    (step rs c.requires.canonical (row_name rs row) row c.requires.row rows c.kids.rows.items c.kids.next c.kids.invariant c.kid_at-kid.result kid)
+    let same : c.index-row.result.now ≡ row =
+    c.index-row.ensures ∙ get_or_any rows c.args.number _ _ c.requires.number in
+    let named : labels_of c.octets_of-parent.result.now ≡ row_name rs row =
+    c.octets_of-parent.ensures.name ∙ ap (row_name rs) same in
+    let kid =
+    subst (λ (n : DomainName). IsKidAt rs n c.kids.next c.kid_at-kid.result) named
+    c.kid_at-kid.ensures in
+    subst (λ (new : List Row). Adding rs (row_name rs row) row.own_end rows new
+    c.kid_at-kid.result.end) (sym c.in_ok-push.ensures.items)
+    (step rs c.requires.canonical (row_name rs row) row c.requires.row rows c.kids.rows.items
+    c.kids.next c.kids.invariant c.kid_at-kid.result kid)
 
 pub returns : goal.returns
 returns c =
     let rs = c.args.records.now in
     let rows = c.args.rows.now.items in
     let row = row_at rows c.args.number in
-    let same : c.index-row.result.now ≡ row = c.index-row.ensures ∙ get_or_any rows c.args.number _ _ c.requires.number in
-    done rs c.requires.canonical (row_name rs row) row c.requires.row rows c.kids.rows.items c.kids.next c.kids.invariant
+    let same : c.index-row.result.now ≡ row =
+    c.index-row.ensures ∙ get_or_any rows c.args.number _ _ c.requires.number in
+    done rs c.requires.canonical (row_name rs row) row c.requires.row rows c.kids.rows.items
+    c.kids.next c.kids.invariant
     (subst (λ (r : Row). r.end ≤ c.kids.next) same c.kids-test.false)

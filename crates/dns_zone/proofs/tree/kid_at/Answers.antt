@@ -12,18 +12,24 @@ use Rattle.dns_zone.proofs.tree.kid_at.Goals as goal
 pub child_octets-octets-requires-clause-owner : goal.child_octets-octets-requires-clause-owner
 child_octets-octets-requires-clause-owner c =
     let r = c.index-records-next.result in
-    let spelled = c.octets-owner.ensures.value ∙ ap (λ (q : ResourceRecord). wire q.owner) c.record.view_is in
+    let spelled =
+    c.octets-owner.ensures.value ∙ ap (λ (q : ResourceRecord). wire q.owner) c.record.view_is in
     IsWireForm-wire c.octets-owner.result.now r.owner spelled
-    (owner_name c.args.records.now c.requires.canonical (labels_of c.args.parent.now) c.args.next c.requires.next r c.index-records-next.is)
+    (owner_name c.args.records.now c.requires.canonical (labels_of c.args.parent.now) c.args.next
+    c.requires.next r c.index-records-next.is)
 
 pub child_octets-octets-requires-clause-below : goal.child_octets-octets-requires-clause-below
 child_octets-octets-requires-clause-below c =
     let rs = c.args.records.now in
     let n = labels_of c.args.parent.now in
     let r = c.index-records-next.result in
-    let spelled = c.octets-owner.ensures.value ∙ ap (λ (q : ResourceRecord). wire q.owner) c.record.view_is in
-    let name = owner_name rs c.requires.canonical n c.args.next c.requires.next r c.index-records-next.is in
-    subst (λ (m : DomainName). below m n ≡ true) (sym (labels_of_spelled c.octets-owner.result.now r.owner spelled name))
+    let spelled =
+    c.octets-owner.ensures.value ∙ ap (λ (q : ResourceRecord). wire q.owner) c.record.view_is in
+    let name =
+    owner_name rs c.requires.canonical n c.args.next c.requires.next r c.index-records-next.is
+    in
+    subst (λ (m : DomainName). below m n ≡ true)
+    (sym (labels_of_spelled c.octets-owner.result.now r.owner spelled name))
     (owner_below rs c.requires.canonical n c.args.next c.requires.next r c.index-records-next.is)
 
 pub child_octets-octets-requires-clause-lower : goal.child_octets-octets-requires-clause-lower
@@ -31,9 +37,13 @@ child_octets-octets-requires-clause-lower c =
     let rs = c.args.records.now in
     let n = labels_of c.args.parent.now in
     let r = c.index-records-next.result in
-    let spelled = c.octets-owner.ensures.value ∙ ap (λ (q : ResourceRecord). wire q.owner) c.record.view_is in
-    let name = owner_name rs c.requires.canonical n c.args.next c.requires.next r c.index-records-next.is in
-    subst (λ (m : DomainName). folded m ≡ m) (sym (labels_of_spelled c.octets-owner.result.now r.owner spelled name))
+    let spelled =
+    c.octets-owner.ensures.value ∙ ap (λ (q : ResourceRecord). wire q.owner) c.record.view_is in
+    let name =
+    owner_name rs c.requires.canonical n c.args.next c.requires.next r c.index-records-next.is
+    in
+    subst (λ (m : DomainName). folded m ≡ m)
+    (sym (labels_of_spelled c.octets-owner.result.now r.owner spelled name))
     (owner_lower rs c.requires.canonical n c.args.next c.requires.next r c.index-records-next.is)
 
 pub count_at-requires-clause-in_front : goal.count_at-requires-clause-in_front
@@ -42,11 +52,16 @@ count_at-requires-clause-in_front c =
     let n = labels_of c.args.parent.now in
     let r = c.index-records-next.result in
     let octets = c.child_octets-octets.result.now in
-    let spelled = c.octets-owner.ensures.value ∙ ap (λ (q : ResourceRecord). wire q.owner) c.record.view_is in
-    let child = subst (λ (o : Octets). IsChildOf n o octets) spelled c.child_octets-octets.ensures in
-    subst (λ (m : DomainName). IsPartitionedBy (is_at m) c.split_at.result.1.now) (sym c.from_octets-name.ensures.value)
-    (subst (λ (xs : List ResourceRecord). IsPartitionedBy (is_at (labels_of octets)) xs) (sym c.split_at.ensures.back)
-    (own_front rs c.requires.canonical n c.args.next c.requires.next r c.index-records-next.is octets child))
+    let spelled =
+    c.octets-owner.ensures.value ∙ ap (λ (q : ResourceRecord). wire q.owner) c.record.view_is in
+    let child =
+    subst (λ (o : Octets). IsChildOf n o octets) spelled c.child_octets-octets.ensures in
+    subst (λ (m : DomainName). IsPartitionedBy (is_at m) c.split_at.result.1.now)
+    (sym c.from_octets-name.ensures.value)
+    (subst (λ (xs : List ResourceRecord). IsPartitionedBy (is_at (labels_of octets)) xs)
+    (sym c.split_at.ensures.back)
+    (own_front rs c.requires.canonical n c.args.next c.requires.next r c.index-records-next.is
+    octets child))
 
 pub count_under-requires : goal.count_under-requires
 count_under-requires c =
@@ -54,11 +69,16 @@ count_under-requires c =
     let n = labels_of c.args.parent.now in
     let r = c.index-records-next.result in
     let octets = c.child_octets-octets.result.now in
-    let spelled = c.octets-owner.ensures.value ∙ ap (λ (q : ResourceRecord). wire q.owner) c.record.view_is in
-    let child = subst (λ (o : Octets). IsChildOf n o octets) spelled c.child_octets-octets.ensures in
-    subst (λ (m : DomainName). IsPartitionedBy (is_under m) c.split_at.result.1.now) (sym c.from_octets-name.ensures.value)
-    (subst (λ (xs : List ResourceRecord). IsPartitionedBy (is_under (labels_of octets)) xs) (sym c.split_at.ensures.back)
-    (under_front rs c.requires.canonical n c.args.next c.requires.next r c.index-records-next.is octets child))
+    let spelled =
+    c.octets-owner.ensures.value ∙ ap (λ (q : ResourceRecord). wire q.owner) c.record.view_is in
+    let child =
+    subst (λ (o : Octets). IsChildOf n o octets) spelled c.child_octets-octets.ensures in
+    subst (λ (m : DomainName). IsPartitionedBy (is_under m) c.split_at.result.1.now)
+    (sym c.from_octets-name.ensures.value)
+    (subst (λ (xs : List ResourceRecord). IsPartitionedBy (is_under (labels_of octets)) xs)
+    (sym c.split_at.ensures.back)
+    (under_front rs c.requires.canonical n c.args.next c.requires.next r c.index-records-next.is
+    octets child))
 
 pub returns : goal.returns
 returns c =
@@ -68,9 +88,12 @@ returns c =
     let octets = c.child_octets-octets.result.now in
     let back = c.split_at.ensures.back in
     let named = c.from_octets-name.ensures.value in
-    let spelled = c.octets-owner.ensures.value ∙ ap (λ (q : ResourceRecord). wire q.owner) c.record.view_is in
-    let child = subst (λ (o : Octets). IsChildOf n o octets) spelled c.child_octets-octets.ensures in
-    made rs c.requires.canonical n c.args.next c.requires.next r c.index-records-next.is octets child c.count_at.result c.count_under.result _
+    let spelled =
+    c.octets-owner.ensures.value ∙ ap (λ (q : ResourceRecord). wire q.owner) c.record.view_is in
+    let child =
+    subst (λ (o : Octets). IsChildOf n o octets) spelled c.child_octets-octets.ensures in
+    made rs c.requires.canonical n c.args.next c.requires.next r c.index-records-next.is octets
+    child c.count_at.result c.count_under.result _
     (rw (← back) c.count_at.ensures.bound) (rw (← back) c.count_under.ensures.bound)
     (rw (← back, ← named) c.count_at.ensures.own) (rw (← back, ← named) c.count_under.ensures.own)
     (ap (λ (o : Octets). length o - length octets) spelled)

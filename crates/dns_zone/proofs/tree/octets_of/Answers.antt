@@ -11,12 +11,17 @@ pub returns-clause-octets : goal.returns-clause-octets
 unfolding row_octets
 returns-clause-octets c =
     let p = c.args.row.now.place in
-    c.split_at.ensures.back ∙ ap (drop p) (c.octets.ensures.value ∙ ap (λ (q : ResourceRecord). wire q.owner) c.first.view_is)
-    ∙ ap (λ (k : DomainName). drop p (wire k)) (sym (owner_at c.args.records.now c.args.row.now.first c.index-records-row.result c.requires.some c.index-records-row.is))
+    c.split_at.ensures.back
+    ∙ ap (drop p)
+    (c.octets.ensures.value ∙ ap (λ (q : ResourceRecord). wire q.owner) c.first.view_is)
+    ∙ ap (λ (k : DomainName). drop p (wire k))
+    (sym (owner_at c.args.records.now c.args.row.now.first c.index-records-row.result
+    c.requires.some c.index-records-row.is))
 
 pub returns-clause-wire : goal.returns-clause-wire
 returns-clause-wire c =
-    IsWireForm-wire c.split_at.result.1.now (row_name c.args.records.now c.args.row.now) (returns-clause-octets c ∙ c.requires.octets) c.requires.is_name
+    IsWireForm-wire c.split_at.result.1.now (row_name c.args.records.now c.args.row.now)
+    (returns-clause-octets c ∙ c.requires.octets) c.requires.is_name
 
 pub returns-clause-name : goal.returns-clause-name
 unfolding row_name

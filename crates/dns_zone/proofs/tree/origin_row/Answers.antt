@@ -5,4 +5,6 @@ pub count_at-requires-clause-in_front : goal.count_at-requires-clause-in_front
 count_at-requires-clause-in_front c = own_in_front c.args.origin.now c.args.records.now c.requires
 
 pub returns : goal.returns
-returns c = origin_is_row c.args.origin.now c.args.records.now c.requires c.count_at.result c.count_at.ensures.bound c.count_at.ensures.own
+returns c =
+    origin_is_row c.args.origin.now c.args.records.now c.requires c.count_at.result
+    c.count_at.ensures.bound c.count_at.ensures.own

@@ -8,10 +8,15 @@ pub rows-init : goal.rows-init
 rows-init c =
     let o = c.args.origin.now in
     let rs = c.args.records.now in
-    let rows : c.push.new.self.items ≡ c.origin_row.result ∷ [] = c.in_ok-push.ensures.items ∙ ap (λ (xs : List Row). xs ++ c.origin_row.result ∷ []) c.new-rows.ensures.items in
-    let bounds : c.push-2.new.self.items ≡ 1 ∷ [] = c.in_ok-push-2.ensures.items ∙ ap (λ (xs : List ℕ). xs ++ 1 ∷ []) c.new-bounds.ensures.items in
+    let rows : c.push.new.self.items ≡ c.origin_row.result ∷ [] =
+    c.in_ok-push.ensures.items
+    ∙ ap (λ (xs : List Row). xs ++ c.origin_row.result ∷ []) c.new-rows.ensures.items in
+    let bounds : c.push-2.new.self.items ≡ 1 ∷ [] =
+    c.in_ok-push-2.ensures.items ∙ ap (λ (xs : List ℕ). xs ++ 1 ∷ []) c.new-bounds.ensures.items
+    in
     subst (λ (xs : List Row). Growing o rs xs c.push-2.new.self.items 0) (sym rows)
-    (subst (λ (xs : List ℕ). Growing o rs (c.origin_row.result ∷ []) xs 0) (sym bounds) (begin o rs c.origin_row.result c.origin_row.ensures))
+    (subst (λ (xs : List ℕ). Growing o rs (c.origin_row.result ∷ []) xs 0) (sym bounds)
+    (begin o rs c.origin_row.result c.origin_row.ensures))
 
 other_than : (a b : ℕ) → a ≤ b → (a ≡ b → ⊥) → a < b
 other_than a b l n = go (cases_lt a b)
@@ -27,8 +32,16 @@ rows-preserved c =
     let rows = c.rows.rows.items in
     let rows' = c.add_kids.new.rows.items in
     let i = c.rows.number in
-    let count : c.len.result ≡ length rows = c.len.ensures ∙ (let e : vec_len c.rows.rows ≡ length rows = omega (arith, c.rows.rows.ok.0) in e) in
-    let count' : c.len-in-rows.result ≡ length rows' = c.len-in-rows.ensures ∙ (let e : vec_len c.add_kids.new.rows ≡ length rows' = omega (arith, c.add_kids.new.rows.ok.0) in e) in
-    let less : i < length rows = other_than i (length rows) c.rows.invariant.upto (λ e. c.if-number-len.false (e ∙ sym count)) in
-    subst (λ (bs : List ℕ). Growing o rs rows' bs (i + 1)) (sym (c.in_ok-push-3.ensures.items ∙ ap (λ (k : ℕ). c.rows.bounds.items ++ k ∷ []) count'))
+    let count : c.len.result ≡ length rows =
+    c.len.ensures
+    ∙ (let e : vec_len c.rows.rows ≡ length rows = omega (arith, c.rows.rows.ok.0) in e) in
+    let count' : c.len-in-rows.result ≡ length rows' =
+    c.len-in-rows.ensures
+    ∙ (let e : vec_len c.add_kids.new.rows ≡ length rows' =
+    omega (arith, c.add_kids.new.rows.ok.0) in e) in
+    let less : i < length rows =
+    other_than i (length rows) c.rows.invariant.upto
+    (λ e. c.if-number-len.false (e ∙ sym count)) in
+    subst (λ (bs : List ℕ). Growing o rs rows' bs (i + 1))
+    (sym (c.in_ok-push-3.ensures.items ∙ ap (λ (k : ℕ). c.rows.bounds.items ++ k ∷ []) count'))
     (advance o rs rows c.rows.bounds.items i c.rows.invariant less rows' c.in_ok-add_kids.ensures)

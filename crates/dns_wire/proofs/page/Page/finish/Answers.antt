@@ -1,8 +1,9 @@
-use Rattle.std.proofs.Common.{◌≡◌, ℕ, ◌+◌, ◌≤◌, ◌∙◌, refl, sym, ap, ap₂, subst, arith, length, take, drop, ◌++◌}
+use Rattle.std.proofs.Common.{◌≡◌, ◌+◌, ◌∙◌, refl, sym, ap, subst, arith, length, drop, ◌++◌}
 use Rattle.std.proofs.lemmas.List.{length-drop}
-use Rattle.dns_spec.specs.Layout.{header_octets}
+use Rattle.dns_spec.specs.Reading.{Spells}
+use Rattle.dns_spec.specs.Layout.{header_octets, message_of}
 use Rattle.dns_wire.specs.Draft.{Draft, IsDraft}
-use Rattle.dns_wire.proofs.DraftLemmas.{draft_length, draft_laid, finished}
+use Rattle.dns_wire.proofs.DraftLemmas.{draft_length, draft_laid, draft_spelled, finished}
 use Rattle.dns_wire.proofs.page.Page.finish.Goals as goal
 
 pub returns-clause-length : goal.returns-clause-length
@@ -22,5 +23,15 @@ returns-clause-layout g c = λ h q items draft.
     let front = header_octets c.args.head r.questions r.answers r.authorities r.additionals in
     let long : length c.as_slice-octets.result.now ≡ 12 + length body =
     omega (arith, ap length c.as_slice-octets.ensures.value, ap length cut, length-drop 12 d.octets, some) in
-    finished front (drop 12 c.put_body.new.out) c.put_header.new.out body (length c.as_slice-octets.result.now) c.put_header.ensures refl long c.put_body.ensures.body
+    finished front (drop 12 c.put_body.new.out) c.put_header.new.out body (length c.as_slice-octets.result.now) c.put_header.ensures.octets refl long c.put_body.ensures.body
     ∙ ap (λ z. front ++ z) cut ∙ draft_laid c.args.head q items d here
+
+pub returns-clause-spelled : goal.returns-clause-spelled
+returns-clause-spelled g c = λ h q items draft order writable.
+    let r = c.self.inside in
+    let d : Draft = record { limit = r.room.limit; octets = r.room.octets.items; kept = r.room.places; questions = r.questions; answers = r.answers; authorities = r.authorities; additionals = r.additionals } in
+    let here = subst (IsDraft h q items) (sym c.self.view_is) draft in
+    let within = c.self.invariant.sound.within in
+    let short = c.self.invariant.sound.short in
+    subst (λ z. Spells z (message_of c.args.head q items)) (sym (returns-clause-layout g c h q items draft))
+    (draft_spelled c.args.head q items d here c.put_header.ensures.id c.put_header.ensures.flags order writable (omega (arith, within, short)))

@@ -1,7 +1,6 @@
-use Rattle.std.proofs.Common.{◌≡◌, ◌↔◌, ℕ, ◌+◌, ◌≤◌, ◌∙◌, true, false, refl, sym, ap, subst, subst₂, arith, length, [], ◌∷◌, ◌++◌, add-zero}
+use Rattle.std.proofs.Common.{◌+◌, ◌∙◌, true, false, refl, sym, ap, subst, arith, length, [], ◌∷◌, ◌++◌, add-zero}
 use Rattle.std.proofs.lemmas.Bool.{false≢true}
 use Rattle.dns_spec.specs.Sets.{records_at}
-use Rattle.dns_spec.specs.Layout.{answer, authority, additional}
 use Rattle.dns_wire.specs.declared.page.Section.{Section}
 use Rattle.dns_wire.specs.declared.page.Section.TheVariants.{Answer, Authority, Additional}
 use Rattle.dns_wire.specs.Writing.{IsWritten, records_laid}

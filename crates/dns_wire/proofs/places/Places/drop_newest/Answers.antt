@@ -1,4 +1,4 @@
-use Rattle.std.proofs.Common.{◌≡◌, ◌∙◌, sym, ap, subst, arith, ◌∷◌, [], ◌++◌, slice_set}
+use Rattle.std.proofs.Common.{◌∙◌, sym, ap, subst, arith, ◌++◌, slice_set}
 use Rattle.std.specs.Option.{option_to_list}
 use Rattle.dns_wire.specs.Chains.{AreChains}
 use Rattle.dns_wire.proofs.ChainLemmas.{chains_shrink, last_linked}

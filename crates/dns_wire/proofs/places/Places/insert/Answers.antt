@@ -1,4 +1,4 @@
-use Rattle.std.proofs.Common.{◌≡◌, ◌∙◌, sym, ap, ap₂, subst, arith, length, suc, ◌+◌, ◌∷◌, [], ◌++◌, slice_set, get_or, length-append}
+use Rattle.std.proofs.Common.{◌≡◌, ap, subst, arith, length, suc, ◌∷◌, [], ◌++◌, slice_set, get_or, length-append}
 use Rattle.dns_wire.specs.declared.places.Entry.{Entry}
 use Rattle.dns_wire.specs.Chains.{AreChains}
 use Rattle.dns_wire.proofs.ChainLemmas.{chains_grow}

@@ -1,4 +1,4 @@
-use Rattle.std.proofs.Common.{◌≡◌, ◌+◌, ◌-◌, ◌∙◌, refl, sym, ap, subst, subst₂, arith, length, ◌++◌, [], replicate, append-nil}
+use Rattle.std.proofs.Common.{refl, sym, subst, subst₂, arith, length, ◌++◌, [], replicate}
 use Rattle.dns_spec.specs.Data.{laid_parts}
 use Rattle.dns_spec.specs.Layout.{data_laid}
 use Rattle.dns_wire.specs.Writing.{Holds, IsWritten}

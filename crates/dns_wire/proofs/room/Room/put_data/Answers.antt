@@ -1,5 +1,5 @@
-use Rattle.std.proofs.Common.{◌≡◌, ◌∙◌, List, ap, sym, subst, length, [], ◌∷◌, ◌++◌, cond}
-use Rattle.dns_spec.specs.Data.{Part, octets, parts}
+use Rattle.std.proofs.Common.{◌≡◌, ◌∙◌, ap, sym, subst, length, [], ◌∷◌, ◌++◌, cond}
+use Rattle.dns_spec.specs.Data.{octets, parts}
 use Rattle.dns_spec.specs.Layout.{data_laid}
 use Rattle.dns_wire.specs.Writing.{IsWritten}
 use Rattle.dns_wire.proofs.DataWritten.{octets_written, octets_extend}

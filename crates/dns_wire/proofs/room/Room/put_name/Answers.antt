@@ -1,6 +1,5 @@
-use Rattle.std.proofs.Common.{◌≡◌, ◌↔◌, ℕ, ◌+◌, ◌≤◌, ◌∙◌, false, refl, sym, ap, ap₂, subst, subst₂, arith, length, take, ◌++◌, ◌∷◌, []}
+use Rattle.std.proofs.Common.{◌∙◌, refl, sym, ap, ap₂, subst, subst₂, arith, length, take, ◌++◌, ◌∷◌, []}
 use Rattle.std.proofs.lemmas.Bool.{false≢true}
-use Rattle.dns_spec.specs.Layout.{shared_octets}
 use Rattle.dns_wire.specs.Writing.{end_octets, new_places, Holds, Extends}
 use Rattle.dns_wire.proofs.Suffixes.{extends_none}
 use Rattle.dns_wire.proofs.NameWritten.{name_laid, cost_is, holds_name}

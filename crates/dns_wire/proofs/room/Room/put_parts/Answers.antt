@@ -1,12 +1,11 @@
-use Rattle.std.proofs.Common.{◌≡◌, ◌<◌, ◌≤◌, ◌+◌, ◌∙◌, Bool, true, false, IsTrue, refl, sym, ap, ap₂, subst, subst₂, arith, length, List, ◌∷◌, [], ◌++◌, append-nil, lt_of_not-le}
+use Rattle.std.proofs.Common.{◌≡◌, ◌<◌, ◌+◌, ◌∙◌, refl, sym, subst, arith, length, List, ◌∷◌, [], ◌++◌, append-nil, lt_of_not-le}
 use Rattle.std.proofs.lemmas.Bool.{false≢true}
 use Rattle.std.specs.Bool.{OnTrue}
-use Rattle.dns_spec.specs.Names.{wire}
 use Rattle.dns_spec.specs.Layout.{Placed, shared_octets, cost, data_laid}
 use Rattle.dns_name.specs.WireForm.{labels_of}
 use Rattle.dns_rdata.specs.Parts.{part_for, IsLent}
 use Rattle.dns_rdata.proofs.PartsLoop.{walked}
-use Rattle.dns_wire.specs.Writing.{Holds, IsWritten, IsSound, Extends}
+use Rattle.dns_wire.specs.Writing.{Holds}
 use Rattle.dns_wire.proofs.Suffixes.{extends_none, extends_again}
 use Rattle.dns_wire.proofs.DataWritten.{PartsGo, parts_begin, parts_octets, parts_name, parts_written, parts_past, past_octets, past_name, parts_none}
 use Rattle.dns_wire.proofs.room.Room.put_parts.Goals.{in-Octets, in-Name}

@@ -1,4 +1,4 @@
-use Rattle.std.proofs.Common.{◌≡◌, ◌+◌, ◌<◌, ◌≤◌, ◌∙◌, Bool, true, false, refl, sym, ap, subst, subst₂, arith, length, ◌++◌, ◌∷◌, [], length-append, lt_of_not-le}
+use Rattle.std.proofs.Common.{◌+◌, ◌≤◌, ◌∙◌, Bool, true, false, sym, ap, subst, subst₂, arith, length, ◌++◌, ◌∷◌, [], length-append, lt_of_not-le}
 use Rattle.std.proofs.lemmas.Bool.{false≢true}
 use Rattle.std.specs.Bool.{OnTrue}
 use Rattle.dns_spec.specs.Layout.{record_laid}

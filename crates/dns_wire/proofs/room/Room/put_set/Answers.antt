@@ -1,6 +1,5 @@
-use Rattle.std.proofs.Common.{◌≡◌, ℕ, ◌+◌, ◌<◌, ◌≤◌, ◌∙◌, List, suc, true, false, refl, sym, ap, ap₂, subst, subst₂, arith, length, drop, get_or, [], ◌∷◌, ◌++◌}
+use Rattle.std.proofs.Common.{◌≡◌, ◌+◌, ◌≤◌, ◌∙◌, List, suc, true, false, refl, sym, ap₂, subst, subst₂, arith, length, drop, get_or, []}
 use Rattle.std.specs.Bool.{OnTrue}
-use Rattle.dns_spec.specs.Records.{ResourceRecord}
 use Rattle.dns_spec.specs.Sets.{records_at}
 use Rattle.dns_spec.specs.Layout.{Placed, record_laid}
 use Rattle.dns_wire.specs.Writing.{Holds, IsWritten, shown}

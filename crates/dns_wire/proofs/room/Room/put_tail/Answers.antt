@@ -1,4 +1,4 @@
-use Rattle.std.proofs.Common.{◌≡◌, ◌+◌, ◌<◌, ◌∙◌, false, refl, sym, ap, ap₂, subst, subst₂, arith, length, ◌++◌, [], append-nil, length-append, lt_of_not-le}
+use Rattle.std.proofs.Common.{◌≡◌, ◌+◌, ◌<◌, ◌∙◌, refl, sym, ap, subst, subst₂, arith, length, ◌++◌, [], length-append, lt_of_not-le}
 use Rattle.std.proofs.lemmas.Bool.{false≢true}
 use Rattle.dns_spec.specs.Data.{laid_parts}
 use Rattle.dns_spec.specs.Layout.{data_laid}

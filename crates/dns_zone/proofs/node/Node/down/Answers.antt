@@ -17,8 +17,10 @@ pub find-requires-clause-rows : goal.find-requires-clause-rows
 find-requires-clause-rows c =
     let t = c.self.inside.tree.now in
     let k = c.self.inside.row in
-    subst (λ (rs : List ResourceRecord). Each (λ (r : Row). IsRow rs r (row_name rs r)) c.kids_of-start.result.1.now) (sym c.as_slice.ensures.value)
-    (subst (Each (λ (r : Row). IsRow t.records.items r (row_name t.records.items r))) (sym c.kids_of-start.ensures.kids) (kid_rows t k c.self.invariant))
+    subst (λ (rs : List ResourceRecord). Each (λ (r : Row). IsRow rs r (row_name rs r))
+    c.kids_of-start.result.1.now) (sym c.as_slice.ensures.value)
+    (subst (Each (λ (r : Row). IsRow t.records.items r (row_name t.records.items r)))
+    (sym c.kids_of-start.ensures.kids) (kid_rows t k c.self.invariant))
 
 pub returns-in_err-found-clause-child : goal.returns-in_err-found-clause-child
 returns-in_err-found-clause-child c =
@@ -27,16 +29,26 @@ returns-in_err-found-clause-child c =
     let l = c.args.label in
     let asked : c.in_ok-lower.lower ≡ map to_ascii_lowercase l =
     ap first_of (sym c.in_ok-lower.ensures.steps ∙ c.labels.ensures.labels ∙ c.fold_in_place.ensures
-    ∙ ap folded (c.if-not-push.ensures.pushed ∙ ap (λ (x : DomainName). x ++ l ∷ []) c.root-asked.ensures))
+    ∙ ap folded
+    (c.if-not-push.ensures.pushed ∙ ap (λ (x : DomainName). x ++ l ∷ []) c.root-asked.ensures))
     in
-    let labels : map (row_label c.as_slice.result.now) c.kids_of-start.result.1.now ≡ map (row_label t.records.items) (kids_at t.rows.items t.bounds.items k) =
-    ap₂ (λ (rs : List ResourceRecord) xs. map (row_label rs) xs) c.as_slice.ensures.value c.kids_of-start.ensures.kids
+    let labels : map (row_label c.as_slice.result.now) c.kids_of-start.result.1.now ≡ map
+    (row_label t.records.items) (kids_at t.rows.items t.bounds.items k) =
+    ap₂ (λ (rs : List ResourceRecord) xs. map (row_label rs) xs) c.as_slice.ensures.value
+    c.kids_of-start.ensures.kids
     in
-    let absent : exists c.args.self.now.zone (l ∷ c.args.self.now.name) ≡ true → Among c.octets.result.now (map (row_label c.as_slice.result.now) c.kids_of-start.result.1.now) =
-    λ h. subst (Among c.octets.result.now) (sym labels) (subst (λ (x : Octets). Among x (map (row_label t.records.items) (kids_at t.rows.items t.bounds.items k))) (sym (c.octets.ensures.value ∙ asked))
-    ((are_kids t k c.self.invariant).all l (ap (λ (v : ZoneNode). exists v.zone (l ∷ v.name)) c.self.view_is ∙ h)))
+    let absent : exists c.args.self.now.zone (l ∷ c.args.self.now.name) ≡ true
+    → Among c.octets.result.now
+    (map (row_label c.as_slice.result.now) c.kids_of-start.result.1.now) =
+    λ h. subst (Among c.octets.result.now) (sym labels)
+    (subst (λ (x : Octets). Among x
+    (map (row_label t.records.items) (kids_at t.rows.items t.bounds.items k)))
+    (sym (c.octets.ensures.value ∙ asked))
+    ((are_kids t k c.self.invariant).all l
+    (ap (λ (v : ZoneNode). exists v.zone (l ∷ v.name)) c.self.view_is ∙ h)))
     in
-    rw c.from_residual-in_err-found.ensures (λ h. absurd (false≢true h), λ h. absurd (c.in_err-found.ensures.none refl (absent h)))
+    rw c.from_residual-in_err-found.ensures
+    (λ h. absurd (false≢true h), λ h. absurd (c.in_err-found.ensures.none refl (absent h)))
 
 pub returns-clause-child : goal.returns-clause-child
 returns-clause-child c =
@@ -46,18 +58,27 @@ returns-clause-child c =
     let i = c.in_ok-found.found in
     let asked : c.in_ok-lower.lower ≡ map to_ascii_lowercase l =
     ap first_of (sym c.in_ok-lower.ensures.steps ∙ c.labels.ensures.labels ∙ c.fold_in_place.ensures
-    ∙ ap folded (c.if-not-push.ensures.pushed ∙ ap (λ (x : DomainName). x ++ l ∷ []) c.root-asked.ensures))
+    ∙ ap folded
+    (c.if-not-push.ensures.pushed ∙ ap (λ (x : DomainName). x ++ l ∷ []) c.root-asked.ensures))
     in
-    let fits : i < length (kids_at t.rows.items t.bounds.items k) = subst (λ (xs : List Row). i < length xs) c.kids_of-start.ensures.kids c.in_ok-found.ensures.found.0 in
-    let label : row_label t.records.items (row_at (kids_at t.rows.items t.bounds.items k) i) ≡ map to_ascii_lowercase l =
-    sym (ap₂ (λ (rs : List ResourceRecord) (xs : List Row). row_label rs (row_at xs i)) c.as_slice.ensures.value c.kids_of-start.ensures.kids)
+    let fits : i < length (kids_at t.rows.items t.bounds.items k) =
+    subst (λ (xs : List Row). i < length xs) c.kids_of-start.ensures.kids
+    c.in_ok-found.ensures.found.0 in
+    let label : row_label t.records.items (row_at (kids_at t.rows.items t.bounds.items k) i) ≡ map
+    to_ascii_lowercase l =
+    sym (ap₂ (λ (rs : List ResourceRecord) (xs : List Row). row_label rs (row_at xs i))
+    c.as_slice.ensures.value c.kids_of-start.ensures.kids)
     ∙ c.in_ok-found.ensures.found.1 ∙ c.octets.ensures.value ∙ asked
     in
     let n = row_name t.records.items (row_at t.rows.items k) in
     let present : exists (zone_of_tree t) (l ∷ n) ≡ true =
-    sym (child-exists (zone_of_tree t) l n (is_row t k c.self.invariant).lower) ∙ ap (λ (x : Octets). exists (zone_of_tree t) (x ∷ n)) (sym label) ∙ kid_exists t k c.self.invariant i fits
-    in
-    (λ h. ap (λ (v : ZoneNode). exists v.zone (l ∷ v.name)) (sym c.self.view_is) ∙ present, λ h. refl)
+    sym (child-exists (zone_of_tree t) l n (is_row t k c.self.invariant).lower)
+    ∙ ap (λ (x : Octets). exists (zone_of_tree t) (x ∷ n)) (sym label)
+    ∙ kid_exists t k c.self.invariant i fits
+    in (
+      λ h. ap (λ (v : ZoneNode). exists v.zone (l ∷ v.name)) (sym c.self.view_is) ∙ present,
+      λ h. refl,
+    )
 
 pub returns-clause-node : goal.returns-clause-node
 returns-clause-node c =
@@ -67,13 +88,21 @@ returns-clause-node c =
     let i = c.in_ok-found.found in
     let asked : c.in_ok-lower.lower ≡ map to_ascii_lowercase l =
     ap first_of (sym c.in_ok-lower.ensures.steps ∙ c.labels.ensures.labels ∙ c.fold_in_place.ensures
-    ∙ ap folded (c.if-not-push.ensures.pushed ∙ ap (λ (x : DomainName). x ++ l ∷ []) c.root-asked.ensures))
+    ∙ ap folded
+    (c.if-not-push.ensures.pushed ∙ ap (λ (x : DomainName). x ++ l ∷ []) c.root-asked.ensures))
     in
-    let fits : i < length (kids_at t.rows.items t.bounds.items k) = subst (λ (xs : List Row). i < length xs) c.kids_of-start.ensures.kids c.in_ok-found.ensures.found.0 in
-    let label : row_label t.records.items (row_at (kids_at t.rows.items t.bounds.items k) i) ≡ map to_ascii_lowercase l =
-    sym (ap₂ (λ (rs : List ResourceRecord) (xs : List Row). row_label rs (row_at xs i)) c.as_slice.ensures.value c.kids_of-start.ensures.kids)
+    let fits : i < length (kids_at t.rows.items t.bounds.items k) =
+    subst (λ (xs : List Row). i < length xs) c.kids_of-start.ensures.kids
+    c.in_ok-found.ensures.found.0 in
+    let label : row_label t.records.items (row_at (kids_at t.rows.items t.bounds.items k) i) ≡ map
+    to_ascii_lowercase l =
+    sym (ap₂ (λ (rs : List ResourceRecord) (xs : List Row). row_label rs (row_at xs i))
+    c.as_slice.ensures.value c.kids_of-start.ensures.kids)
     ∙ c.in_ok-found.ensures.found.1 ∙ c.octets.ensures.value ∙ asked
     in
     ap (λ (j : ℕ). node_at t (j + i)) c.kids_of-start.ensures.start
-    ∙ ap (λ (n : DomainName). record { zone = zone_of_tree t; name = n }) (kid_name t k c.self.invariant i fits ∙ ap (λ (x : Octets). x ∷ row_name t.records.items (row_at t.rows.items k)) label)
-    ∙ ap (λ (v : ZoneNode). record { zone = v.zone; name = map to_ascii_lowercase l ∷ v.name }) c.self.view_is
+    ∙ ap (λ (n : DomainName). record { zone = zone_of_tree t; name = n })
+    (kid_name t k c.self.invariant i fits
+    ∙ ap (λ (x : Octets). x ∷ row_name t.records.items (row_at t.rows.items k)) label)
+    ∙ ap (λ (v : ZoneNode). record { zone = v.zone; name = map to_ascii_lowercase l ∷ v.name })
+    c.self.view_is

@@ -1,4 +1,4 @@
-use Rattle.std.proofs.Common.{◌≡◌, ◌≤◌, length}
+use Rattle.std.proofs.Common.{◌≡◌, ◌≤◌}
 use Rattle.dns_zone.proofs.tests.walking.walked.Given as goal
 
 -- the walk is over the zone of the node

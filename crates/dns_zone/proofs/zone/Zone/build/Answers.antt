@@ -11,46 +11,81 @@ use Rattle.dns_zone.proofs.BuiltZone.{found_of_read, built}
 use Rattle.dns_zone.proofs.zone.Zone.build.Goals as goal
 
 pub faults-requires-clause-lower : goal.faults-requires-clause-lower
-faults-requires-clause-lower c = ap folded c.fold-origin.ensures ∙ folded_folded c.args.origin.now ∙ sym c.fold-origin.ensures
+faults-requires-clause-lower c =
+    ap folded c.fold-origin.ensures ∙ folded_folded c.args.origin.now ∙ sym c.fold-origin.ensures
 
 pub returns-then-not-is_empty-clause-faults : goal.returns-then-not-is_empty-clause-faults
 returns-then-not-is_empty-clause-faults c =
-    let found = c.in_ok-found.ensures ∙ ap (λ (xs : List ResourceRecord). faults (record { origin = c.fold-origin.result; records = xs })) c.as_slice.ensures.value in
-    let same = found_of_read c.args.origin.now c.fold-origin.result c.args.records.items c.in_ok-records.records.items c.in_ok-found.found.items c.fold-origin.ensures c.in_ok-records.ensures.records found in (
+    let found =
+    c.in_ok-found.ensures
+    ∙ ap (λ (xs : List ResourceRecord). faults
+    (record { origin = c.fold-origin.result; records = xs })) c.as_slice.ensures.value in
+    let same =
+    found_of_read c.args.origin.now c.fold-origin.result c.args.records.items
+    c.in_ok-records.records.items c.in_ok-found.found.items c.fold-origin.ensures
+    c.in_ok-records.ensures.records found in (
       same,
       λ none.
           let length_is : length c.in_ok-found.found.items ≡ 0 = ap length (same ∙ none) in
           let empty : vec_len c.in_ok-found.found ≡ 0 = omega (arith, c.in_ok-found.found.ok.0) in
-          false≢true (sym c.if-not-is_empty.true ∙ c.is_empty.ensures ∙ eq-eqb (vec_len c.in_ok-found.found) 0 empty),
+          false≢true
+          (sym c.if-not-is_empty.true ∙ c.is_empty.ensures
+          ∙ eq-eqb (vec_len c.in_ok-found.found) 0 empty),
     )
 
 pub rows_of-requires : goal.rows_of-requires
 rows_of-requires c =
-    let found = c.in_ok-found.ensures ∙ ap (λ (xs : List ResourceRecord). faults (record { origin = c.fold-origin.result; records = xs })) c.as_slice.ensures.value in
-    let empty : vec_len c.in_ok-found.found ≡ 0 = eqb-true (vec_len c.in_ok-found.found) 0 (sym c.is_empty.ensures ∙ c.if-not-is_empty.false) in
-    let kept =
-    built c.args.origin.now c.fold-origin.result c.args.records.items c.in_ok-records.records.items c.in_ok-found.found.items c.fold-origin.ensures c.in_ok-records.ensures.records found
-    (omega (arith, c.in_ok-found.found.ok.0)) c.requires c.in_ok-records.ensures.count c.in_ok-records.ensures.in_order c.in_ok-records.ensures.each
+    let found =
+    c.in_ok-found.ensures
+    ∙ ap (λ (xs : List ResourceRecord). faults
+    (record { origin = c.fold-origin.result; records = xs })) c.as_slice.ensures.value in
+    let empty : vec_len c.in_ok-found.found ≡ 0 =
+    eqb-true (vec_len c.in_ok-found.found) 0 (sym c.is_empty.ensures ∙ c.if-not-is_empty.false)
     in
-    subst (λ (xs : List ResourceRecord). IsBuilt (record { origin = c.fold-origin.result; records = xs })) (sym c.as_slice-2.ensures.value) kept
+    let kept =
+    built c.args.origin.now c.fold-origin.result c.args.records.items c.in_ok-records.records.items
+    c.in_ok-found.found.items c.fold-origin.ensures c.in_ok-records.ensures.records found
+    (omega (arith, c.in_ok-found.found.ok.0)) c.requires c.in_ok-records.ensures.count
+    c.in_ok-records.ensures.in_order c.in_ok-records.ensures.each
+    in
+    subst (λ (xs : List ResourceRecord). IsBuilt
+    (record { origin = c.fold-origin.result; records = xs })) (sym c.as_slice-2.ensures.value)
+    kept
 
 pub invariant_of-result : goal.invariant_of-result
 invariant_of-result c =
-    let found = c.in_ok-found.ensures ∙ ap (λ (xs : List ResourceRecord). faults (record { origin = c.fold-origin.result; records = xs })) c.as_slice.ensures.value in
-    let empty : vec_len c.in_ok-found.found ≡ 0 = eqb-true (vec_len c.in_ok-found.found) 0 (sym c.is_empty.ensures ∙ c.if-not-is_empty.false) in
+    let found =
+    c.in_ok-found.ensures
+    ∙ ap (λ (xs : List ResourceRecord). faults
+    (record { origin = c.fold-origin.result; records = xs })) c.as_slice.ensures.value in
+    let empty : vec_len c.in_ok-found.found ≡ 0 =
+    eqb-true (vec_len c.in_ok-found.found) 0 (sym c.is_empty.ensures ∙ c.if-not-is_empty.false)
+    in
     let kept =
-    built c.args.origin.now c.fold-origin.result c.args.records.items c.in_ok-records.records.items c.in_ok-found.found.items c.fold-origin.ensures c.in_ok-records.ensures.records found
-    (omega (arith, c.in_ok-found.found.ok.0)) c.requires c.in_ok-records.ensures.count c.in_ok-records.ensures.in_order c.in_ok-records.ensures.each
+    built c.args.origin.now c.fold-origin.result c.args.records.items c.in_ok-records.records.items
+    c.in_ok-found.found.items c.fold-origin.ensures c.in_ok-records.ensures.records found
+    (omega (arith, c.in_ok-found.found.ok.0)) c.requires c.in_ok-records.ensures.count
+    c.in_ok-records.ensures.in_order c.in_ok-records.ensures.each
     in
     record {
       built = kept;
-      tree = subst (λ (xs : List ResourceRecord). IsTree c.fold-origin.result xs c.in_ok-rows.field-0.rows.items c.in_ok-rows.field-0.bounds.items) c.as_slice-2.ensures.value c.in_ok-rows.ensures;
+      tree =
+          subst (λ (xs : List ResourceRecord). IsTree c.fold-origin.result xs
+          c.in_ok-rows.field-0.rows.items c.in_ok-rows.field-0.bounds.items)
+          c.as_slice-2.ensures.value c.in_ok-rows.ensures;
     }
 
 pub returns-clause-passes : goal.returns-clause-passes
 returns-clause-passes c =
-    let found = c.in_ok-found.ensures ∙ ap (λ (xs : List ResourceRecord). faults (record { origin = c.fold-origin.result; records = xs })) c.as_slice.ensures.value in
-    let empty : vec_len c.in_ok-found.found ≡ 0 = eqb-true (vec_len c.in_ok-found.found) 0 (sym c.is_empty.ensures ∙ c.if-not-is_empty.false) in
+    let found =
+    c.in_ok-found.ensures
+    ∙ ap (λ (xs : List ResourceRecord). faults
+    (record { origin = c.fold-origin.result; records = xs })) c.as_slice.ensures.value in
+    let empty : vec_len c.in_ok-found.found ≡ 0 =
+    eqb-true (vec_len c.in_ok-found.found) 0 (sym c.is_empty.ensures ∙ c.if-not-is_empty.false)
+    in
     let none : length c.in_ok-found.found.items ≡ 0 = omega (arith, c.in_ok-found.found.ok.0) in
-    sym (found_of_read c.args.origin.now c.fold-origin.result c.args.records.items c.in_ok-records.records.items c.in_ok-found.found.items c.fold-origin.ensures c.in_ok-records.ensures.records found)
+    sym (found_of_read c.args.origin.now c.fold-origin.result c.args.records.items
+    c.in_ok-records.records.items c.in_ok-found.found.items c.fold-origin.ensures
+    c.in_ok-records.ensures.records found)
     ∙ nil_from_length c.in_ok-found.found.items none

@@ -6,6 +6,9 @@ use Rattle.dns_zone.proofs.zone.Zone.serial.Goals as goal
 
 pub returns : goal.returns
 returns c =
-    let at_origin = c.serial_at.ensures ∙ ap (λ xs. first_serial (soas_at c.self.inside.tree.origin xs)) c.as_slice.ensures.value in
+    let at_origin =
+    c.serial_at.ensures
+    ∙ ap (λ xs. first_serial (soas_at c.self.inside.tree.origin xs)) c.as_slice.ensures.value in
     subst (λ (z : ZoneContents). c.serial_at.result ≡ zone_serial z) c.self.view_is
-    (serial_is (zone_of_tree c.self.inside.tree) c.serial_at.result c.self.invariant.built at_origin)
+    (serial_is (zone_of_tree c.self.inside.tree) c.serial_at.result c.self.invariant.built
+    at_origin)

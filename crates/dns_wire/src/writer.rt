@@ -1,0 +1,77 @@
+//! A message of up to 65,535 octets that is being written, with the hash that it is lent (RFC 1035 4.1).
+ghost use Rattle.std.specs.Prelude.{◌≡◌, ◌↔◌, ℕ, ◌<◌, ◌≤◌, List, [], ◌∷◌, ◌++◌, length, take, IsTrue, IsFalse, Option, All};
+ghost use Rattle.std.specs.Option.{option_copied};
+ghost use Rattle.std.specs.Bool.{OnTrue, OnFalse};
+ghost use Rattle.dns_spec.specs.Names.{Octets};
+ghost use Rattle.dns_spec.specs.Reading.{MessageQuestion, Spells};
+ghost use Rattle.dns_spec.specs.Layout.{Item, size, layout, message_of, records_of};
+ghost use Rattle.dns_spec.specs.Laws.{sections_in_order, IsWritable};
+ghost use Rattle.dns_spec.specs.Sharing.{Sharing};
+ghost use Rattle.dns_wire.specs.Draft.{IsDraft, with_set};
+
+use crate::message::{Head, Question};
+use crate::page::{Page, Section};
+use crate::places::SuffixHash;
+use dns_name::Name;
+use dns_rdata::SetView;
+
+/// A message that is being written: a page of the greatest size, and the hash that its places are found by.
+#[derive(Drop)]
+pub struct Writer<'h, H: SuffixHash> {
+    hash: &'h mut H,
+    page: Page<8192, 65535>,
+}
+
+impl<'h, H: SuffixHash> Writer<'h, H> {
+    /// An empty message of at most `limit` octets, 512 to 65,535, with the question that it repeats, if any.
+    pub fn new(limit: usize, question: Option<&Question>, hash: &'h mut H) -> Writer<'h, H>
+        requires from { 512 ≤ limit }
+        requires upto { limit ≤ 65535 }
+        ensures draft { IsDraft (H.numbers result.hash.now)
+            (option_copied question.entry) [] result.page }
+        ensures limit { result.page.limit ≡ limit }
+    {
+        let page = Page::new(limit, question, hash);
+        Writer { hash, page }
+    }
+
+    /// Writes the records of a set at an owner, with a TTL in seconds, into a section: all of them, or none where with
+    /// them the message is past its limit.
+    pub fn put_set<S: SetView>(&mut self, section: Section, owner: &Name, ttl: u32, set: &S) -> bool
+        ensures fits { (q : Option MessageQuestion) (items : List Item)
+            → IsDraft (H.numbers self.old.hash.now) q items self.old.page
+            → IsTrue result
+            ↔ (size q (with_set items section owner.now ttl (S.set set.now)) ≤ self.old.page.limit) }
+        ensures put { (q : Option MessageQuestion) (items : List Item)
+            → IsDraft (H.numbers self.old.hash.now) q items self.old.page
+            → OnTrue result (IsDraft (H.numbers self.new.hash.now) q
+            (with_set items section owner.now ttl (S.set set.now)) self.new.page) }
+        ensures least { (q : Option MessageQuestion) (items : List Item)
+            → IsDraft (H.numbers self.old.hash.now) q items self.old.page → self.old.page.limit ≤ 16384
+            → IsFalse result ↔ ((z : ℕ)
+            → Sharing q (with_set items section owner.now ttl (S.set set.now)) z → self.old.page.limit < z) }
+        ensures unchanged { OnFalse result (self.new.page ≡ self.old.page) }
+        ensures limit { self.new.page.limit ≡ self.old.page.limit }
+        ensures same { H.numbers self.new.hash.now ≡ H.numbers self.old.hash.now }
+    {
+        self.page.put_set(self.hash, section, owner, ttl, set)
+    }
+
+    /// Puts the message at the front of `out`, with its header and counts, and answers its length in octets.
+    ///
+    /// Condition: `out` is as long as the limit.
+    pub fn finish(self, head: Head, out: &mut [u8]) -> usize
+        requires { self.page.limit ≤ length out.old }
+        ensures length { (h : Octets → ℕ) (q : Option MessageQuestion) (items : List Item)
+            → IsDraft h q items self.entry.page → result ≡ size q items }
+        ensures layout { (h : Octets → ℕ) (q : Option MessageQuestion) (items : List Item)
+            → IsDraft h q items self.entry.page → take result out.new ≡ layout head q items }
+        ensures spelled { (h : Octets → ℕ) (q : Option MessageQuestion) (items : List Item)
+            → IsDraft h q items self.entry.page → IsTrue (sections_in_order items)
+            → All IsWritable (records_of items)
+            → Spells (take result out.new) (message_of head q items) }
+    {
+        let Writer { page, .. } = self;
+        page.finish(head, out)
+    }
+}
