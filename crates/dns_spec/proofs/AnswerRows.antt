@@ -28,6 +28,8 @@ zone =
     ∷ address (codes "self") (net_192 24)
     ∷ in_zone (codes "mm") type_mx (exchange 10 (codes "www"))
     ∷ in_zone (codes "mm") type_mx (exchange 20 (codes "ns"))
+    ∷ in_zone (codes "twice") type_mx (exchange 10 (codes "www"))
+    ∷ in_zone (codes "twice") type_mx (exchange 20 (codes "www"))
     ∷ server (under (codes "two")) (codes "ns")
     ∷ server (under (codes "two")) (codes "z.two")
     ∷ address (codes "z.two") (net_192 25)
@@ -137,8 +139,13 @@ cut_any : told (codes "sub.example") 255 ≡ record { rcode = 0; authoritative =
 unfolding told labels_from cut chain_from chain outcome_at outcome extra items required_items
 cut_any = refl
 
--- an address that stands in the answer is not added
-stands_already : told (codes "self.example") 255 ≡ record { rcode = 0; authoritative = true; needed = 2; sets = set answer (codes "self.example") 1 1 ∷ set answer (codes "self.example") 15 1 ∷ [] }
+-- where all is asked for, one set is the answer, that of the lowest type number: addresses have no targets
+lowest_any : told (codes "self.example") 255 ≡ record { rcode = 0; authoritative = true; needed = 1; sets = set answer (codes "self.example") 1 1 ∷ [] }
+unfolding told labels_from cut chain_from chain outcome_at outcome extra items required_items
+lowest_any = refl
+
+-- an address set of two targets is not repeated
+stands_already : told (codes "twice.example") 15 ≡ record { rcode = 0; authoritative = true; needed = 1; sets = set answer (codes "twice.example") 15 2 ∷ set additional (codes "www.example") 1 1 ∷ [] }
 unfolding told labels_from cut chain_from chain outcome_at outcome extra items required_items
 stands_already = refl
 
@@ -147,10 +154,15 @@ other_type : told (codes "www.example") 16 ≡ record { rcode = 0; authoritative
 unfolding told labels_from cut chain_from chain outcome_at outcome extra items required_items
 other_type = refl
 
--- all sets by rising type
-origin_any : told (codes "example") 255 ≡ record { rcode = 0; authoritative = true; needed = 2; sets = set answer (codes "example") 2 1 ∷ set answer (codes "example") 6 1 ∷ set additional (codes "ns.example") 1 1 ∷ [] }
+-- the NS set of the origin stands before its SOA
+origin_any : told (codes "example") 255 ≡ record { rcode = 0; authoritative = true; needed = 1; sets = set answer (codes "example") 2 1 ∷ set additional (codes "ns.example") 1 1 ∷ [] }
 unfolding told labels_from cut chain_from chain outcome_at outcome extra items required_items
 origin_any = refl
+
+-- nothing is found where only names below own records
+above_any : told (codes "w.example") 255 ≡ record { rcode = 0; authoritative = true; needed = 1; sets = set authority (codes "example") 6 1 ∷ [] }
+unfolding told labels_from cut chain_from chain outcome_at outcome extra items required_items
+above_any = refl
 
 -- additional addresses in the order of their targets
 targets_in_order : told (codes "mm.example") 15 ≡ record { rcode = 0; authoritative = true; needed = 1; sets = set answer (codes "mm.example") 15 2 ∷ set additional (codes "www.example") 1 1 ∷ set additional (codes "ns.example") 1 1 ∷ [] }

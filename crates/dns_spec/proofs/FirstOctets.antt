@@ -7,8 +7,9 @@ use Rattle.dns_spec.specs.Data.{number_of}
 use Rattle.dns_spec.specs.Records.{ZoneContents}
 use Rattle.dns_spec.specs.Reading.{Header, MessageQuestion, format_error, not_implemented}
 use Rattle.dns_spec.specs.Query.{field16, is_response, opcode, head_of, refusal_head, question_at, counts_are_one_question, is_ignored, QueryRead, absent, refused_with, query_or_error, query_read}
-use Rattle.dns_spec.specs.Layout.{Item}
-use Rattle.dns_spec.specs.Reply.{decide_query, decide, reply_of, reply_with}
+use Rattle.std.specs.Option.{option_map}
+use Rattle.dns_spec.specs.Layout.{Item, layout}
+use Rattle.dns_spec.specs.Reply.{decide_query, decide, reply_of, reply_with, keep_longest, reply, octets_by, octets_of}
 use Rattle.dns_spec.proofs.Question.{question_ends}
 
 -- what is looked at of a query
@@ -63,3 +64,8 @@ first_octets_read d = go (cases_lt 512 (length d))
 pub first_octets_decide : (z : ZoneContents) (keep : MessageQuestion → List Item) (d : Octets) → reply_with keep z d ≡ reply_with keep z (take 512 d)
 unfolding reply_with decide
 first_octets_decide z keep d = ap (λ x. reply_of keep z (decide_query z x)) (first_octets_read d)
+
+-- and so do its octets
+pub first_octets_answer : (z : ZoneContents) (d : Octets) (limit : ℕ) → octets_of z d limit ≡ octets_of z (take 512 d) limit
+unfolding octets_of reply
+first_octets_answer z d limit = ap (option_map (octets_by layout)) (first_octets_decide z (keep_longest z limit) d)

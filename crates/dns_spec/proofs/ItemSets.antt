@@ -6,12 +6,12 @@ use Rattle.std.specs.List.{list_any}
 use Rattle.dns_spec.specs.Names.{DomainName, folded, names_equal, same}
 use Rattle.dns_spec.specs.Data.{type_a, type_ns, type_cname, type_soa, type_aaaa, qtype_any, soa_minimum}
 use Rattle.dns_spec.specs.Records.{ResourceRecord, ZoneContents, data_order, at, of_type, rrset, with_owner}
-use Rattle.dns_spec.specs.Sets.{records_at, rising_types}
+use Rattle.dns_spec.specs.Sets.{records_at, rising_types, of_first_type, of_lowest_type}
 use Rattle.dns_spec.specs.Tree.{exists, cut_of, source_of_synthesis, found}
 use Rattle.dns_spec.specs.Checks.{ttls_differ, Passes}
 use Rattle.dns_spec.specs.Layout.{Section, answer, authority, additional, Item}
 use Rattle.dns_spec.specs.Reading.{no_error}
-use Rattle.dns_spec.specs.Answer.{item, follows_alias, alias_set, chain, last_sought, alias_items, all_sets, asked_sets, negative_soa, negative, positive, has_any, outcome_by, outcome_at, outcome, targets, stands, address_set, address_sets, extra, main_items, items}
+use Rattle.dns_spec.specs.Answer.{item, follows_alias, alias_set, chain, last_sought, alias_items, asked_records, negative_soa, negative, positive, has_any, outcome_by, outcome_at, outcome, targets, stands, address_set, address_sets, extra, main_items, items}
 use Rattle.dns_spec.specs.Laws.{IsSetAt}
 use Rattle.dns_spec.proofs.NameLaws.{names_equal-decides}
 use Rattle.dns_spec.proofs.SortedOnce.{Each, Among, each_at, each_sort, among_filter}
@@ -195,13 +195,18 @@ module _ (z : ZoneContents) (origin : folded z.origin ≡ z.origin) (low : Each 
   units [] = tt
   units (x ∷ xs) = (tt, units xs)
 
-  asked_are_sets : (q : DomainName) (rs : List ResourceRecord) (t : ℕ) → Shown q rs → Sets (asked_sets t rs)
-  asked_are_sets q rs t s = go (t == qtype_any)
+  lowest_set : (q : DomainName) (rs : List ResourceRecord) → Shown q rs → IsSetAt (of_lowest_type rs)
+  lowest_set q rs s = go (rising_types rs)
     where
-      go : (b : Bool) → Sets (cond b (all_sets rs) (item answer (of_type t rs)))
-      go true =
-          each_flat_map (λ (i : Item). IsSetAt i.records) (λ _. Unit {0}) (λ u. item answer (of_type u rs)) (rising_types rs)
-          (λ u _. item_set answer (of_type u rs) (found_set q rs u s)) (units (rising_types rs))
+      go : (ts : List ℕ) → IsSetAt (of_first_type ts rs)
+      go [] = one_record_set [] (omega arith)
+      go (t ∷ ts) = found_set q rs t s
+
+  asked_is_set : (q : DomainName) (rs : List ResourceRecord) (t : ℕ) → Shown q rs → Sets (item answer (asked_records t rs))
+  asked_is_set q rs t s = go (t == qtype_any)
+    where
+      go : (b : Bool) → Sets (item answer (cond b (of_lowest_type rs) (of_type t rs)))
+      go true = item_set answer (of_lowest_type rs) (lowest_set q rs s)
       go false = item_set answer (of_type t rs) (found_set q rs t s)
 
   negative_set : Sets (negative_soa z)
@@ -220,12 +225,12 @@ module _ (z : ZoneContents) (origin : folded z.origin ≡ z.origin) (low : Each 
       → Sets (outcome_by z t x y).answers × Sets (outcome_by z t x y).authorities
   main_sets t s (Some c) y e = (tt, item_set authority (with_owner c (rrset z c type_ns)) (referral_set c))
   main_sets t s None None e = (tt, negative_set)
-  main_sets t s None (Some rs) e = go (follows_alias t && has_any (of_type type_cname rs)) (has_any (asked_sets t rs))
+  main_sets t s None (Some rs) e = go (follows_alias t && has_any (of_type type_cname rs)) (has_any (asked_records t rs))
     where
-      go : (b c : Bool) → Sets (cond b (positive []) (cond c (positive (asked_sets t rs)) (negative z no_error))).answers
-          × Sets (cond b (positive []) (cond c (positive (asked_sets t rs)) (negative z no_error))).authorities
+      go : (b c : Bool) → Sets (cond b (positive []) (cond c (positive (item answer (asked_records t rs))) (negative z no_error))).answers
+          × Sets (cond b (positive []) (cond c (positive (item answer (asked_records t rs))) (negative z no_error))).authorities
       go true c = (tt, tt)
-      go false true = (asked_are_sets s rs t (found_shown s rs e), tt)
+      go false true = (asked_is_set s rs t (found_shown s rs e), tt)
       go false false = (tt, negative_set)
 
   alias_sets : (q : DomainName) (t : ℕ) → Sets (alias_items z q t)

@@ -36,6 +36,7 @@ pub mod SortedOnce
 pub mod FaultOrder
 pub mod WritableItems
 pub mod RequiredItems
+pub mod ChainLength
 pub mod Kept
 pub mod GrowingSize
 pub mod ReplySpelled
@@ -87,3 +88,4 @@ pub mod ReadRecords
 pub mod SameRecords
 pub mod PrintedAgain
 pub mod FaultLaws
+pub mod FewItems

@@ -65,8 +65,8 @@ plain_ns : outline (main_sets plain_zone (query (codes "example") 2)) 25 24 ≡ 
 unfolding plain_reply main_sets all_sets labels_from cut run runs_before name_at data_size records_size size plain_layout plain_size cost chain_from chain outcome_at outcome extra items required_items reply_with question_at query_read decide
 plain_ns = refl
 
--- all sets of a name, NS before SOA
-plain_any : outline (main_sets plain_zone (query (codes "example") 255)) 25 34 ≡ Some (hex (codes "123484000001000200000000"), 113, hex (codes "c00c 00020001 00000e10 000c 026e73076578616d706c6500 c00c 00060001 00000e10"))
+-- of a name with NS and SOA, asked for all its types, the NS set alone
+plain_any : outline (main_sets plain_zone (query (codes "example") 255)) 25 24 ≡ Some (hex (codes "123484000001000100000000"), 49, hex (codes "c00c 00020001 00000e10 000c 026e73076578616d706c6500"))
 unfolding plain_reply main_sets all_sets labels_from cut run runs_before name_at data_size records_size size plain_layout plain_size cost chain_from chain outcome_at outcome extra items required_items reply_with question_at query_read decide
 plain_any = refl
 

@@ -8,13 +8,13 @@ use Rattle.dns_spec.specs.Data.{type_cname, target}
 use Rattle.dns_spec.specs.Records.{ResourceRecord, ZoneContents, data_order, of_type}
 use Rattle.dns_spec.specs.Tree.{cut_of, found}
 use Rattle.dns_spec.specs.Layout.{Section, answer, Item, records_of}
-use Rattle.dns_spec.specs.Answer.{item, follows_alias, alias_set, chain, last_sought, alias_items, Outcome, positive, negative, has_any, outcome_by, outcome_at, outcome, has_target_type, targets_of, targets_inside, targets_outside, targets, address_sets, extra, main_items, items, required_items, asked_sets}
+use Rattle.dns_spec.specs.Answer.{item, follows_alias, alias_set, chain, last_sought, alias_items, Outcome, positive, negative, has_any, outcome_by, outcome_at, outcome, has_target_type, targets_of, targets_inside, targets_outside, targets, address_sets, extra, main_items, items, required_items, asked_records}
 use Rattle.dns_spec.specs.Reading.{no_error}
 use Rattle.dns_spec.proofs.SortedOnce.{Each, each_sort}
 use Rattle.dns_spec.proofs.WritableItems.{each_flat_map}
 
 -- what is added for targets after others
-extra_append : (z : ZoneContents) (earlier : List Item) (ms ns : List DomainName)
+pub extra_append : (z : ZoneContents) (earlier : List Item) (ms ns : List DomainName)
     → extra z earlier (ms ++ ns) ≡ extra z earlier ms ++ extra z (earlier ++ extra z earlier ms) ns
 unfolding extra
 extra_append z earlier [] ns = ap (λ e. extra z e ns) (sym (append-nil earlier))
@@ -26,10 +26,10 @@ extra_append z earlier (m ∷ ms) ns =
     ∙ ap (λ e. (sets ++ more) ++ extra z e ns) (append_assoc earlier sets more)
 
 -- aliases have no targets
-abbrev IsAlias : ResourceRecord → Type 0
+abbrev pub IsAlias : ResourceRecord → Type 0
 IsAlias r = r.rtype ≡ type_cname
 
-each_of_type : (t : ℕ) (rs : List ResourceRecord) → Each (λ (r : ResourceRecord). r.rtype ≡ t) (of_type t rs)
+pub each_of_type : (t : ℕ) (rs : List ResourceRecord) → Each (λ (r : ResourceRecord). r.rtype ≡ t) (of_type t rs)
 each_of_type t rs = each_sort data_order (λ (r : ResourceRecord). r.rtype ≡ t) (filter (λ (r : ResourceRecord). r.rtype == t) rs) (filtered rs)
   where
     filtered : (ss : List ResourceRecord) → Each (λ (r : ResourceRecord). r.rtype ≡ t) (filter (λ (r : ResourceRecord). r.rtype == t) ss)
@@ -53,11 +53,11 @@ each_alias z s = go (is_some (cut_of z s)) (some (found z s))
     go true e = tt
     go false e = e
 
-each_item : (P : ResourceRecord → Type 0) (s : Section) (rs : List ResourceRecord) → Each P rs → Each (λ (i : Item). Each P i.records) (item s rs)
+pub each_item : (P : ResourceRecord → Type 0) (s : Section) (rs : List ResourceRecord) → Each P rs → Each (λ (i : Item). Each P i.records) (item s rs)
 each_item P s [] e = tt
 each_item P s (r ∷ rs) e = (e, tt)
 
-each_alias_item : (z : ZoneContents) (q : DomainName) (t : ℕ) → Each (λ (i : Item). Each IsAlias i.records) (alias_items z q t)
+pub each_alias_item : (z : ZoneContents) (q : DomainName) (t : ℕ) → Each (λ (i : Item). Each IsAlias i.records) (alias_items z q t)
 each_alias_item z q t = go (follows_alias t)
   where
     units : (ns : List DomainName) → Each (λ _. Unit {0}) ns
@@ -70,14 +70,14 @@ each_alias_item z q t = go (follows_alias t)
         (λ s _. each_item IsAlias answer (alias_set z s) (each_alias z s)) (units (chain z q t))
     go false = tt
 
-abbrev target_of : ResourceRecord → Option DomainName
+abbrev pub target_of : ResourceRecord → Option DomainName
 target_of r = cond (has_target_type r) (target r.rtype r.rdata) None
 
 no_target : (rs : List ResourceRecord) → Each IsAlias rs → filter_map target_of rs ≡ []
 no_target [] e = refl
 no_target (r ∷ rs) e = let none : target_of r ≡ None = rw e.0 refl in rw none (no_target rs e.1)
 
-no_targets : (is : List Item) → Each (λ (i : Item). Each IsAlias i.records) is → targets_of is ≡ []
+pub no_targets : (is : List Item) → Each (λ (i : Item). Each IsAlias i.records) is → targets_of is ≡ []
 no_targets is e =
     no_target (records_of is)
     (each_flat_map IsAlias (λ (i : Item). Each IsAlias i.records) (λ (i : Item). i.records) is (λ i h. h) e)
@@ -89,9 +89,9 @@ record Refers (o : Outcome) : Type 0 where
 refers : (z : ZoneContents) (t : ℕ) (x : Option DomainName) (y : Option (List ResourceRecord)) → Refers (outcome_by z t x y)
 refers z t (Some c) y = record { cases = inr refl }
 refers z t None None = record { cases = inl refl }
-refers z t None (Some rs) = go (follows_alias t && has_any (of_type type_cname rs)) (has_any (asked_sets t rs))
+refers z t None (Some rs) = go (follows_alias t && has_any (of_type type_cname rs)) (has_any (asked_records t rs))
   where
-    go : (b c : Bool) → Refers (cond b (positive []) (cond c (positive (asked_sets t rs)) (negative z no_error)))
+    go : (b c : Bool) → Refers (cond b (positive []) (cond c (positive (item answer (asked_records t rs))) (negative z no_error)))
     go true c = record { cases = inl refl }
     go false true = record { cases = inl refl }
     go false false = record { cases = inl refl }

@@ -127,6 +127,21 @@ example_ns : udp small_zone (query (codes "example") 2) ≡ Some (hex (codes "12
 unfolding udp tcp labels_from cut run runs_before name_at shared_octets cost data_laid records_octets layout data_size records_size size plain_layout plain_size chain_from chain outcome_at outcome extra items required_items reply_with reply octets_of question_at query_read decide
 example_ns = refl
 
+-- all types of the origin asked for: the servers alone
+example_any : udp small_zone (query (codes "example") 255) ≡ Some (hex (codes "123484000001000100000001 076578616d706c650000ff0001 c00c0002000100000e100005026e73c00c c0250001000100000e100004c0000201"))
+unfolding udp tcp labels_from cut run runs_before name_at shared_octets cost data_laid records_octets layout data_size records_size size plain_layout plain_size chain_from chain outcome_at outcome extra items required_items reply_with reply octets_of question_at query_read decide
+example_any = refl
+
+-- an alias itself, where all types are asked for
+alias_any : udp small_zone (query (codes "alias.example") 255) ≡ Some (hex (codes "123484000001000100000000 05616c696173076578616d706c650000ff0001 c00c0005000100000e10000603777777c012"))
+unfolding udp tcp labels_from cut run runs_before name_at shared_octets cost data_laid records_octets layout data_size records_size size plain_layout plain_size chain_from chain outcome_at outcome extra items required_items reply_with reply octets_of question_at query_read decide
+alias_any = refl
+
+-- nothing at a name that only has names below it
+above_wildcard_any : outline (udp small_zone (query (codes "w.example") 255)) 23 16 ≡ Some (hex (codes "123484000001000000010000"), 77, hex (codes "00ff0001c00e000600010000012c0026"))
+unfolding udp tcp labels_from cut run runs_before name_at shared_octets cost data_laid records_octets layout data_size records_size size plain_layout plain_size chain_from chain outcome_at outcome extra items required_items reply_with reply octets_of question_at query_read decide
+above_wildcard_any = refl
+
 -- a set that fits exactly
 exact_fit_txt : outline (udp large_zone (query (codes "t.example") 16)) 27 14 ≡ Some (hex (codes "123484000001000100000000"), 512, hex (codes "c00c0010000100000e1001d9ff61"))
 unfolding udp tcp labels_from cut run runs_before name_at shared_octets cost data_laid records_octets layout data_size records_size size plain_layout plain_size chain_from chain outcome_at outcome extra items required_items reply_with reply octets_of question_at query_read decide

@@ -13,10 +13,10 @@ use Rattle.dns_spec.proofs.Places.{number_of-bytes}
 use Rattle.dns_spec.proofs.WritableItems.{each_from_all}
 
 -- two octets and the number that they spell
-two_octets : (a b : ℕ) → a < 256 → b < 256 → octets16 (a * 256 + b) ≡ a ∷ b ∷ []
+pub two_octets : (a b : ℕ) → a < 256 → b < 256 → octets16 (a * 256 + b) ≡ a ∷ b ∷ []
 two_octets a b ha hb = ap₂ (λ x y. x ∷ y ∷ []) (omega arith) (omega arith)
 
-two_again : (n : ℕ) (x : Octets) → n < 2 ^ 16 → field16 (octets16 n ++ x) 0 ≡ n
+pub two_again : (n : ℕ) (x : Octets) → n < 2 ^ 16 → field16 (octets16 n ++ x) 0 ≡ n
 two_again n x h = number_of-bytes 2 n ∙ mod-eq_of_lt h
 
 front_is : (x : Octets) → All (λ o. o < 256) x → 2 ≤ length x → octets16 (field16 x 0) ++ drop 2 x ≡ x
@@ -58,11 +58,11 @@ framed_whole (suc k) x low = go (first_frame x) refl (framed_whole k)
         append_assoc (frame m) (flat_map frame (frames k y)) (after_frames k y) ∙ ap (λ z. frame m ++ z) (more y s.1) ∙ s.0
 
 -- what does not begin with a whole frame is empty, or a frame that was cut
-length_zeros : (n : ℕ) → length {A = ℕ} (replicate n 0) ≡ n
+pub length_zeros : (n : ℕ) → length {A = ℕ} (replicate n 0) ≡ n
 length_zeros zero = refl
 length_zeros (suc n) = ap suc (length_zeros n)
 
-cut_frame : (x : Octets) → All (λ o. o < 256) x → first_frame x ≡ None → (x ≡ []) ⊎ IsCutFrame x
+pub cut_frame : (x : Octets) → All (λ o. o < 256) x → first_frame x ≡ None → (x ≡ []) ⊎ IsCutFrame x
 unfolding first_frame
 cut_frame [] low e = inl refl
 cut_frame (a ∷ []) low e =

@@ -8,11 +8,11 @@ use Rattle.std.specs.List.{list_all, list_any}
 use Rattle.dns_spec.specs.Names.{Octets, DomainName, is_name, folded, same, at_or_below, suffixes}
 use Rattle.dns_spec.specs.Data.{type_a, type_ns, type_cname, type_soa, type_aaaa, qtype_any, width, Piece, fixed, domain, string, strings, anything, pieces_of, Part, octets, name, piece_front, cut, first_name, target, soa_minimum}
 use Rattle.dns_spec.specs.Records.{ResourceRecord, ZoneContents, data_order, at, of_type, rrset, with_owner}
-use Rattle.dns_spec.specs.Sets.{rising_types}
+use Rattle.dns_spec.specs.Sets.{rising_types, of_first_type, of_lowest_type}
 use Rattle.dns_spec.specs.Tree.{exists, is_cut, cut_of, source_of_synthesis, found}
 use Rattle.dns_spec.specs.Layout.{Section, answer, authority, additional, Item, records_of}
 use Rattle.dns_spec.specs.Reading.{name_error, no_error}
-use Rattle.dns_spec.specs.Answer.{item, follows_alias, alias_set, first_target, next_sought, chain_from, chain, last_of, last_sought, alias_items, Outcome, all_sets, asked_sets, negative, positive, has_any, outcome_by, outcome_at, outcome, targets, stands, address_set, address_sets, extra, main_items, items}
+use Rattle.dns_spec.specs.Answer.{item, follows_alias, alias_set, first_target, next_sought, chain_from, chain, last_of, last_sought, alias_items, Outcome, asked_records, negative, positive, has_any, outcome_by, outcome_at, outcome, targets, stands, address_set, address_sets, extra, main_items, items}
 use Rattle.dns_spec.specs.Laws.{section_rank, sections_in_order, IsWritable}
 use Rattle.dns_spec.proofs.NameLaws.{is_name-tail, is_name-folded}
 use Rattle.dns_spec.proofs.SortedOnce.{Each, each_filter, each_sort}
@@ -55,7 +55,7 @@ found_each P test (x ∷ xs) y e h = go (test x) h (found_each P test xs y e.1)
     go false q f = f q
 
 -- names above a name, and in lower case
-abbrev Named : DomainName → Type 0
+abbrev pub Named : DomainName → Type 0
 Named n = is_name n ≡ true
 
 each_suffix : (n : DomainName) → Named n → Each Named (suffixes n)
@@ -116,6 +116,36 @@ with_owner_writable : (n : DomainName) (rs : List ResourceRecord) → Named n �
 with_owner_writable n [] h w = tt
 with_owner_writable n (r ∷ rs) h w = (record { owner = h; rtype = w.0.rtype; ttl = w.0.ttl; rdata = w.0.rdata }, with_owner_writable n rs h w.1)
 
+-- The names sought are names.
+module _ (z : ZoneContents) where
+  first_target_named : (rs : List ResourceRecord) (m : DomainName) → first_target rs ≡ Some m → Named m
+  first_target_named [] m e = absurd (none-some m e)
+  first_target_named (r ∷ rs) m e = named_target r.rtype r.rdata m e
+
+  next_named : (sought : List DomainName) (s m : DomainName) → next_sought z sought s ≡ Some m → Named m
+  next_named sought s m e =
+      option_and_then_some (λ m. cond (at_or_below m z.origin && not (list_any (same m) sought)) (Some m) None) (first_target (alias_set z s)) m e (λ x p q.
+      let c = cond_some (at_or_below x z.origin && not (list_any (same x) sought)) x m q in
+      subst Named c.1 (first_target_named (alias_set z s) x p))
+
+  chain_from_named : (k : ℕ) (sought : List DomainName) (s : DomainName) → Named s → Each Named (chain_from z k sought s)
+  unfolding chain_from
+  chain_from_named zero sought s h = (h, tt)
+  chain_from_named (suc k) sought s h = (h, go (next_sought z (s ∷ sought) s) refl (λ m n. chain_from_named k (s ∷ sought) m n))
+    where
+      go : (y : Option DomainName) → next_sought z (s ∷ sought) s ≡ y → ((m : DomainName) → Named m → Each Named (chain_from z k (s ∷ sought) m))
+          → Each Named (elim y [ None ↦ [] | Some m ↦ chain_from z k (s ∷ sought) m ])
+      go None e f = tt
+      go (Some m) e f = f m (next_named (s ∷ sought) s m e)
+
+  pub chain_named : (q : DomainName) (t : ℕ) → Named q → Each Named (chain z q t)
+  unfolding chain
+  chain_named q t h = go (follows_alias t) (chain_from_named 16 [] q h)
+    where
+      go : (b : Bool) → Each Named (chain_from z 16 [] q) → Each Named (cond b (chain_from z 16 [] q) (q ∷ []))
+      go true e = e
+      go false e = (h, tt)
+
 -- Over a zone whose records fit a message.
 module _ (z : ZoneContents) (w : Writable z.records) where
   found_writable : (q : DomainName) (rs : List ResourceRecord) → Named q → found z q ≡ Some rs → Writable rs
@@ -143,34 +173,6 @@ module _ (z : ZoneContents) (w : Writable z.records) where
           → Writable (cond t [] (unwrap_or (option_map (of_type type_cname) (found z s)) []))
       go true e = tt
       go false e = e
-
-  first_target_named : (rs : List ResourceRecord) (m : DomainName) → first_target rs ≡ Some m → Named m
-  first_target_named [] m e = absurd (none-some m e)
-  first_target_named (r ∷ rs) m e = named_target r.rtype r.rdata m e
-
-  next_named : (sought : List DomainName) (s m : DomainName) → next_sought z sought s ≡ Some m → Named m
-  next_named sought s m e =
-      option_and_then_some (λ m. cond (at_or_below m z.origin && not (list_any (same m) sought)) (Some m) None) (first_target (alias_set z s)) m e (λ x p q.
-      let c = cond_some (at_or_below x z.origin && not (list_any (same x) sought)) x m q in
-      subst Named c.1 (first_target_named (alias_set z s) x p))
-
-  chain_from_named : (k : ℕ) (sought : List DomainName) (s : DomainName) → Named s → Each Named (chain_from z k sought s)
-  unfolding chain_from
-  chain_from_named zero sought s h = (h, tt)
-  chain_from_named (suc k) sought s h = (h, go (next_sought z (s ∷ sought) s) refl (λ m n. chain_from_named k (s ∷ sought) m n))
-    where
-      go : (y : Option DomainName) → next_sought z (s ∷ sought) s ≡ y → ((m : DomainName) → Named m → Each Named (chain_from z k (s ∷ sought) m))
-          → Each Named (elim y [ None ↦ [] | Some m ↦ chain_from z k (s ∷ sought) m ])
-      go None e f = tt
-      go (Some m) e f = f m (next_named (s ∷ sought) s m e)
-
-  chain_named : (q : DomainName) (t : ℕ) → Named q → Each Named (chain z q t)
-  unfolding chain
-  chain_named q t h = go (follows_alias t) (chain_from_named 16 [] q h)
-    where
-      go : (b : Bool) → Each Named (chain_from z 16 [] q) → Each Named (cond b (chain_from z 16 [] q) (q ∷ []))
-      go true e = e
-      go false e = (h, tt)
 
   last_named : (s : DomainName) (ms : List DomainName) → Named s → Each Named ms → Named (last_of s ms)
   last_named s [] h e = h
@@ -209,28 +211,26 @@ module _ (z : ZoneContents) (w : Writable z.records) where
     authorities = item_stood authority (map Negative (rrset z z.origin type_soa)) (negative_writable (rrset z z.origin type_soa) (rrset_writable z.origin type_soa));
   }
 
-  all_sets_stood : (rs : List ResourceRecord) → Writable rs → Each (Stood answer) (all_sets rs)
-  all_sets_stood rs v =
-      let types = rising_types rs in
-      each_flat_map (Stood answer) (λ _. Unit {0}) (λ t. item answer (of_type t rs)) types (λ t _. item_stood answer (of_type t rs) (of_type_writable t rs v)) (units types)
+  lowest_writable : (rs : List ResourceRecord) → Writable rs → Writable (of_lowest_type rs)
+  lowest_writable rs v = go (rising_types rs)
     where
-      units : (ts : List ℕ) → Each (λ _. Unit {0}) ts
-      units [] = tt
-      units (t ∷ ts) = (tt, units ts)
+      go : (ts : List ℕ) → Writable (of_first_type ts rs)
+      go [] = tt
+      go (t ∷ ts) = of_type_writable t rs v
 
-  asked_sets_stood : (t : ℕ) (rs : List ResourceRecord) → Writable rs → Each (Stood answer) (asked_sets t rs)
-  asked_sets_stood t rs v = go (t == qtype_any)
+  asked_stood : (t : ℕ) (rs : List ResourceRecord) → Writable rs → Each (Stood answer) (item answer (asked_records t rs))
+  asked_stood t rs v = go (t == qtype_any)
     where
-      go : (b : Bool) → Each (Stood answer) (cond b (all_sets rs) (item answer (of_type t rs)))
-      go true = all_sets_stood rs v
+      go : (b : Bool) → Each (Stood answer) (item answer (cond b (of_lowest_type rs) (of_type t rs)))
+      go true = item_stood answer (of_lowest_type rs) (lowest_writable rs v)
       go false = item_stood answer (of_type t rs) (of_type_writable t rs v)
 
   answer_from_right : (t : ℕ) (rs : List ResourceRecord) → Writable rs → Right (outcome_by z t None (Some rs))
-  answer_from_right t rs v = go (follows_alias t && has_any (of_type type_cname rs)) (has_any (asked_sets t rs))
+  answer_from_right t rs v = go (follows_alias t && has_any (of_type type_cname rs)) (has_any (asked_records t rs))
     where
-      go : (b c : Bool) → Right (cond b (positive []) (cond c (positive (asked_sets t rs)) (negative z no_error)))
+      go : (b c : Bool) → Right (cond b (positive []) (cond c (positive (item answer (asked_records t rs))) (negative z no_error)))
       go true c = record { rcode = omega arith; answers = tt; authorities = tt }
-      go false true = record { rcode = omega arith; answers = asked_sets_stood t rs v; authorities = tt }
+      go false true = record { rcode = omega arith; answers = asked_stood t rs v; authorities = tt }
       go false false = negative_right no_error (omega arith)
 
   outcome_at_right : (t : ℕ) (s : DomainName) → Named s → Right (outcome_at z t s)
@@ -250,14 +250,14 @@ module _ (z : ZoneContents) (w : Writable z.records) where
   alias_items_stood q t h = go (follows_alias t)
     where
       go : (b : Bool) → Each (Stood answer) (cond b (flat_map (λ s. item answer (alias_set z s)) (chain z q t)) [])
-      go true = each_flat_map (Stood answer) Named (λ s. item answer (alias_set z s)) (chain z q t) (λ s n. item_stood answer (alias_set z s) (alias_set_writable z w s n)) (chain_named z w q t h)
+      go true = each_flat_map (Stood answer) Named (λ s. item answer (alias_set z s)) (chain z q t) (λ s n. item_stood answer (alias_set z s) (alias_set_writable z w s n)) (chain_named z q t h)
       go false = tt
 
   outcome_right : (q : DomainName) (t : ℕ) → Named q → Right (outcome z q t)
   unfolding outcome
   outcome_right q t h =
       let s = last_sought z q t in
-      let o = outcome_at_right t s (last_named z w q (chain z q t) h (chain_named z w q t h)) in
+      let o = outcome_at_right t s (last_named z w q (chain z q t) h (chain_named z q t h)) in
       record {
         rcode = o.rcode;
         answers = each_append (Stood answer) (alias_items z q t) (outcome_at z t s).answers (alias_items_stood q t h) o.answers;

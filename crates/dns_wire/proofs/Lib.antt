@@ -3,6 +3,7 @@ mod PieceLemmas
 mod ReadLemmas
 mod ValidData
 mod Anyway
+mod NameLoop
 mod ChainLemmas
 mod SpelledLemmas
 mod Suffixes

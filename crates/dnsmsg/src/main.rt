@@ -2,7 +2,7 @@
 #![tactic(auto)]
 
 use dns_name::Tally;
-use dns_tools::{FaultWord, exit_status, finish, given_words, run_message, told};
+use dns_tools::{FaultWord, exit_status, finish, given_words, run_message, say};
 use std::io::{self, BufWriter};
 use std::process::ExitCode;
 use std::rt::Env;
@@ -10,7 +10,7 @@ use std::rt::Env;
 fn main(rt: HostRuntime) -> ExitCode {
     ExitCode::from(match print(&rt) {
         Ok(status) => status,
-        Err(word) => told(&rt, word),
+        Err(word) => say(&rt, word),
     })
 }
 

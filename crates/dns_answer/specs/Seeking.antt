@@ -1,0 +1,51 @@
+-- What a reader learns here: what seeking a name has offered, and what the header says of it.
+use Rattle.std.specs.Prelude.{◌≡◌, ◌⊎◌, ℕ, ◌+◌, ◌≤◌, ◌<◌, Bool, true, false, ◌&&◌, not, List, [], ◌∷◌, length, get_or, if◌then◌else◌}
+use Rattle.std.specs.Prelude.{Option, None, Some}
+use Rattle.std.specs.Option.{is_some, option_and_then}
+use Rattle.std.specs.List.{list_any}
+use Rattle.dns_spec.specs.Names.{DomainName, same, at_or_below}
+use Rattle.dns_spec.specs.Data.{target}
+use Rattle.dns_spec.specs.Sets.{RecordSet}
+use Rattle.dns_spec.specs.Records.{ZoneContents}
+use Rattle.dns_spec.specs.Answer.{Outcome}
+use Rattle.dns_zone.specs.Nodes.{Walk}
+use Rattle.dns_wire.specs.QueryForm.{code_of}
+use Rattle.dns_answer.specs.Draft as spec
+use Rattle.dns_answer.specs.Draft.{offered}
+use Rattle.dns_answer.specs.DraftForm.{State, Holds, Offers}
+use Rattle.dns_answer.specs.Walks.{Took}
+use Rattle.dns_answer.specs.Chain.{chain_items, chain_required, chain_outcome, chain_nodes, chain_misses}
+use Rattle.dns_answer.specs.declared.ending.Verdict.{Verdict}
+
+-- names that were sought, in any order
+abbrev pub AreSought : List DomainName → List DomainName → Type 0
+AreSought kept names = (p : DomainName → Bool) → list_any p kept ≡ list_any p names
+
+-- The sets that an answer still has at the name s are offered, and the header says how its last name is answered.
+pub record SeeksFrom (w w' : State) (z : ZoneContents) (t k : ℕ) (before : List DomainName) (s : DomainName) (v : Verdict) : Type 0 where
+  pub offers : Offers w w' (chain_items z t k before s)
+  pub rcode : code_of v.rcode ≡ (chain_outcome z t k before s).rcode
+  pub referral : v.is_referral ≡ is_some (chain_outcome z t k before s).referral
+  pub truncated : (d : spec.Draft) → Holds w d → v.is_truncated ≡ (offered d (chain_required z t k before s)).full
+
+-- so for all names that were sought before
+abbrev pub Seeks : State → State → ZoneContents → ℕ → ℕ → List DomainName → DomainName → Verdict → Type 0
+Seeks w w' z t k kept s v =
+    (before : List DomainName) → AreSought kept (s ∷ before) → SeeksFrom w w' z t k before s v
+
+abbrev pub TookFrom : Walk → Walk → ℕ → ℕ → List DomainName → DomainName → Type 0
+TookFrom s s' t k kept n =
+    (before : List DomainName) → AreSought kept (n ∷ before)
+    → Took s s' (chain_nodes s.zone t k before n) (chain_misses s.zone t k before n)
+
+-- the target of the first record of an alias
+abbrev pub alias_target : RecordSet → Option DomainName
+alias_target set = target set.rtype (get_or set.rdata 0 [])
+
+-- the next name sought after an alias, and its depth; or why there is none
+abbrev pub NextIs : RecordSet → ℕ → List DomainName → DomainName → Option (DomainName × ℕ) → Type 0
+NextIs set more kept origin None =
+    (more ≡ 0) ⊎ (option_and_then (λ m. if at_or_below m origin && not (list_any (same m) kept) then Some m else None) (alias_target set) ≡ None)
+NextIs set more kept origin (Some (m, depth)) =
+    (0 < more) × (alias_target set ≡ Some m) × (at_or_below m origin ≡ true) × (list_any (same m) kept ≡ false)
+    × (length m ≡ length origin + depth) × (depth ≤ 127)

@@ -1,0 +1,104 @@
+//! The names sought, one after the other (RFC 1034 4.3.2 step 3a).
+ghost use Rattle.std.specs.Prelude.{◌≡◌, ◌+◌, ◌*◌, ◌≤◌, ◌<◌, ◌⊎◌, length, true, false, IsTrue, IfSome, MatchOption};
+ghost use Rattle.dns_spec.specs.Names.{at_or_below};
+ghost use Rattle.dns_spec.specs.Data.{type_cname};
+ghost use Rattle.dns_spec.specs.Records.{at, of_type};
+ghost use Rattle.dns_spec.specs.Sets.{set_of, HasValidData};
+ghost use Rattle.dns_spec.specs.Answer.{follows_alias};
+ghost use Rattle.dns_zone.specs.Nodes.{IsSetOf};
+ghost use Rattle.dns_answer.specs.Walks.{IsApex, HasRoom};
+ghost use Rattle.dns_answer.specs.Seeking.{Seeks, TookFrom, NextIs};
+
+use crate::draft::Draft;
+use crate::ending::{Verdict, deny, offer_asked, refer};
+use crate::lookup::{Found, look_up, or_apex};
+use crate::names::depth_below;
+use arrayvec::ArrayVec;
+use dns_name::Name;
+use dns_rdata::{RType, Rdata, SetView};
+use dns_wire::{Rcode, Section};
+use dns_zone::{Node, RecordSet, Steps};
+
+// A QTYPE that asks for all types (RFC 1035 3.2.3).
+const QTYPE_ANY: u16 = 255;
+
+// The question's name and 16 targets: a limit of this project.
+pub(crate) const MOST_SOUGHT: usize = 17;
+
+/// Seeks a name, `depth` labels below the origin, and after it the targets of aliases, `more` at most: offers the sets of the
+/// aliases, and those that the last name ends with. `sought` has the names sought so far, this one among them.
+pub(crate) fn seek<'z, const N: usize, const SIZE: usize>(
+    name: &Name,
+    depth: usize,
+    qtype: u16,
+    more: usize,
+    sought: &mut ArrayVec<Name, MOST_SOUGHT>,
+    apex: &Node<'z>,
+    steps: &mut Steps<'z>,
+    draft: &mut Draft<N, SIZE>,
+) -> Verdict
+    requires apex { IsApex steps.old.zone apex.now }
+    requires below { IsTrue (at_or_below name.now steps.old.zone.origin) }
+    requires depth { length name.now ≡ length steps.old.zone.origin + depth }
+    requires room { HasRoom steps.old (128 * more + 128 * 129) }
+    requires count { length sought.old.items + more ≤ 17 }
+    ensures seeks { Seeks draft.old draft.new steps.old.zone qtype more sought.old.items name.now result }
+    ensures took { TookFrom steps.old steps.new qtype more sought.old.items name.now }
+{
+    let node = match look_up(name, depth, &*apex, steps) {
+        Found::Cut(cut, octets) => return refer(&cut, octets, &*apex, steps, draft),
+        Found::Nothing => return deny(Rcode::NameError, &*apex, steps.origin(), draft),
+        Found::Records(node) => node,
+    };
+    let node = or_apex(&node, &*apex);
+    let Some(alias) = alias_at(node, qtype) else {
+        return offer_asked(node, name, qtype, &*apex, steps, draft);
+    };
+    draft.offer(Section::Answer, name, alias.ttl(), &alias);
+    let Some((target, depth)) = next_sought(&alias, more, sought, steps.origin()) else {
+        return Verdict {
+            rcode: Rcode::NoError,
+            is_referral: false,
+            is_truncated: draft.is_full(),
+        };
+    };
+    sought.push(target.copied());
+    seek(&target, depth, qtype, more - 1, sought, &*apex, steps, draft)
+}
+
+// The alias at a node, unless it is itself what is asked for.
+fn alias_at<'z>(node: &Node<'z>, qtype: u16) -> Option<RecordSet<'z>>
+    ensures alias { MatchOption result
+        ((follows_alias qtype ≡ false) ⊎ (None ≡ set_of (of_type type_cname (at node.now.zone node.now.name))))
+        (λ set. (follows_alias qtype ≡ true) × (Some set ≡ set_of (of_type type_cname (at node.now.zone node.now.name)))) }
+    ensures kept { IfSome result (IsSetOf node.now) }
+{
+    if qtype == RType::CNAME.0 || qtype == QTYPE_ANY {
+        return None;
+    }
+    node.set(RType::CNAME)
+}
+
+// The name that is sought after an alias, and how many labels it has below the origin: the target, where more may be sought and it
+// is at or below the origin and was not sought yet.
+fn next_sought(
+    alias: &RecordSet<'_>,
+    more: usize,
+    sought: &ArrayVec<Name, MOST_SOUGHT>,
+    origin: &Name,
+) -> Option<(Name, usize)>
+    requires some { 0 < length alias.now.rdata }
+    requires valid { HasValidData alias.now }
+    requires cname { alias.now.rtype ≡ type_cname }
+    ensures next { NextIs alias.now more sought.now.items origin.now result }
+{
+    if more == 0 {
+        return None;
+    }
+    let target = Rdata::target(RType::CNAME, alias.rdata(0))?;
+    let depth = depth_below(&target, origin)?;
+    if sought.iter().any(|earlier| target.same(earlier)) {
+        return None;
+    }
+    Some((target, depth))
+}
