@@ -1,5 +1,5 @@
 -- What a reader learns here: what seeking a name has offered, and what the header says of it.
-use Rattle.std.specs.Prelude.{◌≡◌, ◌⊎◌, ℕ, ◌+◌, ◌≤◌, ◌<◌, Bool, true, false, ◌&&◌, not, List, [], ◌∷◌, length, get_or, if◌then◌else◌}
+use Rattle.std.specs.Prelude.{◌≡◌, ◌⊎◌, ℕ, ◌+◌, ◌≤◌, ◌<◌, Bool, true, false, ◌&&◌, not, List, [], ◌∷◌, length, get_or, nat_lt, if◌then◌else◌}
 use Rattle.std.specs.Prelude.{Option, None, Some}
 use Rattle.std.specs.Option.{is_some, option_and_then}
 use Rattle.std.specs.List.{list_any}
@@ -7,7 +7,7 @@ use Rattle.dns_spec.specs.Names.{DomainName, same, at_or_below}
 use Rattle.dns_spec.specs.Data.{target}
 use Rattle.dns_spec.specs.Sets.{RecordSet}
 use Rattle.dns_spec.specs.Records.{ZoneContents}
-use Rattle.dns_spec.specs.Answer.{Outcome}
+use Rattle.dns_spec.specs.Answer.{Outcome, follows_alias, alias_set, has_any}
 use Rattle.dns_zone.specs.Nodes.{Walk}
 use Rattle.dns_wire.specs.QueryForm.{code_of}
 use Rattle.dns_answer.specs.Draft as spec
@@ -32,6 +32,12 @@ pub record SeeksFrom (w w' : State) (z : ZoneContents) (t k : ℕ) (before : Lis
 abbrev pub Seeks : State → State → ZoneContents → ℕ → ℕ → List DomainName → DomainName → Verdict → Type 0
 Seeks w w' z t k kept s v =
     (before : List DomainName) → AreSought kept (s ∷ before) → SeeksFrom w w' z t k before s v
+
+-- More names were sought, and of a referral they say whether the name sought has an alias that is followed.
+abbrev pub Followed : ZoneContents → ℕ → ℕ → ℕ → DomainName → Verdict → Type 0
+Followed z t count count' s v =
+    (count ≤ count')
+    × (v.is_referral ≡ true → nat_lt count count' ≡ (follows_alias t && has_any (alias_set z s)))
 
 abbrev pub TookFrom : Walk → Walk → ℕ → ℕ → List DomainName → DomainName → Type 0
 TookFrom s s' t k kept n =

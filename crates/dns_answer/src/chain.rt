@@ -7,7 +7,7 @@ ghost use Rattle.dns_spec.specs.Sets.{set_of, HasValidData};
 ghost use Rattle.dns_spec.specs.Answer.{follows_alias};
 ghost use Rattle.dns_zone.specs.Nodes.{IsSetOf};
 ghost use Rattle.dns_answer.specs.Walks.{IsApex, HasRoom};
-ghost use Rattle.dns_answer.specs.Seeking.{Seeks, TookFrom, NextIs};
+ghost use Rattle.dns_answer.specs.Seeking.{Seeks, TookFrom, Followed, NextIs};
 
 use crate::draft::Draft;
 use crate::ending::{Verdict, deny, offer_asked, refer};
@@ -44,6 +44,8 @@ pub(crate) fn seek<'z, const N: usize, const SIZE: usize>(
     requires count { length sought.old.items + more ≤ 17 }
     ensures seeks { Seeks draft.old draft.new steps.old.zone qtype more sought.old.items name.now result }
     ensures took { TookFrom steps.old steps.new qtype more sought.old.items name.now }
+    ensures followed { Followed steps.old.zone qtype
+        (length sought.old.items) (length sought.new.items) name.now result }
 {
     let node = match look_up(name, depth, &*apex, steps) {
         Found::Cut(cut, octets) => return refer(&cut, octets, &*apex, steps, draft),
