@@ -39,16 +39,6 @@ pub(crate) fn lent_set<'z>(records: &'z [Record]) -> Option<RecordSet<'z>>
     })
 }
 
-impl<'z> RecordSet<'z> {
-    /// The data of the record at `i`, as `rdata` gives it, lent for as long as the zone is. Condition: `i` is below `len`.
-    pub fn data(&self, i: usize) -> &'z [u8]
-        requires { i < length self.now.rdata }
-        ensures { result.now ≡ get_or self.now.rdata i [] }
-    {
-        data_at(self.records, i)
-    }
-}
-
 impl SetView for RecordSet<'_> {
     ghost set = { λ s. s };
 
