@@ -10,3 +10,4 @@ pub mod StandingAddresses
 pub mod AnswerItems
 pub mod ChainSteps
 pub mod AnswerCosts
+pub mod SeekSteps
