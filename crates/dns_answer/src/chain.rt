@@ -1,6 +1,7 @@
 //! The names sought, one after the other (RFC 1034 4.3.2 step 3a).
 ghost use Rattle.std.specs.Prelude.{◌≡◌, ◌+◌, ◌*◌, ◌≤◌, ◌<◌, ◌⊎◌, length, true, false, IsTrue, IfSome, MatchOption};
-ghost use Rattle.dns_spec.specs.Names.{at_or_below};
+ghost use Rattle.std.specs.List.{list_any};
+ghost use Rattle.dns_spec.specs.Names.{same, at_or_below};
 ghost use Rattle.dns_spec.specs.Data.{type_cname};
 ghost use Rattle.dns_spec.specs.Records.{at, of_type};
 ghost use Rattle.dns_spec.specs.Sets.{set_of, HasValidData};
@@ -91,16 +92,26 @@ fn next_sought(
 ) -> Option<(Name, usize)>
     requires some { 0 < length alias.now.rdata }
     requires valid { HasValidData alias.now }
-    requires cname { alias.now.rtype ≡ type_cname }
     ensures next { NextIs alias.now more sought.now.items origin.now result }
 {
     if more == 0 {
         return None;
     }
-    let target = Rdata::target(RType::CNAME, alias.rdata(0))?;
-    let depth = depth_below(&target, origin)?;
-    if sought.iter().any(|earlier| target.same(earlier)) {
+    let Some(target) = Rdata::target(alias.rtype(), alias.rdata(0)) else {
+        return None;
+    };
+    let Some(depth) = depth_below(&target, origin) else {
+        return None;
+    };
+    if was_sought(sought, &target) {
         return None;
     }
     Some((target, depth))
+}
+
+// Whether a name was sought before.
+fn was_sought(sought: &[Name], name: &Name) -> bool
+    ensures { result ≡ list_any (same name.now) sought.now }
+{
+    sought.iter().any(|earlier| name.same(earlier))
 }
