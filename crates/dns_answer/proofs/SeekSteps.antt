@@ -1,5 +1,5 @@
 -- What seeking a name has offered and taken, by what is found for it.
-use Rattle.std.proofs.Common.{◌≡◌, ℕ, ◌+◌, ◌-◌, ◌*◌, ◌<◌, ◌≤◌, Bool, true, false, cond, ◌&&◌, ◌||◌, not, nat_lt, List, [], ◌∷◌, ◌++◌, map, length, get_or, Option, None, Some, is_some, refl, sym, ap, subst, ◌∙◌, arith}
+use Rattle.std.proofs.Common.{◌≡◌, ◌⊎◌, inl, inr, ℕ, ◌+◌, ◌-◌, ◌*◌, ◌<◌, ◌≤◌, Bool, true, false, cond, ◌&&◌, ◌||◌, not, nat_lt, List, [], ◌∷◌, ◌++◌, map, length, get_or, Option, None, Some, is_some, refl, sym, ap, subst, ◌∙◌, arith}
 use Rattle.std.proofs.lemmas.Bool.{lt-ltb, false≢true}
 use Rattle.std.specs.List.{list_any}
 use Rattle.std.specs.Option.{option_and_then}
@@ -19,12 +19,12 @@ use Rattle.dns_answer.specs.DraftForm.{State, Holds, Offers}
 use Rattle.dns_answer.specs.Ending.{Ends, TookTargets, nodes_by, misses_by, ending_targets}
 use Rattle.dns_answer.specs.Walks.{AreRecords, Took, node_of, node_or}
 use Rattle.dns_answer.specs.Chain.{chain_items, chain_required, chain_outcome, chain_nodes, chain_misses}
-use Rattle.dns_answer.specs.Seeking.{SeeksFrom, AreSought, alias_target, NextIs}
+use Rattle.dns_answer.specs.Seeking.{SeeksFrom, AreSought, alias_target, NextIs, Completes}
 use Rattle.dns_answer.specs.declared.ending.Verdict.{Verdict}
 use Rattle.dns_answer.proofs.Offered.{offered-append}
 use Rattle.dns_answer.proofs.Offering.{Offers-is, Offers-then}
 use Rattle.dns_answer.proofs.EndingSets.{item-shown, of_type-shown}
-use Rattle.dns_answer.proofs.ChainSteps.{ChainEnds, ChainGoesOn, alias-all, alias-required, alias-found}
+use Rattle.dns_answer.proofs.ChainSteps.{ChainEnds, ChainGoesOn, alias-all, alias-required, alias-found, alias-cut, ends-limit, ends-loop, goes-on}
 
 module _ (z : ZoneContents) (t k : ℕ) (before : List DomainName) (s : DomainName) where
   -- the name is the last, without an alias
@@ -95,6 +95,13 @@ module _ (z : ZoneContents) (t k : ℕ) (before : List DomainName) (s : DomainNa
     comparisons = omega (arith, first.comparisons, rest.comparisons, e.misses);
   }
 
+  pub completes-on : (w w1 : State) (i : Item) (a b : Walk) (depth k' : ℕ) (m : DomainName) → ChainGoesOn z t k before s k' m → item answer (alias_set z s) ≡ i ∷ []
+      → Offers w w1 (i ∷ []) → length s ≡ length z.origin + depth → Took a b depth 2 → Completes w w1 a b z t k k' before (s ∷ before) s m
+  completes-on w w1 i a b depth k' m e is h deep first = record {
+    seeks = λ last v rest. seeks-on w w1 last v i k' m e is h rest;
+    took = λ last rest. took-on a b last depth k' m e deep first rest;
+  }
+
   -- the next name, by the names that were sought
   pub none-next : (kept : List DomainName) (set : RecordSet) → AreSought kept (s ∷ before) → first_target (alias_set z s) ≡ alias_target set
       → option_and_then (λ m. cond (at_or_below m z.origin && not (list_any (same m) kept)) (Some m) None) (alias_target set) ≡ None → next_sought z (s ∷ before) s ≡ None
@@ -113,6 +120,14 @@ module _ (z : ZoneContents) (t k : ℕ) (before : List DomainName) (s : DomainNa
       ap (option_and_then (λ m. cond (at_or_below m z.origin && not (list_any (same m) (s ∷ before))) (Some m) None)) (is ∙ leads)
       ∙ ap (λ b. cond (at_or_below m z.origin && not b) (Some m) None) (sym (are (same m)) ∙ new)
       ∙ ap (λ b. cond (b && true) (Some m) None) inside
+
+and_false : (b : Bool) → (b && false) ≡ false
+and_false true = refl
+and_false false = refl
+
+-- no alias is followed at a name at or below a cut
+pub own-cut : (z : ZoneContents) (t : ℕ) (s c : DomainName) → cut_of z s ≡ Some c → (follows_alias t && has_any (alias_set z s)) ≡ false
+own-cut z t s c e = ap (λ rs. follows_alias t && has_any rs) (alias-cut z t 0 [] s c e) ∙ and_false (follows_alias t)
 
 -- one more name was sought
 any_after : (p : DomainName → Bool) (ns : List DomainName) (m : DomainName) → list_any p (ns ++ m ∷ []) ≡ (p m || list_any p ns)
@@ -137,7 +152,7 @@ found-at z s node apex at_node h is there =
     (same_zone, h.records ∙ ap (λ (n : ZoneNode). Some (with_owner s (at z n.name))) (sym same_node) ∙ ap (λ y. Some (with_owner s (at y at_node.name))) (sym same_zone))
 
 module _ (z : ZoneContents) (s : DomainName) (node : ZoneNode) (no_cut : cut_of z s ≡ None) (are : found z s ≡ Some (with_owner s (at node.zone node.name))) where
-  cnames : List ResourceRecord
+  abbrev pub cnames : List ResourceRecord
   cnames = of_type type_cname (at node.zone node.name)
 
   pub aliases-at : alias_set z s ≡ with_owner s cnames
@@ -149,6 +164,18 @@ module _ (z : ZoneContents) (s : DomainName) (node : ZoneNode) (no_cut : cut_of 
       go : (rs : List ResourceRecord) → None ≡ set_of rs → has_any (with_owner s rs) ≡ false
       go [] e = refl
       go (r ∷ rs) e = absurd (cc)
+
+  -- none is followed
+  unfollowed : (t : ℕ) (rs : List ResourceRecord) → (follows_alias t ≡ false) ⊎ (has_any rs ≡ false) → (follows_alias t && has_any rs) ≡ false
+  unfollowed t rs (inl e) = ap (λ b. b && has_any rs) e
+  unfollowed t rs (inr e) = ap (λ b. follows_alias t && b) e ∙ and_false (follows_alias t)
+
+  pub none-followed : (t : ℕ) → (follows_alias t ≡ false) ⊎ (None ≡ set_of cnames) → (follows_alias t && has_any (of_type type_cname (with_owner s (at node.zone node.name)))) ≡ false
+  none-followed t (inl e) = unfollowed t (of_type type_cname (with_owner s (at node.zone node.name))) (inl e)
+  none-followed t (inr e) = unfollowed t (of_type type_cname (with_owner s (at node.zone node.name))) (inr (no-alias e))
+
+  pub none-own : (t : ℕ) → (follows_alias t && has_any (of_type type_cname (with_owner s (at node.zone node.name)))) ≡ false → (follows_alias t && has_any (alias_set z s)) ≡ false
+  none-own t none = ap (λ rs. follows_alias t && has_any rs) (aliases-at ∙ sym (of_type-shown s type_cname (at node.zone node.name))) ∙ none
 
   module _ (set : RecordSet) (e : Some set ≡ set_of cnames) where
     pub an-alias : has_any (of_type type_cname (with_owner s (at node.zone node.name))) ≡ true
@@ -179,3 +206,16 @@ module _ (z : ZoneContents) (s : DomainName) (node : ZoneNode) (no_cut : cut_of 
           go : (ds : List Octets) → set_of (shown ds) ≡ Some set → first_target (with_owner s (shown ds)) ≡ target set.rtype (get_or ds 0 [])
           go [] h = absurd (cc)
           go (d ∷ ds) h = refl
+
+      -- it leads no further
+      pub alias-ends : (t k : ℕ) (kept before : List DomainName) → follows_alias t ≡ true → AreSought kept (s ∷ before) → NextIs set k kept z.origin None
+          → ChainEnds z t k before s (item answer (alias_set z s)) (positive [])
+      alias-ends t k kept before follows were (inl none) = ends-limit z t k before s (with_owner s (at node.zone node.name)) no_cut are follows an-alias none
+      alias-ends t k kept before follows were (inr none) =
+          ends-loop z t k before s (with_owner s (at node.zone node.name)) no_cut are follows an-alias (none-next z t k before s kept set were alias-leads none)
+
+      -- it leads to another name
+      pub alias-goes_on : (t k : ℕ) (kept before : List DomainName) (m : DomainName) (depth : ℕ) → follows_alias t ≡ true → AreSought kept (s ∷ before) → NextIs set k kept z.origin (Some (m, depth))
+          → ChainGoesOn z t k before s (k - 1) m
+      alias-goes_on t k kept before m depth follows were next =
+          goes-on z t k before s (k - 1) m follows (some-next z t k before s kept set m were alias-leads next.1 next.2 next.3) (omega (arith, next.0))

@@ -1,5 +1,5 @@
 -- What a reader learns here: what seeking a name has offered, and what the header says of it.
-use Rattle.std.specs.Prelude.{◌≡◌, ◌⊎◌, ℕ, ◌+◌, ◌≤◌, ◌<◌, Bool, true, false, ◌&&◌, not, List, [], ◌∷◌, length, get_or, nat_lt, if◌then◌else◌}
+use Rattle.std.specs.Prelude.{◌≡◌, ◌⊎◌, ℕ, ◌+◌, ◌-◌, ◌≤◌, ◌<◌, Bool, true, false, ◌&&◌, not, List, [], ◌∷◌, length, get_or, nat_lt, if◌then◌else◌}
 use Rattle.std.specs.Prelude.{Option, None, Some}
 use Rattle.std.specs.Option.{is_some, option_and_then}
 use Rattle.std.specs.List.{list_any}
@@ -16,6 +16,8 @@ use Rattle.dns_answer.specs.DraftForm.{State, Holds, Offers}
 use Rattle.dns_answer.specs.Walks.{Took}
 use Rattle.dns_answer.specs.Chain.{chain_items, chain_required, chain_outcome, chain_nodes, chain_misses}
 use Rattle.dns_answer.specs.declared.ending.Verdict.{Verdict}
+use Rattle.dns_answer.specs.declared.chain.Sought.{Sought}
+use Rattle.dns_answer.specs.declared.chain.Sought.TheVariants as soughts
 
 -- names that were sought, in any order
 abbrev pub AreSought : List DomainName → List DomainName → Type 0
@@ -43,6 +45,32 @@ abbrev pub TookFrom : Walk → Walk → ℕ → ℕ → List DomainName → Doma
 TookFrom s s' t k kept n =
     (before : List DomainName) → AreSought kept (n ∷ before)
     → Took s s' (chain_nodes s.zone t k before n) (chain_misses s.zone t k before n)
+
+-- The name is the last: it has offered and taken so much, and a referral is from its own cut.
+pub record IsLast (w w' : State) (s s' : Walk) (t k : ℕ) (kept : List DomainName) (n : DomainName) (v : Verdict) : Type 0 where
+  pub seeks : Seeks w w' s.zone t k kept n v
+  pub took : TookFrom s s' t k kept n
+  pub own : v.is_referral ≡ true → (follows_alias t && has_any (alias_set s.zone n)) ≡ false
+
+-- what seeking a name m still offers and takes, completes what seeking n has
+pub record Completes (w w' : State) (s s' : Walk) (z : ZoneContents) (t k k' : ℕ) (before before' : List DomainName) (n m : DomainName) : Type 0 where
+  pub seeks : (last : State) (v : Verdict) → SeeksFrom w' last z t k' before' m v → SeeksFrom w last z t k before n v
+  pub took : (last : Walk) → Took s' last (chain_nodes z t k' before' m) (chain_misses z t k' before' m)
+      → Took s last (chain_nodes z t k before n) (chain_misses z t k before n)
+
+-- The name has an alias, which leads to the name m.
+pub record LeadsTo (w w' : State) (s s' : Walk) (t k : ℕ) (kept : List DomainName) (n m : DomainName) (depth : ℕ) : Type 0 where
+  pub more : 0 < k
+  pub below : at_or_below m s.zone.origin ≡ true
+  pub deep : length m ≡ length s.zone.origin + depth
+  pub few : depth ≤ 127
+  pub alias : (follows_alias t && has_any (alias_set s.zone n)) ≡ true
+  pub took : Took s s' 127 2
+  pub completes : (before : List DomainName) → AreSought kept (n ∷ before) → Completes w w' s s' s.zone t k (k - 1) before (n ∷ before) n m
+
+abbrev pub SoughtAs : State → State → Walk → Walk → ℕ → ℕ → List DomainName → DomainName → Sought → Type 0
+SoughtAs w w' s s' t k kept n (soughts.Last v) = IsLast w w' s s' t k kept n v
+SoughtAs w w' s s' t k kept n (soughts.Alias m depth) = LeadsTo w w' s s' t k kept n m depth
 
 -- the target of the first record of an alias
 abbrev pub alias_target : RecordSet → Option DomainName

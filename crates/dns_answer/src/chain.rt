@@ -8,7 +8,7 @@ ghost use Rattle.dns_spec.specs.Sets.{set_of, HasValidData};
 ghost use Rattle.dns_spec.specs.Answer.{follows_alias};
 ghost use Rattle.dns_zone.specs.Nodes.{IsSetOf};
 ghost use Rattle.dns_answer.specs.Walks.{IsApex, HasRoom};
-ghost use Rattle.dns_answer.specs.Seeking.{Seeks, TookFrom, Followed, NextIs};
+ghost use Rattle.dns_answer.specs.Seeking.{Seeks, TookFrom, Followed, SoughtAs, NextIs};
 
 use crate::draft::Draft;
 use crate::ending::{Verdict, deny, offer_asked, refer};
@@ -26,6 +26,15 @@ const QTYPE_ANY: u16 = 255;
 // The question's name and 16 targets: a limit of this project.
 pub(crate) const MOST_SOUGHT: usize = 17;
 
+/// What seeking one name comes to.
+#[derive(Drop)]
+pub(crate) enum Sought {
+    /// It is the last one sought.
+    Last(Verdict),
+    /// Its alias leads to this name, so many labels below the origin.
+    Alias(Name, usize),
+}
+
 /// Seeks a name, `depth` labels below the origin, and after it the targets of aliases, `more` at most: offers the sets of the
 /// aliases, and those that the last name ends with. `sought` has the names sought so far, this one among them.
 pub(crate) fn seek<'z, const N: usize, const SIZE: usize>(
@@ -41,32 +50,68 @@ pub(crate) fn seek<'z, const N: usize, const SIZE: usize>(
     requires apex { IsApex steps.old.zone apex.now }
     requires below { IsTrue (at_or_below name.now steps.old.zone.origin) }
     requires depth { length name.now ≡ length steps.old.zone.origin + depth }
-    requires room { HasRoom steps.old (128 * more + 128 * 129) }
+    requires few { depth ≤ 127 }
+    requires room { HasRoom steps.old (129 * (more + 129)) }
     requires count { length sought.old.items + more ≤ 17 }
     ensures seeks { Seeks draft.old draft.new steps.old.zone qtype more sought.old.items name.now result }
     ensures took { TookFrom steps.old steps.new qtype more sought.old.items name.now }
     ensures followed { Followed steps.old.zone qtype
         (length sought.old.items) (length sought.new.items) name.now result }
 {
-    let node = match look_up(name, depth, &*apex, steps) {
-        Found::Cut(cut, octets) => return refer(&cut, octets, &*apex, steps, draft),
-        Found::Nothing => return deny(Rcode::NameError, &*apex, steps.origin(), draft),
+    let mut name = name.copied();
+    let mut depth = depth;
+    let mut more = more;
+    'names: loop {
+        match seek_one(&name, depth, qtype, more, sought, apex, steps, draft) {
+            Sought::Last(verdict) => return verdict,
+            Sought::Alias(target, below) => {
+                sought.push(target.copied());
+                name = target;
+                depth = below;
+                more -= 1;
+            }
+        }
+    }
+}
+
+// Seeks one name: offers the set of its alias, or the sets that it ends an answer with.
+fn seek_one<'z, const N: usize, const SIZE: usize>(
+    name: &Name,
+    depth: usize,
+    qtype: u16,
+    more: usize,
+    sought: &ArrayVec<Name, MOST_SOUGHT>,
+    apex: &Node<'z>,
+    steps: &mut Steps<'z>,
+    draft: &mut Draft<N, SIZE>,
+) -> Sought
+    requires apex { IsApex steps.old.zone apex.now }
+    requires below { IsTrue (at_or_below name.now steps.old.zone.origin) }
+    requires depth { length name.now ≡ length steps.old.zone.origin + depth }
+    requires few { depth ≤ 127 }
+    requires room { HasRoom steps.old (129 * (more + 129)) }
+    ensures { SoughtAs draft.old draft.new steps.old steps.new qtype more sought.now.items name.now result }
+{
+    let node = match look_up(name, depth, apex, steps) {
+        Found::Cut(cut, octets) => return Sought::Last(refer(&cut, octets, apex, steps, draft)),
+        Found::Nothing => {
+            return Sought::Last(deny(Rcode::NameError, apex, steps.origin(), draft));
+        }
         Found::Records(node) => node,
     };
-    let node = or_apex(&node, &*apex);
+    let node = or_apex(&node, apex);
     let Some(alias) = alias_at(node, qtype) else {
-        return offer_asked(node, name, qtype, &*apex, steps, draft);
+        return Sought::Last(offer_asked(node, name, qtype, apex, steps, draft));
     };
     draft.offer(Section::Answer, name, alias.ttl(), &alias);
     let Some((target, depth)) = next_sought(&alias, more, sought, steps.origin()) else {
-        return Verdict {
+        return Sought::Last(Verdict {
             rcode: Rcode::NoError,
             is_referral: false,
             is_truncated: draft.is_full(),
-        };
+        });
     };
-    sought.push(target.copied());
-    seek(&target, depth, qtype, more - 1, sought, &*apex, steps, draft)
+    Sought::Alias(target, depth)
 }
 
 // The alias at a node, unless it is itself what is asked for.
@@ -74,6 +119,7 @@ fn alias_at<'z>(node: &Node<'z>, qtype: u16) -> Option<RecordSet<'z>>
     ensures alias { MatchOption result
         ((follows_alias qtype ≡ false) ⊎ (None ≡ set_of (of_type type_cname (at node.now.zone node.now.name))))
         (λ set. (follows_alias qtype ≡ true) × (Some set ≡ set_of (of_type type_cname (at node.now.zone node.now.name)))) }
+    ensures rtype { IfSome result (λ set. set.rtype ≡ type_cname) }
     ensures kept { IfSome result (IsSetOf node.now) }
 {
     if qtype == RType::CNAME.0 || qtype == QTYPE_ANY {
