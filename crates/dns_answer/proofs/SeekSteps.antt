@@ -1,6 +1,5 @@
 -- What seeking a name has offered and taken, by what is found for it.
-use Rattle.std.proofs.Common.{◌≡◌, ◌⊎◌, inl, inr, ℕ, ◌+◌, ◌-◌, ◌*◌, ◌<◌, ◌≤◌, Bool, true, false, cond, ◌&&◌, ◌||◌, not, nat_lt, List, [], ◌∷◌, ◌++◌, map, length, get_or, Option, None, Some, is_some, refl, sym, ap, subst, ◌∙◌, arith}
-use Rattle.std.proofs.lemmas.Bool.{lt-ltb, false≢true}
+use Rattle.std.proofs.Common.{◌≡◌, ◌⊎◌, inl, inr, ℕ, ◌+◌, ◌-◌, ◌*◌, ◌<◌, ◌≤◌, Bool, true, false, cond, ◌&&◌, ◌||◌, not, nat_lt, List, [], ◌∷◌, ◌++◌, map, length, get_or, Option, None, Some, is_some, refl, sym, ap, subst, ◌∙◌, arith, length-append}
 use Rattle.std.specs.List.{list_any}
 use Rattle.std.specs.Option.{option_and_then}
 use Rattle.dns_spec.specs.Names.{Octets, DomainName, same, at_or_below}
@@ -19,7 +18,7 @@ use Rattle.dns_answer.specs.DraftForm.{State, Holds, Offers}
 use Rattle.dns_answer.specs.Ending.{Ends, TookTargets, nodes_by, misses_by, ending_targets}
 use Rattle.dns_answer.specs.Walks.{AreRecords, Took, node_of, node_or}
 use Rattle.dns_answer.specs.Chain.{chain_items, chain_required, chain_outcome, chain_nodes, chain_misses}
-use Rattle.dns_answer.specs.Seeking.{SeeksFrom, AreSought, alias_target, NextIs, Completes}
+use Rattle.dns_answer.specs.Seeking.{SeeksFrom, AreSought, Seeks, TookFrom, alias_target, NextIs, Completes, LeadsTo, LedOn}
 use Rattle.dns_answer.specs.declared.ending.Verdict.{Verdict}
 use Rattle.dns_answer.proofs.Offered.{offered-append}
 use Rattle.dns_answer.proofs.Offering.{Offers-is, Offers-then}
@@ -219,3 +218,56 @@ module _ (z : ZoneContents) (s : DomainName) (node : ZoneNode) (no_cut : cut_of 
           → ChainGoesOn z t k before s (k - 1) m
       alias-goes_on t k kept before m depth follows were next =
           goes-on z t k before s (k - 1) m follows (some-next z t k before s kept set m were alias-leads next.1 next.2 next.3) (omega (arith, next.0))
+
+-- names sought one after the other
+pub led-begin : (w : State) (s : Walk) (t k : ℕ) (kept : List DomainName) (n n0 : DomainName) → n ≡ n0 → at_or_below n0 s.zone.origin ≡ true → LedOn w w s s t k k kept kept n0 n
+led-begin w s t k kept n n0 e below = subst (LedOn w w s s t k k kept kept n0) (sym e) (record {
+  zone = refl;
+  below = below;
+  followed = inl (refl, refl);
+  completes = λ before were. (before, were, record { seeks = λ last v h. h; took = λ last h. h });
+})
+
+pub led-seeks : (w0 w last : State) (s0 s : Walk) (t k0 k : ℕ) (kept0 kept : List DomainName) (n0 n : DomainName) (v : Verdict) → LedOn w0 w s0 s t k0 k kept0 kept n0 n
+    → Seeks w last s.zone t k kept n v → Seeks w0 last s0.zone t k0 kept0 n0 v
+led-seeks w0 w last s0 s t k0 k kept0 kept n0 n v led h = λ before were.
+    let on = led.completes before were in
+    on.2.seeks last v (subst (λ y. SeeksFrom w last y t k on.0 n v) led.zone (h on.0 on.1))
+
+pub led-took : (w0 w : State) (s0 s last : Walk) (t k0 k : ℕ) (kept0 kept : List DomainName) (n0 n : DomainName) → LedOn w0 w s0 s t k0 k kept0 kept n0 n
+    → TookFrom s last t k kept n → TookFrom s0 last t k0 kept0 n0
+led-took w0 w s0 s last t k0 k kept0 kept n0 n led h = λ before were.
+    let on = led.completes before were in
+    on.2.took last (subst (λ y. Took s last (chain_nodes y t k on.0 n) (chain_misses y t k on.0 n)) led.zone (h on.0 on.1))
+
+pub led-further : (w0 w w1 : State) (s0 s s1 : Walk) (t k0 k : ℕ) (kept0 kept kept' : List DomainName) (n0 n m : DomainName) (depth : ℕ) → LedOn w0 w s0 s t k0 k kept0 kept n0 n
+    → LeadsTo w w1 s s1 t k kept n m depth → kept' ≡ kept ++ m ∷ [] → LedOn w0 w1 s0 s1 t k0 (k - 1) kept0 kept' n0 m
+led-further w0 w w1 s0 s s1 t k0 k kept0 kept kept' n0 n m depth led next more = record {
+  zone = next.took.zone ∙ led.zone;
+  below = subst (λ (y : ZoneContents). at_or_below m y.origin ≡ true) led.zone next.below;
+  followed = inr (went led.followed);
+  completes = λ before were. on before (led.completes before were);
+}
+  where
+    longer : length kept' ≡ length kept + 1
+    longer = ap length more ∙ length-append kept (m ∷ [])
+
+    went : ((n ≡ n0) × (length kept ≡ length kept0)) ⊎ ((follows_alias t && has_any (alias_set s0.zone n0)) ≡ true × (length kept0 < length kept))
+        → (follows_alias t && has_any (alias_set s0.zone n0)) ≡ true × (length kept0 < length kept')
+    went (inl e) = (
+      subst (λ i. (follows_alias t && has_any (alias_set s0.zone i)) ≡ true) e.0 (subst (λ y. (follows_alias t && has_any (alias_set y n)) ≡ true) led.zone next.alias),
+      omega (arith, longer, e.1),
+    )
+    went (inr e) = (e.0, omega (arith, longer, e.1))
+
+    on : (before0 : List DomainName) → (before : List DomainName) × AreSought kept (n ∷ before) × Completes w0 w s0 s s0.zone t k0 k before0 before n0 n
+        → (before : List DomainName) × AreSought kept' (m ∷ before) × Completes w0 w1 s0 s1 s0.zone t k0 (k - 1) before0 before n0 m
+    on before0 x =
+        let step = subst (λ y. Completes w w1 s s1 y t k (k - 1) x.0 (n ∷ x.0) n m) led.zone (next.completes x.0 x.1) in (
+          n ∷ x.0,
+          subst (λ ns. AreSought ns (m ∷ n ∷ x.0)) (sym more) (AreSought-more kept (n ∷ x.0) m x.1),
+          record {
+            seeks = λ last v h. x.2.seeks last v (step.seeks last v h);
+            took = λ last h. x.2.took last (step.took last h);
+          },
+        )

@@ -68,6 +68,16 @@ pub record LeadsTo (w w' : State) (s s' : Walk) (t k : ℕ) (kept : List DomainN
   pub took : Took s s' 127 2
   pub completes : (before : List DomainName) → AreSought kept (n ∷ before) → Completes w w' s s' s.zone t k (k - 1) before (n ∷ before) n m
 
+-- Seeking a name n, the last of the names kept so far, completes what seeking n0 began; either they are one, or n0 has an
+-- alias that was followed.
+pub record LedOn (w0 w : State) (s0 s : Walk) (t k0 k : ℕ) (kept0 kept : List DomainName) (n0 n : DomainName) : Type 0 where
+  pub zone : s.zone ≡ s0.zone
+  pub below : at_or_below n s0.zone.origin ≡ true
+  pub followed : ((n ≡ n0) × (length kept ≡ length kept0))
+      ⊎ ((follows_alias t && has_any (alias_set s0.zone n0)) ≡ true × (length kept0 < length kept))
+  pub completes : (before0 : List DomainName) → AreSought kept0 (n0 ∷ before0)
+      → (before : List DomainName) × AreSought kept (n ∷ before) × Completes w0 w s0 s s0.zone t k0 k before0 before n0 n
+
 abbrev pub SoughtAs : State → State → Walk → Walk → ℕ → ℕ → List DomainName → DomainName → Sought → Type 0
 SoughtAs w w' s s' t k kept n (soughts.Last v) = IsLast w w' s s' t k kept n v
 SoughtAs w w' s s' t k kept n (soughts.Alias m depth) = LeadsTo w w' s s' t k kept n m depth
