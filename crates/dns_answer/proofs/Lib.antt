@@ -10,4 +10,6 @@ pub mod StandingAddresses
 pub mod AnswerItems
 pub mod ChainSteps
 pub mod AnswerCosts
+pub mod PutReplies
+pub mod SentReplies
 pub mod SeekSteps

@@ -5,3 +5,5 @@ pub mod Targets
 pub mod Ending
 pub mod Chain
 pub mod Seeking
+pub mod Limits
+pub mod Replies

@@ -8,3 +8,6 @@ mod draft;
 mod ending;
 mod lookup;
 mod names;
+mod reply;
+
+pub use reply::{Limit, respond};

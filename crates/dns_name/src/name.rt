@@ -241,6 +241,15 @@ impl Name {
     }
 }
 
+/// The root.
+impl Default for Name {
+    ghost is_default = { λ name. name ≡ [] };
+
+    fn default() -> Name {
+        Name::root()
+    }
+}
+
 impl Clone for Name {
     ghost is_clone = { λ name clone. clone ≡ name };
 
