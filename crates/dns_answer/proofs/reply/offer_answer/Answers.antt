@@ -20,11 +20,14 @@ seek-verdict-requires g c =
           (
             ap length asked ∙ c.requires.depth ∙ ap (λ (z : ZoneContents). length z.origin + c.args.depth) (sym c.apex-apex.ensures.zone),
             (
-              record {
-                visits = omega (arith, c.apex-apex.ensures.visits, c.requires.visits);
-                comparisons = omega (arith, c.apex-apex.ensures.comparisons, c.apex-apex.ensures.visits, c.requires.visits, c.requires.comparisons);
-              },
-              omega (arith, first),
+              c.requires.few,
+              (
+                record {
+                  visits = omega (arith, c.apex-apex.ensures.visits, c.requires.visits);
+                  comparisons = omega (arith, c.apex-apex.ensures.comparisons, c.apex-apex.ensures.visits, c.requires.visits, c.requires.comparisons);
+                },
+                omega (arith, first),
+              ),
             ),
           ),
         ),
