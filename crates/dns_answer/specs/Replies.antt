@@ -1,5 +1,5 @@
 -- What a reader learns here: how a question is judged, when a reply was put, and what a reply may take.
-use Rattle.std.specs.Prelude.{◌≡◌, ℕ, ◌+◌, ◌*◌, ◌≤◌, true, length, take, Option, None, Some}
+use Rattle.std.specs.Prelude.{◌≡◌, ℕ, ◌+◌, ◌*◌, ◌≤◌, true, length, take, None, Some}
 use Rattle.std.specs.Option.{option_map}
 use Rattle.dns_spec.specs.Names.{Octets, at_or_below}
 use Rattle.dns_spec.specs.Records.{ZoneContents}
