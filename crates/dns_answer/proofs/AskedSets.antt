@@ -1,14 +1,13 @@
 -- The outcome of records that are found, by the set asked for.
-use Rattle.std.proofs.Common.{◌≡◌, ℕ, ◌+◌, ◌<◌, ◌≤◌, Bool, true, false, cond, ◌||◌, ◌&&◌, not, List, [], ◌∷◌, ◌++◌, map, length, Option, None, Some, refl, sym, ap, ◌∙◌, subst, arith}
+use Rattle.std.proofs.Common.{◌≡◌, ℕ, Bool, true, false, cond, ◌&&◌, List, [], ◌∷◌, None, Some, refl, sym, ap, ◌∙◌}
 use Rattle.std.specs.Prelude.{◌==◌}
-use Rattle.std.specs.Option.{is_some}
-use Rattle.dns_spec.specs.Names.{Octets, DomainName}
-use Rattle.dns_spec.specs.Data.{type_ns, type_mx, type_srv, type_cname, qtype_any}
-use Rattle.dns_spec.specs.Records.{ResourceRecord, ZoneContents, at, rrset, of_type, with_owner}
+use Rattle.dns_spec.specs.Names.{DomainName}
+use Rattle.dns_spec.specs.Data.{type_cname, qtype_any}
+use Rattle.dns_spec.specs.Records.{ResourceRecord, ZoneContents, at, of_type, with_owner}
 use Rattle.dns_spec.specs.Sets.{RecordSet, set_of, records_at, rising_types, of_first_type, of_lowest_type}
 use Rattle.dns_spec.specs.Reading.{no_error}
-use Rattle.dns_spec.specs.Layout.{answer, Item}
-use Rattle.dns_spec.specs.Answer.{item, has_any, asked_records, follows_alias, Outcome, positive, negative, outcome_by, targets_of}
+use Rattle.dns_spec.specs.Layout.{answer}
+use Rattle.dns_spec.specs.Answer.{item, has_any, asked_records, follows_alias, positive, negative, outcome_by}
 use Rattle.dns_spec.proofs.SortedOnce.{Each}
 use Rattle.dns_spec.proofs.ItemSets.{each_typed}
 use Rattle.dns_zone.specs.Nodes.{ZoneNode, IsSetOf}

@@ -1,16 +1,14 @@
 -- The sets that end an answer, by the sets of nodes.
-use Rattle.std.proofs.Common.{◌≡◌, ℕ, zero, suc, ◌+◌, ◌-◌, ◌<◌, ◌≤◌, Bool, true, false, cond, ◌||◌, ◌&&◌, not, min, List, [], ◌∷◌, ◌++◌, map, length, Option, None, Some, refl, sym, ap, ◌∙◌, subst, arith, append-nil}
-use Rattle.std.proofs.lemmas.Bool.{false≢true}
-use Rattle.std.proofs.lemmas.List.{length-map}
+use Rattle.std.proofs.Common.{◌≡◌, ℕ, Bool, true, false, cond, ◌||◌, List, [], ◌∷◌, map, None, Some, refl, sym, ap, ◌∙◌, append-nil}
 use Rattle.std.specs.Prelude.{◌==◌}
-use Rattle.std.specs.List.{list_any, filter, filter_map, find, cons_option}
+use Rattle.std.specs.List.{filter, filter_map, cons_option}
 use Rattle.std.specs.Ordering.{is_gt, nat_cmp}
-use Rattle.dns_spec.specs.Names.{Octets, DomainName, folded, same, at_or_below}
-use Rattle.dns_spec.specs.Data.{target, type_ns, type_mx, type_srv, type_soa, type_cname, qtype_any, soa_minimum}
-use Rattle.dns_spec.specs.Records.{ResourceRecord, ZoneContents, at, rrset, of_type, with_owner, sort_by, insert_by, data_order, distinct}
-use Rattle.dns_spec.specs.Sets.{RecordSet, set_of, records_at, types_of, rising_types, of_first_type, of_lowest_type}
-use Rattle.dns_spec.specs.Layout.{Section, answer, authority, Item, records_of}
-use Rattle.dns_spec.specs.Answer.{item, has_any, has_target_type, targets_of, asked_records, negative_soa}
+use Rattle.dns_spec.specs.Names.{Octets, DomainName}
+use Rattle.dns_spec.specs.Data.{target, type_ns, type_mx, type_srv, qtype_any}
+use Rattle.dns_spec.specs.Records.{ResourceRecord, of_type, with_owner, sort_by, insert_by, data_order, distinct}
+use Rattle.dns_spec.specs.Sets.{RecordSet, set_of, records_at, rising_types, of_first_type, of_lowest_type}
+use Rattle.dns_spec.specs.Layout.{Section}
+use Rattle.dns_spec.specs.Answer.{item, has_target_type, targets_of, asked_records}
 use Rattle.dns_answer.specs.Targets.{set_targets}
 
 -- records of a set shown with another owner

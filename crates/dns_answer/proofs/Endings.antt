@@ -1,23 +1,22 @@
 -- How the sets that end an answer are offered.
-use Rattle.std.proofs.Common.{◌≡◌, ℕ, zero, suc, ◌+◌, ◌-◌, ◌<◌, ◌≤◌, Bool, true, false, cond, ◌||◌, ◌&&◌, not, min, List, [], ◌∷◌, ◌++◌, map, reverse, length, get_or, Option, None, Some, refl, sym, ap, ◌∙◌, subst, arith, append-nil, append_assoc}
-use Rattle.std.proofs.lemmas.Bool.{false≢true, and_parts}
+use Rattle.std.proofs.Common.{◌≡◌, ℕ, ◌+◌, ◌<◌, ◌≤◌, Bool, true, false, cond, ◌||◌, min, List, [], ◌∷◌, ◌++◌, map, reverse, length, get_or, None, Some, refl, sym, ap, ◌∙◌, arith, append-nil}
+use Rattle.std.proofs.lemmas.Bool.{and_parts}
 use Rattle.std.proofs.lemmas.List.{length-map}
 use Rattle.std.specs.Prelude.{◌==◌}
 use Rattle.std.specs.List.{filter, find}
 use Rattle.std.specs.Option.{is_some}
 use Rattle.dns_spec.specs.Names.{Octets, DomainName, folded, suffixes, below}
 use Rattle.dns_spec.specs.Data.{type_ns, type_soa, type_mx, type_srv, soa_minimum}
-use Rattle.dns_spec.specs.Records.{ResourceRecord, ZoneContents, at, rrset, owns, with_owner}
+use Rattle.dns_spec.specs.Records.{ResourceRecord, ZoneContents, rrset, owns, with_owner}
 use Rattle.dns_spec.specs.Sets.{RecordSet, set_of, records_at}
-use Rattle.dns_spec.specs.Layout.{Section, answer, authority, Item}
+use Rattle.dns_spec.specs.Layout.{authority, Item}
 use Rattle.dns_spec.specs.Answer.{item, Outcome, main_items, targets_of, negative_soa, negative, referral_to}
 use Rattle.dns_spec.specs.Tree.{is_cut, cut_of}
 use Rattle.dns_spec.proofs.PassedChecks.{few_soa, one_soa}
 use Rattle.dns_zone.specs.ZoneForm.{IsBuilt}
 use Rattle.dns_wire.specs.QueryForm.{code_of}
-use Rattle.dns_answer.specs.Draft as spec
 use Rattle.dns_answer.specs.Draft.{offered}
-use Rattle.dns_answer.specs.DraftForm.{State, Holds, Offers}
+use Rattle.dns_answer.specs.DraftForm.{State, Offers}
 use Rattle.dns_answer.specs.Targets.{side_items, side_nodes, set_targets}
 use Rattle.dns_answer.specs.Walks.{Took}
 use Rattle.dns_answer.specs.Ending.{Ends, all_names, inside, not_inside, ending_targets, ending_required, ending_items, glue_by, others_by}
@@ -27,7 +26,7 @@ use Rattle.dns_answer.proofs.TargetLaws.{side_items-none}
 use Rattle.dns_answer.proofs.WayLaws.{set-owned}
 use Rattle.dns_zone.specs.Nodes.{Walk, ZoneNode, IsSetOf}
 use Rattle.dns_spec.specs.Reading.{no_error}
-use Rattle.dns_answer.proofs.EndingSets.{no_targets_of_set, targets_of_set, item-shown}
+use Rattle.dns_answer.proofs.EndingSets.{targets_of_set, item-shown}
 
 -- without a referral
 pub Ends-plain : (w w1 w' : State) (z : ZoneContents) (o : Outcome) (v : Verdict) → o.referral ≡ None

@@ -1,5 +1,5 @@
 -- What seeking a name has offered and taken, by what is found for it.
-use Rattle.std.proofs.Common.{◌≡◌, ◌⊎◌, inl, inr, ℕ, ◌+◌, ◌-◌, ◌*◌, ◌<◌, ◌≤◌, Bool, true, false, cond, ◌&&◌, ◌||◌, not, nat_lt, List, [], ◌∷◌, ◌++◌, map, length, get_or, Option, None, Some, is_some, refl, sym, ap, subst, ◌∙◌, arith, length-append}
+use Rattle.std.proofs.Common.{◌≡◌, ◌⊎◌, inl, inr, ℕ, ◌+◌, ◌-◌, ◌<◌, Bool, true, false, cond, ◌&&◌, ◌||◌, not, List, [], ◌∷◌, ◌++◌, map, length, get_or, Option, None, Some, is_some, refl, sym, ap, subst, ◌∙◌, arith, length-append}
 use Rattle.std.specs.List.{list_any}
 use Rattle.std.specs.Option.{option_and_then}
 use Rattle.dns_spec.specs.Names.{Octets, DomainName, same, at_or_below}
@@ -14,10 +14,10 @@ use Rattle.dns_zone.specs.Nodes.{Walk, ZoneNode, IsSetOf}
 use Rattle.dns_wire.specs.QueryForm.{code_of}
 use Rattle.dns_answer.specs.Draft as spec
 use Rattle.dns_answer.specs.Draft.{offered}
-use Rattle.dns_answer.specs.DraftForm.{State, Holds, Offers}
-use Rattle.dns_answer.specs.Ending.{Ends, TookTargets, nodes_by, misses_by, ending_targets}
+use Rattle.dns_answer.specs.DraftForm.{State, Offers}
+use Rattle.dns_answer.specs.Ending.{Ends, TookTargets, nodes_by, ending_targets}
 use Rattle.dns_answer.specs.Walks.{AreRecords, Took, node_of, node_or}
-use Rattle.dns_answer.specs.Chain.{chain_items, chain_required, chain_outcome, chain_nodes, chain_misses}
+use Rattle.dns_answer.specs.Chain.{chain_items, chain_required, chain_nodes, chain_misses}
 use Rattle.dns_answer.specs.Seeking.{SeeksFrom, AreSought, Seeks, TookFrom, alias_target, NextIs, Completes, LeadsTo, LedOn}
 use Rattle.dns_answer.specs.declared.ending.Verdict.{Verdict}
 use Rattle.dns_answer.proofs.Offered.{offered-append}

@@ -1,5 +1,5 @@
 -- What is sent is the reply that the definitions state, by the query that a datagram was read as.
-use Rattle.std.proofs.Common.{◌≡◌, ◌↔◌, ℕ, ◌<◌, ◌≤◌, Bool, true, false, not, cond, List, length, take, Option, None, Some, IsTrue, IsNone, IfSome, All, refl, sym, ap, subst, ◌∙◌, arith}
+use Rattle.std.proofs.Common.{◌≡◌, ◌↔◌, ℕ, ◌<◌, ◌≤◌, Bool, true, false, not, cond, Option, None, Some, IsTrue, IsNone, IfSome, All, refl, sym, ap, subst, ◌∙◌, arith}
 use Rattle.std.proofs.lemmas.Bool.{true≢false}
 use Rattle.std.proofs.lemmas.List.Elements.{All-weaker}
 use Rattle.std.specs.Prelude.{◌==◌}
@@ -11,7 +11,7 @@ use Rattle.dns_spec.specs.Query.{field16, opcode, head_of, refusal_head, counts_
 use Rattle.dns_spec.specs.Layout.{layout}
 use Rattle.dns_spec.specs.Laws.{IsWritable}
 use Rattle.dns_spec.specs.ZonePrinted.{IsReadRecord}
-use Rattle.dns_spec.specs.Reply.{Decision, decide_query, decide, Reply, reply_of, keep_longest, reply_with, reply, octets_by, reply_message, octets_of}
+use Rattle.dns_spec.specs.Reply.{decide_query, decide, Reply, reply_of, keep_longest, reply_with, reply, octets_by, reply_message, octets_of}
 use Rattle.dns_spec.proofs.ReplySpelled.{shared_reply_spells}
 use Rattle.dns_zone.specs.Nodes.{Walk}
 use Rattle.dns_zone.specs.ZoneForm.{IsBuilt}

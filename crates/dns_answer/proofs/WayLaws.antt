@@ -1,21 +1,21 @@
 -- How the way down to a name goes on from the name above it.
-use Rattle.std.proofs.Common.{◌≡◌, ℕ, suc, ◌+◌, ◌*◌, ◌-◌, ◌<◌, ◌≤◌, Bool, true, false, cond, ◌||◌, ◌&&◌, List, [], ◌∷◌, ◌++◌, map, reverse, length, drop, Option, None, Some, refl, sym, ap, ◌∙◌, subst, arith}
+use Rattle.std.proofs.Common.{◌≡◌, ℕ, suc, ◌+◌, ◌-◌, ◌≤◌, Bool, true, false, cond, ◌||◌, ◌&&◌, List, [], ◌∷◌, map, reverse, length, drop, None, Some, refl, sym, ap, ◌∙◌, arith}
 use Rattle.std.proofs.lemmas.Bool.{false≢true, and_parts, ltb-true, false_from_ne_true}
 use Rattle.std.proofs.lemmas.List.{length-map, reverse-append}
 use Rattle.std.proofs.lemmas.List.Folds.{find-append}
-use Rattle.std.specs.Prelude.{IsTrue, nat_lt, nat_le, ◌==◌}
+use Rattle.std.specs.Prelude.{nat_lt, nat_le, ◌==◌}
 use Rattle.std.specs.Ordering.{is_gt}
 use Rattle.std.specs.Char.{to_ascii_lowercase}
 use Rattle.std.specs.List.{find, filter, list_any}
-use Rattle.std.specs.Option.{option_or, is_some, option_map, option_and_then}
+use Rattle.std.specs.Option.{option_or, is_some}
 use Rattle.dns_spec.specs.Names.{Octets, DomainName, folded, names_equal, same, at_or_below, below, suffixes}
 use Rattle.dns_spec.specs.Data.{type_ns}
-use Rattle.dns_spec.specs.Records.{ResourceRecord, ZoneContents, at, owns, rrset, with_owner, sort_by, insert_by, data_order}
+use Rattle.dns_spec.specs.Records.{ResourceRecord, ZoneContents, at, owns, rrset, sort_by, insert_by, data_order}
 use Rattle.dns_spec.specs.Sets.{set_of}
-use Rattle.dns_spec.specs.Tree.{exists, is_cut, cut_of, ancestors, closest_encloser, asterisk, source_of_synthesis, found, without_first}
+use Rattle.dns_spec.specs.Tree.{exists, is_cut, cut_of, closest_encloser, without_first}
 use Rattle.dns_spec.proofs.NameLaws.{at_or_below-cons, same-length}
-use Rattle.dns_zone.proofs.NameOrder.{same-is, same-from, lower_twice}
-use Rattle.dns_zone.proofs.NameTree.{under-trans, itself-under, below-cons, same-under}
+use Rattle.dns_zone.proofs.NameOrder.{same-from, lower_twice}
+use Rattle.dns_zone.proofs.NameTree.{under-trans, itself-under}
 use Rattle.dns_zone.proofs.OwnRecords.{own-owns}
 use Rattle.dns_zone.proofs.AboveCuts.{any_weaker}
 use Rattle.dns_zone.proofs.Existing.{exists-lower}

@@ -3,7 +3,7 @@ use Rattle.std.specs.Prelude.{◌≡◌, ℕ, ◌+◌, Bool, true, not, List, []
 use Rattle.std.specs.Prelude.{Option, None, Some}
 use Rattle.std.specs.Option.{is_some}
 use Rattle.std.specs.List.{filter}
-use Rattle.dns_spec.specs.Names.{Octets, DomainName, at_or_below}
+use Rattle.dns_spec.specs.Names.{DomainName, at_or_below}
 use Rattle.dns_spec.specs.Records.{ZoneContents}
 use Rattle.dns_spec.specs.Layout.{Item}
 use Rattle.dns_spec.specs.Answer.{Outcome, main_items, targets_of}

@@ -1,5 +1,5 @@
 -- What a reader learns here: how a question is judged, when a reply was put, and what a reply may take.
-use Rattle.std.specs.Prelude.{◌≡◌, ℕ, ◌+◌, ◌*◌, ◌≤◌, true, length, take, Option, None, Some}
+use Rattle.std.specs.Prelude.{◌≡◌, ℕ, ◌+◌, ◌*◌, ◌≤◌, true, length, take, None, Some}
 use Rattle.std.specs.Option.{option_map}
 use Rattle.dns_spec.specs.Names.{Octets, at_or_below}
 use Rattle.dns_spec.specs.Records.{ZoneContents}
@@ -19,7 +19,7 @@ abbrev pub JudgedAs : ZoneContents → MessageQuestion → Judged → Type 0
 JudgedAs z q (Refused rcode) = refusal z q ≡ Some (code_of rcode)
 JudgedAs z q (Answered depth) =
     (refusal z q ≡ None) × (at_or_below q.qname z.origin ≡ true)
-    × (length q.qname ≡ length z.origin + depth)
+    × (length q.qname ≡ length z.origin + depth) × (depth ≤ 127)
 
 -- The octets at the front of `out` are the reply that a decision makes, with the longest beginning of the sets that fits.
 pub record IsReply (z : ZoneContents) (limit : ℕ) (x : Decision) (len : ℕ) (out : Octets) : Type 0 where

@@ -7,7 +7,7 @@ use Rattle.dns_spec.specs.Names.{DomainName, same, at_or_below}
 use Rattle.dns_spec.specs.Data.{target}
 use Rattle.dns_spec.specs.Sets.{RecordSet}
 use Rattle.dns_spec.specs.Records.{ZoneContents}
-use Rattle.dns_spec.specs.Answer.{Outcome, follows_alias, alias_set, has_any}
+use Rattle.dns_spec.specs.Answer.{follows_alias, alias_set, has_any}
 use Rattle.dns_zone.specs.Nodes.{Walk}
 use Rattle.dns_wire.specs.QueryForm.{code_of}
 use Rattle.dns_answer.specs.Draft as spec

@@ -166,6 +166,7 @@ fn put_answer<'z, const N: usize, const SIZE: usize>(
     requires comparisons { steps.old.comparisons ≡ 0 }
     requires below { IsTrue (at_or_below question.now.qname steps.old.zone.origin) }
     requires depth { length question.now.qname ≡ length steps.old.zone.origin + depth }
+    requires few { depth ≤ 127 }
     requires from { 512 ≤ SIZE }
     requires upto { SIZE ≤ 65535 }
     requires places { min SIZE 16384 ≤ 2 * N }
@@ -191,6 +192,7 @@ fn offer_answer<'z, const N: usize, const SIZE: usize>(
     requires comparisons { steps.old.comparisons ≡ 0 }
     requires below { IsTrue (at_or_below question.now.qname steps.old.zone.origin) }
     requires depth { length question.now.qname ≡ length steps.old.zone.origin + depth }
+    requires few { depth ≤ 127 }
     ensures answers { Answers steps.old.zone head.now question.now draft.old draft.new result }
     ensures costs { Costs (answered head.now question.now) steps.old steps.new }
 {

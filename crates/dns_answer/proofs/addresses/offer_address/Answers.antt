@@ -1,4 +1,4 @@
-use Rattle.std.proofs.Common.{rules, ◌≡◌, [], ◌∷◌, ◌++◌, refl, sym, ap, ◌∙◌, subst, arith, Some, None, true, false}
+use Rattle.std.proofs.Common.{rules, ◌≡◌, [], sym, ap, ◌∙◌}
 use Rattle.std.proofs.Common.{Option}
 use Rattle.dns_spec.specs.Names.{DomainName, folded}
 use Rattle.dns_spec.specs.Records.{ZoneContents}

@@ -1,11 +1,11 @@
-use Rattle.std.proofs.Common.{rules, ◌≡◌, List, take, take_all, ◌<◌, ◌≤◌, ◌+◌, ◌*◌, get_or, length, [], refl, sym, ap, ◌∙◌, subst, arith}
+use Rattle.std.proofs.Common.{rules, ◌≡◌, List, take, take_all, ◌<◌, ◌≤◌, get_or, length, [], sym, subst, arith}
 use Rattle.dns_spec.specs.Records.{ZoneContents}
 use Rattle.dns_spec.specs.Data.{target}
 use Rattle.std.specs.List.{filter, filter_map}
 use Rattle.dns_spec.specs.Names.{Octets}
 use Rattle.dns_answer.specs.DraftForm.{Offers}
-use Rattle.dns_answer.specs.Walks.{Took, HasRoom}
-use Rattle.dns_answer.specs.Targets.{target_items, target_nodes, target_misses, targets_of_first, side_takes, side_items, side_nodes}
+use Rattle.dns_answer.specs.Walks.{Took}
+use Rattle.dns_answer.specs.Targets.{target_items, target_nodes, target_misses, targets_of_first, side_takes, side_nodes}
 use Rattle.dns_answer.proofs.Offering.{Offers-is, Offers-nothing, Offers-then}
 use Rattle.dns_answer.proofs.TargetLaws.{side_items-none, side_items-more, Took-nothing, Took-more, nodes-more, hits-more}
 use Rattle.dns_answer.proofs.addresses.offer_addresses.Goals as goal

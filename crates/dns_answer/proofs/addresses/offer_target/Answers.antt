@@ -1,4 +1,4 @@
-use Rattle.std.proofs.Common.{◌≡◌, ◌∷◌, get_or, [], refl, sym, ap, ◌∙◌, arith, Some, None, true, false}
+use Rattle.std.proofs.Common.{[], sym, ap, ◌∙◌}
 use Rattle.dns_spec.specs.Names.{at_or_below}
 use Rattle.dns_spec.specs.Data.{target}
 use Rattle.dns_answer.specs.Targets.{target_items, targets_of_first, side_takes}

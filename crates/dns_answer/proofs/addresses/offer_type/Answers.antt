@@ -1,7 +1,7 @@
-use Rattle.std.proofs.Common.{◌≡◌, [], ◌∷◌, refl, sym, ap, ◌∙◌, arith, Some, None, true, false}
+use Rattle.std.proofs.Common.{[], sym}
 use Rattle.dns_spec.specs.Layout.{additional}
 use Rattle.dns_answer.proofs.Offering.{Offers-is, Offers-nothing}
-use Rattle.dns_answer.proofs.TargetLaws.{item-none, item-some}
+use Rattle.dns_answer.proofs.TargetLaws.{item-none}
 use Rattle.dns_answer.proofs.addresses.offer_type.Goals as goal
 
 pub returns-in_default : goal.returns-in_default

@@ -1,4 +1,4 @@
-use Rattle.std.proofs.Common.{◌≡◌, ◌<◌, ◌≤◌, ◌||◌, get_or, [], refl, sym, ap, ◌∙◌, arith, Some, None, true, false}
+use Rattle.std.proofs.Common.{◌≡◌, ◌||◌, refl, sym, ap, ◌∙◌, arith, Some, None, false}
 use Rattle.std.specs.List.{list_any}
 use Rattle.dns_spec.specs.Names.{same}
 use Rattle.dns_spec.specs.Data.{target}

@@ -1,4 +1,4 @@
-use Rattle.std.proofs.Common.{rules, ◌≡◌, refl, false, arith, sym, ap, ◌∙◌}
+use Rattle.std.proofs.Common.{rules, arith, sym, ◌∙◌}
 use Rattle.dns_spec.specs.Data.{target}
 use Rattle.dns_answer.proofs.chain.next_sought.Goals as goal
 

@@ -1,4 +1,4 @@
-use Rattle.std.proofs.Common.{◌≡◌, ◌+◌, ◌∷◌, [], ◌++◌, ◌∙◌, ap, arith, length, length-append}
+use Rattle.std.proofs.Common.{◌+◌, ◌∷◌, [], ◌++◌, ◌∙◌, ap, arith, length, length-append}
 use Rattle.dns_spec.specs.Records.{ZoneContents}
 use Rattle.dns_answer.proofs.SeekSteps.{led-begin, led-seeks, led-took, led-further}
 use Rattle.dns_answer.proofs.chain.seek.Goals as goal

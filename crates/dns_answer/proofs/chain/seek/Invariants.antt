@@ -1,5 +1,5 @@
 use Rattle.std.proofs.Common.{◌≡◌, ◌+◌, ◌*◌, ◌≤◌, length}
-use Rattle.dns_answer.specs.Walks.{IsApex, HasRoom}
+use Rattle.dns_answer.specs.Walks.{HasRoom}
 use Rattle.dns_answer.specs.Seeking.{LedOn}
 use Rattle.dns_answer.proofs.chain.seek.Given as goal
 

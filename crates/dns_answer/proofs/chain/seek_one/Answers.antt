@@ -1,9 +1,9 @@
-use Rattle.std.proofs.Common.{rules, ◌≡◌, ◌∷◌, [], ◌&&◌, ◌-◌, ◌+◌, refl, sym, ap, ◌∙◌, subst, arith, true, false, length, Some, None}
+use Rattle.std.proofs.Common.{rules, ◌≡◌, [], ◌&&◌, ◌-◌, refl, sym, ap, ◌∙◌, subst, arith, Some, None}
 use Rattle.std.proofs.lemmas.Bool.{false≢true}
 use Rattle.dns_name.specs.WireForm.{labels_of}
 use Rattle.dns_spec.specs.Layout.{answer}
 use Rattle.dns_spec.specs.Records.{ZoneContents, at, with_owner}
-use Rattle.dns_spec.specs.Answer.{item, has_any, alias_set, follows_alias, positive, negative, referral_to, outcome_by}
+use Rattle.dns_spec.specs.Answer.{item, has_any, alias_set, positive, negative, referral_to, outcome_by}
 use Rattle.dns_spec.specs.Reading.{name_error}
 use Rattle.dns_zone.specs.Nodes.{ZoneNode}
 use Rattle.dns_answer.specs.Ending.{Ends, TookTargets}

@@ -1,12 +1,11 @@
-use Rattle.std.proofs.Common.{◌≡◌, ◌∷◌, ◌||◌, [], get_or, refl, sym, ap, ◌∙◌, arith, min}
+use Rattle.std.proofs.Common.{◌∷◌, ◌||◌, [], refl, sym, ap, ◌∙◌, min}
 use Rattle.std.specs.Prelude.{◌==◌}
 use Rattle.dns_spec.specs.Data.{soa_minimum, type_soa, type_ns, type_mx, type_srv}
-use Rattle.dns_spec.specs.Names.{DomainName}
 use Rattle.dns_spec.specs.Records.{rrset}
 use Rattle.dns_spec.specs.Sets.{set_of, records_at}
-use Rattle.dns_spec.specs.Layout.{authority, Item}
+use Rattle.dns_spec.specs.Layout.{authority}
 use Rattle.dns_zone.specs.Nodes.{ZoneNode}
-use Rattle.dns_answer.proofs.Offering.{Offers-nothing, Offers-is}
+use Rattle.dns_answer.proofs.Offering.{Offers-nothing}
 use Rattle.dns_answer.proofs.Endings.{Ends-denied, soa-item, soa-none}
 use Rattle.dns_answer.proofs.EndingSets.{no_targets_of_set}
 use Rattle.dns_answer.proofs.ending.deny.Goals as goal

@@ -1,4 +1,4 @@
-use Rattle.std.proofs.Common.{◌≡◌, ◌∷◌, ◌||◌, [], refl, sym, ap, ◌∙◌, subst, arith, length}
+use Rattle.std.proofs.Common.{◌∷◌, ◌||◌, [], refl, sym, ap, ◌∙◌, subst, length}
 use Rattle.std.specs.Prelude.{◌==◌}
 use Rattle.std.specs.List.{filter}
 use Rattle.dns_spec.specs.Data.{type_ns, type_mx, type_srv}

@@ -1,11 +1,10 @@
-use Rattle.std.proofs.Common.{◌≡◌, ◌∷◌, ◌+◌, ◌-◌, suc, [], length, refl, sym, ap, ◌∙◌, subst, arith, true, false, Some}
+use Rattle.std.proofs.Common.{refl, sym, ap, ◌∙◌, subst, arith, Some}
 use Rattle.std.proofs.lemmas.Bool.{false≢true}
-use Rattle.dns_spec.specs.Names.{DomainName, at_or_below}
 use Rattle.dns_spec.specs.Tree.{exists}
 use Rattle.dns_zone.specs.Nodes.{ZoneNode}
 use Rattle.dns_name.specs.WireForm.{labels_of}
 use Rattle.dns_answer.specs.Walks.{IsReached, node_or}
-use Rattle.dns_answer.proofs.WayLaws.{above_under, exists-up}
+use Rattle.dns_answer.proofs.WayLaws.{exists-up}
 use Rattle.dns_answer.proofs.WaySteps.{there-at_origin, reached-child, unreached-child}
 use Rattle.dns_answer.proofs.lookup.+reach.Goals as goal
 

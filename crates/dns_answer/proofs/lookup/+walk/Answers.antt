@@ -1,13 +1,10 @@
-use Rattle.std.proofs.Common.{◌≡◌, ◌∷◌, ◌+◌, ◌-◌, suc, [], length, refl, sym, ap, ◌∙◌, subst, arith, true, false, Some}
+use Rattle.std.proofs.Common.{◌≡◌, ◌-◌, length, refl, sym, ap, ◌∙◌, subst, arith, true, Some}
 use Rattle.std.proofs.lemmas.Bool.{false≢true}
 use Rattle.std.specs.Option.{is_some}
-use Rattle.dns_spec.specs.Names.{DomainName, at_or_below}
-use Rattle.dns_spec.specs.Data.{type_ns}
-use Rattle.dns_spec.specs.Records.{rrset}
-use Rattle.dns_spec.specs.Sets.{set_of}
+use Rattle.dns_spec.specs.Names.{at_or_below}
 use Rattle.dns_zone.specs.Nodes.{ZoneNode}
 use Rattle.dns_name.specs.WireForm.{labels_of}
-use Rattle.dns_answer.specs.Walks.{IsThere, IsMissing, IsBelowCut, node_or}
+use Rattle.dns_answer.specs.Walks.{IsThere, IsBelowCut, node_or}
 use Rattle.dns_answer.proofs.WayLaws.{above_under}
 use Rattle.dns_answer.proofs.WaySteps.{there-at_origin, cut-further, missing-further, missing-child, cut-at_child, there-at_child}
 use Rattle.dns_answer.proofs.lookup.+walk.Goals as goal

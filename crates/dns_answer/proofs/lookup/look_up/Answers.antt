@@ -1,5 +1,4 @@
-use Rattle.std.proofs.Common.{◌≡◌, ◌+◌, length, refl, sym, ap, ◌∙◌, subst}
-use Rattle.dns_spec.specs.Names.{DomainName, at_or_below}
+use Rattle.std.proofs.Common.{ap, ◌∙◌, subst}
 use Rattle.dns_zone.specs.Nodes.{ZoneNode}
 use Rattle.dns_name.specs.WireForm.{labels_of}
 use Rattle.dns_name.proofs.WireLemmas.{IsWireForm-wire, labels_of_spelled}

@@ -1,4 +1,4 @@
-use Rattle.std.proofs.Common.{rules, ◌≡◌, ◌+◌, ◌∷◌, ◌++◌, [], true, not, ◌&&◌, length, refl, sym, ap, ap₂, ◌∙◌, subst, arith}
+use Rattle.std.proofs.Common.{rules, ◌≡◌, ◌+◌, ◌∷◌, ◌++◌, [], true, not, ◌&&◌, length, sym, ap, ap₂, ◌∙◌, subst, arith}
 use Rattle.std.specs.Prelude.{◌==◌}
 use Rattle.dns_spec.specs.Names.{at_or_below, is_name}
 use Rattle.dns_spec.specs.Records.{ZoneContents}
@@ -20,11 +20,14 @@ seek-verdict-requires g c =
           (
             ap length asked ∙ c.requires.depth ∙ ap (λ (z : ZoneContents). length z.origin + c.args.depth) (sym c.apex-apex.ensures.zone),
             (
-              record {
-                visits = omega (arith, c.apex-apex.ensures.visits, c.requires.visits);
-                comparisons = omega (arith, c.apex-apex.ensures.comparisons, c.apex-apex.ensures.visits, c.requires.visits, c.requires.comparisons);
-              },
-              omega (arith, first),
+              c.requires.few,
+              (
+                record {
+                  visits = omega (arith, c.apex-apex.ensures.visits, c.requires.visits);
+                  comparisons = omega (arith, c.apex-apex.ensures.comparisons, c.apex-apex.ensures.visits, c.requires.visits, c.requires.comparisons);
+                },
+                omega (arith, first),
+              ),
             ),
           ),
         ),

@@ -1,4 +1,4 @@
-use Rattle.std.proofs.Common.{◌≡◌, Some, subst, sym}
+use Rattle.std.proofs.Common.{Some, subst, sym}
 use Rattle.dns_wire.specs.Draft.{IsDraft}
 use Rattle.dns_wire.specs.QuickNumbers.{quick_number}
 use Rattle.dns_answer.specs.DraftForm.{State}

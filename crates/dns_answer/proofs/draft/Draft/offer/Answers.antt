@@ -1,4 +1,4 @@
-use Rattle.std.proofs.Common.{rules, ◌≡◌}
+use Rattle.std.proofs.Common.{rules}
 use Rattle.dns_answer.proofs.Offering.{Offers-full, put_in, left_out}
 use Rattle.dns_answer.proofs.draft.Draft.offer.Goals as goal
 
