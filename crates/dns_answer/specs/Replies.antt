@@ -1,4 +1,4 @@
--- What a reader learns here: how a question is judged, when a reply was put, and what a reply may take.
+-- What a reader learns here: how a question is judged, when a reply was put, and what it may take.
 use Rattle.std.specs.Prelude.{◌≡◌, ℕ, ◌+◌, ◌*◌, ◌≤◌, true, length, take, None, Some}
 use Rattle.std.specs.Option.{option_map}
 use Rattle.dns_spec.specs.Names.{Octets, at_or_below}
@@ -21,17 +21,24 @@ JudgedAs z q (Answered depth) =
     (refusal z q ≡ None) × (at_or_below q.qname z.origin ≡ true)
     × (length q.qname ≡ length z.origin + depth) × (depth ≤ 127)
 
--- The octets at the front of `out` are the reply that a decision makes, with the longest beginning of the sets that fits.
-pub record IsReply (z : ZoneContents) (limit : ℕ) (x : Decision) (len : ℕ) (out : Octets) : Type 0 where
-  pub octets : Some (take len out) ≡ option_map (octets_by layout) (reply_of (keep_longest z limit) z x)
+-- The octets at the front of `out` are the reply that a decision makes, with the longest beginning
+-- of the sets that fits.
+pub record IsReply (z : ZoneContents) (limit : ℕ) (x : Decision) (len : ℕ) (out : Octets)
+    : Type 0 where
+  pub octets : Some (take len out)
+      ≡ option_map (octets_by layout) (reply_of (keep_longest z limit) z x)
   pub within : len ≤ length out
 
--- All sets of an answer are offered, and this is the header of the reply that keeps what fits of them.
-pub record Answers (z : ZoneContents) (h : Header) (q : MessageQuestion) (w w' : State) (head : Header) : Type 0 where
+-- All sets of an answer are offered, and this is the header of the reply that keeps what fits of
+-- them.
+pub record Answers (z : ZoneContents) (h : Header) (q : MessageQuestion) (w w' : State)
+    (head : Header) : Type 0 where
   pub offers : Offers w w' (items z q.qname q.qtype)
-  pub header : (limit : ℕ) → Holds w (empty_draft q limit) → head ≡ (answer_with z h q (keep_longest z limit q)).header
+  pub header : (limit : ℕ) → Holds w (empty_draft q limit)
+      → head ≡ (answer_with z h q (keep_longest z limit q)).header
 
--- the most nodes that a decision visits, and the most names that it looks up: none, unless a question is answered
+-- the most nodes that a decision visits, and the most names that it looks up: none, unless a
+-- question is answered
 abbrev pub visits_for : ZoneContents → Decision → ℕ
 visits_for z silence = 0
 visits_for z (header_alone h) = 0

@@ -15,7 +15,7 @@ use crate::draft::Draft;
 use crate::names::depth_below;
 use arrayvec::ArrayVec;
 use dns_name::Name;
-use dns_wire::{CLASS_IN, Head, Page, Question, QueryRead, QuickHash, Rcode, read_query};
+use dns_wire::{CLASS_IN, Head, Page, QueryRead, Question, QuickHash, Rcode, read_query};
 use dns_zone::Steps;
 
 /// How many octets a reply may have.
@@ -41,12 +41,13 @@ impl Limit {
 
 /// Writes the reply to a datagram at the front of `out`, and answers its length in octets.
 ///
-/// `None`, with nothing promised of `out`, exactly where no reply is owed: the datagram is shorter than a header, or is a
-/// reply itself. Any octets are a datagram. Its reply is that of RFC 1034 4.3.2 and RFC 2308, with the longest beginning of
-/// the RRsets that fits, and is truncated where one of them is missing that may not be left out.
+/// `None`, with nothing promised of `out`, exactly where no reply is owed: the datagram is shorter
+/// than a header, or is a reply itself. Any octets are a datagram. Its reply is that of RFC 1034
+/// 4.3.2 and RFC 2308, with the longest beginning of the RRsets that fits, and is truncated where
+/// one of them is missing that may not be left out.
 ///
-/// Conditions: nothing was counted by the walk, and `out` is as long as the limit. No memory is taken. Where no question is
-/// answered, no name is looked up.
+/// Conditions: nothing was counted by the walk, and `out` is as long as the limit. No memory is
+/// taken. Where no question is answered, no name is looked up.
 pub fn respond(
     steps: &mut Steps<'_>,
     datagram: &[u8],
@@ -68,7 +69,8 @@ pub fn respond(
 
     // What was looked up.
     ensures zone { steps.new.zone ≡ steps.old.zone }
-    ensures visits { steps.new.visits ≤ visits_for steps.old.zone (decide steps.old.zone datagram.now) }
+    ensures visits { steps.new.visits
+        ≤ visits_for steps.old.zone (decide steps.old.zone datagram.now) }
     ensures visits_a_name { steps.new.visits
         ≤ 128 * names_for steps.old.zone (decide steps.old.zone datagram.now) }
     ensures comparisons { steps.new.comparisons
@@ -98,8 +100,10 @@ fn put_reply<'z>(
     requires comparisons { steps.old.comparisons ≡ 0 }
     requires out { length out.old ≡ limit_of limit }
     ensures reply { IsReply steps.old.zone (limit_of limit)
-        (decide_question head.now question.now (refusal steps.old.zone question.now)) result out.new }
-    ensures costs { Costs (decide_question head.now question.now (refusal steps.old.zone question.now))
+        (decide_question head.now question.now (refusal steps.old.zone question.now))
+        result out.new }
+    ensures costs { Costs
+        (decide_question head.now question.now (refusal steps.old.zone question.now))
         steps.old steps.new }
 {
     match judge(question, origin) {
@@ -154,7 +158,8 @@ fn put_refusal(head: Head, question: Option<&Question>, out: &mut [u8]) -> usize
     page.finish(head, out)
 }
 
-// Puts the answer to a question whose name is `depth` labels below the origin, of as many octets as there is room for.
+// Puts the answer to a question whose name is `depth` labels below the origin, of as many octets
+// as there is room for.
 fn put_answer<'z, const N: usize, const SIZE: usize>(
     steps: &mut Steps<'z>,
     head: &Head,

@@ -71,8 +71,7 @@ offer_asked-requires g c =
     let z = c.args.steps.now.zone in
     let same_zone = c.look_up.ensures.took.zone in
     let at_node = c.or_apex-node.result.now in
-    let here = found-at z c.args.name.now c.in-Records.node c.args.apex.now at_node c.in-Records.ensures.found c.requires.apex.node c.or_apex-node.ensures in
-    (
+    let here = found-at z c.args.name.now c.in-Records.node c.args.apex.now at_node c.in-Records.ensures.found c.requires.apex.node c.or_apex-node.ensures in (
       search rules,
       (
         subst (λ z. IsApex z c.args.apex.now) (sym same_zone) c.requires.apex,
