@@ -29,7 +29,7 @@ fn main(rt: HostRuntime) -> Result<(), Fault> {
     }
 }
 
-// The words behind the program's own name.
+// The words after the program's own name.
 fn given_words<R: Env + AllocGlobal>(rt: &R) -> Result<Vec<String>, Fault> {
     let mut words = Vec::new(rt.alloc());
     for word in env::args(rt)?.skip(1) {

@@ -1,4 +1,4 @@
--- The parts of a record one after another: the first that is wrong is the fault that is told.
+-- The parts of a record one after another: the first that is wrong is the fault that is reported.
 use Rattle.std.proofs.Common.{◌≡◌, ℕ, true, false, List, [], ◌∷◌, drop, refl, sym, ap, ◌∙◌, subst, inl, inr, Option, Some, None}
 use Rattle.std.proofs.lemmas.Bool.{false≢true}
 use Rattle.std.proofs.lemmas.Option.{none-some, same_Some}
@@ -98,8 +98,8 @@ module _ (o : DomainName) (earlier : List Entry) (owner : DomainName) (f : Field
           )
 
       module _ (d : Octets) (said : Says t (drop 1 f.others) origin d) where
-        told : Nothing (DataIs o earlier f.others) → ⊥
-        told none = none d (t, c, (origin, is, said))
+        reported : Nothing (DataIs o earlier f.others) → ⊥
+        reported none = none d (t, c, (origin, is, said))
 
         pub count-fault : are_too_many earlier ≡ true → RecordGives o earlier no_owner (λ n. n ≡ owner) f (faulty too_many_records)
         count-fault h =
@@ -113,7 +113,7 @@ module _ (o : DomainName) (earlier : List Entry) (owner : DomainName) (f : Field
                     typed,
                     inr (
                       some_ttl (ttl_in_force earlier f.ttl) known ttl k e,
-                      inr (told, inl (h, refl)),
+                      inr (reported, inl (h, refl)),
                     ),
                   ),
                 ),
@@ -134,7 +134,7 @@ module _ (o : DomainName) (earlier : List Entry) (owner : DomainName) (f : Field
                     inr (
                       some_ttl (ttl_in_force earlier f.ttl) known ttl k e,
                       inr (
-                        told,
+                        reported,
                         inr (
                           (λ x. false≢true (sym h ∙ x)),
                           (

@@ -34,8 +34,8 @@ const MOST_RECORDS: usize = 100_000;
 /// The records come in the order of the file, owners and names in data in lower case. At most 100,000 records and
 /// 16,777,216 octets are read, and never more than one octet past them is asked for.
 ///
-/// A faulty file gives no records: the first faulty entry is told by its line and code. In it the first of `R01` to `R04`
-/// and `R15` by place goes first, else the lowest code from `R05`. `R16` is told where the source failed, and `R17` only
+/// A faulty file gives no records: the first faulty entry is reported by its line and code. In it the first of `R01` to `R04`
+/// and `R15` by place goes first, else the lowest code from `R05`. `R16` is reported where the source failed, and `R17` only
 /// where no memory was found.
 pub fn read_zone<R: Read>(
     alloc: Global,

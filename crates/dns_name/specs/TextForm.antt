@@ -7,12 +7,12 @@ use Rattle.std.specs.Char.{is_ascii_digit}
 use Rattle.dns_spec.specs.Names.{Octets, DomainName, wire, is_label, is_name}
 use Rattle.dns_spec.specs.NameText.{LabelThen, TextSpells}
 
--- what a function returned, the rest of the text behind a reference, is what reading gives
+-- what a function returned, the rest of the text, lent, is what reading gives
 abbrev pub Gives : Option (ℕ × Bor Octets) → Option (ℕ × Octets) → Type 0
 Gives None read = read ≡ None
 Gives (Some x) read = read ≡ Some (x.0, x.1.now)
 
--- a digit's value, and the text behind it
+-- a digit's value, and the text after it
 abbrev pub digit_at : Octets → Option (ℕ × Octets)
 digit_at [] = None
 digit_at (a ∷ rest) = if is_ascii_digit a then Some (a - 48, rest) else None
@@ -26,7 +26,7 @@ decimal_at text =
     option_and_then (λ a. option_and_then (λ b. option_and_then (λ c. octet_of (100 * a.0 + 10 * b.0 + c.0) c.1)
     (digit_at b.1)) (digit_at a.1)) (digit_at text)
 
--- the octet that what stands behind a backslash spells
+-- the octet that what stands after a backslash spells
 unfoldable pub escaped_at : Octets → Option (ℕ × Octets)
 escaped_at [] = None
 escaped_at (a ∷ rest) =

@@ -82,7 +82,7 @@ impl Name {
         true
     }
 
-    /// The wire form: each label behind its length, and the length 0 of the root (RFC 1035 3.1).
+    /// The wire form: each label after its length, and the length 0 of the root (RFC 1035 3.1).
     pub fn octets(&self) -> &[u8]
         ensures value { result.now ≡ wire self.now }
         ensures bound { length result.now ≤ 255 }
@@ -336,7 +336,7 @@ fn order_of_siblings(one: &Name, other: &Name) -> Option<Ordering>
 }
 
 // The order of as many labels on both sides, compared from the right, and `longer` where they are equal. Names of a zone
-// mostly differ in their first labels alone, and what is equal behind a label need not be walked.
+// mostly differ in their first labels alone, and what is equal after a label need not be walked.
 fn order_of_labels(left: Labels<'_>, right: Labels<'_>, longer: Ordering) -> Ordering
     requires { length left ≡ length right }
     ensures { result ≡ ordering_then (slice_cmp label_order (reverse left.entry) (reverse right.entry)) longer }

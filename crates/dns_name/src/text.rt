@@ -10,7 +10,7 @@ use crate::label::Label;
 use crate::name::Name;
 use arrayvec::ArrayVec;
 
-// A label has at most 63 octets. One more is kept, which tells that it is too long.
+// A label has at most 63 octets. One more is kept, which shows that it is too long.
 const KEPT_OCTETS: usize = 64;
 
 /// Why a word spells no name.
@@ -42,8 +42,8 @@ impl Name {
     /// origin: `www` at `example.` is `www.example.` The case of letters is kept. An octet is spelled as itself, as
     /// `\X` or as `\DDD`.
     ///
-    /// Labels are judged from the left. In a label a bad escape is told first, then no octet or too many of them.
-    /// That the whole name is too long is told only where no label is faulty.
+    /// Labels are judged from the left. In a label a bad escape is reported first, then no octet or too many of them.
+    /// That the whole name is too long is reported only where no label is faulty.
     pub fn read_text(word: &[u8], origin: &Name) -> Result<Name, NameFault>
         ensures { (n : DomainName) → (result ≡ Ok n) ↔ SpellsName origin.now word.now n }
     {
@@ -165,7 +165,7 @@ fn label_text(text: &[u8]) -> Option<(ArrayVec<u8, KEPT_OCTETS>, &[u8])>
     Some((octets, rest))
 }
 
-/// The octet that a text begins with, and the text behind its spelling: the octet itself, `\X` or `\DDD` (RFC 1035 5.1).
+/// The octet that a text begins with, and the text after its spelling: the octet itself, `\X` or `\DDD` (RFC 1035 5.1).
 ///
 /// `None` at the end of the text, and where a backslash begins no escape. A dot is an octet as others are.
 #[tactic(auto, unfolding(crate::specs::TextForm::octet_at))]

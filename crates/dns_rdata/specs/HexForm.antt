@@ -9,7 +9,7 @@ use Rattle.dns_spec.specs.DataText.{hex_octets}
 abbrev pub digit_of : ℕ → Option ℕ
 digit_of c = if is_ascii_hexdigit c then Some (digit_value c) else None
 
--- the octet of the first two digits, and the text behind them
+-- the octet of the first two digits, and the text after them
 unfoldable pub hex_front : Octets → Option (ℕ × Octets)
 hex_front [] = None
 hex_front (h ∷ []) = None

@@ -26,7 +26,7 @@ abbrev pub IsLent : Part → Type 0
 IsLent (Run o) = ⊤
 IsLent (Name o) = IsWireForm o.now
 
--- what a function returned, a part and the octets behind it, is what the octets are cut into
+-- what a function returned, a part and the octets after it, is what the octets are cut into
 abbrev pub Cuts : Option (Part × Bor Octets) → Option (Data.Part × Octets) → Type 0
 Cuts None read = read ≡ None
 Cuts (Some x) read = (read ≡ Some (part_for x.0, x.1.now)) × IsLent x.0

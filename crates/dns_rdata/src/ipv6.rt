@@ -34,7 +34,7 @@ pub(crate) fn read_ipv6(word: &[u8]) -> Option<[u8; 16]>
     octets_of_groups(groups.as_slice())
 }
 
-// What stands before the first `::`, and behind it.
+// What stands before the first `::`, and after it.
 fn split_at_gap(text: &[u8]) -> Option<(&[u8], &[u8])>
     ensures { GivesPair result (around_gap text.now) }
 {
@@ -99,7 +99,7 @@ fn group_value(text: &[u8]) -> Option<u16>
     Some(value)
 }
 
-// Adds zero groups, one at least, and the groups behind them, where there is room.
+// Adds zero groups, one at least, and the groups after them, where there is room.
 fn fill(groups: &mut ArrayVec<u16, GROUPS>, back: &[u16]) -> bool
     ensures { MatchOption (filled_groups groups.old.items back.now) (IsFalse result) (λ filled. IsTrue result × (groups.new.items ≡ filled)) }
 {

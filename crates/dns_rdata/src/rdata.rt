@@ -53,7 +53,7 @@ impl Rdata {
         Ok(data_of(rtype, octets))
     }
 
-    /// The data that octets are, in the memory that they have: `NotOfType` where `from_wire` tells it.
+    /// The data that octets are, in the memory that they have: `NotOfType` where `from_wire` says it.
     pub(crate) fn from_octets(rtype: RType, octets: Vec<u8>) -> Result<Rdata, RdataFault>
         ensures valid { IfOk result (λ d. Valid rtype.0 d) }
         ensures value { MatchResult result (λ d. Valid rtype.0 octets.items × (d ≡ lower_case rtype.0 octets.items))

@@ -20,7 +20,7 @@ impl Rdata {
     /// where they are not, and for a type without a mnemonic where they are anything else; `NotOfType` where the octets
     /// are no data of the type. Else the words are those of the type: `WordCount` where there are others than so many,
     /// then the fault of the first word from the left that is none: `BadNumber`, `BadAddress`, `BadName` or `BadString`,
-    /// which is also told of data past 65,535 octets. `NoMemory` only where no memory was found.
+    /// which is also reported of data past 65,535 octets. `NoMemory` only where no memory was found.
     pub fn read_words(
         alloc: Global,
         rtype: RType,

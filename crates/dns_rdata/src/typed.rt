@@ -132,7 +132,7 @@ fn append_word(
     append_form(form, word.raw, origin, octets)
 }
 
-// What a word of this form is told by that is none.
+// The fault of a word that is none of this form.
 fn fault_of(form: WordForm) -> RdataFault {
     match form {
         WordForm::Number(_) => RdataFault::BadNumber,
@@ -211,7 +211,7 @@ fn append_name(text: &[u8], origin: &Name, octets: &mut Vec<u8>) -> Result<(), R
     append(octets, name.octets())
 }
 
-// A string behind its length (RFC 1035 3.3).
+// A string after its length (RFC 1035 3.3).
 fn append_string(text: &[u8], octets: &mut Vec<u8>) -> Result<(), RdataFault>
     ensures ok { OnOk result (AppendsOnly (SaysString text.now) octets.old.items octets.new.items) }
     ensures fault { IfErr result (λ fault. fault ≢ RdataFault.NoMemory → (d : Octets) → SaysString text.now d → ⊥) }

@@ -20,7 +20,7 @@ pub(crate) fn is_unknown_mark(word: &Word<'_>) -> bool
     !word.quoted && word.raw == b"\\#".as_slice()
 }
 
-/// The octets that the words behind `\#` say: their number, and then words of whole octets.
+/// The octets that the words after `\#` say: their number, and then words of whole octets.
 ///
 /// The error is `NoMemory` only where no memory was found, and else `BadHex`.
 pub(crate) fn unknown_octets(alloc: Global, words: &[Word<'_>]) -> Result<Vec<u8>, RdataFault>

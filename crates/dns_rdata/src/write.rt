@@ -76,8 +76,8 @@ fn write_pieces<W: Write>(
     Ok(())
 }
 
-// Writes the words of the piece that octets begin with, the first of them behind `before`, and answers the octets
-// behind the piece.
+// Writes the words of the piece that octets begin with, the first of them after `before`, and answers the octets
+// after the piece.
 fn write_piece<'a, W: Write>(
     piece: Piece,
     before: &[u8],
@@ -272,7 +272,7 @@ fn write_unknown<W: Write>(octets: &[u8], sink: &mut Tally<W>) -> Result<(), Sin
     write_hex_word(octets, sink)
 }
 
-// The word of all octets behind a space, if there are any.
+// The word of all octets after a space, if there are any.
 fn write_hex_word<W: Write>(octets: &[u8], sink: &mut Tally<W>) -> Result<(), SinkFailed>
     requires { sink.old.failures < 2 ^ 64 - 1 }
     ensures { Writes W.contents sink.old sink.new result (spaced (32 ∷ []) (hex_words octets.now)) }

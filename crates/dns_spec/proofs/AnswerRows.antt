@@ -54,15 +54,15 @@ row_of s [] = record { section = s; owner = []; rtype = 0; records = 0 }
 row_of s (r ∷ rs) = record { section = s; owner = r.owner; rtype = r.rtype; records = length (r ∷ rs) }
 
 -- the RCODE, whether the server speaks for the zone, how many sets may not be left out, and the sets
-record Told : Type 0 where
+record Summary : Type 0 where
   rcode : ℕ
   authoritative : Bool
   needed : ℕ
   sets : List Row
 
-unfoldable told : Octets → ℕ → Told
+unfoldable summary : Octets → ℕ → Summary
 unfolding labels_from cut chain_from chain outcome_at outcome extra items required_items
-told cs t = record {
+summary cs t = record {
   rcode = (outcome zone (dotted cs) t).rcode;
   authoritative = is_authoritative (outcome zone (dotted cs) t);
   needed = length (required_items zone (dotted cs) t);
@@ -70,106 +70,106 @@ told cs t = record {
 }
 
 -- an alias of a name below a cut ends in a referral, which the server still speaks for
-alias_below_cut : told (codes "far.example") 1 ≡ record { rcode = 0; authoritative = true; needed = 3; sets = set answer (codes "far.example") 5 1 ∷ set authority (codes "sub.example") 2 1 ∷ set additional (codes "ns.sub.example") 1 1 ∷ [] }
-unfolding told labels_from cut chain_from chain outcome_at outcome extra items required_items
+alias_below_cut : summary (codes "far.example") 1 ≡ record { rcode = 0; authoritative = true; needed = 3; sets = set answer (codes "far.example") 5 1 ∷ set authority (codes "sub.example") 2 1 ∷ set additional (codes "ns.sub.example") 1 1 ∷ [] }
+unfolding summary labels_from cut chain_from chain outcome_at outcome extra items required_items
 alias_below_cut = refl
 
 -- an alias of a name that does not exist is a name error
-alias_of_nothing : told (codes "gone.example") 1 ≡ record { rcode = 3; authoritative = true; needed = 2; sets = set answer (codes "gone.example") 5 1 ∷ set authority (codes "example") 6 1 ∷ [] }
-unfolding told labels_from cut chain_from chain outcome_at outcome extra items required_items
+alias_of_nothing : summary (codes "gone.example") 1 ≡ record { rcode = 3; authoritative = true; needed = 2; sets = set answer (codes "gone.example") 5 1 ∷ set authority (codes "example") 6 1 ∷ [] }
+unfolding summary labels_from cut chain_from chain outcome_at outcome extra items required_items
 alias_of_nothing = refl
 
 -- an alias of a name of another zone ends there
-alias_to_outside : told (codes "out.example") 1 ≡ record { rcode = 0; authoritative = true; needed = 1; sets = set answer (codes "out.example") 5 1 ∷ [] }
-unfolding told labels_from cut chain_from chain outcome_at outcome extra items required_items
+alias_to_outside : summary (codes "out.example") 1 ≡ record { rcode = 0; authoritative = true; needed = 1; sets = set answer (codes "out.example") 5 1 ∷ [] }
+unfolding summary labels_from cut chain_from chain outcome_at outcome extra items required_items
 alias_to_outside = refl
 
 -- a wildcard that only has names below it answers that there is nothing
-wildcard_without_records : told (codes "q.v.example") 1 ≡ record { rcode = 0; authoritative = true; needed = 1; sets = set authority (codes "example") 6 1 ∷ [] }
-unfolding told labels_from cut chain_from chain outcome_at outcome extra items required_items
+wildcard_without_records : summary (codes "q.v.example") 1 ≡ record { rcode = 0; authoritative = true; needed = 1; sets = set authority (codes "example") 6 1 ∷ [] }
+unfolding summary labels_from cut chain_from chain outcome_at outcome extra items required_items
 wildcard_without_records = refl
 
 -- a wildcard does not answer below a name that exists
-closer_encloser : told (codes "z.c.e.example") 1 ≡ record { rcode = 3; authoritative = true; needed = 1; sets = set authority (codes "example") 6 1 ∷ [] }
-unfolding told labels_from cut chain_from chain outcome_at outcome extra items required_items
+closer_encloser : summary (codes "z.c.e.example") 1 ≡ record { rcode = 3; authoritative = true; needed = 1; sets = set authority (codes "example") 6 1 ∷ [] }
+unfolding summary labels_from cut chain_from chain outcome_at outcome extra items required_items
 closer_encloser = refl
 
 -- and does elsewhere
-wildcard_address : told (codes "z.e.example") 1 ≡ record { rcode = 0; authoritative = true; needed = 1; sets = set answer (codes "z.e.example") 1 1 ∷ [] }
-unfolding told labels_from cut chain_from chain outcome_at outcome extra items required_items
+wildcard_address : summary (codes "z.e.example") 1 ≡ record { rcode = 0; authoritative = true; needed = 1; sets = set answer (codes "z.e.example") 1 1 ∷ [] }
+unfolding summary labels_from cut chain_from chain outcome_at outcome extra items required_items
 wildcard_address = refl
 
 -- also for a name of several labels
-wildcard_deeper : told (codes "y.z.e.example") 1 ≡ record { rcode = 0; authoritative = true; needed = 1; sets = set answer (codes "y.z.e.example") 1 1 ∷ [] }
-unfolding told labels_from cut chain_from chain outcome_at outcome extra items required_items
+wildcard_deeper : summary (codes "y.z.e.example") 1 ≡ record { rcode = 0; authoritative = true; needed = 1; sets = set answer (codes "y.z.e.example") 1 1 ∷ [] }
+unfolding summary labels_from cut chain_from chain outcome_at outcome extra items required_items
 wildcard_deeper = refl
 
 -- an alias by a wildcard
-wildcard_alias : told (codes "q.k.example") 1 ≡ record { rcode = 0; authoritative = true; needed = 2; sets = set answer (codes "q.k.example") 5 1 ∷ set answer (codes "www.example") 1 1 ∷ [] }
-unfolding told labels_from cut chain_from chain outcome_at outcome extra items required_items
+wildcard_alias : summary (codes "q.k.example") 1 ≡ record { rcode = 0; authoritative = true; needed = 2; sets = set answer (codes "q.k.example") 5 1 ∷ set answer (codes "www.example") 1 1 ∷ [] }
+unfolding summary labels_from cut chain_from chain outcome_at outcome extra items required_items
 wildcard_alias = refl
 
 -- a wildcard asked for by its own name
-wildcard_itself : told (codes "*.k.example") 1 ≡ record { rcode = 0; authoritative = true; needed = 2; sets = set answer (codes "*.k.example") 5 1 ∷ set answer (codes "www.example") 1 1 ∷ [] }
-unfolding told labels_from cut chain_from chain outcome_at outcome extra items required_items
+wildcard_itself : summary (codes "*.k.example") 1 ≡ record { rcode = 0; authoritative = true; needed = 2; sets = set answer (codes "*.k.example") 5 1 ∷ set answer (codes "www.example") 1 1 ∷ [] }
+unfolding summary labels_from cut chain_from chain outcome_at outcome extra items required_items
 wildcard_itself = refl
 
 -- an alias that is asked for is not followed
-alias_asked : told (codes "alias.example") 5 ≡ record { rcode = 0; authoritative = true; needed = 1; sets = set answer (codes "alias.example") 5 1 ∷ [] }
-unfolding told labels_from cut chain_from chain outcome_at outcome extra items required_items
+alias_asked : summary (codes "alias.example") 5 ≡ record { rcode = 0; authoritative = true; needed = 1; sets = set answer (codes "alias.example") 5 1 ∷ [] }
+unfolding summary labels_from cut chain_from chain outcome_at outcome extra items required_items
 alias_asked = refl
 
 -- nor where all is asked for
-alias_any : told (codes "alias.example") 255 ≡ record { rcode = 0; authoritative = true; needed = 1; sets = set answer (codes "alias.example") 5 1 ∷ [] }
-unfolding told labels_from cut chain_from chain outcome_at outcome extra items required_items
+alias_any : summary (codes "alias.example") 255 ≡ record { rcode = 0; authoritative = true; needed = 1; sets = set answer (codes "alias.example") 5 1 ∷ [] }
+unfolding summary labels_from cut chain_from chain outcome_at outcome extra items required_items
 alias_any = refl
 
 -- glue is no answer
-glue_asked : told (codes "ns.sub.example") 1 ≡ record { rcode = 0; authoritative = false; needed = 2; sets = set authority (codes "sub.example") 2 1 ∷ set additional (codes "ns.sub.example") 1 1 ∷ [] }
-unfolding told labels_from cut chain_from chain outcome_at outcome extra items required_items
+glue_asked : summary (codes "ns.sub.example") 1 ≡ record { rcode = 0; authoritative = false; needed = 2; sets = set authority (codes "sub.example") 2 1 ∷ set additional (codes "ns.sub.example") 1 1 ∷ [] }
+unfolding summary labels_from cut chain_from chain outcome_at outcome extra items required_items
 glue_asked = refl
 
 -- nor are the servers at a cut
-cut_asked : told (codes "sub.example") 2 ≡ record { rcode = 0; authoritative = false; needed = 2; sets = set authority (codes "sub.example") 2 1 ∷ set additional (codes "ns.sub.example") 1 1 ∷ [] }
-unfolding told labels_from cut chain_from chain outcome_at outcome extra items required_items
+cut_asked : summary (codes "sub.example") 2 ≡ record { rcode = 0; authoritative = false; needed = 2; sets = set authority (codes "sub.example") 2 1 ∷ set additional (codes "ns.sub.example") 1 1 ∷ [] }
+unfolding summary labels_from cut chain_from chain outcome_at outcome extra items required_items
 cut_asked = refl
 
 -- also where all is asked for
-cut_any : told (codes "sub.example") 255 ≡ record { rcode = 0; authoritative = false; needed = 2; sets = set authority (codes "sub.example") 2 1 ∷ set additional (codes "ns.sub.example") 1 1 ∷ [] }
-unfolding told labels_from cut chain_from chain outcome_at outcome extra items required_items
+cut_any : summary (codes "sub.example") 255 ≡ record { rcode = 0; authoritative = false; needed = 2; sets = set authority (codes "sub.example") 2 1 ∷ set additional (codes "ns.sub.example") 1 1 ∷ [] }
+unfolding summary labels_from cut chain_from chain outcome_at outcome extra items required_items
 cut_any = refl
 
 -- where all is asked for, one set is the answer, that of the lowest type number: addresses have no targets
-lowest_any : told (codes "self.example") 255 ≡ record { rcode = 0; authoritative = true; needed = 1; sets = set answer (codes "self.example") 1 1 ∷ [] }
-unfolding told labels_from cut chain_from chain outcome_at outcome extra items required_items
+lowest_any : summary (codes "self.example") 255 ≡ record { rcode = 0; authoritative = true; needed = 1; sets = set answer (codes "self.example") 1 1 ∷ [] }
+unfolding summary labels_from cut chain_from chain outcome_at outcome extra items required_items
 lowest_any = refl
 
 -- an address set of two targets is not repeated
-stands_already : told (codes "twice.example") 15 ≡ record { rcode = 0; authoritative = true; needed = 1; sets = set answer (codes "twice.example") 15 2 ∷ set additional (codes "www.example") 1 1 ∷ [] }
-unfolding told labels_from cut chain_from chain outcome_at outcome extra items required_items
+stands_already : summary (codes "twice.example") 15 ≡ record { rcode = 0; authoritative = true; needed = 1; sets = set answer (codes "twice.example") 15 2 ∷ set additional (codes "www.example") 1 1 ∷ [] }
+unfolding summary labels_from cut chain_from chain outcome_at outcome extra items required_items
 stands_already = refl
 
 -- a name without the type asked for
-other_type : told (codes "www.example") 16 ≡ record { rcode = 0; authoritative = true; needed = 1; sets = set authority (codes "example") 6 1 ∷ [] }
-unfolding told labels_from cut chain_from chain outcome_at outcome extra items required_items
+other_type : summary (codes "www.example") 16 ≡ record { rcode = 0; authoritative = true; needed = 1; sets = set authority (codes "example") 6 1 ∷ [] }
+unfolding summary labels_from cut chain_from chain outcome_at outcome extra items required_items
 other_type = refl
 
 -- the NS set of the origin stands before its SOA
-origin_any : told (codes "example") 255 ≡ record { rcode = 0; authoritative = true; needed = 1; sets = set answer (codes "example") 2 1 ∷ set additional (codes "ns.example") 1 1 ∷ [] }
-unfolding told labels_from cut chain_from chain outcome_at outcome extra items required_items
+origin_any : summary (codes "example") 255 ≡ record { rcode = 0; authoritative = true; needed = 1; sets = set answer (codes "example") 2 1 ∷ set additional (codes "ns.example") 1 1 ∷ [] }
+unfolding summary labels_from cut chain_from chain outcome_at outcome extra items required_items
 origin_any = refl
 
 -- nothing is found where only names below own records
-above_any : told (codes "w.example") 255 ≡ record { rcode = 0; authoritative = true; needed = 1; sets = set authority (codes "example") 6 1 ∷ [] }
-unfolding told labels_from cut chain_from chain outcome_at outcome extra items required_items
+above_any : summary (codes "w.example") 255 ≡ record { rcode = 0; authoritative = true; needed = 1; sets = set authority (codes "example") 6 1 ∷ [] }
+unfolding summary labels_from cut chain_from chain outcome_at outcome extra items required_items
 above_any = refl
 
 -- additional addresses in the order of their targets
-targets_in_order : told (codes "mm.example") 15 ≡ record { rcode = 0; authoritative = true; needed = 1; sets = set answer (codes "mm.example") 15 2 ∷ set additional (codes "www.example") 1 1 ∷ set additional (codes "ns.example") 1 1 ∷ [] }
-unfolding told labels_from cut chain_from chain outcome_at outcome extra items required_items
+targets_in_order : summary (codes "mm.example") 15 ≡ record { rcode = 0; authoritative = true; needed = 1; sets = set answer (codes "mm.example") 15 2 ∷ set additional (codes "www.example") 1 1 ∷ set additional (codes "ns.example") 1 1 ∷ [] }
+unfolding summary labels_from cut chain_from chain outcome_at outcome extra items required_items
 targets_in_order = refl
 
 -- the glue of a referral comes first, and alone may not be left out
-glue_first : told (codes "x.two.example") 1 ≡ record { rcode = 0; authoritative = false; needed = 2; sets = set authority (codes "two.example") 2 2 ∷ set additional (codes "z.two.example") 1 1 ∷ set additional (codes "ns.example") 1 1 ∷ [] }
-unfolding told labels_from cut chain_from chain outcome_at outcome extra items required_items
+glue_first : summary (codes "x.two.example") 1 ≡ record { rcode = 0; authoritative = false; needed = 2; sets = set authority (codes "two.example") 2 2 ∷ set additional (codes "z.two.example") 1 1 ∷ set additional (codes "ns.example") 1 1 ∷ [] }
+unfolding summary labels_from cut chain_from chain outcome_at outcome extra items required_items
 glue_first = refl

@@ -55,7 +55,7 @@ alias cs to = in_zone cs type_cname (wire (under to))
 abbrev pub server : DomainName → Octets → ResourceRecord
 server n to = entry n type_ns (wire (under to))
 
--- one or more strings, each behind its length
+-- one or more strings, each after its length
 abbrev pub strings_data : List Octets → Octets
 strings_data = flat_map (λ s. length s ∷ s)
 

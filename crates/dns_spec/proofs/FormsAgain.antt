@@ -140,12 +140,12 @@ numbers_said (suc m) k fs origin d short inside small others =
     (subst (WordsSaid fs origin) rest others))
 
 -- what stands after the first string
-record StringsBehind (k : ℕ) (d : Octets) : Type 0 where
+record StringsAfter (k : ℕ) (d : Octets) : Type 0 where
   inside : k ≤ length d
   others : are_strings 0 (drop k d) ≡ true
   count : string_count k d ≡ string_count 0 (drop k d)
 
-strings_after : (k : ℕ) (d : Octets) → are_strings k d ≡ true → StringsBehind k d
+strings_after : (k : ℕ) (d : Octets) → are_strings k d ≡ true → StringsAfter k d
 strings_after zero d e = record { inside = omega arith; others = e; count = refl }
 strings_after (suc k) [] e = absurd (false≢true e)
 strings_after (suc k) (o ∷ d) e =

@@ -208,10 +208,10 @@ blanks_then (o ∷ text) rest some h none =
     before_rest [] h = none
     before_rest (x ∷ xs) h = let parts = and_parts (is_blank x) _ h in rw parts.0 (omega (arith, before_rest xs parts.1))
 
--- The octets at the limit stand after blanks. Where no token begins with them, they tell the fault.
+-- The octets at the limit stand after blanks. Where no token begins with them, they decide the fault.
 cut_at_limit : (text ends more : Octets) (code : FileFault) → length text + length ends ≡ most_octets → 0 < length text → 0 < length more → list_all is_blank text ≡ true
     → prefix_len is_blank ends ≡ 0 → token_front ends ≡ None → stop_fault beginning false (stop_at ends) ≡ Some code → Means example (text ++ (ends ++ more)) (fault_at code 1)
-cut_at_limit text ends more code full some goes_on blanks none at_end tells = (
+cut_at_limit text ends more code full some goes_on blanks none at_end reports = (
   with_end beginning ends (cut_entries false (blank ∷ [])),
   record {
     tokens = blank ∷ [];
@@ -220,7 +220,7 @@ cut_at_limit text ends more code full some goes_on blanks none at_end tells = (
     at_end = at_end;
     entries = ap (λ b. with_end (extent_by b) ends (cut_entries false (blank ∷ []))) (sym (lt-ltb most_octets _ long));
   },
-  (faulty code, told (stop_fault beginning false (stop_at ends)) tells, refl),
+  (faulty code, reported (stop_fault beginning false (stop_at ends)) reports, refl),
 )
   where
     whole : text ++ (ends ++ more) ≡ (text ++ ends) ++ more
@@ -234,9 +234,9 @@ cut_at_limit text ends more code full some goes_on blanks none at_end tells = (
     long : most_octets < length (text ++ (ends ++ more))
     long = omega (arith, ap length whole, length-append (text ++ ends) more, length-append text ends, full, goes_on)
 
-    told : (o : Option FileFault) → o ≡ Some code → MatchOption o (SortGives example [] no_words (faulty code)) (λ c. faulty code ≡ faulty c)
-    told None e = cc
-    told (Some c) e = cc
+    reported : (o : Option FileFault) → o ≡ Some code → MatchOption o (SortGives example [] no_words (faulty code)) (λ c. faulty code ≡ faulty c)
+    reported None e = cc
+    reported (Some c) e = cc
 
 -- an escape that the next octets might end, and one that they can't
 digit_at_limit : (text more : Octets) → length text + 2 ≡ most_octets → 0 < length more → list_all is_blank text ≡ true → Means example (text ++ 92 ∷ 51 ∷ more) (fault_at too_long 1)

@@ -13,7 +13,7 @@ use Rattle.dns_spec.proofs.NameLaws.{is_name-folded, length-wire-folded}
 use Rattle.dns_spec.proofs.WrittenData.{cut_into, name_part, octets_part, front_taken, all_strings}
 use Rattle.dns_spec.proofs.MadeData.{cut-domain, cut-step}
 
--- a part, and the octets behind it, are the whole
+-- a part, and the octets after it, are the whole
 pub piece_whole : (p : Piece) (os : Octets) (part : Part) (rest : Octets) → piece_front p os ≡ Some (part, rest) → os ≡ part_octets part ++ rest
 piece_whole (fixed f) os part rest h = (front_taken (width f) os part rest h).0 ∙ ap (λ x. part_octets x ++ rest) (octets_part (width f) os rest part h)
 piece_whole domain os part rest h = let m = name_part os rest part h in m.3 ∙ ap (λ x. part_octets x ++ rest) m.1
@@ -59,10 +59,10 @@ octets_front-append : (k : ℕ) (x rest : Octets) → length x ≡ k → octets_
 octets_front-append k x rest e =
     rw (le-leb k (length (x ++ rest)) (omega (arith, length-append x rest)), take_at x rest k e, drop_at x rest k e) refl
 
-none_behind : (rest other : Octets) → rest ≡ [] → length other ≡ length rest → other ≡ []
-none_behind rest other e f = nil_from_length other (f ∙ ap length e)
+none_after : (rest other : Octets) → rest ≡ [] → length other ≡ length rest → other ≡ []
+none_after rest other e f = nil_from_length other (f ∙ ap length e)
 
--- a piece in lower case is that piece, also where what is behind it is spelled otherwise
+-- a piece in lower case is that piece, also where what is after it is spelled otherwise
 piece_lowered : (p : Piece) (os : Octets) (part : Part) (rest other : Octets) → piece_front p os ≡ Some (part, rest) → length other ≡ length rest
     → piece_front p (part_octets (part_folded part) ++ other) ≡ Some (part_folded part, other)
 piece_lowered (fixed f) os part rest other h same =
@@ -78,13 +78,13 @@ piece_lowered string (k ∷ os) part rest other h same =
     (octets_front-append (suc k) (take (suc k) (k ∷ os)) other (front_taken (suc k) (k ∷ os) part rest h).1)
 piece_lowered strings os part rest other h same =
     let t = all_strings os rest part h in
-    let none : other ≡ [] = none_behind rest other t.3 same in
+    let none : other ≡ [] = none_after rest other t.3 same in
     let front : strings_front os ≡ Some (octets os, []) = h ∙ ap (λ x. Some (x, rest)) (sym t.2) ∙ ap (λ x. Some (octets os, x)) t.3 in
     subst (λ x. piece_front strings (part_octets (part_folded x) ++ other) ≡ Some (part_folded x, other)) t.2
     (subst (λ x. strings_front (os ++ x) ≡ Some (octets os, x)) (sym none) (ap strings_front (append-nil os) ∙ front))
 piece_lowered anything os part rest other h same =
     let e = same_Some (octets os, []) (part, rest) h in
-    let none : other ≡ [] = none_behind rest other (sym (ap (λ x. x.1) e)) same in
+    let none : other ≡ [] = none_after rest other (sym (ap (λ x. x.1) e)) same in
     subst (λ x. piece_front anything (part_octets (part_folded x) ++ other) ≡ Some (part_folded x, other)) (ap (λ x. x.0) e)
     (subst (λ x. piece_front anything (os ++ x) ≡ Some (octets os, x)) (sym none) (ap (λ x. Some (octets x, [])) (append-nil os)))
 

@@ -34,9 +34,9 @@ cut-ns n ok =
 pub cut-step : (p : Piece) (ps : List Piece) (os : Octets) (part : Part) (rest : Octets) (xs : List Part) → piece_front p os ≡ Some (part, rest) → cut ps rest ≡ Some xs
     → cut (p ∷ ps) os ≡ Some (part ∷ xs)
 unfolding cut
-cut-step p ps os part rest xs front behind =
+cut-step p ps os part rest xs front after =
     ap (λ (x : Option (Part × Octets)). elim x [ None ↦ None | Some r ↦ option_map (λ ys. r.0 ∷ ys) (cut ps r.1) ]) front
-    ∙ ap (option_map (λ ys. part ∷ ys)) behind
+    ∙ ap (option_map (λ ys. part ∷ ys)) after
 
 all_of : (f : Fixed) (ds : Octets) → length ds ≡ width f → piece_front (fixed f) ds ≡ Some (octets ds, [])
 all_of f ds e =

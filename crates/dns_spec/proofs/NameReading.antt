@@ -39,14 +39,14 @@ pub octet_at : (b : Octets) (i : ℕ) → OctetAt b i
 octet_at b i = first_octet b i (slice_get b i) refl
 
 -- One step of the computed reader, test by test.
-module _ (told : ℕ → Option (DomainName × ℕ)) (b : Octets) (s r i : ℕ) where
+module _ (known : ℕ → Option (DomainName × ℕ)) (b : Octets) (s r i : ℕ) where
   abbrev at_step : RunStep → Option (DomainName × ℕ)
   at_step run_end = Some ([], i + 1)
-  at_step (run_label k) = option_map (with_label (take k (drop (i + 1) b))) (run told b s r (i + 1 + k))
-  at_step (run_pointer p) = jump told s i p
+  at_step (run_label k) = option_map (with_label (take k (drop (i + 1) b))) (run known b s r (i + 1 + k))
+  at_step (run_pointer p) = jump known s i p
   at_step unlawful = None
 
-  run_suc : run told b s (suc r) i ≡ at_step (step_of b i (slice_get b i))
+  run_suc : run known b s (suc r) i ≡ at_step (step_of b i (slice_get b i))
   unfolding run
   run_suc = refl
 
@@ -56,68 +56,68 @@ module _ (told : ℕ → Option (DomainName × ℕ)) (b : Octets) (s r i : ℕ) 
   abbrev low_step : ℕ → Bool → RunStep
   low_step o t = cond t (cond (nat_le (i + 1 + o) (length b)) (run_label o) unlawful) (high_step o (nat_lt o 192))
 
-  step_is : (x : Option ℕ) → slice_get b i ≡ x → run told b s (suc r) i ≡ at_step (step_of b i x)
+  step_is : (x : Option ℕ) → slice_get b i ≡ x → run known b s (suc r) i ≡ at_step (step_of b i x)
   step_is x e = run_suc ∙ ap (λ z. at_step (step_of b i z)) e
 
-  step_missing : slice_get b i ≡ None → run told b s (suc r) i ≡ None
+  step_missing : slice_get b i ≡ None → run known b s (suc r) i ≡ None
   step_missing e = step_is None e
 
-  step_root : slice_get b i ≡ Some 0 → run told b s (suc r) i ≡ Some ([], i + 1)
+  step_root : slice_get b i ≡ Some 0 → run known b s (suc r) i ≡ Some ([], i + 1)
   step_root e = step_is (Some 0) e
 
-  at_some : (o : ℕ) → slice_get b i ≡ Some o → 0 < o → run told b s (suc r) i ≡ at_step (low_step o (nat_lt o 64))
+  at_some : (o : ℕ) → slice_get b i ≡ Some o → 0 < o → run known b s (suc r) i ≡ at_step (low_step o (nat_lt o 64))
   at_some o e h = step_is (Some o) e ∙ ap (λ t. at_step (cond t run_end (low_step o (nat_lt o 64)))) (ne_eqb o 0 (λ z. omega arith))
 
   step_label : (k : ℕ) → slice_get b i ≡ Some k → 0 < k → k < 64 → i + 1 + k ≤ length b
-      → run told b s (suc r) i ≡ option_map (with_label (take k (drop (i + 1) b))) (run told b s r (i + 1 + k))
+      → run known b s (suc r) i ≡ option_map (with_label (take k (drop (i + 1) b))) (run known b s r (i + 1 + k))
   step_label k e h l w =
       at_some k e h ∙ ap (λ t. at_step (low_step k t)) (lt-ltb k 64 l)
       ∙ ap (λ t. at_step (cond t (run_label k) unlawful)) (le-leb (i + 1 + k) (length b) w)
 
-  step_label_past : (k : ℕ) → slice_get b i ≡ Some k → 0 < k → k < 64 → length b < i + 1 + k → run told b s (suc r) i ≡ None
+  step_label_past : (k : ℕ) → slice_get b i ≡ Some k → 0 < k → k < 64 → length b < i + 1 + k → run known b s (suc r) i ≡ None
   step_label_past k e h l w =
       at_some k e h ∙ ap (λ t. at_step (low_step k t)) (lt-ltb k 64 l)
       ∙ ap (λ t. at_step (cond t (run_label k) unlawful)) (lt-leb (i + 1 + k) (length b) w)
 
-  at_high : (o : ℕ) → slice_get b i ≡ Some o → 64 ≤ o → run told b s (suc r) i ≡ at_step (high_step o (nat_lt o 192))
+  at_high : (o : ℕ) → slice_get b i ≡ Some o → 64 ≤ o → run known b s (suc r) i ≡ at_step (high_step o (nat_lt o 192))
   at_high o e h = at_some o e (omega arith) ∙ ap (λ t. at_step (low_step o t)) (le-ltb o 64 h)
 
-  step_reserved : (o : ℕ) → slice_get b i ≡ Some o → 64 ≤ o → o < 192 → run told b s (suc r) i ≡ None
+  step_reserved : (o : ℕ) → slice_get b i ≡ Some o → 64 ≤ o → o < 192 → run known b s (suc r) i ≡ None
   step_reserved o e h l = at_high o e h ∙ ap (λ t. at_step (high_step o t)) (lt-ltb o 192 l)
 
-  at_second : (o : ℕ) (x : Option ℕ) → slice_get b i ≡ Some o → 192 ≤ o → slice_get b (i + 1) ≡ x → run told b s (suc r) i ≡ at_step (pointer_step o x)
+  at_second : (o : ℕ) (x : Option ℕ) → slice_get b i ≡ Some o → 192 ≤ o → slice_get b (i + 1) ≡ x → run known b s (suc r) i ≡ at_step (pointer_step o x)
   at_second o x e h f = at_high o e (omega arith) ∙ ap (λ t. at_step (high_step o t)) (le-ltb o 192 h) ∙ ap (λ z. at_step (pointer_step o z)) f
 
-  step_pointer : (o o' : ℕ) → slice_get b i ≡ Some o → 192 ≤ o → slice_get b (i + 1) ≡ Some o' → run told b s (suc r) i ≡ jump told s i (pointer_place o o')
+  step_pointer : (o o' : ℕ) → slice_get b i ≡ Some o → 192 ≤ o → slice_get b (i + 1) ≡ Some o' → run known b s (suc r) i ≡ jump known s i (pointer_place o o')
   step_pointer o o' e h f = at_second o (Some o') e h f
 
-  step_half_pointer : (o : ℕ) → slice_get b i ≡ Some o → 192 ≤ o → slice_get b (i + 1) ≡ None → run told b s (suc r) i ≡ None
+  step_half_pointer : (o : ℕ) → slice_get b i ≡ Some o → 192 ≤ o → slice_get b (i + 1) ≡ None → run known b s (suc r) i ≡ None
   step_half_pointer o e h f = at_second o None e h f
 
 -- a jump to a place in the range, and to another
-behind : ℕ → Option (DomainName × ℕ) → Option (DomainName × ℕ)
-behind i x = option_map (λ r. (r.0, i + 2)) x
+after : ℕ → Option (DomainName × ℕ) → Option (DomainName × ℕ)
+after i x = option_map (λ r. (r.0, i + 2)) x
 
 abbrev if_lawful : Option (DomainName × ℕ) → Bool → Option (DomainName × ℕ)
 if_lawful x true = x
 if_lawful x false = None
 
-jump_is : (told : ℕ → Option (DomainName × ℕ)) (s i p : ℕ) → jump told s i p ≡ if_lawful (behind i (told p)) (nat_le 12 p && nat_lt p s)
-unfolding behind
-jump_is told s i p = go (nat_le 12 p && nat_lt p s)
+jump_is : (known : ℕ → Option (DomainName × ℕ)) (s i p : ℕ) → jump known s i p ≡ if_lawful (after i (known p)) (nat_le 12 p && nat_lt p s)
+unfolding after
+jump_is known s i p = go (nat_le 12 p && nat_lt p s)
   where
-    go : (t : Bool) → ◌≡◌ {A = Option (DomainName × ℕ)} (elim t [ true ↦ option_map (λ r. (r.0, i + 2)) (told p) | false ↦ None ]) (if_lawful (option_map (λ r. (r.0, i + 2)) (told p)) t)
+    go : (t : Bool) → ◌≡◌ {A = Option (DomainName × ℕ)} (elim t [ true ↦ option_map (λ r. (r.0, i + 2)) (known p) | false ↦ None ]) (if_lawful (option_map (λ r. (r.0, i + 2)) (known p)) t)
     go true = refl
     go false = refl
 
-jump_lawful : (told : ℕ → Option (DomainName × ℕ)) (s i p : ℕ) → 12 ≤ p → p < s → jump told s i p ≡ behind i (told p)
-jump_lawful told s i p h l = jump_is told s i p ∙ ap (if_lawful (behind i (told p))) (and_from (nat_le 12 p) (nat_lt p s) (le-leb 12 p h) (lt-ltb p s l))
+jump_lawful : (known : ℕ → Option (DomainName × ℕ)) (s i p : ℕ) → 12 ≤ p → p < s → jump known s i p ≡ after i (known p)
+jump_lawful known s i p h l = jump_is known s i p ∙ ap (if_lawful (after i (known p))) (and_from (nat_le 12 p) (nat_lt p s) (le-leb 12 p h) (lt-ltb p s l))
 
-jump_low : (told : ℕ → Option (DomainName × ℕ)) (s i p : ℕ) → p < 12 → jump told s i p ≡ None
-jump_low told s i p h = jump_is told s i p ∙ ap (if_lawful (behind i (told p))) (and_left (nat_le 12 p) (nat_lt p s) (lt-leb 12 p h))
+jump_low : (known : ℕ → Option (DomainName × ℕ)) (s i p : ℕ) → p < 12 → jump known s i p ≡ None
+jump_low known s i p h = jump_is known s i p ∙ ap (if_lawful (after i (known p))) (and_left (nat_le 12 p) (nat_lt p s) (lt-leb 12 p h))
 
-jump_high : (told : ℕ → Option (DomainName × ℕ)) (s i p : ℕ) → s ≤ p → jump told s i p ≡ None
-jump_high told s i p h = jump_is told s i p ∙ ap (if_lawful (behind i (told p))) (and_right (nat_le 12 p) (nat_lt p s) (le-ltb p s h))
+jump_high : (known : ℕ → Option (DomainName × ℕ)) (s i p : ℕ) → s ≤ p → jump known s i p ≡ None
+jump_high known s i p h = jump_is known s i p ∙ ap (if_lawful (after i (known p))) (and_right (nat_le 12 p) (nat_lt p s) (le-ltb p s h))
 
 -- A pointer's place is lawful, or it is not.
 data PlaceFor (s p : ℕ) : Type 0 where
@@ -131,52 +131,52 @@ place_for s p = elim (cases_lt p 12) [
   | inr above ↦ elim (cases_lt p s) [ inl before ↦ lawful above before | inr past ↦ too_high past ]
 ]
 
--- A run has no more steps than there are octets: with so many it does not depend on their number, nor on what is told
--- of runs that begin in the header, at its own place or behind it.
+-- A run has no more steps than there are octets: with so many it does not depend on their number, nor on what is known
+-- of runs that begin in the header, at its own place or after it.
 abbrev Alike : ℕ → (ℕ → Option (DomainName × ℕ)) → (ℕ → Option (DomainName × ℕ)) → Type 0
-Alike s told told' = (p : ℕ) → 12 ≤ p → p < s → told p ≡ told' p
+Alike s known known' = (p : ℕ) → 12 ≤ p → p < s → known p ≡ known' p
 
-same_jump : (told told' : ℕ → Option (DomainName × ℕ)) (s i p : ℕ) → Alike s told told' → PlaceFor s p → jump told s i p ≡ jump told' s i p
-same_jump told told' s i p a (lawful h l) = jump_lawful told s i p h l ∙ ap (behind i) (a p h l) ∙ sym (jump_lawful told' s i p h l)
-same_jump told told' s i p a (too_low h) = jump_low told s i p h ∙ sym (jump_low told' s i p h)
-same_jump told told' s i p a (too_high h) = jump_high told s i p h ∙ sym (jump_high told' s i p h)
+same_jump : (known known' : ℕ → Option (DomainName × ℕ)) (s i p : ℕ) → Alike s known known' → PlaceFor s p → jump known s i p ≡ jump known' s i p
+same_jump known known' s i p a (lawful h l) = jump_lawful known s i p h l ∙ ap (after i) (a p h l) ∙ sym (jump_lawful known' s i p h l)
+same_jump known known' s i p a (too_low h) = jump_low known s i p h ∙ sym (jump_low known' s i p h)
+same_jump known known' s i p a (too_high h) = jump_high known s i p h ∙ sym (jump_high known' s i p h)
 
-past_end : (told : ℕ → Option (DomainName × ℕ)) (b : Octets) (s r i : ℕ) → length b ≤ i → run told b s r i ≡ None
+past_end : (known : ℕ → Option (DomainName × ℕ)) (b : Octets) (s r i : ℕ) → length b ≤ i → run known b s r i ≡ None
 unfolding run
-past_end told b s zero i h = refl
-past_end told b s (suc r) i h = step_missing told b s r i (slice_get_past b i h)
+past_end known b s zero i h = refl
+past_end known b s (suc r) i h = step_missing known b s r i (slice_get_past b i h)
 
-same_step : (told told' : ℕ → Option (DomainName × ℕ)) (b : Octets) (s r r' i : ℕ) → Alike s told told'
-    → ((j : ℕ) → i < j → run told b s r j ≡ run told' b s r' j) → OctetAt b i → run told b s (suc r) i ≡ run told' b s (suc r') i
-same_step told told' b s r r' i a again (missing e) = step_missing told b s r i e ∙ sym (step_missing told' b s r' i e)
-same_step told told' b s r r' i a again (root e) = step_root told b s r i e ∙ sym (step_root told' b s r' i e)
-same_step told told' b s r r' i a again (label k e g l w) =
-    step_label told b s r i k e g l w
+same_step : (known known' : ℕ → Option (DomainName × ℕ)) (b : Octets) (s r r' i : ℕ) → Alike s known known'
+    → ((j : ℕ) → i < j → run known b s r j ≡ run known' b s r' j) → OctetAt b i → run known b s (suc r) i ≡ run known' b s (suc r') i
+same_step known known' b s r r' i a again (missing e) = step_missing known b s r i e ∙ sym (step_missing known' b s r' i e)
+same_step known known' b s r r' i a again (root e) = step_root known b s r i e ∙ sym (step_root known' b s r' i e)
+same_step known known' b s r r' i a again (label k e g l w) =
+    step_label known b s r i k e g l w
     ∙ ap (option_map (with_label (take k (drop (i + 1) b)))) (again (i + 1 + k) (omega arith))
-    ∙ sym (step_label told' b s r' i k e g l w)
-same_step told told' b s r r' i a again (label_past k e g l w) = step_label_past told b s r i k e g l w ∙ sym (step_label_past told' b s r' i k e g l w)
-same_step told told' b s r r' i a again (reserved o e g l) = step_reserved told b s r i o e g l ∙ sym (step_reserved told' b s r' i o e g l)
-same_step told told' b s r r' i a again (pointer o o' e g f) =
-    step_pointer told b s r i o o' e g f
-    ∙ same_jump told told' s i (pointer_place o o') a (place_for s (pointer_place o o'))
-    ∙ sym (step_pointer told' b s r' i o o' e g f)
-same_step told told' b s r r' i a again (half_pointer o e g f) = step_half_pointer told b s r i o e g f ∙ sym (step_half_pointer told' b s r' i o e g f)
+    ∙ sym (step_label known' b s r' i k e g l w)
+same_step known known' b s r r' i a again (label_past k e g l w) = step_label_past known b s r i k e g l w ∙ sym (step_label_past known' b s r' i k e g l w)
+same_step known known' b s r r' i a again (reserved o e g l) = step_reserved known b s r i o e g l ∙ sym (step_reserved known' b s r' i o e g l)
+same_step known known' b s r r' i a again (pointer o o' e g f) =
+    step_pointer known b s r i o o' e g f
+    ∙ same_jump known known' s i (pointer_place o o') a (place_for s (pointer_place o o'))
+    ∙ sym (step_pointer known' b s r' i o o' e g f)
+same_step known known' b s r r' i a again (half_pointer o e g f) = step_half_pointer known b s r i o e g f ∙ sym (step_half_pointer known' b s r' i o e g f)
 
-pub same_run : (told told' : ℕ → Option (DomainName × ℕ)) (b : Octets) (s r r' i : ℕ) → Alike s told told'
-    → length b - i ≤ r → length b - i ≤ r' → run told b s r i ≡ run told' b s r' i
-same_run told told' b s zero r' i a h h' = past_end told b s zero i (omega arith) ∙ sym (past_end told' b s r' i (omega arith))
-same_run told told' b s (suc r) zero i a h h' = past_end told b s (suc r) i (omega arith) ∙ sym (past_end told' b s zero i (omega arith))
-same_run told told' b s (suc r) (suc r') i a h h' =
-    same_step told told' b s r r' i a (λ j l. same_run told told' b s r r' j a (omega arith) (omega arith)) (octet_at b i)
+pub same_run : (known known' : ℕ → Option (DomainName × ℕ)) (b : Octets) (s r r' i : ℕ) → Alike s known known'
+    → length b - i ≤ r → length b - i ≤ r' → run known b s r i ≡ run known' b s r' i
+same_run known known' b s zero r' i a h h' = past_end known b s zero i (omega arith) ∙ sym (past_end known' b s r' i (omega arith))
+same_run known known' b s (suc r) zero i a h h' = past_end known b s (suc r) i (omega arith) ∙ sym (past_end known' b s zero i (omega arith))
+same_run known known' b s (suc r) (suc r') i a h h' =
+    same_step known known' b s r r' i a (λ j l. same_run known known' b s r r' j a (omega arith) (omega arith)) (octet_at b i)
 
 -- The relation is computed.
-told_is : (b : Octets) (k p : ℕ) → runs_before b (suc k) p ≡ run (runs_before b k) b p (length b) p
+known_is : (b : Octets) (k p : ℕ) → runs_before b (suc k) p ≡ run (runs_before b k) b p (length b) p
 unfolding runs_before
-told_is b k p = refl
+known_is b k p = refl
 
-behind_some : (i : ℕ) (n : DomainName) (e : ℕ) → behind i (Some (n, e)) ≡ Some (n, i + 2)
-unfolding behind
-behind_some i n e = refl
+after_some : (i : ℕ) (n : DomainName) (e : ℕ) → after i (Some (n, e)) ≡ Some (n, i + 2)
+unfolding after
+after_some i n e = refl
 
 complete : {b : Octets} {s i e : ℕ} {n : DomainName} → RunAt b s i n e → (k r : ℕ) → s ≤ k → length b - i ≤ r
     → run (runs_before b k) b s r i ≡ Some (n, e)
@@ -193,69 +193,69 @@ complete {b} {s} (jumps i o o' p n e at high at' is from before rest) (suc k) (s
     step_pointer (runs_before b (suc k)) b s r i o o' at high at'
     ∙ ap (jump (runs_before b (suc k)) s i) (sym is)
     ∙ jump_lawful (runs_before b (suc k)) s i p from before
-    ∙ ap (behind i) (told_is b k p ∙ complete rest k (length b) (omega arith) (omega arith))
-    ∙ behind_some i n e
+    ∙ ap (after i) (known_is b k p ∙ complete rest k (length b) (omega arith) (omega arith))
+    ∙ after_some i n e
 
 -- What is computed is the relation.
 abbrev Truthful : Octets → (ℕ → Option (DomainName × ℕ)) → Type 0
-Truthful b told = (p : ℕ) (n : DomainName) (e : ℕ) → told p ≡ Some (n, e) → RunAt b p p n e
+Truthful b known = (p : ℕ) (n : DomainName) (e : ℕ) → known p ≡ Some (n, e) → RunAt b p p n e
 
-behind_parts : (i : ℕ) (x : Option (DomainName × ℕ)) (n : DomainName) (e : ℕ) → behind i x ≡ Some (n, e)
+after_parts : (i : ℕ) (x : Option (DomainName × ℕ)) (n : DomainName) (e : ℕ) → after i x ≡ Some (n, e)
     → (d : ℕ) × (x ≡ Some (n, d)) × (i + 2 ≡ e)
-unfolding behind
-behind_parts i None n e h = absurd (none-some (n, e) h)
-behind_parts i (Some (m, d)) n e h = let p = some_pair_parts m n (i + 2) e h in (d, ap (λ x. Some (x, d)) p.0, p.1)
+unfolding after
+after_parts i None n e h = absurd (none-some (n, e) h)
+after_parts i (Some (m, d)) n e h = let p = some_pair_parts m n (i + 2) e h in (d, ap (λ x. Some (x, d)) p.0, p.1)
 
-sound_jump : (told : ℕ → Option (DomainName × ℕ)) (b : Octets) → Truthful b told → (s i o o' : ℕ) (n : DomainName) (e : ℕ)
+sound_jump : (known : ℕ → Option (DomainName × ℕ)) (b : Octets) → Truthful b known → (s i o o' : ℕ) (n : DomainName) (e : ℕ)
     → slice_get b i ≡ Some o → 192 ≤ o → slice_get b (i + 1) ≡ Some o'
-    → PlaceFor s (pointer_place o o') → jump told s i (pointer_place o o') ≡ Some (n, e) → RunAt b s i n e
-sound_jump told b t s i o o' n e at top at' (lawful from before) is =
+    → PlaceFor s (pointer_place o o') → jump known s i (pointer_place o o') ≡ Some (n, e) → RunAt b s i n e
+sound_jump known b t s i o o' n e at top at' (lawful from before) is =
     let p = pointer_place o o' in
-    let q = behind_parts i (told p) n e (sym (jump_lawful told s i p from before) ∙ is) in
+    let q = after_parts i (known p) n e (sym (jump_lawful known s i p from before) ∙ is) in
     subst (RunAt b s i n) q.2 (jumps i o o' p n q.0 at top at' refl from before (t p n q.0 q.1))
-sound_jump told b t s i o o' n e at top at' (too_low h) is = absurd (none-some (n, e) (sym (jump_low told s i (pointer_place o o') h) ∙ is))
-sound_jump told b t s i o o' n e at top at' (too_high h) is = absurd (none-some (n, e) (sym (jump_high told s i (pointer_place o o') h) ∙ is))
+sound_jump known b t s i o o' n e at top at' (too_low h) is = absurd (none-some (n, e) (sym (jump_low known s i (pointer_place o o') h) ∙ is))
+sound_jump known b t s i o o' n e at top at' (too_high h) is = absurd (none-some (n, e) (sym (jump_high known s i (pointer_place o o') h) ∙ is))
 
 labelled_parts : (l : Octets) (x : Option (DomainName × ℕ)) (n : DomainName) (e : ℕ) → option_map (with_label l) x ≡ Some (n, e)
     → (m : DomainName) × (x ≡ Some (m, e)) × (l ∷ m ≡ n)
 labelled_parts l None n e h = absurd (none-some (n, e) h)
 labelled_parts l (Some (m, d)) n e h = let p = some_pair_parts (l ∷ m) n d e h in (m, ap (λ x. Some (m, x)) p.1, p.0)
 
-sound_step : (told : ℕ → Option (DomainName × ℕ)) (b : Octets) → Truthful b told → (s r i : ℕ) (n : DomainName) (e : ℕ)
-    → ((j : ℕ) (m : DomainName) (d : ℕ) → run told b s r j ≡ Some (m, d) → RunAt b s j m d)
-    → OctetAt b i → run told b s (suc r) i ≡ Some (n, e) → RunAt b s i n e
-sound_step told b t s r i n e again (missing at) is = absurd (none-some (n, e) (sym (step_missing told b s r i at) ∙ is))
-sound_step told b t s r i n e again (root at) is =
-    let p = some_pair_parts [] n (i + 1) e (sym (step_root told b s r i at) ∙ is) in
+sound_step : (known : ℕ → Option (DomainName × ℕ)) (b : Octets) → Truthful b known → (s r i : ℕ) (n : DomainName) (e : ℕ)
+    → ((j : ℕ) (m : DomainName) (d : ℕ) → run known b s r j ≡ Some (m, d) → RunAt b s j m d)
+    → OctetAt b i → run known b s (suc r) i ≡ Some (n, e) → RunAt b s i n e
+sound_step known b t s r i n e again (missing at) is = absurd (none-some (n, e) (sym (step_missing known b s r i at) ∙ is))
+sound_step known b t s r i n e again (root at) is =
+    let p = some_pair_parts [] n (i + 1) e (sym (step_root known b s r i at) ∙ is) in
     subst₂ (RunAt b s i) p.0 p.1 (ends i at)
-sound_step told b t s r i n e again (label k at pos low inside) is =
+sound_step known b t s r i n e again (label k at pos low inside) is =
     let l = take k (drop (i + 1) b) in
-    let q = labelled_parts l (run told b s r (i + 1 + k)) n e (sym (step_label told b s r i k at pos low inside) ∙ is) in
+    let q = labelled_parts l (run known b s r (i + 1 + k)) n e (sym (step_label known b s r i k at pos low inside) ∙ is) in
     subst (λ x. RunAt b s i x e) q.2 (goes_on i k l q.0 e at pos low inside refl (again (i + 1 + k) q.0 e q.1))
-sound_step told b t s r i n e again (label_past k at pos low past) is = absurd (none-some (n, e) (sym (step_label_past told b s r i k at pos low past) ∙ is))
-sound_step told b t s r i n e again (reserved o at from below) is = absurd (none-some (n, e) (sym (step_reserved told b s r i o at from below) ∙ is))
-sound_step told b t s r i n e again (pointer o o' at top at') is =
-    sound_jump told b t s i o o' n e at top at' (place_for s (pointer_place o o')) (sym (step_pointer told b s r i o o' at top at') ∙ is)
-sound_step told b t s r i n e again (half_pointer o at top at') is = absurd (none-some (n, e) (sym (step_half_pointer told b s r i o at top at') ∙ is))
+sound_step known b t s r i n e again (label_past k at pos low past) is = absurd (none-some (n, e) (sym (step_label_past known b s r i k at pos low past) ∙ is))
+sound_step known b t s r i n e again (reserved o at from below) is = absurd (none-some (n, e) (sym (step_reserved known b s r i o at from below) ∙ is))
+sound_step known b t s r i n e again (pointer o o' at top at') is =
+    sound_jump known b t s i o o' n e at top at' (place_for s (pointer_place o o')) (sym (step_pointer known b s r i o o' at top at') ∙ is)
+sound_step known b t s r i n e again (half_pointer o at top at') is = absurd (none-some (n, e) (sym (step_half_pointer known b s r i o at top at') ∙ is))
 
-sound_run : (told : ℕ → Option (DomainName × ℕ)) (b : Octets) → Truthful b told → (s r i : ℕ) (n : DomainName) (e : ℕ)
-    → run told b s r i ≡ Some (n, e) → RunAt b s i n e
+sound_run : (known : ℕ → Option (DomainName × ℕ)) (b : Octets) → Truthful b known → (s r i : ℕ) (n : DomainName) (e : ℕ)
+    → run known b s r i ≡ Some (n, e) → RunAt b s i n e
 unfolding run
-sound_run told b t s zero i n e is = absurd (none-some (n, e) is)
-sound_run told b t s (suc r) i n e is = sound_step told b t s r i n e (λ j m d h. sound_run told b t s r j m d h) (octet_at b i) is
+sound_run known b t s zero i n e is = absurd (none-some (n, e) is)
+sound_run known b t s (suc r) i n e is = sound_step known b t s r i n e (λ j m d h. sound_run known b t s r j m d h) (octet_at b i) is
 
-none_told : (b : Octets) (p : ℕ) → runs_before b zero p ≡ None
+none_known : (b : Octets) (p : ℕ) → runs_before b zero p ≡ None
 unfolding runs_before
-none_told b p = refl
+none_known b p = refl
 
 sound : (b : Octets) (k : ℕ) → Truthful b (runs_before b k)
-sound b zero p n e is = absurd (none-some (n, e) (sym (none_told b p) ∙ is))
-sound b (suc k) p n e is = sound_run (runs_before b k) b (sound b k) p (length b) p n e (sym (told_is b k p) ∙ is)
+sound b zero p n e is = absurd (none-some (n, e) (sym (none_known b p) ∙ is))
+sound b (suc k) p n e is = sound_run (runs_before b k) b (sound b k) p (length b) p n e (sym (known_is b k p) ∙ is)
 
 -- the name at a place is the run that begins there, if it is a name
 name_at_is : (b : Octets) (i : ℕ) → name_at b i ≡ option_and_then name_if_short (run (runs_before b i) b i (length b) i)
 unfolding name_at
-name_at_is b i = ap (option_and_then name_if_short) (told_is b i i)
+name_at_is b i = ap (option_and_then name_if_short) (known_is b i i)
 
 computed : (b : Octets) (i : ℕ) (n : DomainName) (e : ℕ) → name_at b i ≡ Some (n, e) → NameAt b i n e
 computed b i n e h =
@@ -278,16 +278,16 @@ name_at_computes b i n e = (computed b i n e, related b i n e)
 pub one_name : (b : Octets) (i : ℕ) (n m : DomainName) (e f : ℕ) → NameAt b i n e → NameAt b i m f → (n ≡ m) × (e ≡ f)
 one_name b i n m e f h g = some_pair_parts n m e f (sym (related b i n e h) ∙ related b i m f g)
 
--- A name at place 12, directly behind the header: no place is behind the header and before it, so no pointer is lawful
+-- A name at place 12, directly after the header: no place is after the header and before it, so no pointer is lawful
 -- and the name is read label by label.
--- the labels from place i on, of a run that began at place 12, and the place behind them
+-- the labels from place i on, of a run that began at place 12, and the place after them
 unfoldable pub run12 : Octets → ℕ → Option (DomainName × ℕ)
 run12 d i = run (λ p. None) d 12 (length d - i) i
 
--- it is what the reader computes, whatever it is told of other runs, if it may take so many steps
-pub run12_is : (told : ℕ → Option (DomainName × ℕ)) (d : Octets) (r i : ℕ) → length d - i ≤ r → run12 d i ≡ run told d 12 r i
+-- it is what the reader computes, whatever is known of other runs, if it may take so many steps
+pub run12_is : (known : ℕ → Option (DomainName × ℕ)) (d : Octets) (r i : ℕ) → length d - i ≤ r → run12 d i ≡ run known d 12 r i
 unfolding run12
-run12_is told d r i h = same_run (λ p. None) told d 12 (length d - i) r i (λ p from before. absurd (omega arith)) (omega arith) h
+run12_is known d r i h = same_run (λ p. None) known d 12 (length d - i) r i (λ p from before. absurd (omega arith)) (omega arith) h
 
 none_before : ℕ → Option (DomainName × ℕ)
 none_before p = None

@@ -24,7 +24,7 @@ bytes_below zero n i d inside = absurd (omega (arith, inside))
 bytes_below (suc k) n zero d inside = byte_at-below k n
 bytes_below (suc k) n (suc i) d inside = bytes_below k n i d (omega (arith, inside))
 
--- octets are told by their number
+-- octets are known by their number
 one_spelling : (x y : Octets) → length x ≡ length y → Small x → Small y → number_of x ≡ number_of y → x ≡ y
 one_spelling [] [] long small small' e = refl
 one_spelling [] (p ∷ y) long small small' e = absurd (omega (arith, long))

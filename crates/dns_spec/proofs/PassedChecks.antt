@@ -38,8 +38,8 @@ map_nothing f (x ∷ xs) e = cc
 pub checks_of_origin : (z : ZoneContents) → folded z.origin ≡ z.origin → Passes z → Each (λ (k : ℕ × Check). k.1 z z.origin ≡ false) checks
 unfolding faults
 checks_of_origin z low passes =
-    let told : Among z.origin (checked_names z) = among_sort name_order z.origin (distinct same (folded z.origin ∷ map (λ (r : ResourceRecord). folded r.owner) z.records)) (inl (sym low)) in
-    let none : faults_at z z.origin ≡ [] = flat_nothing (faults_at z) (checked_names z) z.origin passes told in
+    let checked : Among z.origin (checked_names z) = among_sort name_order z.origin (distinct same (folded z.origin ∷ map (λ (r : ResourceRecord). folded r.owner) z.records)) (inl (sym low)) in
+    let none : faults_at z z.origin ≡ [] = flat_nothing (faults_at z) (checked_names z) z.origin passes checked in
     filter_nothing (λ (k : ℕ × Check). k.1 z z.origin) checks (map_nothing (λ (k : ℕ × Check). record { owner = z.origin; code = k.0 }) (filter (λ (k : ℕ × Check). k.1 z z.origin) checks) none)
 
 -- nor of an owner
@@ -57,9 +57,9 @@ checks_at z low lows passes r m =
     let here : folded r.owner ≡ r.owner = each_at (λ (s : ResourceRecord). folded s.owner ≡ s.owner) r z.records lows m in
     let listed : Among r.owner names = inr (subst (λ n. Among n (map f z.records)) here (among_map f r z.records m)) in
     let lower : Each Lower names = (ap folded low, all_low z.records lows) in
-    let told : Among r.owner (checked_names z) =
+    let checked : Among r.owner (checked_names z) =
     among_sort name_order r.owner (distinct same names) (among_distinct name_order name_order_total same name_tie Lower one_lower r.owner names lower listed) in
-    let none : faults_at z r.owner ≡ [] = flat_nothing (faults_at z) (checked_names z) r.owner passes told in
+    let none : faults_at z r.owner ≡ [] = flat_nothing (faults_at z) (checked_names z) r.owner passes checked in
     filter_nothing (λ (k : ℕ × Check). k.1 z r.owner) checks (map_nothing (λ (k : ℕ × Check). record { owner = r.owner; code = k.0 }) (filter (λ (k : ℕ × Check). k.1 z r.owner) checks) none)
   where
     all_low : (rs : List ResourceRecord) → Each (λ (s : ResourceRecord). folded s.owner ≡ s.owner) rs → Each Lower (map (λ (s : ResourceRecord). folded s.owner) rs)

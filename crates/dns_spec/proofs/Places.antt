@@ -33,39 +33,39 @@ number_of-bytes (suc k) n =
 -- The octets x stand in b from place i on.
 pub record Stands (b : Octets) (i : ℕ) (x : Octets) : Type 0 where
   pub before : Octets
-  pub behind : Octets
-  pub whole : b ≡ before ++ (x ++ behind)
+  pub after : Octets
+  pub whole : b ≡ before ++ (x ++ after)
   pub place : length before ≡ i
 
 pub stands_front : {b : Octets} {i : ℕ} (x y : Octets) → Stands b i (x ++ y) → Stands b i x
-stands_front x y s = record { before = s.before; behind = y ++ s.behind; whole = s.whole ∙ ap (λ z. s.before ++ z) (append_assoc x y s.behind); place = s.place }
+stands_front x y s = record { before = s.before; after = y ++ s.after; whole = s.whole ∙ ap (λ z. s.before ++ z) (append_assoc x y s.after); place = s.place }
 
 pub stands_rest : {b : Octets} {i : ℕ} (x y : Octets) → Stands b i (x ++ y) → Stands b (i + length x) y
 stands_rest x y s = record {
   before = s.before ++ x;
-  behind = s.behind;
-  whole = s.whole ∙ ap (λ z. s.before ++ z) (append_assoc x y s.behind) ∙ sym (append_assoc s.before x (y ++ s.behind));
+  after = s.after;
+  whole = s.whole ∙ ap (λ z. s.before ++ z) (append_assoc x y s.after) ∙ sym (append_assoc s.before x (y ++ s.after));
   place = length-append s.before x ∙ ap (λ z. z + length x) s.place;
 }
 
--- the part behind k octets
-pub stands_behind : {b : Octets} {i : ℕ} (k : ℕ) (x y : Octets) → length x ≡ k → Stands b i (x ++ y) → Stands b (i + k) y
-stands_behind {b} {i} k x y e s = subst (λ z. Stands b (i + z) y) e (stands_rest x y s)
+-- the part after k octets
+pub stands_after : {b : Octets} {i : ℕ} (k : ℕ) (x y : Octets) → length x ≡ k → Stands b i (x ++ y) → Stands b (i + k) y
+stands_after {b} {i} k x y e s = subst (λ z. Stands b (i + z) y) e (stands_rest x y s)
 
 pub stands_all : (b : Octets) → Stands b 0 b
-stands_all b = record { before = []; behind = []; whole = sym (append-nil b); place = refl }
+stands_all b = record { before = []; after = []; whole = sym (append-nil b); place = refl }
 
 -- they lie within b, and are read off
 pub stands_within : {b : Octets} {i : ℕ} (x : Octets) → Stands b i x → i + length x ≤ length b
 stands_within {b} {i} x s =
-    let e : length b ≡ length s.before + (length x + length s.behind) = ap length s.whole ∙ length-append s.before (x ++ s.behind) ∙ ap (λ z. length s.before + z) (length-append x s.behind) in
+    let e : length b ≡ length s.before + (length x + length s.after) = ap length s.whole ∙ length-append s.before (x ++ s.after) ∙ ap (λ z. length s.before + z) (length-append x s.after) in
     omega (arith, e, s.place)
 
-pub stands_drop : {b : Octets} {i : ℕ} (x : Octets) (s : Stands b i x) → drop i b ≡ x ++ s.behind
-stands_drop {b} {i} x s = ap (drop i) s.whole ∙ drop_at s.before (x ++ s.behind) i s.place
+pub stands_drop : {b : Octets} {i : ℕ} (x : Octets) (s : Stands b i x) → drop i b ≡ x ++ s.after
+stands_drop {b} {i} x s = ap (drop i) s.whole ∙ drop_at s.before (x ++ s.after) i s.place
 
 pub stands_take : {b : Octets} {i : ℕ} (x : Octets) → Stands b i x → take (length x) (drop i b) ≡ x
-stands_take {b} {i} x s = ap (take (length x)) (stands_drop x s) ∙ take_at x s.behind (length x) refl
+stands_take {b} {i} x s = ap (take (length x)) (stands_drop x s) ∙ take_at x s.after (length x) refl
 
 get_at : (p q : Octets) (o i : ℕ) → length p ≡ i → slice_get (p ++ o ∷ q) i ≡ Some o
 get_at [] q o zero e = refl
@@ -74,7 +74,7 @@ get_at (a ∷ p) q o zero e = absurd (omega arith)
 get_at (a ∷ p) q o (suc i) e = get_at p q o i (omega arith)
 
 pub stands_get : {b : Octets} {i : ℕ} (o : ℕ) (x : Octets) → Stands b i (o ∷ x) → slice_get b i ≡ Some o
-stands_get {b} {i} o x s = ap (λ z. slice_get z i) s.whole ∙ get_at s.before (x ++ s.behind) o i s.place
+stands_get {b} {i} o x s = ap (λ z. slice_get z i) s.whole ∙ get_at s.before (x ++ s.after) o i s.place
 
 -- a number, and octets as they are
 pub number_at : {b : Octets} {i : ℕ} (k v : ℕ) → v < 256 ^ k → Stands b i (bytes_high_first k v) → NumberAt b i k v
@@ -103,7 +103,7 @@ run_written [] {i} h at = ends i (stands_get 0 [] at)
 run_written {b} {s} (l ∷ n) {i} h at =
     let p = and_parts (is_label l) (list_all is_label n) h in
     let q = label_parts l p.0 in
-    let tail : Stands b (i + 1) (l ++ wire n) = stands_behind 1 (length l ∷ []) (l ++ wire n) refl at in
+    let tail : Stands b (i + 1) (l ++ wire n) = stands_after 1 (length l ∷ []) (l ++ wire n) refl at in
     let front : Stands b (i + 1) l = stands_front l (wire n) tail in
     let end : i + 1 + length l + length (wire n) ≡ i + length (wire (l ∷ n)) = omega (arith, length-append l (wire n)) in
     subst (RunAt b s i (l ∷ n)) end
@@ -116,4 +116,4 @@ name_written n h at = (run_written n (and_parts (list_all is_label n) _ h).0 at,
 -- a name written as a pointer to place 12
 pub name_pointed : {b : Octets} {i e : ℕ} (n : DomainName) → 12 < i → NameAt b 12 n e → Stands b i (pointer 12) → NameAt b i n (i + 2)
 name_pointed {b} {i} {e} n h at s =
-    (jumps i 192 12 12 n e (stands_get 192 (12 ∷ []) s) (omega arith) (stands_get 12 [] (stands_behind 1 (192 ∷ []) (12 ∷ []) refl s)) refl (omega arith) h at.0, at.1)
+    (jumps i 192 12 12 n e (stands_get 192 (12 ∷ []) s) (omega arith) (stands_get 12 [] (stands_after 1 (192 ∷ []) (12 ∷ []) refl s)) refl (omega arith) h at.0, at.1)

@@ -13,7 +13,7 @@ use Rattle.dns_spec.specs.Reading.{Header, MessageQuestion, NameAt, NumberAt, Da
 use Rattle.dns_spec.specs.Layout.{octets16, octets32, pointer, Section, answer, authority, additional, Item, is_section, records_of, in_section, record_tail, question_octets, asked_octets, header_octets, reply_header, asked_name, plain_owner, plain_record, plain_layout, message_record, message_of}
 use Rattle.dns_spec.specs.Laws.{section_rank, sections_in_order, IsWritable, IsAskable, HasRoom, HasCounts}
 use Rattle.dns_spec.proofs.NameLaws.{names_equal-decides}
-use Rattle.dns_spec.proofs.Places.{Stands, stands_front, stands_rest, stands_behind, stands_all, number_at, name_written, name_pointed}
+use Rattle.dns_spec.proofs.Places.{Stands, stands_front, stands_rest, stands_after, stands_all, number_at, name_written, name_pointed}
 use Rattle.dns_spec.proofs.WrittenData.{data_written}
 
 -- what a record must be like to be read back where it is written in b
@@ -62,10 +62,10 @@ module _ (b : Octets) (asked : DomainName) where
       record {
         owner = owner_at b asked i r.owner h ok.owner (stands_front n (record_tail r r.rdata) at);
         rtype = number_at 2 r.rtype ok.rtype (stands_front t c upto_class);
-        rclass = number_at 2 class_in (omega arith) (stands_behind 2 t c refl upto_class);
-        ttl = number_at 4 r.ttl ok.ttl (stands_behind 4 (t ++ c) l refl upto_ttl);
-        length = number_at 2 (length r.rdata) ok.rdata (stands_behind 8 (t ++ c ++ l) k refl upto_length);
-        rdata = ok.data_at (j + 10) (stands_behind 10 (t ++ c ++ l ++ k) r.rdata refl tail);
+        rclass = number_at 2 class_in (omega arith) (stands_after 2 t c refl upto_class);
+        ttl = number_at 4 r.ttl ok.ttl (stands_after 4 (t ++ c) l refl upto_ttl);
+        length = number_at 2 (length r.rdata) ok.rdata (stands_after 8 (t ++ c ++ l) k refl upto_length);
+        rdata = ok.data_at (j + 10) (stands_after 10 (t ++ c ++ l ++ k) r.rdata refl tail);
       }
 
   length-plain_record : (r : ResourceRecord) → length (plain_record asked r) ≡ length (plain_owner asked r.owner) + 10 + length r.rdata
@@ -163,18 +163,18 @@ header_at {b} h qd an ns ar id flags qd-low an-low ns-low ar-low at =
     let s3 : Stands b 0 (o ++ f ++ q) = stands_front (o ++ f ++ q) a s4 in
     let s2 : Stands b 0 (o ++ f) = stands_front (o ++ f) q s3 in (
       number_at 2 h.id id (stands_front o f s2),
-      number_at 2 h.flags flags (stands_behind 2 o f refl s2),
-      number_at 2 qd qd-low (stands_behind 4 (o ++ f) q refl s3),
-      number_at 2 an an-low (stands_behind 6 (o ++ f ++ q) a refl s4),
-      number_at 2 ns ns-low (stands_behind 8 (o ++ f ++ q ++ a) n refl s5),
-      number_at 2 ar ar-low (stands_behind 10 (o ++ f ++ q ++ a ++ n) r refl at),
+      number_at 2 h.flags flags (stands_after 2 o f refl s2),
+      number_at 2 qd qd-low (stands_after 4 (o ++ f) q refl s3),
+      number_at 2 an an-low (stands_after 6 (o ++ f ++ q) a refl s4),
+      number_at 2 ns ns-low (stands_after 8 (o ++ f ++ q ++ a) n refl s5),
+      number_at 2 ar ar-low (stands_after 10 (o ++ f ++ q ++ a ++ n) r refl at),
     )
 
 pub length-question_octets : (q : MessageQuestion) → length (question_octets q) ≡ length (wire q.qname) + 4
 length-question_octets q =
     length-append (wire q.qname ++ octets16 q.qtype) (octets16 q.qclass) ∙ omega (arith, length-append (wire q.qname) (octets16 q.qtype))
 
--- the question behind the header
+-- the question after the header
 pub question_at_12 : {b : Octets} (q : MessageQuestion) → is_name q.qname ≡ true → q.qtype < 2 ^ 16 → q.qclass < 2 ^ 16
     → Stands b 12 (question_octets q) → QuestionsAt b 12 (q ∷ []) (12 + length (question_octets q))
 question_at_12 {b} q name qtype qclass at =
@@ -232,20 +232,20 @@ spells_where b h q items ok counts readable whole =
     let all : Stands b 0 (rh ++ qo ++ (w A ++ (w B ++ w C))) = subst (Stands b 0) (whole ∙ ap (λ x. rh ++ qo ++ x) parts) (stands_all b) in
     let front : Stands b 0 (rh ++ qo) = stands_front (rh ++ qo) (w A ++ (w B ++ w C)) all in
     let at = header_at h (length (option_to_list q)) (length A) (length B) (length C) ok.id ok.flags (one_question q) counts.answers counts.authorities counts.additionals (stands_front rh qo front) in
-    let asked = asked_at_12 q ok.question (stands_behind 12 rh qo refl front) in
+    let asked = asked_at_12 q ok.question (stands_after 12 rh qo refl front) in
     let head_len : length (rh ++ qo) ≡ 12 + length qo = length-append rh qo in
     let from : ℕ = 12 + length qo in
     let beyond = asked_pointed b q asked in
     let later_too = λ (j : ℕ) (h : from ≤ j). may_point_later b (asked_name q) from j h beyond in
-    let behind_a : ℕ = from + length (w A) in
-    let behind_b : ℕ = behind_a + length (w B) in
-    let records : Stands b from (w A ++ (w B ++ w C)) = subst (λ x. Stands b x (w A ++ (w B ++ w C))) (zero-add from) (stands_behind from (rh ++ qo) (w A ++ (w B ++ w C)) head_len all) in
-    let later : Stands b behind_a (w B ++ w C) = stands_rest (w A) (w B ++ w C) records in
-    let last : Stands b behind_b (w C) = stands_rest (w B) (w C) later in
+    let after_a : ℕ = from + length (w A) in
+    let after_b : ℕ = after_a + length (w B) in
+    let records : Stands b from (w A ++ (w B ++ w C)) = subst (λ x. Stands b x (w A ++ (w B ++ w C))) (zero-add from) (stands_after from (rh ++ qo) (w A ++ (w B ++ w C)) head_len all) in
+    let later : Stands b after_a (w B ++ w C) = stands_rest (w A) (w B ++ w C) records in
+    let last : Stands b after_b (w C) = stands_rest (w B) (w C) later in
     let read : All (IsReadable b) (A ++ (B ++ C)) = subst (All (IsReadable b)) split readable in
     let read_later : All (IsReadable b) (B ++ C) = All-back (IsReadable b) A (B ++ C) read in
     let records_read = λ (rs : List ResourceRecord) (i : ℕ). records_at b (asked_name q) rs i in
-    let end : behind_b + length (w C) ≡ length b =
+    let end : after_b + length (w C) ≡ length b =
     omega (arith, ap length whole, ap length parts, length-append (rh ++ qo) (w (records_of items)), head_len, length-append (w A) (w B ++ w C), length-append (w B) (w C)) in
     record {
       id = at.0;
@@ -255,12 +255,12 @@ spells_where b h q items ok counts readable whole =
       nscount = subst (NumberAt b 8 2) (sym (length-map B message_record)) at.4;
       arcount = subst (NumberAt b 10 2) (sym (length-map C message_record)) at.5;
       after_questions = from;
-      after_answers = behind_a;
-      after_authorities = behind_b;
+      after_answers = after_a;
+      after_authorities = after_b;
       questions = asked;
       answers = records_read A from beyond (All-front (IsReadable b) A (B ++ C) read) (stands_front (w A) (w B ++ w C) records);
-      authorities = records_read B behind_a (later_too behind_a (omega arith)) (All-front (IsReadable b) B C read_later) (stands_front (w B) (w C) later);
-      additionals = subst (RecordsAt b behind_b (map message_record C)) end (records_read C behind_b (later_too behind_b (omega arith)) (All-back (IsReadable b) B C read_later) last);
+      authorities = records_read B after_a (later_too after_a (omega arith)) (All-front (IsReadable b) B C read_later) (stands_front (w B) (w C) later);
+      additionals = subst (RecordsAt b after_b (map message_record C)) end (records_read C after_b (later_too after_b (omega arith)) (All-back (IsReadable b) B C read_later) last);
     }
 
 writable_readable : (b : Octets) (r : ResourceRecord) → IsWritable r → IsReadable b r

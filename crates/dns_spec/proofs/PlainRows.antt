@@ -41,9 +41,9 @@ unfoldable reply_size : ZoneContents → ℕ → MessageQuestion → ℕ
 unfolding labels_from cut run runs_before name_at data_size records_size size plain_layout plain_size cost chain_from chain outcome_at outcome extra items required_items reply_with question_at query_read decide
 reply_size z limit q = size (Some q) (keep_longest z limit q)
 
--- the faults that the zone has, each told of a name by its text
-abbrev told : Octets → ℕ → Fault
-told cs code = record { owner = dotted cs; code = code }
+-- the faults that the zone has, each reported of a name by its text
+abbrev reported : Octets → ℕ → Fault
+reported cs code = record { owner = dotted cs; code = code }
 
 -- an address
 plain_www : main_sets plain_zone www_query ≡ Some (hex (codes "123484000001000100000000 03777777076578616d706c650000010001 c00c0001000100000e100004c000020a"))
@@ -161,11 +161,11 @@ unfolding faults labels_from cut
 large_passes = refl
 
 -- a CNAME beside an address, and data below a cut
-faults_cname_and_cut : faults (small_zone_with (alias (codes "www") (codes "ns") ∷ in_zone (codes "x.sub") type_txt (hex (codes "0171")) ∷ [])) ≡ told (codes "x.sub.example") 12 ∷ told (codes "www.example") 6 ∷ []
+faults_cname_and_cut : faults (small_zone_with (alias (codes "www") (codes "ns") ∷ in_zone (codes "x.sub") type_txt (hex (codes "0171")) ∷ [])) ≡ reported (codes "x.sub.example") 12 ∷ reported (codes "www.example") 6 ∷ []
 unfolding faults labels_from cut
 faults_cname_and_cut = refl
 
 -- nothing at all
-faults_of_nothing : faults (zone_of example []) ≡ told (codes "example") 1 ∷ told (codes "example") 4 ∷ []
+faults_of_nothing : faults (zone_of example []) ≡ reported (codes "example") 1 ∷ reported (codes "example") 4 ∷ []
 unfolding faults labels_from cut
 faults_of_nothing = refl

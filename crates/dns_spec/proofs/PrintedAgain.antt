@@ -77,9 +77,9 @@ pub printed_reports : (o : DomainName) (t : Octets) (options : Options) (report 
     → IsTrue options.is_printing → IsTrue report.passes → length report.output ≤ most_octets → Reports o report.output options report
 printed_reports o t options report from (fault_at code line, means, e) printing passes short = absurd (false≢true (sym (ap (λ r. r.passes) e) ∙ passes))
 printed_reports o t options report from (records rs, means, e) printing passes short =
-    let told : report.output ≡ zone_text (zone_of o rs) = printed_output options (zone_of o rs) (faults (zone_of o rs)) report e printing passes in
-    let short' : length (zone_text (zone_of o rs)) ≤ most_octets = subst (λ u. length u ≤ most_octets) told short in
-    subst (λ u. Reports o u options report) (sym told) ((reported_again o t rs from means short' options report).1 (records rs, means, e))
+    let printed : report.output ≡ zone_text (zone_of o rs) = printed_output options (zone_of o rs) (faults (zone_of o rs)) report e printing passes in
+    let short' : length (zone_text (zone_of o rs)) ≤ most_octets = subst (λ u. length u ≤ most_octets) printed short in
+    subst (λ u. Reports o u options report) (sym printed) ((reported_again o t rs from means short' options report).1 (records rs, means, e))
   where
     printed_output : (options : Options) (z : ZoneContents) (fs : List Fault) (report : Report) → report ≡ report_of_faults options z fs → IsTrue options.is_printing
         → IsTrue report.passes → report.output ≡ zone_text z

@@ -1,4 +1,4 @@
--- A question ends by octet 271: directly behind the header a name is written out.
+-- A question ends by octet 271: directly after the header a name is written out.
 use Rattle.std.proofs.Common.{◌≡◌, ℕ, ◌+◌, ◌≤◌, eqb, nat_le, length, drop, Option, None, Some, refl, ap, ◌∙◌, arith, length-append, length-drop}
 use Rattle.std.proofs.lemmas.Bool.{and_parts, leb-true, eqb-true}
 use Rattle.std.proofs.lemmas.Option.{none-some, cond_some}
@@ -11,7 +11,7 @@ use Rattle.dns_spec.specs.Reading.RunAt.{ends, goes_on, jumps}
 use Rattle.dns_spec.specs.Query.{field16, question_of, question_at}
 use Rattle.dns_spec.proofs.NameReading.{name_at_computes}
 
--- a run that begins by the end of the header has no pointer: it ends behind its own labels
+-- a run that begins by the end of the header has no pointer: it ends after its own labels
 written_out : {b : Octets} {s i e : ℕ} {n : DomainName} → RunAt b s i n e → s ≤ 12 → e ≡ i + length (wire n)
 written_out (ends i at) h = refl
 written_out {b} (goes_on i k l n e at pos low inside is rest) h =

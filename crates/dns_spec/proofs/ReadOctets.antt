@@ -55,8 +55,8 @@ label_small : (text l rest : Octets) → LabelThen text l rest → Each Octet te
 label_small text [] rest h small = (tt, subst (Each Octet) h small)
 label_small text (x ∷ l) rest (first, others, cut, spelled, h) small =
     let both : Each Octet (first ++ others) = subst (Each Octet) cut small in
-    let behind = label_small others l rest h (each_back first others both) in
-    ((octet_small first x spelled (each_front first others both), behind.0), behind.1)
+    let after = label_small others l rest h (each_back first others both) in
+    ((octet_small first x spelled (each_front first others both), after.0), after.1)
 
 labels_small : (origin : DomainName) (text : Octets) (n : DomainName) → SmallName origin → TextSpells origin text n → Each Octet text → SmallName n
 labels_small origin text [] from h small = tt

@@ -6,7 +6,7 @@ use Rattle.dns_spec.specs.Names.{Octets, DomainName, wire}
 use Rattle.dns_spec.specs.ComputedReading.{run, runs_before, name_at}
 use Rattle.dns_spec.proofs.Examples.{hex, dotted, letters}
 
--- octets behind a header
+-- octets after a header
 abbrev message : Octets → Octets
 message os = replicate 12 0 ++ os
 
@@ -14,14 +14,14 @@ message os = replicate 12 0 ++ os
 abbrev chained : Octets
 chained = message (hex (codes "0377777700 0178c00c c011"))
 
-behind_pointers : name_at chained 21 ≡ Some (dotted (codes "x.www"), 23)
+after_pointers : name_at chained 21 ≡ Some (dotted (codes "x.www"), 23)
 unfolding run runs_before name_at
-behind_pointers = refl
+after_pointers = refl
 
--- a name ends behind its own octets
-behind_its_own : name_at chained 17 ≡ Some (dotted (codes "x.www"), 21)
+-- a name ends after its own octets
+after_its_own : name_at chained 17 ≡ Some (dotted (codes "x.www"), 21)
 unfolding run runs_before name_at
-behind_its_own = refl
+after_its_own = refl
 
 -- a pointer to the run in which it stands
 to_own_run : name_at (message (hex (codes "0161c00c"))) 12 ≡ None

@@ -141,7 +141,7 @@ rises_sorted cmp (x ∷ xs) h = (each_recursion (λ y. cmp x y ≡ Less) xs h.0,
     each_recursion P [] h = tt
     each_recursion P (x ∷ xs) h = (h.0, each_recursion P xs h.1)
 
--- a list in which each element is before those behind it is sorted
+-- a list in which each element is before those after it is sorted
 pub sort_risen : {X : Type 0} (cmp : X → X → Ordering) (xs : List X) → Rises cmp xs → sort_by cmp xs ≡ xs
 sort_risen cmp [] r = refl
 sort_risen {X} cmp (x ∷ xs) r = ap (insert_by cmp x) (sort_risen cmp xs r.1) ∙ first x xs r.0

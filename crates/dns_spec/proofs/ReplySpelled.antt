@@ -166,8 +166,8 @@ reply_laid lay z d keep r writable low bare lays e = go (decide z d) (decided z 
     id : field16 d 0 < 2 ^ 16
     id = field_bound d 0 low
 
-    told : (x : Reply) → Spells (octets_by lay x) (reply_message x) → ◌≡◌ {A = Option Reply} (Some x) (Some r) → Spells (octets_by lay r) (reply_message r)
-    told x s e = subst (λ y. Spells (octets_by lay y) (reply_message y)) (same_Some x r e) s
+    replied : (x : Reply) → Spells (octets_by lay x) (reply_message x) → ◌≡◌ {A = Option Reply} (Some x) (Some r) → Spells (octets_by lay r) (reply_message r)
+    replied x s e = subst (λ y. Spells (octets_by lay y) (reply_message y)) (same_Some x r e) s
 
     refusing : (h : Header) (q : Option MessageQuestion) → Refuses d h → Laid lay q [] → Spells (lay h q []) (message_of h q [])
     refusing h q ok laid =
@@ -176,15 +176,15 @@ reply_laid lay z d keep r writable low bare lays e = go (decide z d) (decided z 
 
     go : (x : Decision) → Decided d x → reply_of keep z x ≡ Some r → Spells (octets_by lay r) (reply_message r)
     go silence ok e = absurd (none-some r e)
-    go (header_alone h) ok e = told (record { header = h; question = None; sets = [] }) (refusing h None ok bare) e
+    go (header_alone h) ok e = replied (record { header = h; question = None; sets = [] }) (refusing h None ok bare) e
     go (question_alone h q) ok e =
-        told (record { header = h; question = Some q; sets = [] }) (refusing h (Some q) ok.1 (lays q (askable d q low ok.0)).0) e
+        replied (record { header = h; question = Some q; sets = [] }) (refusing h (Some q) ok.1 (lays q (askable d q low ok.0)).0) e
     go (answered h q) ok e =
         let may = askable d q low ok.0 in
         let o = outcome z q.qname q.qtype in
         let head = reply_head h (is_authoritative o) (truncated z q (keep q)) o.rcode in
         let flags = flags_bound h (is_authoritative o) (truncated z q (keep q)) o.rcode (outcome_rcode z writable q.qname q.qtype may.qname) in
-        told (answer_with z h q (keep q)) ((lays q may).1 head (subst (λ (x : Header). x.id < 2 ^ 16) ok.1 id) flags) e
+        replied (answer_with z h q (keep q)) ((lays q may).1 head (subst (λ (x : Header). x.id < 2 ^ 16) ok.1 id) flags) e
 
 -- The octets of a reply, laid out plainly, spell the message that it is.
 pub reply_spells : (z : ZoneContents) (d : Octets) (keep : MessageQuestion → List Item) (r : Reply) → All IsWritable z.records → All (λ o. o < 256) d → KeepsBeginning z keep
@@ -265,16 +265,16 @@ reply_sized : (lay : Header → Option MessageQuestion → List Item → Octets)
 unfolding reply_with
 reply_sized lay z d keep limit r room fits e = go (decide z d) (decided z d) e
   where
-    told : (x : Reply) → length (octets_by lay x) ≤ limit → ◌≡◌ {A = Option Reply} (Some x) (Some r) → length (octets_by lay r) ≤ limit
-    told x s e = subst (λ y. length (octets_by lay y) ≤ limit) (same_Some x r e) s
+    replied : (x : Reply) → length (octets_by lay x) ≤ limit → ◌≡◌ {A = Option Reply} (Some x) (Some r) → length (octets_by lay r) ≤ limit
+    replied x s e = subst (λ y. length (octets_by lay y) ≤ limit) (same_Some x r e) s
 
     go : (x : Decision) → Decided d x → reply_of keep z x ≡ Some r → length (octets_by lay r) ≤ limit
     go silence ok e = absurd (none-some r e)
-    go (header_alone h) ok e = told (record { header = h; question = None; sets = [] }) (room h) e
-    go (question_alone h q) ok e = told (record { header = h; question = Some q; sets = [] }) (fits h q (named_question d q ok.0)).0 e
+    go (header_alone h) ok e = replied (record { header = h; question = None; sets = [] }) (room h) e
+    go (question_alone h q) ok e = replied (record { header = h; question = Some q; sets = [] }) (fits h q (named_question d q ok.0)).0 e
     go (answered h q) ok e =
         let o = outcome z q.qname q.qtype in
-        told (answer_with z h q (keep q)) (fits (reply_head h (is_authoritative o) (truncated z q (keep q)) o.rcode) q (named_question d q ok.0)).1 e
+        replied (answer_with z h q (keep q)) (fits (reply_head h (is_authoritative o) (truncated z q (keep q)) o.rcode) q (named_question d q ok.0)).1 e
 
 pub shared_reply_fits : (z : ZoneContents) (d : Octets) (limit : ℕ) (r : Reply) → 271 ≤ limit → reply z d limit ≡ Some r → length (octets_by layout r) ≤ limit
 unfolding reply

@@ -70,7 +70,7 @@ nothing_there : report_of_meaning no_options example (records []) ≡ failed (co
 unfolding faults labels_from cut octet_text digits
 nothing_there = refl
 
--- an empty file for the root, whose faults are told though the zone itself was asked for
+-- an empty file for the root, whose faults are reported though the zone itself was asked for
 nothing_at_root : report_of_meaning printing [] (records []) ≡ failed (codes ". Z01\n. Z04\n")
 unfolding faults labels_from cut octet_text digits
 nothing_at_root = refl
@@ -80,7 +80,7 @@ faulty_file : report_of_meaning printing example (fault_at bad_ttl 4) ≡ failed
 unfolding digits
 faulty_file = refl
 
--- quiet alone tells no fault of the file either
+-- quiet alone reports no fault of the file either
 faulty_file_quietly : report_of_meaning quiet example (fault_at bad_ttl 4) ≡ failed []
 faulty_file_quietly = refl
 
@@ -92,7 +92,7 @@ fault_of_two_digits = refl
 abbrev quiet_printing : Options
 quiet_printing = record { is_quiet = true; is_printing = true }
 
--- asked for the zone and for quiet, the checker tells faults
+-- asked for the zone and for quiet, the checker reports faults
 faulty_zone_printing : zone_report quiet_printing (small_zone_with (server example (codes "alias") ∷ []))
     ≡ failed (codes "example. Z09\nexample. Z10\n")
 unfolding faults labels_from cut octet_text digits

@@ -102,7 +102,7 @@ pointer : udp small_zone (hex (codes "123400000001000000000000c00c00010001")) â‰
 unfolding udp tcp labels_from cut run runs_before name_at shared_octets cost data_laid records_octets layout data_size records_size size plain_layout plain_size chain_from chain outcome_at outcome extra items required_items reply_with reply octets_of question_at query_read decide
 pointer = refl
 
--- an octet behind the question
+-- an octet after the question
 longer : udp small_zone (hex (codes "12340000000100000000000003777777076578616d706c65000001000100")) â‰¡ Some (hex (codes "123480010000000000000000"))
 unfolding udp tcp labels_from cut run runs_before name_at shared_octets cost data_laid records_octets layout data_size records_size size plain_layout plain_size chain_from chain outcome_at outcome extra items required_items reply_with reply octets_of question_at query_read decide
 longer = refl

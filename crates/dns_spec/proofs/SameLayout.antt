@@ -58,7 +58,7 @@ low_more ms low n i room l t p e = go (place_pushed ms (n, i) (l ∷ t) p e)
 abbrev Ends : ℕ → Octets → Octets → Type 0
 Ends p x y = (p + length x ≤ 16384) ⊎ (p + length y ≤ 16384)
 
--- what ends behind octets and others, ends behind the octets; what is behind both, too
+-- what ends after octets and others, ends after the octets; what is after both, too
 ends_front : (p : ℕ) (w x y : Octets) → Ends p (w ++ x) (w ++ y) → p + length w ≤ 16384
 ends_front p w x y (inl h) = omega (arith, h, length-append w x)
 ends_front p w x y (inr h) = omega (arith, h, length-append w y)
@@ -71,7 +71,7 @@ record SameData (ms : List Placed) (a b : Laid) : Type 0 where
   same : a ≡ b
   low : Low (ms ++ a.names)
 
--- data after octets, and after a name, from that behind it
+-- data after octets, and after a name, from that after it
 abbrev Again : List Part → Type 0
 Again ps = (ms : List Placed) (p : ℕ) → Low ms → Ends p (data_laid ms p ps).written (unbounded_data ms p ps).written → SameData ms (data_laid ms p ps) (unbounded_data ms p ps)
 
@@ -126,15 +126,15 @@ same_record ms p r low = subst Same (same_octets ms low r.owner) same
         let e = unbounded_data earlier next (parts_of r) in
         let front = ends_front p o (record_tail r d.written) (record_tail r e.written) ends in
         let tail : Ends (p + length o) (record_tail r d.written) (record_tail r e.written) = ends_rest p (p + length o) o (record_tail r d.written) (record_tail r e.written) refl ends in
-        let s = same_data (parts_of r) earlier next (low_more ms low r.owner p front) (behind d.written e.written tail) in
+        let s = same_data (parts_of r) earlier next (low_more ms low r.owner p front) (after d.written e.written tail) in
         record {
           same = ap (λ (z : Laid). record { written = o ++ record_tail r z.written; names = (r.owner, p) ∷ z.names }) s.same;
           low = subst Low (append_assoc ms ((r.owner, p) ∷ []) d.names) s.low;
         }
       where
-        behind : (x y : Octets) → Ends (p + length (shared_octets ms r.owner)) (record_tail r x) (record_tail r y) → Ends (p + length (shared_octets ms r.owner) + 10) x y
-        behind x y (inl h) = inl (omega (arith, h, length-record_tail r x))
-        behind x y (inr h) = inr (omega (arith, h, length-record_tail r y))
+        after : (x y : Octets) → Ends (p + length (shared_octets ms r.owner)) (record_tail r x) (record_tail r y) → Ends (p + length (shared_octets ms r.owner) + 10) x y
+        after x y (inl h) = inl (omega (arith, h, length-record_tail r x))
+        after x y (inr h) = inr (omega (arith, h, length-record_tail r y))
 
 same_records : (ms : List Placed) (p : ℕ) (rs : List ResourceRecord) → Low ms → Ends p (records_octets ms p rs) (unbounded_records ms p rs)
     → records_octets ms p rs ≡ unbounded_records ms p rs

@@ -12,7 +12,7 @@ use Rattle.dns_spec.specs.Reading.{Header, MessageQuestion, MessageRecord, Octet
 use Rattle.dns_spec.specs.Layout.{octets16, octets32, answer, authority, additional, Item, records_of, in_section, Placed, shared_octets, data_laid, parts_of, record_tail, records_octets, question_octets, asked_octets, asked_placed, reply_header, layout, record_size, record_names, records_size, size, is_section, Section, message_record, message_of}
 use Rattle.dns_spec.specs.Laws.{IsWritable, IsAskable, HasRoom, HasCounts}
 use Rattle.dns_spec.proofs.SortedOnce.{Each}
-use Rattle.dns_spec.proofs.Places.{Stands, stands_front, stands_rest, stands_behind, stands_all, stands_within, stands_get, number_at, octets_at}
+use Rattle.dns_spec.proofs.Places.{Stands, stands_front, stands_rest, stands_after, stands_all, stands_within, stands_get, number_at, octets_at}
 use Rattle.dns_spec.proofs.WrittenData.{cut_into, name_part, octets_part, all_strings, front_taken, data_written}
 use Rattle.dns_spec.proofs.PlainLayout.{records_by_section, section_with, header_at, one_question, asked_at_12, length-question_octets}
 use Rattle.dns_spec.proofs.LayoutSize.{length-layout}
@@ -26,7 +26,7 @@ data_octets ms p ps = (data_laid ms p ps).written
 abbrev data_names : List Placed → ℕ → List Part → List Placed
 data_names ms p ps = (data_laid ms p ps).names
 
--- behind the last octet there are only parts without octets
+-- after the last octet there are only parts without octets
 take_none : (k : ℕ) → take {A = ℕ} k [] ≡ []
 take_none zero = refl
 take_none (suc k) = refl
@@ -63,25 +63,25 @@ module _ (b : Octets) (room : length b < 2 ^ 16) where
   abbrev Lays : List Piece → Octets → List Part → Type 0
   Lays ps os xs = (ms : List Placed) (i : ℕ) → Known b i ms → 12 ≤ i → Stands b i (data_octets ms i xs) → Laid ps os ms i xs
 
-  -- behind octets, and behind a name
+  -- after octets, and after a name
   module _ (ms : List Placed) (i : ℕ) (o : Octets) (ys : List Part) (known : Known b i ms) (header : 12 ≤ i) (at : Stands b i (data_octets ms i (octets o ∷ ys))) where
     at_octets : Stands b i o
     unfolding data_laid
     at_octets = stands_front o (data_octets ms (i + length o) ys) at
 
-    behind_octets : (ps : List Piece) (rest : Octets) → Lays ps rest ys → Laid ps rest ms (i + length o) ys
+    octets_laid : (ps : List Piece) (rest : Octets) → Lays ps rest ys → Laid ps rest ms (i + length o) ys
     unfolding data_laid
-    behind_octets ps rest lays =
+    octets_laid ps rest lays =
         lays ms (i + length o) (known_later b i (i + length o) ms (omega arith) known) (omega arith) (stands_rest o (data_octets ms (i + length o) ys) at)
 
     end_of_octets : i + length o + length (data_octets ms (i + length o) ys) ≡ i + length (data_octets ms i (octets o ∷ ys))
     unfolding data_laid
     end_of_octets = omega (arith, length-append o (data_octets ms (i + length o) ys))
 
-    known_behind : Known b (i + length o + length (data_octets ms (i + length o) ys)) (ms ++ data_names ms (i + length o) ys)
+    known_after : Known b (i + length o + length (data_octets ms (i + length o) ys)) (ms ++ data_names ms (i + length o) ys)
         → Known b (i + length (data_octets ms i (octets o ∷ ys))) (ms ++ data_names ms i (octets o ∷ ys))
     unfolding data_laid
-    known_behind k = subst (λ e. Known b e (ms ++ data_names ms (i + length o) ys)) end_of_octets k
+    known_after k = subst (λ e. Known b e (ms ++ data_names ms (i + length o) ys)) end_of_octets k
 
   nil_lays : (os : Octets) (xs : List Part) → cut [] os ≡ Some xs → Lays [] os xs
   unfolding cut data_laid
@@ -100,7 +100,7 @@ module _ (b : Octets) (room : length b < 2 ^ 16) where
       laid at =
           let x = take (width f) os in
           let t = front_taken (width f) os part rest front in
-          let r = behind_octets ms i x ys known header at ps rest lays in
+          let r = octets_laid ms i x ys known header at ps rest lays in
           let place : i + length x ≡ i + (width f) = ap (λ z. i + z) t.1 in
           record {
             pieces = (
@@ -111,7 +111,7 @@ module _ (b : Octets) (room : length b < 2 ^ 16) where
               subst (λ z. PiecesAt b ps z (i + length (data_octets ms i (octets x ∷ ys))) rest) place
                   (subst (λ z. PiecesAt b ps (i + length x) z rest) (end_of_octets ms i x ys known header at) r.pieces),
             );
-            known = known_behind ms i x ys known header at r.known;
+            known = known_after ms i x ys known header at r.known;
           }
 
   string_lays : (ps : List Piece) (os rest : Octets) (part : Part) (ys : List Part) → piece_front string os ≡ Some (part, rest) → Lays ps rest ys → Lays (string ∷ ps) os (part ∷ ys)
@@ -123,7 +123,7 @@ module _ (b : Octets) (room : length b < 2 ^ 16) where
       laid at =
           let x = k ∷ take k os in
           let t = front_taken (suc k) (k ∷ os) part rest front in
-          let r = behind_octets ms i x ys known header at ps rest lays in
+          let r = octets_laid ms i x ys known header at ps rest lays in
           let here = at_octets ms i x ys known header at in
           let place : i + length x ≡ i + 1 + k = omega (arith, t.1) in
           record {
@@ -137,7 +137,7 @@ module _ (b : Octets) (room : length b < 2 ^ 16) where
               subst (λ z. PiecesAt b ps z (i + length (data_octets ms i (octets x ∷ ys))) rest) place
                   (subst (λ z. PiecesAt b ps (i + length x) z rest) (end_of_octets ms i x ys known header at) r.pieces),
             );
-            known = known_behind ms i x ys known header at r.known;
+            known = known_after ms i x ys known header at r.known;
           }
 
   -- the last piece of data is all that is left of it
@@ -146,12 +146,12 @@ module _ (b : Octets) (room : length b < 2 ^ 16) where
       → (OctetsAt b i (i + length os) os) × (i + length os ≡ i + length (data_octets ms i (octets os ∷ ys)))
       × PiecesAt b ps (i + length os) (i + length (data_octets ms i (octets os ∷ ys))) [] × Known b (i + length (data_octets ms i (octets os ∷ ys))) (ms ++ data_names ms i (octets os ∷ ys))
   rest_lays ps os ys ms i known header at lays more =
-      let r = behind_octets ms i os ys known header at ps [] lays in
+      let r = octets_laid ms i os ys known header at ps [] lays in
       let end = end_of_octets ms i os ys known header at in (
         octets_at os (at_octets ms i os ys known header at),
         omega (arith, end, no_octets ps ys more ms (i + length os)),
         subst (λ e. PiecesAt b ps (i + length os) e []) end r.pieces,
-        known_behind ms i os ys known header at r.known,
+        known_after ms i os ys known header at r.known,
       )
 
   -- the last piece of data is all that is left of it
@@ -249,11 +249,11 @@ module _ (b : Octets) (room : length b < 2 ^ 16) where
   records_laid (r ∷ rs) ms i known header w_ok at =
       let n = shared_octets ms r.owner in
       let j : ℕ = i + length n in
-      let behind : ℕ = i + length n + 10 in
+      let after : ℕ = i + length n + 10 in
       let earlier = ms ++ (r.owner, i) ∷ [] in
-      let d = data_octets earlier behind (parts_of r) in
+      let d = data_octets earlier after (parts_of r) in
       let w = n ++ record_tail r d in
-      let later = ms ++ (r.owner, i) ∷ data_names earlier behind (parts_of r) in
+      let later = ms ++ (r.owner, i) ∷ data_names earlier after (parts_of r) in
       let rest = records_octets later (i + length w) rs in
       let t = octets16 r.rtype in
       let c = octets16 class_in in
@@ -265,15 +265,15 @@ module _ (b : Octets) (room : length b < 2 ^ 16) where
       let upto_length : Stands b j (t ++ c ++ l ++ k) = stands_front (t ++ c ++ l ++ k) d tail in
       let upto_ttl : Stands b j (t ++ c ++ l) = stands_front (t ++ c ++ l) k upto_length in
       let upto_class : Stands b j (t ++ c) = stands_front (t ++ c) l upto_ttl in
-      let data_stands : Stands b behind d = stands_behind 10 (t ++ c ++ l ++ k) d refl tail in
+      let data_stands : Stands b after d = stands_after 10 (t ++ c ++ l ++ k) d refl tail in
       let short = stands_within d data_stands in
       let labels = (and_parts (list_all is_label r.owner) (nat_le (length (wire r.owner)) 255) w_ok.0.owner).0 in
-      let known' : Known b behind earlier = known_later b j behind earlier (omega arith) (known_more b i ms known r.owner i (omega arith) header labels own) in
-      let laid = data_laid_at r.rtype r.rdata earlier behind w_ok.0.rdata known' (omega arith) data_stands in
+      let known' : Known b after earlier = known_later b j after earlier (omega arith) (known_more b i ms known r.owner i (omega arith) header labels own) in
+      let laid = data_laid_at r.rtype r.rdata earlier after w_ok.0.rdata known' (omega arith) data_stands in
       let tail_len : length (record_tail r d) ≡ 10 + length d = length-append (t ++ c ++ l ++ k) d in
-      let next : i + length w ≡ behind + length d = omega (arith, length-append n (record_tail r d), tail_len) in
+      let next : i + length w ≡ after + length d = omega (arith, length-append n (record_tail r d), tail_len) in
       let known_next : Known b (i + length w) later =
-      subst (λ e. Known b e later) (sym next) (subst (Known b (behind + length d)) (append_assoc ms ((r.owner, i) ∷ []) (data_names earlier behind (parts_of r))) laid.known) in
+      subst (λ e. Known b e later) (sym next) (subst (Known b (after + length d)) (append_assoc ms ((r.owner, i) ∷ []) (data_names earlier after (parts_of r))) laid.known) in
       let end : i + length w + length rest ≡ i + length (w ++ rest) = omega (arith, length-append w rest) in
       let others = records_laid rs later (i + length w) known_next (omega (arith, next)) w_ok.1 (stands_rest w rest at) in (
         j,
@@ -281,9 +281,9 @@ module _ (b : Octets) (room : length b < 2 ^ 16) where
         record {
           owner = name_shared b i ms known r.owner i (omega arith) w_ok.0.owner own;
           rtype = number_at 2 r.rtype w_ok.0.rtype (stands_front t c upto_class);
-          rclass = number_at 2 class_in (omega arith) (stands_behind 2 t c refl upto_class);
-          ttl = number_at 4 r.ttl w_ok.0.ttl (stands_behind 4 (t ++ c) l refl upto_ttl);
-          length = number_at 2 (length d) (omega (arith, short, room)) (stands_behind 8 (t ++ c ++ l) k refl upto_length);
+          rclass = number_at 2 class_in (omega arith) (stands_after 2 t c refl upto_class);
+          ttl = number_at 4 r.ttl w_ok.0.ttl (stands_after 4 (t ++ c) l refl upto_ttl);
+          length = number_at 2 (length d) (omega (arith, short, room)) (stands_after 8 (t ++ c ++ l) k refl upto_length);
           rdata = laid.data_at;
         },
         subst (λ p. RecordsAt b p (map message_record rs) (i + length (w ++ rest))) next
@@ -321,14 +321,14 @@ spells_where b h q items room ok counts writable whole =
     let all : Stands b 0 (rh ++ qo ++ rest) = subst (Stands b 0) whole (stands_all b) in
     let front : Stands b 0 (rh ++ qo) = stands_front (rh ++ qo) rest all in
     let at = header_at h (length (option_to_list q)) (length A) (length B) (length C) ok.id ok.flags (one_question q) counts.answers counts.authorities counts.additionals (stands_front rh qo front) in
-    let question : Stands b 12 qo = stands_behind 12 rh qo refl front in
+    let question : Stands b 12 qo = stands_after 12 rh qo refl front in
     let asked = asked_at_12 q ok.question question in
     let known = asked_known b q ok.question question in
     let head_len : length (rh ++ qo) ≡ from = length-append rh qo in
-    let behind : Stands b from rest = subst (λ x. Stands b x rest) (zero-add from) (stands_behind from (rh ++ qo) rest head_len all) in
+    let after : Stands b from rest = subst (λ x. Stands b x rest) (zero-add from) (stands_after from (rh ++ qo) rest head_len all) in
     let end : from + length rest ≡ length b = omega (arith, ap length whole, length-append (rh ++ qo) rest, head_len) in
     let read : RecordsAt b from (map message_record (records_of items)) (length b) =
-    subst (RecordsAt b from (map message_record (records_of items))) end (records_laid b room (records_of items) (asked_placed q) from known (omega arith) writable behind) in
+    subst (RecordsAt b from (map message_record (records_of items))) end (records_laid b room (records_of items) (asked_placed q) from known (omega arith) writable after) in
     let split : map message_record (records_of items) ≡ map message_record A ++ (map message_record B ++ map message_record C) =
     ap (map message_record) (records_by_section items ok.in_order) ∙ map-append message_record A (B ++ C) ∙ ap (λ x. map message_record A ++ x) (map-append message_record B C) in
     let s = records_split b (map message_record A) (map message_record B ++ map message_record C) from (length b) (subst (λ x. RecordsAt b from x (length b)) split read) in

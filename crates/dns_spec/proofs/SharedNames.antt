@@ -7,7 +7,7 @@ use Rattle.dns_spec.specs.Names.{Octets, DomainName, wire, is_label, is_name, na
 use Rattle.dns_spec.specs.Reading.{RunAt, NameAt}
 use Rattle.dns_spec.specs.Reading.RunAt.{ends, goes_on, jumps}
 use Rattle.dns_spec.specs.Layout.{pointer, Placed, has_suffix, suffix_place, place_of, last_place, reached, shared_place, shared_octets}
-use Rattle.dns_spec.proofs.Places.{Stands, stands_front, stands_rest, stands_behind, stands_within, stands_get, stands_take, label_parts}
+use Rattle.dns_spec.proofs.Places.{Stands, stands_front, stands_rest, stands_after, stands_within, stands_get, stands_take, label_parts}
 use Rattle.dns_spec.proofs.NameLaws.{names_equal-decides}
 
 -- s is a suffix of n
@@ -44,7 +44,7 @@ place_again (m ∷ ms) n s h e = go (has_suffix m.0 s) refl e (place_again ms n 
     go true p q f = absurd (none-some (suffix_place m s) (sym q))
     go false p q f = other (has_suffix m.0 n) refl p (f q)
 
--- a name behind the earlier ones is found where none of them has the suffix
+-- a name after the earlier ones is found where none of them has the suffix
 pub place_pushed : (ms : List Placed) (m : Placed) (s : DomainName) (p : ℕ) → place_of (ms ++ m ∷ []) s ≡ Some p
     → (place_of ms s ≡ Some p) ⊎ ((place_of ms s ≡ None) × (has_suffix m.0 s ≡ true) × (suffix_place m s ≡ p))
 place_pushed [] m s p e = go (has_suffix m.0 s) refl e
@@ -78,7 +78,7 @@ shared_to ms s p e low = ap reached e ∙ ap (λ t. cond t (Some p) None) (le-le
 pub shared_none : (ms : List Placed) (s : DomainName) → place_of ms s ≡ None → shared_place ms s ≡ None
 shared_none ms s e = ap reached e
 
--- the two octets of a pointer tell its place
+-- the two octets of a pointer give its place
 pub pointer_octets : (p : ℕ) → p < 16384 → pointer p ≡ (192 + p / 256) ∷ p % 256 ∷ []
 pointer_octets p h = ap₂ (λ x y. x ∷ y ∷ []) (omega arith) (omega arith)
 
@@ -137,7 +137,7 @@ module _ (b : Octets) (bound : ℕ) (ms : List Placed) (known : Known b bound ms
       go None e again =
           let w = shared_whole ms l n e in
           let here : Stands b i (length l ∷ (l ++ shared_octets ms n)) = subst (Stands b i) w at in
-          let tail : Stands b (i + 1) (l ++ shared_octets ms n) = stands_behind 1 (length l ∷ []) (l ++ shared_octets ms n) refl here in
+          let tail : Stands b (i + 1) (l ++ shared_octets ms n) = stands_after 1 (length l ∷ []) (l ++ shared_octets ms n) refl here in
           let front : Stands b (i + 1) l = stands_front l (shared_octets ms n) tail in
           let q = label_parts l p.0 in
           let end : i + 1 + length l + length (shared_octets ms n) ≡ i + length (shared_octets ms (l ∷ n)) =
@@ -149,7 +149,7 @@ module _ (b : Octets) (bound : ℕ) (ms : List Placed) (known : Known b bound ms
           let f = known l n k e in
           let w = shared_pointed ms l n k e ∙ pointer_octets k (shared_is ms (l ∷ n) k e).1 in
           let here : Stands b i ((192 + k / 256) ∷ k % 256 ∷ []) = subst (Stands b i) w at in
-          let second : Stands b (i + 1) (k % 256 ∷ []) = stands_behind 1 ((192 + k / 256) ∷ []) (k % 256 ∷ []) refl here in
+          let second : Stands b (i + 1) (k % 256 ∷ []) = stands_after 1 ((192 + k / 256) ∷ []) (k % 256 ∷ []) refl here in
           let before = f.earlier in
           subst (λ x. RunAt b s i (l ∷ n) (i + length x)) (sym w)
           (jumps i (192 + k / 256) (k % 256) k (l ∷ n) f.end (stands_get (192 + k / 256) (k % 256 ∷ []) here) (omega arith) (stands_get (k % 256) [] second) (omega arith) f.header (omega (arith, before)) f.spelled)
@@ -174,7 +174,7 @@ module _ (b : Octets) (bound : ℕ) (ms : List Placed) (known : Known b bound ms
       let out = place_again ms (k ∷ n) (l ∷ t) (record { front = x ∷ front; whole = e }) none in
       let w = shared_whole ms k n (shared_none ms (k ∷ n) out) in
       let here : Stands b i (length k ∷ (k ++ shared_octets ms n)) = subst (Stands b i) w at in
-      let next : Stands b (i + 1 + length k) (shared_octets ms n) = stands_rest k (shared_octets ms n) (stands_behind 1 (length k ∷ []) (k ++ shared_octets ms n) refl here) in
+      let next : Stands b (i + 1 + length k) (shared_octets ms n) = stands_rest k (shared_octets ms n) (stands_after 1 (length k ∷ []) (k ++ shared_octets ms n) refl here) in
       let r = standing n (i + 1 + length k) l t front tail none next in
       let short = r.short in
       let inside = r.inside in
@@ -186,9 +186,9 @@ module _ (b : Octets) (bound : ℕ) (ms : List Placed) (known : Known b bound ms
         stands = subst (λ y. Stands b y (shared_octets ms (l ∷ t))) place r.stands;
       }
 
-  labels_behind : (front s : DomainName) → list_all is_label (front ++ s) ≡ true → list_all is_label s ≡ true
-  labels_behind [] s h = h
-  labels_behind (k ∷ front) s h = labels_behind front s (and_parts (is_label k) (list_all is_label (front ++ s)) h).1
+  labels_after : (front s : DomainName) → list_all is_label (front ++ s) ≡ true → list_all is_label s ≡ true
+  labels_after [] s h = h
+  labels_after (k ∷ front) s h = labels_after front s (and_parts (is_label k) (list_all is_label (front ++ s)) h).1
 
   -- the name laid out is one more earlier name
   pub known_more : (n : DomainName) (i : ℕ) → bound ≤ i → 12 ≤ i → list_all is_label n ≡ true → Stands b i (shared_octets ms n)
@@ -202,7 +202,7 @@ module _ (b : Octets) (bound : ℕ) (ms : List Placed) (known : Known b bound ms
           let s = suffix_from n (l ∷ t) f.1 in
           let r = standing n i l t s.front s.whole f.0 at in
           let inside = r.inside in
-          let labels = labels_behind s.front (l ∷ t) (subst (λ x. list_all is_label x ≡ true) s.whole name) in
+          let labels = labels_after s.front (l ∷ t) (subst (λ x. list_all is_label x ≡ true) s.whole name) in
           let j : ℕ = i + (length (wire n) - length (wire (l ∷ t))) in
           subst (Found b (i + length (shared_octets ms n)) (l ∷ t)) f.2
           (record {

@@ -147,7 +147,7 @@ module _ {X : Type 0} (cmp : X → X → Ordering) where
   length-sort_by [] = refl
   length-sort_by (x ∷ xs) = length-insert x (sort_by cmp xs) ∙ ap suc (length-sort_by xs)
 
-  -- each element is before those behind it
+  -- each element is before those after it
   abbrev pub Rises : List X → Type 0
   Rises [] = Unit {0}
   Rises (x ∷ xs) = Each (λ y. cmp x y ≡ Less) xs × Rises xs
@@ -200,21 +200,21 @@ module _ {X : Type 0} (cmp : X → X → Ordering) (order : IsTotalOrder cmp) (e
   same_risen (x ∷ xs) (y ∷ ys) r s f g =
       let e = heads (f x (inl refl)) (g y (inl refl)) in
       ap₂ (λ z zs. z ∷ zs) e (same_risen xs ys r.1 s.1
-      (λ a m. behind_y a (f a (inr m)) (λ p. apart x (subst (λ z. cmp x z ≡ Less) (p ∙ sym e) (each_at (λ z. cmp x z ≡ Less) a xs r.0 m))))
-      (λ a m. behind_x a (g a (inr m)) (λ p. apart y (subst (λ z. cmp y z ≡ Less) (p ∙ e) (each_at (λ z. cmp y z ≡ Less) a ys s.0 m)))))
+      (λ a m. after_y a (f a (inr m)) (λ p. apart x (subst (λ z. cmp x z ≡ Less) (p ∙ sym e) (each_at (λ z. cmp x z ≡ Less) a xs r.0 m))))
+      (λ a m. after_x a (g a (inr m)) (λ p. apart y (subst (λ z. cmp y z ≡ Less) (p ∙ e) (each_at (λ z. cmp y z ≡ Less) a ys s.0 m)))))
     where
       heads : (x ≡ y) ⊎ Among x ys → (y ≡ x) ⊎ Among y xs → x ≡ y
       heads (inl e) k = e
       heads (inr m) (inl e) = sym e
       heads (inr m) (inr k) = absurd (neither x y (each_at (λ z. cmp x z ≡ Less) y xs r.0 k) (each_at (λ z. cmp y z ≡ Less) x ys s.0 m))
 
-      behind_y : (a : X) → (a ≡ y) ⊎ Among a ys → (a ≡ y → ⊥) → Among a ys
-      behind_y a (inl p) n = absurd (n p)
-      behind_y a (inr m) n = m
+      after_y : (a : X) → (a ≡ y) ⊎ Among a ys → (a ≡ y → ⊥) → Among a ys
+      after_y a (inl p) n = absurd (n p)
+      after_y a (inr m) n = m
 
-      behind_x : (a : X) → (a ≡ x) ⊎ Among a xs → (a ≡ x → ⊥) → Among a xs
-      behind_x a (inl p) n = absurd (n p)
-      behind_x a (inr m) n = m
+      after_x : (a : X) → (a ≡ x) ⊎ Among a xs → (a ≡ x → ⊥) → Among a xs
+      after_x a (inl p) n = absurd (n p)
+      after_x a (inr m) n = m
 
   pub same_sorted : (xs ys : List X) → Each D xs → Each D ys → ((a : X) → Among a xs → Among a ys) → ((a : X) → Among a ys → Among a xs)
       → sort_by cmp (distinct eq xs) ≡ sort_by cmp (distinct eq ys)

@@ -49,7 +49,7 @@ name_part os rest part h = go (name_of os) refl h
 pub octets_part : (k : ℕ) (os rest : Octets) (part : Part) → octets_front k os ≡ Some (part, rest) → octets (take k os) ≡ part
 octets_part k os rest part h = ap (λ z. z.0) (cond_some (nat_le k (length os)) (octets (take k os), drop k os) (part, rest) h).1
 
--- the octets of data from place i on, and what is behind its first part
+-- the octets of data from place i on, and what is after its first part
 module _ {b : Octets} {i : ℕ} (os x rest : Octets) (whole : os ≡ x ++ rest) (at : Stands b i os) where
   stands_part : Stands b i x
   stands_part = stands_front x rest (subst (Stands b i) whole at)
@@ -77,8 +77,8 @@ all_strings os rest part h =
     some zero ne = absurd (ne refl)
     some (suc n) ne = omega arith
 
-nothing_behind : {b : Octets} {i : ℕ} (os : Octets) → Stands b i os → Stands b (i + length os) []
-nothing_behind {b} {i} os at = stands_rest os [] (subst (Stands b i) (sym (append-nil os)) at)
+nothing_after : {b : Octets} {i : ℕ} (os : Octets) → Stands b i os → Stands b (i + length os) []
+nothing_after {b} {i} os at = stands_rest os [] (subst (Stands b i) (sym (append-nil os)) at)
 
 pub pieces_written : {b : Octets} (ps : List Piece) (os : Octets) (xs : List Part) (i : ℕ) → cut ps os ≡ Some xs → Stands b i os → PiecesAt b ps i (i + length os) os
 unfolding cut
@@ -138,7 +138,7 @@ pieces_written {b} (strings ∷ ps) os xs i h at =
       t.1,
       sym (append-nil os),
       refl,
-      subst (λ z. PiecesAt b ps e z []) (add-zero e) (pieces_written ps [] c.others e (ap (cut ps) (sym t.3) ∙ c.more) (nothing_behind os at)),
+      subst (λ z. PiecesAt b ps e z []) (add-zero e) (pieces_written ps [] c.others e (ap (cut ps) (sym t.3) ∙ c.more) (nothing_after os at)),
     )
 pieces_written {b} (anything ∷ ps) os xs i h at =
     let c = cut_into anything ps os xs h in
@@ -150,7 +150,7 @@ pieces_written {b} (anything ∷ ps) os xs i h at =
       octets_at os at,
       sym (append-nil os),
       refl,
-      subst (λ z. PiecesAt b ps e z []) (add-zero e) (pieces_written ps [] c.others e (ap (cut ps) (sym none) ∙ c.more) (nothing_behind os at)),
+      subst (λ z. PiecesAt b ps e z []) (add-zero e) (pieces_written ps [] c.others e (ap (cut ps) (sym none) ∙ c.more) (nothing_after os at)),
     )
 
 -- Valid data of class IN, written as it is, is read back.

@@ -116,7 +116,7 @@ part_octets (name n) = wire n
 abbrev pub joined : List Part → Octets
 joined = flat_map part_octets
 
--- RFC 1035 3.3: character-strings one behind the other, each behind its length in one octet; k octets of the string at
+-- RFC 1035 3.3: character-strings one after the other, each after its length in one octet; k octets of the string at
 -- hand are still to come
 abbrev pub are_strings : ℕ → Octets → Bool
 are_strings zero [] = true
@@ -124,7 +124,7 @@ are_strings (suc k) [] = false
 are_strings zero (o ∷ os) = are_strings o os
 are_strings (suc k) (o ∷ os) = are_strings k os
 
--- the first k octets, and those behind them
+-- the first k octets, and those after them
 abbrev pub octets_front : ℕ → Octets → Option (Part × Octets)
 octets_front k os = if nat_le k (length os) then Some (octets (take k os), drop k os) else None
 
@@ -135,7 +135,7 @@ string_front (k ∷ os) = octets_front (suc k) (k ∷ os)
 abbrev pub strings_front : Octets → Option (Part × Octets)
 strings_front os = if not (length os == 0) && are_strings 0 os then Some (octets os, []) else None
 
--- the piece that the octets begin with, and the octets behind it
+-- the piece that the octets begin with, and the octets after it
 abbrev pub piece_front : Piece → Octets → Option (Part × Octets)
 piece_front (fixed f) os = octets_front (width f) os
 piece_front domain os = option_map (λ r. (name r.0, r.1)) (name_of os)

@@ -17,7 +17,7 @@ Octets = List ℕ
 abbrev pub DomainName : Type 0
 DomainName = List Octets
 
--- RFC 1035 3.1: each label behind its length, then the length 0 of the root
+-- RFC 1035 3.1: each label after its length, then the length 0 of the root
 abbrev pub wire : DomainName → Octets
 wire [] = 0 ∷ []
 wire (l ∷ n) = length l ∷ (l ++ wire n)

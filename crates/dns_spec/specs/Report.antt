@@ -42,11 +42,11 @@ bare_name_text (l ∷ n) = join_with_byte 46 (map label_text (l ∷ n))
 abbrev pub loaded_report : ZoneContents → Octets
 loaded_report z = codes "zone " ++ bare_name_text z.origin ++ codes "/IN: loaded serial " ++ decimal (zone_serial z) ++ codes "\nOK\n"
 
--- with `is_quiet` and without `is_printing` no fault is told
+-- with `is_quiet` and without `is_printing` no fault is reported
 abbrev pub failing : Options → Octets → Report
-failing options told = record { output = if options.is_quiet && not options.is_printing then [] else told; passes = false }
+failing options lines = record { output = if options.is_quiet && not options.is_printing then [] else lines; passes = false }
 
--- a zone that passes is printed where that is asked for; else it is told that it was loaded, or with `is_quiet` nothing
+-- a zone that passes is printed where that is asked for; else it is reported as loaded, or with `is_quiet` nothing
 abbrev pub passing : Options → ZoneContents → Report
 passing options z =
     record { output = if options.is_printing then zone_text z else if options.is_quiet then [] else loaded_report z; passes = true }
@@ -55,7 +55,7 @@ abbrev pub report_of_faults : Options → ZoneContents → List Fault → Report
 report_of_faults options z [] = passing options z
 report_of_faults options z (f ∷ fs) = failing options (flat_map fault_report (f ∷ fs))
 
--- all faults of the zone, one on a line; where it has none, what is told of a zone that passes
+-- all faults of the zone, one on a line; where it has none, what is reported of a zone that passes
 abbrev pub zone_report : Options → ZoneContents → Report
 zone_report options z = report_of_faults options z (faults z)
 

@@ -29,7 +29,7 @@ pub fn order_of_records_changes_no_report()
     ensures { (options : Options) (o : DomainName) (rs : List ResourceRecord) → zone_report options (ordered_zone o rs) ≡ zone_report options (zone_of o rs) }
 {}
 
-/// Lists that hold the same records, in another order and with doubles or without, make one zone: in canonical order they
+/// Lists that hold the same records, in another order and with duplicates or without, make one zone: in canonical order they
 /// are one list, with one canonical text and one report (RFC 2181 section 5, RFC 4034 section 6). The records are such as
 /// are read, in lower case; it is enough that those of one list are.
 pub fn one_zone_has_one_text()
@@ -38,7 +38,7 @@ pub fn one_zone_has_one_text()
         × (zone_report options (zone_of o rs) ≡ zone_report options (zone_of o ss)) }
 {}
 
-/// Two files of one zone that mean the same records, in another order and with doubles or without, have one report: the
+/// Two files of one zone that mean the same records, in another order and with duplicates or without, have one report: the
 /// faults, the lines of a zone that passes, and where it is asked for the canonical text.
 pub fn files_of_one_zone_have_one_report()
     ensures { (o : DomainName) (t u : Octets) (rs ss : List ResourceRecord) → Means (folded o) t (records rs) → Means (folded o) u (records ss)
@@ -68,7 +68,7 @@ pub fn printing_twice_is_printing_once()
 {}
 
 /// Zones with one canonical text hold the same records, each equally often. Their records are such as are read, of types that
-/// zones have, and few and short enough to be read again. The text names no origin, so it doesn't tell that.
+/// zones have, and few and short enough to be read again. The text names no origin, so it doesn't give that.
 pub fn zones_with_one_text_hold_the_same_records()
     ensures { (y z : ZoneContents) → All IsReadRecord y.records → All HasZoneType y.records → length y.records ≤ most_records
         → All IsReadRecord z.records → All HasZoneType z.records → length z.records ≤ most_records

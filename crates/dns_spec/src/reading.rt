@@ -7,7 +7,7 @@ ghost use Rattle.dns_spec.specs.Reading.{MessageQuestion, DnsMessage, NameAt, Sp
 ghost use Rattle.dns_spec.specs.ComputedReading.{name_at, message_at};
 ghost use Rattle.dns_spec.specs.Query.{question_at};
 
-/// The computed reader of names gives a name and the place behind it exactly where they are spelled (RFC 1035 4.1.4).
+/// The computed reader of names gives a name and the place after it exactly where they are spelled (RFC 1035 4.1.4).
 pub fn name_at_computes_the_relation()
     ensures { (b : Octets) (i : ℕ) (n : DomainName) (e : ℕ)
         → (name_at b i ≡ Some (n, e)) ↔ NameAt b i n e }

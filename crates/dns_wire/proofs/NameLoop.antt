@@ -90,7 +90,7 @@ pub read_on-long : (d : Octets) (n : DomainName) (i : ℕ) → 255 < length (wir
 unfolding read_on
 read_on-long d n i long = none_long n long (run12 d i)
 
--- One step of the loop: the octet k at place i is not 0, and the label l behind it is inside the octets.
+-- One step of the loop: the octet k at place i is not 0, and the label l after it is inside the octets.
 module _ (d : Octets) (n : DomainName) (i k : ℕ) (l : Octets) (h : i < length d) (z : get_or d i 0 ≡ k) (pos : k ≡ 0 → ⊥) (inside : i + 1 + k ≤ length d) (e : l ≡ take (i + 1 + k - (i + 1)) (drop (i + 1) d)) where
   label_is : l ≡ take k (drop (i + 1) d)
   label_is = let same : i + 1 + k - (i + 1) ≡ k = omega arith in e ∙ ap (λ m. take m (drop (i + 1) d)) same

@@ -230,7 +230,7 @@ module _ (head : Octets → ℕ) (ms : List Placed) (b : Octets) (ks : List Kept
           record { header = s.0; earlier = s.1; end = s.2; spelled = run_more (shared_octets ms n) s.3 }
 
       stands : Stands (b ++ shared_octets ms n) (length b) (shared_octets ms n)
-      stands = record { before = b; behind = []; whole = ap (λ z. b ++ z) (sym (append-nil (shared_octets ms n))); place = refl }
+      stands = record { before = b; after = []; whole = ap (λ z. b ++ z) (sym (append-nil (shared_octets ms n))); place = refl }
 
       spelled : (l : Octets) (t : DomainName) (p : ℕ) → shared_place (ms ++ (n, length b) ∷ []) (l ∷ t) ≡ Some p
           → (12 ≤ p) × (p < length (b ++ shared_octets ms n)) × (e : ℕ) × RunAt (b ++ shared_octets ms n) p p (l ∷ t) e

@@ -17,7 +17,7 @@ const HEADER_OCTETS: usize = 12;
 
 /// The message that octets are, to their end.
 ///
-/// A fault tells why they are none: the first from the left, by the header, the questions and the records. `NoMemory` comes only
+/// A fault says why they are none: the first from the left, by the header, the questions and the records. `NoMemory` comes only
 /// where a growth was refused.
 pub fn read_message(alloc: Global, octets: &[u8]) -> Result<Message, WireFault>
     ensures ok { IfOk result (λ message. Spells octets.now message) }
@@ -40,7 +40,7 @@ pub fn read_message(alloc: Global, octets: &[u8]) -> Result<Message, WireFault>
     })
 }
 
-// How many questions and records a header tells, by section.
+// How many questions and records a header states, by section.
 #[derive(Clone, Copy)]
 struct Counts {
     questions: u16,

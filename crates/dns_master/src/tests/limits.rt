@@ -1,4 +1,4 @@
-//! Faults of long files: `R14` and `R15`, and what is told before them.
+//! Faults of long files: `R14` and `R15`, and what is reported before them.
 
 use super::reading::{Row, fault, repeated};
 use std::alloc::{AllocError, Global};
@@ -62,8 +62,8 @@ fn what_stands_at_the_limit(rt: HostRuntime) -> Result<(), Fail> {
     for (within, beyond, wanted) in LIMITS {
         fill(&mut text, within, beyond)?;
         assert_eq!(rt; text.len(), MOST_OCTETS.saturating_add(beyond.len()));
-        let told = fault(rt.alloc(), text.as_slice())?;
-        assert_eq!(rt; told, wanted, "at {within:?} and {beyond:?}");
+        let reported = fault(rt.alloc(), text.as_slice())?;
+        assert_eq!(rt; reported, wanted, "at {within:?} and {beyond:?}");
     }
     Ok(())
 }

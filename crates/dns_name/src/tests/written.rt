@@ -3,7 +3,7 @@ use arrayvec::ArrayVec;
 use std::io::{self, ErrorKind, Write};
 use std::test::Fail;
 
-// The names of RFC 4034 6.1 in their order, behind the root.
+// The names of RFC 4034 6.1 in their order, after the root.
 const IN_ORDER: [&[u8]; 10] = [
     b".",
     b"example.",

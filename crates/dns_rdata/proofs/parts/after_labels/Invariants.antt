@@ -1,6 +1,6 @@
 use Rattle.std.proofs.Common.{length}
 use Rattle.dns_rdata.proofs.NameFronts.{Alike}
-use Rattle.dns_rdata.proofs.parts.behind_labels.Given as goal
+use Rattle.dns_rdata.proofs.parts.after_labels.Given as goal
 
 abbrev pub invariant-labels : goal.invariant-labels
 invariant-labels l = Alike l.octets l.rest
