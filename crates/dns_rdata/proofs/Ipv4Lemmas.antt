@@ -11,6 +11,7 @@ use Rattle.std.proofs.lemmas.Fmt.{decimal_is_IsNumeral, decimal_injective}
 use Rattle.std.proofs.lemmas.Str.Parse.{digit_from_value}
 use Rattle.dns_spec.specs.Names.{Octets}
 use Rattle.dns_spec.specs.AddressText.{SaysIpv4}
+use Rattle.dns_spec.proofs.OneData.{four_numbers}
 use Rattle.dns_rdata.specs.AddressForm.{OctetThen}
 
 abbrev is_dot : ℕ → Bool
@@ -84,33 +85,26 @@ pub record Ipv4Parts (text d : Octets) : Type 0 where
   pub reads_fourth : (after_third ≡ decimal fourth) × (fourth ≤ 255)
 
 pub ipv4_parts : (text d : Octets) → SaysIpv4 text d → Ipv4Parts text d
-ipv4_parts text [] h = absurd (omega (arith, h.four))
-ipv4_parts text (a ∷ []) h = absurd (omega (arith, h.four))
-ipv4_parts text (a ∷ b ∷ []) h = absurd (omega (arith, h.four))
-ipv4_parts text (a ∷ b ∷ c ∷ []) h = absurd (omega (arith, h.four))
-ipv4_parts text (a ∷ b ∷ c ∷ e ∷ []) h =
-    let all = and_parts (nat_lt a 256) _ h.octets in
-    let all' = and_parts (nat_lt b 256) _ all.1 in
-    let all'' = and_parts (nat_lt c 256) _ all'.1 in
-    let last = and_parts (nat_lt e 256) _ all''.1 in
+ipv4_parts text d h =
+    let p = four_numbers text d h in
+    let third : p.third < 256 = p.third_small in
+    let fourth : p.fourth < 256 = p.fourth_small in
+    let first : p.first < 256 = p.first_small in
+    let second : p.second < 256 = p.second_small in
     record {
-      first = a;
-      second = b;
-      third = c;
-      fourth = e;
-      after_first = decimal b ++ (46 ∷ (decimal c ++ (46 ∷ decimal e)));
-      after_second = decimal c ++ (46 ∷ decimal e);
-      after_third = decimal e;
-      is = refl;
-      reads_first = (h.spelled, octet_le a all.0);
-      reads_second = (refl, octet_le b all'.0);
-      reads_third = (refl, octet_le c all''.0);
-      reads_fourth = (refl, octet_le e last.0);
+      first = p.first;
+      second = p.second;
+      third = p.third;
+      fourth = p.fourth;
+      after_first = decimal p.second ++ (46 ∷ (decimal p.third ++ (46 ∷ decimal p.fourth)));
+      after_second = decimal p.third ++ (46 ∷ decimal p.fourth);
+      after_third = decimal p.fourth;
+      is = p.is;
+      reads_first = (p.spelled, omega (arith, first));
+      reads_second = (refl, omega (arith, second));
+      reads_third = (refl, omega (arith, third));
+      reads_fourth = (refl, omega (arith, fourth));
     }
-  where
-    octet_le : (k : ℕ) → nat_lt k 256 ≡ true → k ≤ 255
-    octet_le k t = let below = ltb-true k 256 t in omega arith
-ipv4_parts text (a ∷ b ∷ c ∷ e ∷ f ∷ d) h = absurd (omega (arith, h.four))
 
 pub says_ipv4 : (text d : Octets) → Ipv4Parts text d → SaysIpv4 text d
 says_ipv4 text d p =
