@@ -11,7 +11,8 @@ pub enum ReadCode {
     BadEscape = 2,
     /// A quoted string is not ended on its line.
     UnendedString = 3,
-    /// A parenthesis in a parenthesis, a close one without an open one, or the end of the text inside.
+    /// A parenthesis in a parenthesis, a close one without an open one, or the end of the text
+    /// inside.
     Parenthesis = 4,
     /// A directive other than `$ORIGIN` and `$TTL`.
     UnknownDirective = 5,
@@ -55,6 +56,7 @@ impl ReadCode {
 pub struct ReadFault {
     /// What it is.
     pub code: ReadCode,
-    /// The line on which the faulty entry begins, counted from 1; 0 where the source failed or no memory was found.
+    /// The line on which the faulty entry begins, counted from 1; 0 where the source failed or no
+    /// memory was found.
     pub line: u32,
 }

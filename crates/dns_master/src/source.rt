@@ -21,7 +21,8 @@ const PIECE: usize = 65_536;
 pub(crate) fn read_text<R: Read>(alloc: Global, source: &mut Tally<R>) -> Result<Vec<u8>, ReadCode>
     requires { source.old.failures < 2 ^ 64 - 1 }
     ensures ok { IfOk result (λ text. TextOf (R.remaining source.old.device) text.items) }
-    ensures err { IfErr result (λ code. (code ≡ ReadCode.SourceFailed) ⊎ (code ≡ ReadCode.NoMemory)) }
+    ensures err { IfErr result (λ code. (code ≡ ReadCode.SourceFailed)
+        ⊎ (code ≡ ReadCode.NoMemory)) }
     ensures counted { source.new.failures ≡ failures_after_code source.old.failures result }
 {
     let mut piece = new_piece(alloc)?;
@@ -53,9 +54,11 @@ fn append_piece<R: Read>(
     requires count { source.old.failures < 2 ^ 64 - 1 }
     requires some { 0 < asked }
     requires room { asked ≤ length piece.old }
-    ensures ok { IfOk result (λ more. AppendsPiece (R.remaining source.old.device) (R.remaining source.new.device) asked text.old.items text.new.items more) }
+    ensures ok { IfOk result (λ more. AppendsPiece (R.remaining source.old.device)
+        (R.remaining source.new.device) asked text.old.items text.new.items more) }
     ensures same { length piece.new ≡ length piece.old }
-    ensures err { IfErr result (λ code. (code ≡ ReadCode.SourceFailed) ⊎ (code ≡ ReadCode.NoMemory)) }
+    ensures err { IfErr result (λ code. (code ≡ ReadCode.SourceFailed)
+        ⊎ (code ≡ ReadCode.NoMemory)) }
     ensures counted { source.new.failures ≡ failures_after_code source.old.failures result }
 {
     let (front, _) = piece.split_at_mut(asked);

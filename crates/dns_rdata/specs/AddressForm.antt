@@ -1,4 +1,5 @@
--- What a reader learns here: how the text of an address is read from left to right, by the cases of the code.
+-- What a reader learns here: how the text of an address is read from left to right, by the cases of
+-- the code.
 use Rattle.std.specs.Prelude.{◌≡◌, ℕ, ◌≤◌, List, ◌∷◌, ◌++◌, decimal, length, nat_le, if◌then◌else◌, Option, Some, None}
 use Rattle.std.specs.Borrow.{Bor}
 use Rattle.dns_spec.specs.Names.{Octets}

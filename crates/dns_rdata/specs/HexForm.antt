@@ -1,4 +1,5 @@
--- What a reader learns here: how octets in hex digits are read from left to right, by the cases of the code.
+-- What a reader learns here: how octets in hex digits are read from left to right, by the cases of
+-- the code.
 use Rattle.std.specs.Prelude.{◌≡◌, ℕ, ◌+◌, ◌*◌, Bool, true, false, [], ◌∷◌, ◌++◌, Option, Some, None, if◌then◌else◌}
 use Rattle.std.specs.Option.{option_and_then}
 use Rattle.std.specs.Char.{is_ascii_hexdigit, digit_value}
@@ -14,7 +15,8 @@ unfoldable pub hex_front : Octets → Option (ℕ × Octets)
 hex_front [] = None
 hex_front (h ∷ []) = None
 hex_front (h ∷ l ∷ rest) =
-    option_and_then (λ high. option_and_then (λ low. Some (high * 16 + low, rest)) (digit_of l)) (digit_of h)
+    option_and_then (λ high. option_and_then (λ low. Some (high * 16 + low, rest)) (digit_of l))
+    (digit_of h)
 
 -- the octets that the text says were appended, or it says none
 abbrev pub AppendsHex : Octets → Bool → Octets → Octets → Type 0

@@ -48,10 +48,12 @@ AreCut ps os = IsTrue (is_some (cut (pieces_in ps) os))
 abbrev pub PartList : Type 0
 PartList = List Data.Part
 
--- of octets that begin with a part, the part was lowered if it is a name, and n is how many octets it has
+-- of octets that begin with a part, the part was lowered if it is a name, and n is how many octets
+-- it has
 abbrev pub LowersFront : Option (Data.Part × Octets) → Octets → ℕ → Type 0
 LowersFront None after n = ⊥
-LowersFront (Some x) after n = (after ≡ part_octets (part_folded x.0) ++ x.1) × (n ≡ length (part_octets x.0))
+LowersFront (Some x) after n =
+    (after ≡ part_octets (part_folded x.0) ++ x.1) × (n ≡ length (part_octets x.0))
 
 -- a part that is a name is one of at most 255 octets
 abbrev pub HasName : Data.Part → Type 0

@@ -1,4 +1,5 @@
--- What a reader learns here: how the words of data are written from left to right, by the cases of the code.
+-- What a reader learns here: how the words of data are written from left to right, by the cases of
+-- the code.
 use Rattle.std.specs.Prelude.{Bool, List, [], ◌∷◌, ◌++◌, length, nat_lt}
 use Rattle.std.specs.List.{list_all}
 use Rattle.dns_spec.specs.Names.{Octets}

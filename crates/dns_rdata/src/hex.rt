@@ -6,10 +6,11 @@ ghost use Rattle.dns_rdata.specs.HexForm.{hex_front, digit_of, AppendsHex};
 
 use std::alloc::AllocError;
 
-/// Appends to `octets` those that a text says in hex digits of either case, two an octet, and answers whether it does.
+/// Appends to `octets` those that a text says in hex digits of either case, two an octet, and
+/// answers whether it does.
 ///
-/// False where the text has another octet or an odd number of digits; `octets` has then grown by some of them. The error
-/// comes where no memory was found.
+/// False where the text has another octet or an odd number of digits; `octets` has then grown by
+/// some of them. The error comes where no memory was found.
 pub(crate) fn append_hex(text: &[u8], octets: &mut Vec<u8>) -> Result<bool, AllocError>
     ensures { IfOk result (λ said. AppendsHex text.now said octets.old.items octets.new.items) }
 {

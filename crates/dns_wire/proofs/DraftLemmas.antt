@@ -132,8 +132,7 @@ put_fits {head} {t} {u} {b} {ks} {d} {now} q items section owner ttl set view dr
     let here = subst (IsDraft head q items) (sym view) draft in
     let done = written (names_so_far q items) here.holds in
     let size_is = draft_size head q items d here (item_of section owner ttl set) in
-    let limit = ap (λ (x : Draft). x.limit) view in
-    (
+    let limit = ap (λ (x : Draft). x.limit) view in (
       λ so. let room = done.exactly.0 (is ∙ so) in omega (arith, room, size_is, limit),
       λ fits. sym is ∙ done.exactly.1 (omega (arith, fits, size_is, limit)),
     )

@@ -21,9 +21,10 @@ pub(crate) enum Step<'a> {
 
 /// The name at a place of a message, as it is spelled, and the place after its own octets.
 ///
-/// A pointer goes to a place after the header and before the place where the labels at hand began, so that reading ends.
-/// Faults are judged from the left: a missing octet, the reserved bits, a pointer's second octet and its place, a
-/// label's octets, and the length of the name with the label.
+/// A pointer goes to a place after the header and before the place where the labels at hand began,
+/// so that reading ends. Faults are judged from the left: a missing octet, the reserved bits, a
+/// pointer's second octet and its place, a label's octets, and the length of the name with the
+/// label.
 pub(crate) fn read_name(message: &[u8], at: usize) -> Result<(Name, usize), WireFault>
     requires { at ≤ length message.now }
     ensures name { IfOk result (λ read. NameAt message.now at read.0 read.1) }

@@ -16,7 +16,8 @@ pub(crate) struct Case<'a> {
     pub wanted: Answer,
 }
 
-/// Reads a case: the line of its words, the lines of its file, the line of its status, the lines that are written.
+/// Reads a case: the line of its words, the lines of its file, the line of its status, the lines
+/// that are written.
 pub(crate) fn read_case(alloc: Global, text: &str) -> Result<Case<'_>, Fault> {
     let Some((asked, answered)) = text.split_once("\nstatus ") else {
         return Err(Fault::Form);

@@ -47,7 +47,8 @@ const LIMITS: [Limit<'static>; 33] = [
     (b"a 1 A 192.0.2.1", b"0", (15, 2)),
 ];
 
-// A text whose first line is a comment, and that has just as many octets as are allowed up to the end of `within`.
+// A text whose first line is a comment, and that has just as many octets as are allowed up to the
+// end of `within`.
 fn fill(text: &mut Vec<u8>, within: &[u8], beyond: &[u8]) -> Result<(), AllocError> {
     text.truncate(MOST_OCTETS - 100);
     text.resize((MOST_OCTETS - 1).saturating_sub(within.len()), b';')?;

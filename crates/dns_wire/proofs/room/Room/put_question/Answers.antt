@@ -39,8 +39,17 @@ module _ (g : given.Over) (c : goal.After-append g) where
       let short = c.octets.ensures.bound in
       let room = c.requires.room in
       subst (λ t. OnTrue t (c.append.new.self.octets.items ≡ c.put_name.new.self.octets.items ++ (c.number_octets.result ++ c.number_octets-2.result)))
-      (c.append.ensures.fits.1 (omega (arith, ap length name_octets, length-append (replicate 12 0) (wire asked), ap length c.number_octets.ensures.octets,
-        ap length c.number_octets-2.ensures.octets, ap length c.octets.ensures.value, short, room, c.put_name.ensures.limit)))
+      (c.append.ensures.fits.1 (omega (
+        arith,
+        ap length name_octets,
+        length-append (replicate 12 0) (wire asked),
+        ap length c.number_octets.ensures.octets,
+        ap length c.number_octets-2.ensures.octets,
+        ap length c.octets.ensures.value,
+        short,
+        room,
+        c.put_name.ensures.limit,
+      )))
       c.append.ensures.octets
 
 pub returns-clause-octets : goal.returns-clause-octets
