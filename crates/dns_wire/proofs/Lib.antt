@@ -11,4 +11,3 @@ mod NameWritten
 mod DataWritten
 mod RecordsWritten
 mod DraftLemmas
-mod NameLoop
