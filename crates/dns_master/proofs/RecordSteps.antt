@@ -13,8 +13,8 @@ use Rattle.dns_spec.specs.DataText.{Word, Says}
 use Rattle.dns_spec.specs.ZoneText.{Entry}
 use Rattle.dns_spec.specs.FileFaults.{bad_data, bad_ttl, bad_type, no_owner, no_ttl, other_class, too_many_records}
 use Rattle.dns_spec.specs.Meaning.{Nothing, Lowest, IsRecord, Fields, EntryMeaning, faulty, gives, OriginIs, TtlSays, ttl_in_force, TypeIs, DataIs, IsNoTtl, is_other_class, are_too_many, RecordGives}
-use Rattle.dns_spec.proofs.LoweredData.{lowered-twice}
-use Rattle.dns_spec.proofs.TypeWords.{one_type}
+use Rattle.dns_spec.proofs.DataWords.LoweredData.{lowered-twice}
+use Rattle.dns_spec.proofs.DataWords.TypeWords.{one_type}
 use Rattle.dns_master.specs.RecordForm.{TtlOf}
 
 pub type-one : (ws : List Word) (t u : ℕ) → TypeIs ws t → TypeIs ws u → t ≡ u

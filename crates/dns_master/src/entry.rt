@@ -101,7 +101,7 @@ fn push_word<'a>(words: &mut Vec<Word<'a>>, token: Token<'a>) -> Result<(), Read
         Token::Quoted(raw) => Word { raw, quoted: true },
         _ => return Ok(()),
     };
-    words.push(word).map_err(|_| ReadCode::NoMemory)
+    Ok(words.push(word)?)
 }
 
 fn line_ends(token: Token<'_>) -> u32

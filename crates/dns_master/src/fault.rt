@@ -2,6 +2,9 @@
 ghost use Rattle.std.specs.Prelude.{◌≡◌};
 ghost use Rattle.dns_master.specs.Codes.{code_number};
 
+use dns_rdata::RdataFault;
+use std::alloc::{AllocError, AllocFailed};
+
 /// Why a zone file gives no records, by its code.
 #[derive(Clone, Copy, Debug, PartialEq, Eq)]
 pub enum ReadCode {
@@ -48,6 +51,44 @@ impl ReadCode {
         ensures { result ≡ code_number self }
     {
         self as u8
+    }
+}
+
+impl From<AllocError> for ReadCode {
+    ghost use Rattle.dns_master.specs.declared.fault.ReadCode.{ReadCode};
+
+    ghost from_gives = { λ _ code. code ≡ ReadCode.NoMemory };
+
+    fn from(_refused: AllocError) -> ReadCode {
+        ReadCode::NoMemory
+    }
+}
+
+impl<T: Drop> From<AllocFailed<T>> for ReadCode {
+    ghost use Rattle.dns_master.specs.declared.fault.ReadCode.{ReadCode};
+
+    ghost from_gives = { λ _ code. code ≡ ReadCode.NoMemory };
+
+    fn from(_refused: AllocFailed<T>) -> ReadCode {
+        ReadCode::NoMemory
+    }
+}
+
+/// The code of data that is none, whatever its fault.
+impl From<RdataFault> for ReadCode {
+    ghost use Rattle.std.specs.Prelude.{◌≢◌, ◌⊎◌};
+    ghost use Rattle.dns_rdata.specs.declared.fault.RdataFault.{RdataFault};
+    ghost use Rattle.dns_master.specs.declared.fault.ReadCode.{ReadCode};
+
+    ghost from_gives = { λ fault code.
+        ((fault ≡ RdataFault.NoMemory) × (code ≡ ReadCode.NoMemory))
+        ⊎ ((fault ≢ RdataFault.NoMemory) × (code ≡ ReadCode.BadData)) };
+
+    fn from(fault: RdataFault) -> ReadCode {
+        match fault {
+            RdataFault::NoMemory => ReadCode::NoMemory,
+            _ => ReadCode::BadData,
+        }
     }
 }
 

@@ -22,7 +22,7 @@ use crate::source::{MOST_OCTETS, read_text};
 use crate::state::Reader;
 use crate::words::{is_word, read_name};
 use dns_name::{Name, Tally};
-use dns_rdata::{RType, Rdata, RdataFault, Word};
+use dns_rdata::{RType, Rdata, Word};
 use std::alloc::Global;
 use std::io::Read;
 
@@ -342,10 +342,7 @@ impl Reader {
             → (code ≡ ReadCode.BadData) × Nothing (Says rtype.0 words.now self.now.origin)) }
         ensures source { IfErr result (λ code. code ≢ ReadCode.SourceFailed) }
     {
-        match Rdata::read_words(self.alloc, rtype, words, &self.origin) {
-            Ok(rdata) => Ok(rdata),
-            Err(fault) => Err(code_of_data(fault)),
-        }
+        Ok(Rdata::read_words(self.alloc, rtype, words, &self.origin)?)
     }
 }
 
@@ -354,7 +351,7 @@ fn push_record(records: &mut Vec<Record>, last: Record) -> Result<(), ReadCode>
     ensures bound { length records.new.items ≤ length records.old.items + 1 }
     ensures err { IfErr result (λ code. code ≡ ReadCode.NoMemory) }
 {
-    records.push(last).map_err(|_| ReadCode::NoMemory)
+    Ok(records.push(last)?)
 }
 
 // The TTL that was stated last, after a record that states one or not.
@@ -362,15 +359,4 @@ fn last_stated(is_stated: bool, ttl: u32, before: Option<u32>) -> Option<u32>
     ensures { result ≡ (if is_stated then Some ttl else before) }
 {
     if is_stated { Some(ttl) } else { before }
-}
-
-// The code of data that is none.
-fn code_of_data(fault: RdataFault) -> ReadCode
-    ensures { ((fault ≡ RdataFault.NoMemory) × (result ≡ ReadCode.NoMemory))
-        ⊎ ((fault ≢ RdataFault.NoMemory) × (result ≡ ReadCode.BadData)) }
-{
-    match fault {
-        RdataFault::NoMemory => ReadCode::NoMemory,
-        _ => ReadCode::BadData,
-    }
 }

@@ -2,7 +2,7 @@
 ghost use Rattle.std.specs.Prelude.{◌≡◌, ◌==◌, ◌≤◌, not, length, drop};
 ghost use Rattle.std.specs.List.{prefix_len};
 ghost use Rattle.dns_spec.specs.ZoneText.{is_blank, is_word_octet, is_string_octet, run_length};
-ghost use Rattle.dns_spec.proofs.Escapes.{counted_digits, counted_escape};
+ghost use Rattle.dns_spec.proofs.NameTexts.Escapes.{counted_digits, counted_escape};
 ghost use Rattle.dns_master.specs.TokenForm.{by_itself};
 
 /// What a run is made of, beside escapes.

@@ -41,7 +41,7 @@ fn new_piece(alloc: Global) -> Result<Vec<u8>, ReadCode>
     ensures ok { IfOk result (λ piece. length piece.items ≡ PIECE) }
     ensures err { IfErr result (λ code. code ≡ ReadCode.NoMemory) }
 {
-    vec![in alloc; 0; PIECE].map_err(|_| ReadCode::NoMemory)
+    Ok(vec![in alloc; 0; PIECE]?)
 }
 
 // Reads so many octets at most, once, and appends what came: false at the end of the source.
@@ -66,8 +66,6 @@ fn append_piece<R: Read>(
         return Err(ReadCode::SourceFailed);
     };
     let (came, _) = front.split_at(count);
-    match text.extend_from_slice(came) {
-        Ok(()) => Ok(count > 0),
-        Err(_) => Err(ReadCode::NoMemory),
-    }
+    text.extend_from_slice(came)?;
+    Ok(count > 0)
 }

@@ -9,7 +9,7 @@ use Rattle.std.specs.Prelude.{if◌then◌else◌}
 use Rattle.std.specs.Char.{is_ascii_digit, IsAsciiDigit, IsNotAsciiDigit}
 use Rattle.std.specs.List.{list_all, position, position_or_len}
 use Rattle.std.proofs.Math.ListN.{drop_of_length-le}
-use Rattle.dns_spec.proofs.NameLaws.{is_label-head, length-wire-append, IsName-is_name, IsLabel-is_label}
+use Rattle.dns_spec.proofs.DomainNames.NameLaws.{is_label-head, length-wire-append, IsName-is_name, IsLabel-is_label}
 use Rattle.dns_spec.specs.Names.{Octets, DomainName, wire, is_label, is_name}
 use Rattle.dns_spec.specs.NameText.{three_digits_value, SpellsOctet, LabelThen, TextSpells, SpellsName}
 use Rattle.dns_name.specs.TextForm.{digit_at, decimal_at, escaped_at, octet_at, is_mark, is_label_end, ReadsLabel, PushesLabel, HasNoLabel, Appended, SpellsIff}

@@ -4,7 +4,7 @@ use Rattle.std.proofs.lemmas.List.{take_at, drop_at, append_assoc, append-nil, n
 use Rattle.std.proofs.lemmas.Bool.{and_parts}
 use Rattle.std.specs.List.{list_all}
 use Rattle.std.specs.Char.{to_ascii_lowercase}
-use Rattle.dns_spec.proofs.NameLaws.{same_tests, same-wire, wire-injective, octets_equal-decides, names_equal-decides, map-lowercase-wire, IsLabel-is_label, IsName-is_name, is_name-tail}
+use Rattle.dns_spec.proofs.DomainNames.NameLaws.{same_tests, same-wire, wire-injective, octets_equal-decides, names_equal-decides, map-lowercase-wire, IsLabel-is_label, IsName-is_name, is_name-tail}
 use Rattle.dns_spec.specs.Names.{folded, same, octets_equal, names_equal, Octets, DomainName, wire, is_label, is_name}
 use Rattle.dns_name.specs.WireForm.{labels_up_to, labels_of, IsWireForm}
 

@@ -11,7 +11,7 @@ use Rattle.std.proofs.lemmas.Fmt.{decimal_is_IsNumeral, decimal_injective}
 use Rattle.std.proofs.lemmas.Str.Parse.{digit_from_value}
 use Rattle.dns_spec.specs.Names.{Octets}
 use Rattle.dns_spec.specs.AddressText.{SaysIpv4}
-use Rattle.dns_spec.proofs.OneData.{four_numbers}
+use Rattle.dns_spec.proofs.DataWords.OneData.{four_numbers}
 use Rattle.dns_rdata.specs.AddressForm.{OctetThen}
 
 abbrev is_dot : ℕ → Bool

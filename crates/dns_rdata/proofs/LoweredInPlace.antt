@@ -10,7 +10,7 @@ use Rattle.std.specs.Char.{to_ascii_lowercase}
 use Rattle.dns_spec.specs.Names.{Octets, wire, folded}
 use Rattle.dns_spec.specs.Data.{part_octets, part_folded, joined, cut, piece_front}
 use Rattle.dns_spec.specs.Data as Data
-use Rattle.dns_spec.proofs.LoweredData.{length-part_folded, piece_whole}
+use Rattle.dns_spec.proofs.DataWords.LoweredData.{length-part_folded, piece_whole}
 use Rattle.dns_name.specs.WireForm.{labels_of, IsWireForm}
 use Rattle.dns_name.proofs.WireLemmas.{map-lowercase-octets}
 use Rattle.dns_rdata.specs.declared.table.Piece.{Piece}

@@ -7,8 +7,8 @@ use Rattle.std.specs.Option.{option_map, option_and_then}
 use Rattle.std.specs.List.{list_all}
 use Rattle.dns_spec.specs.Names.{Octets, DomainName, wire, is_label, is_name, name_of}
 use Rattle.dns_spec.specs.Data.{Part, octets as run, name, domain, piece_front, are_strings}
-use Rattle.dns_spec.proofs.NameLaws.{IsName-is_name, IsLabel-is_label, is_label-IsLabel, is_name-IsName}
-use Rattle.dns_spec.proofs.WireNames.{name_read, name_of-wire, wire_fronts_agree}
+use Rattle.dns_spec.proofs.DomainNames.NameLaws.{IsName-is_name, IsLabel-is_label, is_label-IsLabel, is_name-IsName}
+use Rattle.dns_spec.proofs.DomainNames.WireNames.{name_read, name_of-wire, wire_fronts_agree}
 use Rattle.dns_name.specs.WireForm.{labels_of, IsWireForm}
 use Rattle.dns_name.proofs.WireLemmas.{labels_of_spelled, IsWireForm-wire}
 use Rattle.dns_rdata.specs.NameFront.{StandsAfterLabels, HasNoLabels}

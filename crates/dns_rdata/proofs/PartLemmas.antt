@@ -10,8 +10,8 @@ use Rattle.std.specs.Option.{is_some, unwrap_or, option_map}
 use Rattle.dns_spec.specs.Names.{Octets}
 use Rattle.dns_spec.specs.Data.{width, fixed, domain, string, strings, anything, octets, name, part_octets, part_folded, joined, cut, piece_front, valid, lower_case, pieces_of, type_table, other_type}
 use Rattle.dns_spec.specs.Data as Data
-use Rattle.dns_spec.proofs.WrittenData.{cut_into, name_part, octets_part, all_strings}
-use Rattle.dns_spec.proofs.LoweredData.{cut_data, lowered_data}
+use Rattle.dns_spec.proofs.DataWords.WrittenData.{cut_into, name_part, octets_part, all_strings}
+use Rattle.dns_spec.proofs.DataWords.LoweredData.{cut_data, lowered_data}
 use Rattle.dns_rdata.specs.declared.table.Piece.{Piece}
 use Rattle.dns_rdata.specs.declared.parts.Part.{Part}
 use Rattle.dns_rdata.specs.declared.parts.Part.TheVariants.{Octets as Run, Name}

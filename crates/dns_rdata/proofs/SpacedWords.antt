@@ -9,7 +9,7 @@ use Rattle.dns_spec.specs.Names.{Octets, DomainName, name_of}
 use Rattle.dns_spec.specs.Data.{Piece, fixed, numbers, ipv4, ipv6, domain, string, strings, anything, Part, octets, name, octets_front, string_front, are_strings, piece_front}
 use Rattle.dns_spec.specs.DataText.{Word, WordForm, number_word, string_word, forms_in}
 use Rattle.dns_spec.specs.WrittenText.{word_text, word_front, name_front, form_words, string_count}
-use Rattle.dns_spec.proofs.WrittenData.{all_strings}
+use Rattle.dns_spec.proofs.DataWords.WrittenData.{all_strings}
 use Rattle.dns_rdata.specs.WrittenForm.{spaced, form_rest, piece_forms, piece_words, piece_rest, pieces_words, has_words}
 use Rattle.dns_rdata.proofs.NameFronts.{strings_after}
 

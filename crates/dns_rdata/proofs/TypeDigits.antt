@@ -9,7 +9,7 @@ use Rattle.std.specs.Char.{to_ascii_lowercase}
 use Rattle.std.specs.Str.Parse.{AllDigits}
 use Rattle.dns_spec.specs.Names.{Octets}
 use Rattle.dns_spec.specs.TypeText.{text_in_lower_case, numbered_type}
-use Rattle.dns_spec.proofs.TypeWords.{decimal-lowered}
+use Rattle.dns_spec.proofs.DataWords.TypeWords.{decimal-lowered}
 
 -- only digits are digits in lower case
 digit_unlowered : (c d : ℕ) → to_ascii_lowercase c ≡ d → 48 ≤ d → d ≤ 57 → c ≡ d

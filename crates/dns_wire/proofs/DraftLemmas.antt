@@ -13,9 +13,9 @@ use Rattle.dns_spec.specs.Layout as Layout
 use Rattle.dns_spec.specs.Layout.{Item, Placed, Laid, laid_front, record_laid, records_octets, records_of, in_section, is_section, asked_octets, asked_placed, answer, authority, additional, size, records_size, layout, header_octets, reply_header, message_of}
 use Rattle.dns_spec.specs.Sharing.{Sharing}
 use Rattle.dns_spec.specs.Laws.{IsWritable, IsAskable, sections_in_order}
-use Rattle.dns_spec.proofs.SharedLayout.{layout_spells}
-use Rattle.dns_spec.proofs.LeastSize.{past_limit}
-use Rattle.dns_spec.proofs.LayoutSize.{length-records_octets, length-layout}
+use Rattle.dns_spec.proofs.Layouts.SharedLayout.{layout_spells}
+use Rattle.dns_spec.proofs.Layouts.LeastSize.{past_limit}
+use Rattle.dns_spec.proofs.Layouts.LayoutSize.{length-records_octets, length-layout}
 use Rattle.dns_wire.specs.declared.page.Section.{Section}
 use Rattle.dns_wire.specs.Kept.{Kept}
 use Rattle.dns_wire.specs.Writing.{Holds, IsWritten, records_laid, shown}

@@ -8,8 +8,8 @@ use Rattle.std.proofs.Common.{inl, inr}
 use Rattle.std.specs.Option.{option_map, option_and_then}
 use Rattle.dns_spec.specs.Names.{Octets, DomainName, wire, is_name, is_label}
 use Rattle.dns_spec.specs.ComputedReading.{name_at, name_if_short, with_label}
-use Rattle.dns_spec.proofs.NameLaws.{IsName-is_name, IsLabel-is_label, is_label-IsLabel}
-use Rattle.dns_spec.proofs.NameReading.{run12, run12_missing, run12_root, run12_label, run12_label_past, run12_high, name_at_12}
+use Rattle.dns_spec.proofs.DomainNames.NameLaws.{IsName-is_name, IsLabel-is_label, is_label-IsLabel}
+use Rattle.dns_spec.proofs.Messages.NameReading.{run12, run12_missing, run12_root, run12_label, run12_label_past, run12_high, name_at_12}
 
 -- labels in front of what was read
 abbrev pub in_front : DomainName → DomainName × ℕ → DomainName × ℕ

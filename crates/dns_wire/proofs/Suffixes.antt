@@ -6,8 +6,8 @@ use Rattle.dns_spec.specs.Names.{Octets, DomainName, wire, is_name}
 use Rattle.dns_spec.specs.Reading.{RunAt}
 use Rattle.dns_spec.specs.Layout.{Placed, last_place, shared_place}
 use Rattle.std.proofs.lemmas.List.{length-drop}
-use Rattle.dns_spec.proofs.Places.{label_parts}
-use Rattle.dns_spec.proofs.NameLaws.{is_name-tail, is_label-head, wire-injective}
+use Rattle.dns_spec.proofs.Messages.Places.{label_parts}
+use Rattle.dns_spec.proofs.DomainNames.NameLaws.{is_name-tail, is_label-head, wire-injective}
 use Rattle.dns_spec.specs.Reading.{pointer_place}
 use Rattle.dns_spec.specs.Reading.RunAt.{ends, goes_on, jumps}
 use Rattle.dns_wire.proofs.Runs.{GoesOn, at_end, at_label, at_pointer, goes_on_at}

@@ -10,6 +10,9 @@ use std::marker::Model;
 /// The class of the Internet (RFC 1035 3.2.4).
 pub const CLASS_IN: u16 = 1;
 
+/// The octets of a header (RFC 1035 4.1.1), in which no name stands.
+pub(crate) const HEADER_OCTETS: usize = 12;
+
 /// ID, and QR, opcode, AA, TC, RD, RA, three zero bits and RCODE as 16 bits (RFC 1035 4.1.1).
 #[derive(Drop)]
 pub struct Head {

@@ -4,10 +4,8 @@ ghost use Rattle.dns_spec.specs.Reading.{NameAt};
 ghost use Rattle.dns_wire.specs.Labels.{StepAt, NoRunAt, NoNameAt};
 
 use crate::fault::WireFault;
+use crate::message::HEADER_OCTETS;
 use dns_name::{Label, Name};
-
-// The octets of a header (RFC 1035 4.1.1), which no name stands in.
-const HEADER_OCTETS: usize = 12;
 
 // What stands where a name goes on.
 #[derive(Drop)]

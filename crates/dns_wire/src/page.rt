@@ -10,7 +10,7 @@ ghost use Rattle.dns_spec.specs.Laws.{sections_in_order, IsWritable};
 ghost use Rattle.dns_spec.specs.Sharing.{Sharing};
 ghost use Rattle.dns_wire.specs.Writing.{IsSound};
 
-use crate::message::{Head, Question};
+use crate::message::{HEADER_OCTETS, Head, Question};
 use crate::places::SuffixHash;
 use crate::room::Room;
 use byteorder::{BigEndian, ByteOrder};
@@ -188,9 +188,6 @@ impl<const N: usize, const SIZE: usize> Page<N, SIZE> {
         length
     }
 }
-
-// The octets of a header (RFC 1035 4.1.1).
-const HEADER_OCTETS: usize = 12;
 
 fn put_body(out: &mut [u8], body: &[u8])
     requires { 12 + length body.now ≤ length out.old }

@@ -4,11 +4,9 @@ ghost use Rattle.dns_spec.specs.ComputedReading.{name_at};
 ghost use Rattle.dns_spec.specs.Query.{field16, head_of, reply_head, refusal_head, is_ignored, counts_are_one_question, question_at, query_read};
 ghost use Rattle.dns_wire.specs.QueryForm.{as_read, code_of};
 
-use crate::message::{Head, Question};
+use crate::message::{HEADER_OCTETS, Head, Question};
 use byteorder::{BigEndian, ByteOrder};
 use dns_name::{Label, Name};
-
-const HEADER_OCTETS: usize = 12;
 
 /// What a datagram is as a query.
 #[derive(Drop)]

@@ -6,14 +6,11 @@ ghost use Rattle.dns_wire.specs.WireFault.{UnlessNoMemory};
 
 use crate::data::read_data;
 use crate::fault::WireFault;
-use crate::message::{Head, Message, Question, WireRecord};
+use crate::message::{HEADER_OCTETS, Head, Message, Question, WireRecord};
 use crate::name::read_name;
 use crate::number::{read_u16, read_u32};
 use dns_rdata::RType;
 use std::alloc::Global;
-
-// The octets of a header (RFC 1035 4.1.1).
-const HEADER_OCTETS: usize = 12;
 
 /// The message that octets are, to their end.
 ///

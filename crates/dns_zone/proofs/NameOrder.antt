@@ -8,8 +8,8 @@ use Rattle.std.specs.Cmp.{IsTotalOrder}
 use Rattle.std.specs.Cmp.Lexicographic.{slice_cmp, lists_ties}
 use Rattle.std.specs.Char.{to_ascii_lowercase}
 use Rattle.dns_spec.specs.Names.{Octets, DomainName, folded, same, names_equal, label_order, name_order}
-use Rattle.dns_spec.proofs.FaultOrder.{nat_ties}
-use Rattle.dns_spec.proofs.NameLaws.{names_equal-decides}
+use Rattle.dns_spec.proofs.ZoneChecks.FaultOrder.{nat_ties}
+use Rattle.dns_spec.proofs.DomainNames.NameLaws.{names_equal-decides}
 
 pub name_order_total : IsTotalOrder name_order
 name_order_total = on_total (λ n. reverse (folded n)) (lists_total nat_list_cmp_total)

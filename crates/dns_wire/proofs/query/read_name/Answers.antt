@@ -1,5 +1,5 @@
 use Rattle.std.proofs.Common.{◌≡◌, arith, refl, sym, ap, ◌∙◌, true, true≢false}
-use Rattle.dns_spec.proofs.NameLaws.{is_name-push}
+use Rattle.dns_spec.proofs.DomainNames.NameLaws.{is_name-push}
 use Rattle.dns_spec.specs.Names.{is_name, is_label}
 use Rattle.dns_wire.proofs.NameLoop.{read_on-start, read_on-root, read_on-past, read_on-missing, step-label, step-no_label, step-long}
 use Rattle.dns_wire.proofs.query.read_name.Goals as goal

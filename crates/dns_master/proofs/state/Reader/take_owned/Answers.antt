@@ -3,7 +3,7 @@ use Rattle.dns_spec.specs.Names.{DomainName}
 use Rattle.dns_spec.specs.ZoneText.{Entry}
 use Rattle.dns_spec.specs.FileFaults.{bad_owner, no_owner}
 use Rattle.dns_spec.specs.Meaning.{RecordGives, faulty, NameIs, owned, sort_of, fields}
-use Rattle.dns_spec.proofs.LoweredData.{folded-folded}
+use Rattle.dns_spec.proofs.DataWords.LoweredData.{folded-folded}
 use Rattle.dns_master.specs.Codes.{fault_of}
 use Rattle.dns_master.specs.declared.fault.ReadCode.{ReadCode}
 use Rattle.dns_master.specs.declared.fault.ReadCode.TheVariants.{NoMemory}

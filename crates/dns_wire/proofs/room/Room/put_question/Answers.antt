@@ -3,7 +3,7 @@ use Rattle.std.specs.Bool.{OnTrue}
 use Rattle.dns_spec.specs.Names.{Octets, DomainName, wire}
 use Rattle.dns_spec.specs.Reading.{MessageQuestion}
 use Rattle.dns_spec.specs.Layout.{Placed, octets16, shared_octets, question_octets}
-use Rattle.dns_spec.proofs.SharedNames.{shared_alone}
+use Rattle.dns_spec.proofs.Layouts.SharedNames.{shared_alone}
 use Rattle.dns_spec.specs.Laws.{IsAskable}
 use Rattle.dns_wire.specs.Writing.{Holds}
 use Rattle.dns_wire.proofs.NameWritten.{holds_nothing, holds_octets, cost_alone}
