@@ -32,7 +32,8 @@ pub(crate) struct Done {
 
 #[derive(Clone, Copy)]
 enum Kind {
-    // TXT data of full strings, as many as this, and one string of 254 octets, each octet spelled so.
+    // TXT data of full strings, as many as this, and one string of 254 octets, each octet spelled
+    // so.
     ReadText(usize, &'static [u8]),
     WriteText(usize, &'static [u8]),
     // Addresses, a datum each.
@@ -44,7 +45,8 @@ enum Kind {
     ReadZone(u32),
 }
 
-/// The works, in the order of the table. Those over text of different lengths have the same octets in all.
+/// The works, in the order of the table. Those over text of different lengths have the same octets
+/// in all.
 pub(crate) const WORKS: [Work; 22] = [
     Work {
         name: "read-txt-8191",
@@ -302,7 +304,8 @@ fn read_file(alloc: Global, records: u32, rounds: u32) -> Result<Done, Fault> {
     Ok(done)
 }
 
-// Looks at the octets that were written last, so that no write is left out as useless. No text has octets 0.
+// Looks at the octets that were written last, so that no write is left out as useless. No text has
+// octets 0.
 fn looked_at(sink: Tally<Scratch>, done: Done) -> Result<Done, Fault> {
     if sink.into_inner().octets.iter().all(|octet| *octet == 0) {
         return Err(Fault::Sink);

@@ -15,7 +15,7 @@ use Rattle.dns_zone.specs.Nodes.{Walk}
 use Rattle.dns_answer.specs.Walks.{Took}
 use Rattle.dns_answer.specs.Ending.{all_names, inside, not_inside, ending_targets, nodes_by, misses_by}
 use Rattle.dns_answer.specs.Chain.{names_from, chain_outcome, chain_nodes, chain_misses}
-use Rattle.dns_spec.proofs.FewItems.{sum_cons, targets_last}
+use Rattle.dns_spec.proofs.Replies.FewItems.{sum_cons, targets_last}
 use Rattle.dns_answer.proofs.AnswerItems.{denial-no_targets}
 use Rattle.dns_answer.proofs.ChainSteps.{depth_in, last-name, none-shown}
 

@@ -14,10 +14,10 @@ use Rattle.dns_spec.specs.Tree.{cut_of, found}
 use Rattle.dns_spec.specs.Reading.{no_error, name_error}
 use Rattle.dns_spec.specs.Layout.{Section, answer, authority, Item, records_of}
 use Rattle.dns_spec.specs.Answer.{item, follows_alias, alias_items, last_sought, has_any, asked_records, Outcome, referral_to, negative, negative_soa, positive, outcome_by, outcome_at, outcome, targets_of, targets_inside, targets_outside, targets, extra, main_items, items, required_items}
-use Rattle.dns_spec.proofs.SortedOnce.{Each, each_weaker, filter_each}
-use Rattle.dns_spec.proofs.WritableItems.{each_append, each_flat_map}
-use Rattle.dns_spec.proofs.RequiredItems.{IsAlias, target_of, each_of_type, each_alias_item}
-use Rattle.dns_spec.proofs.FewItems.{item_records, targets_last}
+use Rattle.dns_spec.proofs.Records.SortedOnce.{Each, each_weaker, filter_each}
+use Rattle.dns_spec.proofs.Replies.WritableItems.{each_append, each_flat_map}
+use Rattle.dns_spec.proofs.Replies.RequiredItems.{IsAlias, target_of, each_of_type, each_alias_item}
+use Rattle.dns_spec.proofs.Replies.FewItems.{item_records, targets_last}
 use Rattle.dns_zone.proofs.NameTree.{same-under}
 use Rattle.dns_answer.specs.Targets.{addresses_of, side_items}
 use Rattle.dns_answer.specs.Ending.{all_names, inside, not_inside, glue_by, others_by, ending_targets, ending_items, ending_required}

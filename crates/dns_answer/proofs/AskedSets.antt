@@ -8,8 +8,8 @@ use Rattle.dns_spec.specs.Sets.{RecordSet, set_of, records_at, rising_types, of_
 use Rattle.dns_spec.specs.Reading.{no_error}
 use Rattle.dns_spec.specs.Layout.{answer}
 use Rattle.dns_spec.specs.Answer.{item, has_any, asked_records, follows_alias, positive, negative, outcome_by}
-use Rattle.dns_spec.proofs.SortedOnce.{Each}
-use Rattle.dns_spec.proofs.ItemSets.{each_typed}
+use Rattle.dns_spec.proofs.Records.SortedOnce.{Each}
+use Rattle.dns_spec.proofs.Replies.ItemSets.{each_typed}
 use Rattle.dns_zone.specs.Nodes.{ZoneNode, IsSetOf}
 use Rattle.dns_answer.proofs.EndingSets.{asked-shown, item-shown}
 

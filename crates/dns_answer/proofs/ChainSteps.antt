@@ -12,7 +12,7 @@ use Rattle.dns_spec.specs.Layout.{answer, Item}
 use Rattle.dns_spec.specs.Answer.{item, follows_alias, alias_set, first_target, next_sought, chain_from, chain, last_of, has_any, asked_records, Outcome, positive, negative, referral_to, outcome_by, outcome_at, items, required_items}
 use Rattle.dns_answer.specs.Ending.{all_names, ending_items, ending_required, ending_targets, nodes_by, misses_by}
 use Rattle.dns_answer.specs.Chain.{names_from, chain_outcome, aliases_of, chain_items, chain_required, chain_nodes, chain_misses}
-use Rattle.dns_spec.proofs.FewItems.{sum_cons}
+use Rattle.dns_spec.proofs.Replies.FewItems.{sum_cons}
 use Rattle.dns_answer.proofs.TargetLaws.{side_items-none}
 use Rattle.dns_answer.proofs.AnswerItems.{items-are, required-are}
 

@@ -12,7 +12,7 @@ use Rattle.dns_spec.specs.Sets.{RecordSet, set_of, records_at}
 use Rattle.dns_spec.specs.Layout.{authority, Item}
 use Rattle.dns_spec.specs.Answer.{item, Outcome, main_items, targets_of, negative_soa, negative, referral_to}
 use Rattle.dns_spec.specs.Tree.{is_cut, cut_of}
-use Rattle.dns_spec.proofs.PassedChecks.{few_soa, one_soa}
+use Rattle.dns_spec.proofs.ZoneChecks.PassedChecks.{few_soa, one_soa}
 use Rattle.dns_zone.specs.ZoneForm.{IsBuilt}
 use Rattle.dns_wire.specs.QueryForm.{code_of}
 use Rattle.dns_answer.specs.Draft.{offered}

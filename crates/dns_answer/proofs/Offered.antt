@@ -4,7 +4,7 @@ use Rattle.std.proofs.lemmas.Bool.{ltb-true, lt-ltb}
 use Rattle.dns_spec.specs.Reading.{MessageQuestion}
 use Rattle.dns_spec.specs.Layout.{Item}
 use Rattle.dns_spec.specs.Reply.{kept, fitting}
-use Rattle.dns_spec.proofs.GrowingSize.{size_grows, kept_is_fitting}
+use Rattle.dns_spec.proofs.Layouts.GrowingSize.{size_grows, kept_is_fitting}
 use Rattle.dns_answer.specs.Draft.{Draft, empty_draft, size_with, offer, offered}
 
 pub offered-append : (d : Draft) (is js : List Item) → offered d (is ++ js) ≡ offered (offered d is) js

@@ -10,8 +10,8 @@ use Rattle.dns_spec.specs.Query.{reply_head}
 use Rattle.dns_spec.specs.Layout.{Item, layout, size}
 use Rattle.dns_spec.specs.Answer.{Outcome, outcome, items, is_authoritative, follows_alias, alias_set, has_any}
 use Rattle.dns_spec.specs.Reply.{kept, truncated, answered, keep_longest}
-use Rattle.dns_spec.proofs.FewItems.{few_nodes}
-use Rattle.dns_spec.proofs.LayoutSize.{length-layout}
+use Rattle.dns_spec.proofs.Replies.FewItems.{few_nodes}
+use Rattle.dns_spec.proofs.Layouts.LayoutSize.{length-layout}
 use Rattle.dns_zone.specs.Nodes.{Walk}
 use Rattle.dns_wire.specs.QueryForm.{code_of}
 use Rattle.dns_answer.specs.Draft as spec

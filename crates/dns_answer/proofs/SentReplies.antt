@@ -12,7 +12,7 @@ use Rattle.dns_spec.specs.Layout.{layout}
 use Rattle.dns_spec.specs.Laws.{IsWritable}
 use Rattle.dns_spec.specs.ZonePrinted.{IsReadRecord}
 use Rattle.dns_spec.specs.Reply.{decide_query, decide, Reply, reply_of, keep_longest, reply_with, reply, octets_by, reply_message, octets_of}
-use Rattle.dns_spec.proofs.ReplySpelled.{shared_reply_spells}
+use Rattle.dns_spec.proofs.Replies.ReplySpelled.{shared_reply_spells}
 use Rattle.dns_zone.specs.Nodes.{Walk}
 use Rattle.dns_zone.specs.ZoneForm.{IsBuilt}
 use Rattle.dns_answer.specs.Limits.{limit_of}

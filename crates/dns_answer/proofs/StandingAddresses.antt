@@ -10,9 +10,9 @@ use Rattle.dns_spec.specs.Data.{type_a, type_aaaa}
 use Rattle.dns_spec.specs.Records.{ResourceRecord, ZoneContents, at, rrset, of_type}
 use Rattle.dns_spec.specs.Layout.{Section, additional, Item, records_of}
 use Rattle.dns_spec.specs.Answer.{item, stands, address_set, address_sets, extra}
-use Rattle.dns_spec.proofs.SortedOnce.{Each}
-use Rattle.dns_spec.proofs.ItemSets.{each_typed, each_among, filter_test}
-use Rattle.dns_spec.proofs.FewItems.{item_records}
+use Rattle.dns_spec.proofs.Records.SortedOnce.{Each}
+use Rattle.dns_spec.proofs.Replies.ItemSets.{each_typed, each_among, filter_test}
+use Rattle.dns_spec.proofs.Replies.FewItems.{item_records}
 use Rattle.dns_zone.proofs.NameOrder.{same-is, same-from}
 use Rattle.dns_answer.specs.Targets.{addresses_of, target_items, side_items}
 use Rattle.dns_answer.specs.Ending.{all_names}

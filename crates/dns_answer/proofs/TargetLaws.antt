@@ -19,10 +19,10 @@ use Rattle.std.specs.Prelude.{nat_lt}
 use Rattle.std.proofs.lemmas.Bool.{lt-ltb}
 use Rattle.dns_spec.specs.ZonePrinted.{IsReadRecord}
 use Rattle.dns_spec.specs.Checks.{is_owner, outside}
-use Rattle.dns_spec.proofs.SortedOnce.{Among, filter_among, each_weaker}
-use Rattle.dns_spec.proofs.PassedChecks.{checks_at}
-use Rattle.dns_spec.proofs.RecordOrder.{each_all}
-use Rattle.dns_spec.proofs.FewItems.{sum_cons}
+use Rattle.dns_spec.proofs.Records.SortedOnce.{Among, filter_among, each_weaker}
+use Rattle.dns_spec.proofs.ZoneChecks.PassedChecks.{checks_at}
+use Rattle.dns_spec.proofs.Records.RecordOrder.{each_all}
+use Rattle.dns_spec.proofs.Replies.FewItems.{sum_cons}
 use Rattle.dns_zone.proofs.NameOrder.{same-from}
 use Rattle.dns_zone.proofs.NameTree.{same-under, itself-under}
 use Rattle.dns_answer.proofs.WayLaws.{at-folded}

@@ -13,7 +13,7 @@ use Rattle.dns_spec.specs.Data.{type_ns}
 use Rattle.dns_spec.specs.Records.{ResourceRecord, ZoneContents, at, owns, rrset, sort_by, insert_by, data_order}
 use Rattle.dns_spec.specs.Sets.{set_of}
 use Rattle.dns_spec.specs.Tree.{exists, is_cut, cut_of, closest_encloser, without_first}
-use Rattle.dns_spec.proofs.NameLaws.{at_or_below-cons, same-length}
+use Rattle.dns_spec.proofs.DomainNames.NameLaws.{at_or_below-cons, same-length}
 use Rattle.dns_zone.proofs.NameOrder.{same-from, lower_twice}
 use Rattle.dns_zone.proofs.NameTree.{under-trans, itself-under}
 use Rattle.dns_zone.proofs.OwnRecords.{own-owns}

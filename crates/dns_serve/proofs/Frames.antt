@@ -7,7 +7,7 @@ use Rattle.dns_spec.specs.Names.{Octets}
 use Rattle.dns_spec.specs.Query.{field16}
 use Rattle.dns_spec.specs.Layout.{octets16}
 use Rattle.dns_spec.specs.Stream.{frame, has_frame, first_frame, IsCutFrame}
-use Rattle.dns_spec.proofs.StreamFrames.{two_octets, two_again, length_zeros}
+use Rattle.dns_spec.proofs.Streams.StreamFrames.{two_octets, two_again, length_zeros}
 
 -- the octets begin with no whole frame, since its length says more
 no_frame : (x : Octets) → length x < 2 + field16 x 0 → first_frame x ≡ None

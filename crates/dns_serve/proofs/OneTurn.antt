@@ -4,7 +4,7 @@ use Rattle.std.proofs.Common.{◌≡◌, ℕ, ◌≤◌, arith, List, [], ◌∷
 use Rattle.std.specs.Option.{option_map, is_some}
 use Rattle.dns_spec.specs.Names.{Octets}
 use Rattle.dns_spec.specs.Records.{ZoneContents}
-use Rattle.dns_spec.proofs.FirstOctets.{first_octets_answer}
+use Rattle.dns_spec.proofs.Replies.FirstOctets.{first_octets_answer}
 use Rattle.dns_serve.specs.Turns.{Grows, KeepsAll, IsHanded, reply_over_udp, one_or_none, Turn, IsTurn, IsUnsent}
 
 abbrev turn : Option (List Octets) → Option (List Octets) → Option (List Octets) → Option (List Octets) → Turn

@@ -4,8 +4,8 @@ use Rattle.std.proofs.Math.Seq.{take-append-add}
 use Rattle.std.specs.Io.KnownBytes.{Consumes}
 use Rattle.std.proofs.lemmas.List.Elements.{All-head}
 use Rattle.std.proofs.lemmas.List.{take_all, take-append-le}
-use Rattle.dns_spec.proofs.StreamFrames.{two_octets}
-use Rattle.dns_spec.proofs.WritableItems.{each_from_all}
+use Rattle.dns_spec.proofs.Streams.StreamFrames.{two_octets}
+use Rattle.dns_spec.proofs.Replies.WritableItems.{each_from_all}
 use Rattle.std.proofs.KnownBytes.{Consumes-trans}
 use Rattle.dns_spec.specs.Names.{Octets}
 use Rattle.dns_spec.specs.Layout.{octets16}

@@ -8,8 +8,8 @@ use Rattle.std.proofs.KnownBytes.{Appends-trans, Appends-nil, Consumes-trans, Co
 use Rattle.dns_spec.specs.Names.{Octets}
 use Rattle.dns_spec.specs.Records.{ZoneContents}
 use Rattle.dns_spec.specs.Stream.{frame, frames, first_frame, reply_frame, replies}
-use Rattle.dns_spec.proofs.StreamFrames.{frames_again}
-use Rattle.dns_spec.proofs.FirstOctets.{first_octets_answer}
+use Rattle.dns_spec.proofs.Streams.StreamFrames.{frames_again}
+use Rattle.dns_spec.proofs.Replies.FirstOctets.{first_octets_answer}
 use Rattle.dns_name.specs.Counted.{AppendsBeginning}
 use Rattle.dns_serve.specs.Reads.{MessageRead, GivesMessage, GivesNothing, GivesBeginning, GivesPart}
 use Rattle.dns_serve.specs.Streams.{Session, AreFrames, HasServed, WasCut, WasBroken, WasRefused, SessionOf, HasAnswered, HasBegun, StepOf, reply_over_tcp}

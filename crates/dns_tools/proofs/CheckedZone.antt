@@ -7,8 +7,8 @@ use Rattle.dns_spec.specs.Checks.{Fault, faults}
 use Rattle.dns_spec.specs.FileFaults.{FileFault}
 use Rattle.dns_spec.specs.Meaning.{Meaning, records, fault_at}
 use Rattle.dns_spec.specs.Report.{Options, Report, failing, passing, line_report, fault_report, report_of_faults, zone_report, report_of_meaning}
-use Rattle.dns_spec.proofs.FaultOrder.{folded_folded}
-use Rattle.dns_spec.proofs.OrderedReport.{ordered_passing}
+use Rattle.dns_spec.proofs.ZoneChecks.FaultOrder.{folded_folded}
+use Rattle.dns_spec.proofs.PrintedZones.OrderedReport.{ordered_passing}
 use Rattle.dns_master.specs.SourceForm.{GivesMeaning}
 use Rattle.dns_zone.specs.declared.fault.BuildFault.{BuildFault}
 use Rattle.dns_zone.specs.ZoneForm.{TellsFaults}

@@ -3,7 +3,8 @@ ghost use Rattle.std.specs.Prelude.{◌≡◌, ◌<◌, get_or};
 
 use crate::places::SuffixHash;
 
-/// Chooses chains by the length of a suffix and the first octets of its first label: a few instructions for each.
+/// Chooses chains by the length of a suffix and the first octets of its first label: a few
+/// instructions for each.
 #[derive(Clone, Copy, Default, Debug)]
 pub struct QuickHash;
 

@@ -9,8 +9,8 @@ use Rattle.dns_spec.specs.Data.{type_ns}
 use Rattle.dns_spec.specs.Records.{ResourceRecord, ZoneContents, owns}
 use Rattle.dns_spec.specs.Tree.{is_cut}
 use Rattle.dns_spec.specs.Checks.{at_or_below_cut, below_cut}
-use Rattle.dns_spec.proofs.NameLaws.{same_tests, at_or_below-cons}
-use Rattle.dns_spec.proofs.SortedOnce.{Each, each_filter, filter_each}
+use Rattle.dns_spec.proofs.DomainNames.NameLaws.{same_tests, at_or_below-cons}
+use Rattle.dns_spec.proofs.Records.SortedOnce.{Each, each_filter, filter_each}
 use Rattle.dns_zone.specs.CutForm.{behind, IsApart, AreApart, AreTopmost, last_passes}
 use Rattle.dns_zone.proofs.Pairs.{Pairs}
 use Rattle.dns_zone.proofs.NameOrder.{same-is, same-from}

@@ -7,7 +7,7 @@ use Rattle.std.specs.Ordering.{ordering_reverse, ordering_then}
 use Rattle.std.specs.List.Sorted.{IsPartitionedBy}
 use Rattle.dns_spec.specs.Names.{DomainName, same, name_order}
 use Rattle.dns_spec.specs.Records.{ResourceRecord, insert_by, sort_by, data_order, record_order}
-use Rattle.dns_spec.proofs.SortedOnce.{Each, each_weaker, filter_each}
+use Rattle.dns_spec.proofs.Records.SortedOnce.{Each, each_weaker, filter_each}
 use Rattle.dns_zone.specs.ZoneForm.{AreOrdered}
 use Rattle.dns_zone.proofs.Pairs.{Pairs, pairs_weaker, pairs_of, pairs_filter, parted, filter_within}
 use Rattle.dns_zone.proofs.NameOrder.{name_order_total, same-tied, tied-same, not_greater}

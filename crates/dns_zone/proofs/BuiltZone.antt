@@ -6,9 +6,9 @@ use Rattle.dns_spec.specs.Records.{ResourceRecord, ZoneContents, zone_of, record
 use Rattle.dns_spec.specs.Checks.{Fault, faults}
 use Rattle.dns_spec.specs.Meaning.{most_records}
 use Rattle.dns_spec.specs.ZonePrinted.{IsReadRecord, is_soa}
-use Rattle.dns_spec.proofs.FaultOrder.{folded_folded}
-use Rattle.dns_spec.proofs.PassedChecks.{one_soa}
-use Rattle.dns_spec.proofs.RecordOrder.{ordered_faults}
+use Rattle.dns_spec.proofs.ZoneChecks.FaultOrder.{folded_folded}
+use Rattle.dns_spec.proofs.ZoneChecks.PassedChecks.{one_soa}
+use Rattle.dns_spec.proofs.Records.RecordOrder.{ordered_faults}
 use Rattle.dns_zone.specs.ZoneForm.{AreOrdered, IsBuilt}
 
 below : (a b c : ℕ) → a ≤ b → b ≤ c → a ≤ c

@@ -7,7 +7,7 @@ use Rattle.std.specs.Cmp.Lexicographic.{slice_cmp}
 use Rattle.std.specs.Ordering.{ordering_then}
 use Rattle.std.specs.Char.{to_ascii_lowercase}
 use Rattle.dns_spec.specs.Names.{Octets, DomainName, wire, folded, same, last_labels, at_or_below, below, label_order, name_order}
-use Rattle.dns_spec.proofs.NameLaws.{at_or_below-short, same-length-wire}
+use Rattle.dns_spec.proofs.DomainNames.NameLaws.{at_or_below-short, same-length-wire}
 use Rattle.dns_name.specs.WireForm.{labels_of, IsWireForm}
 use Rattle.dns_zone.specs.TreeSteps.{IsChildOf}
 use Rattle.dns_zone.proofs.Spans.{drop_again}

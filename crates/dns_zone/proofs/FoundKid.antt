@@ -6,8 +6,8 @@ use Rattle.std.proofs.lemmas.List.{get_or-map, length-map}
 use Rattle.std.specs.Ordering.{ordering_reverse}
 use Rattle.dns_spec.specs.Names.{Octets, label_order}
 use Rattle.dns_spec.specs.Records.{ResourceRecord}
-use Rattle.dns_spec.proofs.SortedOnce.{Among, Rises}
-use Rattle.dns_spec.proofs.RecordOrder.{among_contains}
+use Rattle.dns_spec.proofs.Records.SortedOnce.{Among, Rises}
+use Rattle.dns_spec.proofs.Records.RecordOrder.{among_contains}
 use Rattle.dns_zone.specs.TreeForm.{row_label, row_at, room_after}
 use Rattle.dns_zone.specs.declared.row.Row.{Row}
 use Rattle.dns_zone.proofs.Pairs.{each_get}

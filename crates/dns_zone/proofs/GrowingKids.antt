@@ -7,9 +7,9 @@ use Rattle.std.specs.List.{list_any}
 use Rattle.std.specs.Char.{to_ascii_lowercase}
 use Rattle.dns_spec.specs.Names.{Octets, DomainName, folded, same, names_equal, at_or_below, below, label_order}
 use Rattle.dns_spec.specs.Records.{ResourceRecord}
-use Rattle.dns_spec.proofs.NameLaws.{names_equal-decides, same-length}
-use Rattle.dns_spec.proofs.SortedOnce.{Each, Among, Rises, each_at, each_weaker, filter_each}
-use Rattle.dns_spec.proofs.ItemSets.{filter_test}
+use Rattle.dns_spec.proofs.DomainNames.NameLaws.{names_equal-decides, same-length}
+use Rattle.dns_spec.proofs.Records.SortedOnce.{Each, Among, Rises, each_at, each_weaker, filter_each}
+use Rattle.dns_spec.proofs.Replies.ItemSets.{filter_test}
 use Rattle.dns_name.proofs.WireLemmas.{labels_of_spelled}
 use Rattle.dns_zone.specs.ZoneForm.{IsCanonical}
 use Rattle.dns_zone.specs.TreeForm.{span, owners, under, first_of, row_octets, row_name, row_label, IsRow, IsKid, AreKids}

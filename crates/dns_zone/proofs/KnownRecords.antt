@@ -2,7 +2,7 @@
 use Rattle.std.proofs.Common.{All, [], ◌∷◌, ◌++◌, length}
 use Rattle.std.proofs.lemmas.List.Elements.{All-nil, All-cons}
 use Rattle.dns_spec.specs.Names.{DomainName, wire}
-use Rattle.dns_spec.proofs.SmallOctets.{Small, small_tail, small_front, small_back}
+use Rattle.dns_spec.proofs.DomainNames.SmallOctets.{Small, small_tail, small_front, small_back}
 
 pub small_labels : (n : DomainName) → Small (wire n) → All Small n
 small_labels [] h = All-nil Small

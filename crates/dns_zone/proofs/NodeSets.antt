@@ -11,10 +11,10 @@ use Rattle.dns_spec.specs.Data.{Valid}
 use Rattle.dns_spec.specs.Records.{ResourceRecord, ZoneContents, distinct, sort_by, data_order, record_order, at, rrset}
 use Rattle.dns_spec.specs.Sets.{RecordSet, records_at, set_of, rising_types, of_lowest_type, of_first_type}
 use Rattle.dns_spec.specs.ZonePrinted.{IsReadRecord}
-use Rattle.dns_spec.proofs.SortedOnce.{Each, each_filter, each_distinct, each_sort, each_weaker, filter_each, length-sort_by}
-use Rattle.dns_spec.proofs.RecordOrder.{each_all, all_each}
-use Rattle.dns_spec.proofs.FewItems.{count_few}
-use Rattle.dns_spec.proofs.ItemSets.{IsOf, as_set, first_ttl, own_records, each_typed}
+use Rattle.dns_spec.proofs.Records.SortedOnce.{Each, each_filter, each_distinct, each_sort, each_weaker, filter_each, length-sort_by}
+use Rattle.dns_spec.proofs.Records.RecordOrder.{each_all, all_each}
+use Rattle.dns_spec.proofs.Replies.FewItems.{count_few}
+use Rattle.dns_spec.proofs.Replies.ItemSets.{IsOf, as_set, first_ttl, own_records, each_typed}
 use Rattle.dns_zone.specs.Nodes.{IsSetOf}
 use Rattle.dns_zone.specs.SetForm.{data_of, lent, IsLent, AreOfType}
 use Rattle.dns_zone.specs.ZoneForm.{IsBuilt}

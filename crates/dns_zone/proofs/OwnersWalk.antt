@@ -9,8 +9,8 @@ use Rattle.std.specs.List.Sorted.{IsPartitionedBy}
 use Rattle.std.specs.Ordering.{ordering_reverse}
 use Rattle.dns_spec.specs.Names.{DomainName, folded, same, names_equal, name_order}
 use Rattle.dns_spec.specs.Records.{ResourceRecord, ZoneContents, at, record_order}
-use Rattle.dns_spec.proofs.RecordOrder.{each_all, all_each}
-use Rattle.dns_spec.proofs.SortedOnce.{Each, each_filter, filter_each, each_weaker}
+use Rattle.dns_spec.proofs.Records.RecordOrder.{each_all, all_each}
+use Rattle.dns_spec.proofs.Records.SortedOnce.{Each, each_filter, filter_each, each_weaker}
 use Rattle.dns_zone.specs.ZoneForm.{AreOrdered}
 use Rattle.dns_zone.specs.OwnerForm.{IsOwner}
 use Rattle.dns_zone.specs.ToldForm.{HasOwners, begins_with_owner, owners_once}

@@ -2,7 +2,7 @@
 use Rattle.std.proofs.Common.{◌≡◌, ℕ, zero, suc, ◌<◌, ◌≤◌, Bool, true, false, not, cond, List, [], ◌∷◌, length, take, drop, get_or, refl, sym, ap, ◌∙◌, arith, filter}
 use Rattle.std.proofs.lemmas.Bool.{false≢true}
 use Rattle.std.specs.List.Sorted.{IsPartitionPoint, IsPartitionedBy, IsNonDecreasingBy}
-use Rattle.dns_spec.proofs.SortedOnce.{Each, each_filter, each_weaker}
+use Rattle.dns_spec.proofs.Records.SortedOnce.{Each, each_filter, each_weaker}
 
 -- R holds of each element and each behind it
 abbrev pub Pairs : {X : Type 0} → (X → X → Type 0) → List X → Type 0

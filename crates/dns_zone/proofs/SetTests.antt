@@ -3,7 +3,7 @@ use Rattle.std.proofs.Common.{◌≡◌, ℕ, zero, suc, ◌+◌, ◌<◌, ◌�
 use Rattle.std.proofs.lemmas.Bool.{ltb-false, eqb-true, ne_eqb, eqb-false, eq-eqb, cases_lt, lt-ltb, le-ltb, or_right, or_parts, true≢false}
 use Rattle.std.specs.List.{list_any}
 use Rattle.dns_spec.specs.Records.{ResourceRecord, distinct}
-use Rattle.dns_spec.proofs.SortedOnce.{Each, each_weaker, each_filter, filter_each}
+use Rattle.dns_spec.proofs.Records.SortedOnce.{Each, each_weaker, each_filter, filter_each}
 use Rattle.dns_zone.specs.SetWalks.{begins_with_type, next_differs, neighbours_differ, repeats_behind, sets_ended}
 use Rattle.dns_zone.proofs.Pairs.{Pairs, filter_all}
 

@@ -6,7 +6,7 @@ use Rattle.std.proofs.lemmas.List.Elements.{filter-append}
 use Rattle.std.proofs.lemmas.List.Filters.{length-filter_both}
 use Rattle.std.proofs.Math.Seq.{drop-nil}
 use Rattle.std.specs.List.{list_any}
-use Rattle.dns_spec.proofs.SortedOnce.{Each, Among, filter_each}
+use Rattle.dns_spec.proofs.Records.SortedOnce.{Each, Among, filter_each}
 use Rattle.dns_zone.specs.TreeForm.{span}
 use Rattle.dns_zone.proofs.Pairs.{each_get, filter_all}
 

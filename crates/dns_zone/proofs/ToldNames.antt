@@ -8,7 +8,7 @@ use Rattle.std.specs.Prelude.{if◌then◌else◌}
 use Rattle.dns_spec.specs.Names.{DomainName, folded, same, name_order}
 use Rattle.dns_spec.specs.Records.{ResourceRecord, ZoneContents, distinct, insert_by, sort_by}
 use Rattle.dns_spec.specs.Checks.{Check, Fault, checks, faults_at, checked_names, faults}
-use Rattle.dns_spec.proofs.SortedOnce.{Each, Among, each_filter, filter_each, each_weaker, same_sorted}
+use Rattle.dns_spec.proofs.Records.SortedOnce.{Each, Among, each_filter, filter_each, each_weaker, same_sorted}
 use Rattle.dns_zone.specs.ZoneForm.{AreOrdered}
 use Rattle.dns_zone.specs.ToldForm.{failed_from, begins_with_owner, owners_once, told_at}
 use Rattle.dns_zone.proofs.Pairs.{Pairs, pairs_filter, filter_all}

@@ -10,7 +10,7 @@ use Rattle.dns_spec.specs.Names.{DomainName, same, at_or_below, below, name_orde
 use Rattle.dns_spec.specs.Data.{type_ns}
 use Rattle.dns_spec.specs.Records.{ResourceRecord, ZoneContents, owns}
 use Rattle.dns_spec.specs.Tree.{is_cut}
-use Rattle.dns_spec.proofs.SortedOnce.{Each, each_weaker}
+use Rattle.dns_spec.proofs.Records.SortedOnce.{Each, each_weaker}
 use Rattle.dns_zone.specs.ZoneForm.{AreOrdered}
 use Rattle.dns_zone.specs.CutForm.{behind, AreApart, AreTopmost, last_passes}
 use Rattle.dns_zone.proofs.Pairs.{Pairs, pairs_weaker, parted, filter_all, each_get}

@@ -1,4 +1,5 @@
-//! A printer of messages: `dnsmsg` prints the message that the first line of standard input is, in hexadecimal digits.
+//! A printer of messages: `dnsmsg` prints the message that the first line of standard input is, in
+//! hexadecimal digits.
 #![tactic(auto)]
 
 use dns_name::Tally;

@@ -5,7 +5,8 @@ use dns_name::Tally;
 use dns_tools::{FaultWord, check_words, check_zone, exit_status};
 use std::alloc::Global;
 
-/// The status that a run ends with, and what it writes to standard output, or to standard error where that is 2.
+/// The status that a run ends with, and what it writes to standard output, or to standard error
+/// where that is 2.
 #[derive(PartialEq, Eq, Drop)]
 pub(crate) struct Answer {
     pub status: u8,

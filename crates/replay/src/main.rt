@@ -1,5 +1,6 @@
-//! Replays recorded runs of the checker: `replay FILE` reads the cases of FILE, gives the words and the zone file of each
-//! to what `zonecheck` calls, and tells each case that is answered otherwise than recorded.
+//! Replays recorded runs of the checker: `replay FILE` reads the cases of FILE, gives the words and
+//! the zone file of each to what `zonecheck` calls, and reports each case that is answered
+//! otherwise than recorded.
 //!
 //! The head of `data/zonecheck.cases` says how a case is written.
 #![tactic(auto)]

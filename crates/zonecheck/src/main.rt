@@ -1,5 +1,5 @@
-//! A checker of zone files: `zonecheck [--quiet] [--print] ORIGIN FILE` says whether the zone of ORIGIN in FILE may be
-//! served, tells all of its faults, or prints it in its canonical text.
+//! A checker of zone files: `zonecheck [--quiet] [--print] ORIGIN FILE` says whether the zone of
+//! ORIGIN in FILE may be served, reports all of its faults, or prints it in its canonical text.
 #![tactic(auto)]
 
 use dns_name::Tally;

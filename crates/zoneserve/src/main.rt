@@ -1,6 +1,6 @@
-//! A server of one zone. `zoneserve once [--tcp] ORIGIN FILE` loads the zone of ORIGIN from FILE, and answers each message of
-//! standard input, a line of hexadecimal digits, by a line on standard output; `zoneserve udp|tcp ADDR TURNS ORIGIN FILE`
-//! answers at an address.
+//! A server of one zone. `zoneserve once [--tcp] ORIGIN FILE` loads the zone of ORIGIN from FILE,
+//! and answers each message of standard input, a line of hexadecimal digits, by a line on standard
+//! output; `zoneserve udp|tcp ADDR TURNS ORIGIN FILE` answers at an address.
 #![tactic(auto)]
 
 use dns_name::Tally;

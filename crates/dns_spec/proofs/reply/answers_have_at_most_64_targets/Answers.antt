@@ -1,4 +1,4 @@
-use Rattle.dns_spec.proofs.FewItems.{few_targets}
+use Rattle.dns_spec.proofs.Replies.FewItems.{few_targets}
 use Rattle.dns_spec.proofs.reply.answers_have_at_most_64_targets.Goals as goal
 
 pub returns : goal.returns

@@ -4,7 +4,7 @@ use Rattle.std.proofs.lemmas.Bool.{false≢true, eqb-true, eq-eqb}
 use Rattle.dns_spec.specs.Names.{folded}
 use Rattle.dns_spec.specs.Records.{ResourceRecord}
 use Rattle.dns_spec.specs.Checks.{faults}
-use Rattle.dns_spec.proofs.FaultOrder.{folded_folded}
+use Rattle.dns_spec.proofs.ZoneChecks.FaultOrder.{folded_folded}
 use Rattle.dns_zone.specs.ZoneForm.{IsBuilt}
 use Rattle.dns_zone.specs.TreeForm.{IsTree}
 use Rattle.dns_zone.proofs.BuiltZone.{found_of_read, built}
