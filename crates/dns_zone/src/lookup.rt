@@ -11,6 +11,9 @@ use dns_master::Record;
 use dns_name::Name;
 use dns_rdata::RType;
 
+// How many records are looked at before all are: most owners have few records, and most names few below them.
+const NEAR: usize = 4;
+
 /// The records whose owner is the name, which stand side by side.
 pub(crate) fn records_at<'a>(records: &'a [Record], name: &Name) -> &'a [Record]
     requires ordered { AreOrdered records.now }
@@ -44,6 +47,11 @@ pub(crate) fn count_at(records: &[Record], name: &Name) -> usize
     ensures others { drop result records.now
         ≡ filter (λ (r : ResourceRecord). not (same r.owner name.now)) records.now }
 {
+    if let Some(next) = records.get(NEAR) {
+        if !is_at(next, name) {
+            return records[..NEAR].partition_point(|listed| is_at(listed, name));
+        }
+    }
     records.partition_point(|listed| is_at(listed, name))
 }
 
@@ -56,6 +64,11 @@ pub(crate) fn count_under(records: &[Record], name: &Name) -> usize
     ensures others { drop result records.now
         ≡ filter (λ (r : ResourceRecord). not (at_or_below r.owner name.now)) records.now }
 {
+    if let Some(next) = records.get(NEAR) {
+        if !next.owner.at_or_below(name) {
+            return records[..NEAR].partition_point(|listed| listed.owner.at_or_below(name));
+        }
+    }
     records.partition_point(|listed| listed.owner.at_or_below(name))
 }
 
