@@ -22,3 +22,5 @@ pub mod OriginRow
 pub mod GrowingTree
 pub mod FoundKid
 pub mod NodeRows
+pub mod KeyOrder
+pub mod KeysLeft

@@ -34,7 +34,8 @@ pub record AreTopmost (z : ZoneContents) (cuts : List ResourceRecord) : Type 0 w
   pub cover : (n : DomainName) → is_cut z n ≡ true → list_any (λ (c : ResourceRecord). at_or_below n c.owner) cuts ≡ true
 
 -- What a zone under check keeps.
-pub record IsSurvey (z : ZoneContents) (cuts : List ResourceRecord) : Type 0 where
+pub record IsSurvey (z : ZoneContents) (keyed cuts : List ResourceRecord) : Type 0 where
+  pub keyed_is : keyed ≡ z.records
   pub ordered : AreOrdered z.records
   pub lower : folded z.origin ≡ z.origin
   pub topmost : AreTopmost z cuts

@@ -8,3 +8,4 @@ pub mod SetWalks
 pub mod CutForm
 pub mod OwnerForm
 pub mod ToldForm
+pub mod KeyForm

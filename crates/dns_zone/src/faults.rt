@@ -8,6 +8,7 @@ ghost use Rattle.dns_zone.specs.OwnerForm.{IsOwner};
 ghost use Rattle.dns_zone.specs.ToldForm.{HasOwners, failed_from, owners_once, told_around, told_at};
 
 use crate::fault::CheckFault;
+use crate::keyed::{beside_keys, keys_of};
 use crate::lookup::{count_at, count_before, count_in_front};
 use crate::owner::Owner;
 use crate::survey::Survey;
@@ -18,7 +19,7 @@ use std::alloc::{AllocError, Global};
 /// The faults of the zone of these records, by the order of owners, then by code. They are told of all owners, and of
 /// the origin where it owns nothing too.
 ///
-/// An error only where memory for the list of faults, or for that of cuts, was not found.
+/// An error only where memory for the list of faults, for keys or for cuts was not found.
 pub(crate) fn faults(
     alloc: Global,
     origin: &Name,
@@ -28,8 +29,10 @@ pub(crate) fn faults(
     requires lower { folded origin.now ≡ origin.now }
     ensures { IfOk result (λ found. found.items ≡ faults (record { origin = origin.now; records = records.now })) }
 {
-    let survey = Survey::new(alloc, origin, records)?;
-    let (before, others) = records.split_at(count_before(records, origin));
+    let keys = keys_of(alloc, records)?;
+    let keyed = beside_keys(alloc, records, keys.as_slice())?;
+    let survey = Survey::new(alloc, origin, records, keyed.as_slice())?;
+    let (before, others) = records.split_at(count_before(keyed.as_slice(), origin));
     let (own, behind) = others.split_at(count_at(others, origin));
     let mut found = Vec::new(alloc);
     tell_around(&survey, before, origin, own, behind, &mut found)?;

@@ -13,6 +13,7 @@ ghost use Rattle.dns_zone.specs.ZoneForm.{AreOrdered};
 ghost use Rattle.dns_zone.specs.CutForm.{behind, AreTopmost, AreApart, last_passes};
 
 use crate::cuts::{is_below_last, is_covered, not_behind, topmost_cuts};
+use crate::keyed::Keyed;
 use crate::lookup::{has_type, records_at};
 use crate::target::target;
 use dns_master::Record;
@@ -26,8 +27,10 @@ use std::marker::Model;
 pub(crate) struct Survey<'a> {
     origin: &'a Name,
     records: &'a [Record],
+    // The same records beside their keys.
+    keyed: &'a [Keyed<'a>],
     // An NS record of each cut that is below no other.
-    cuts: Vec<&'a Record>,
+    cuts: Vec<&'a Keyed<'a>>,
 }
 
 impl<'a> Model for Survey<'a> {
@@ -38,7 +41,8 @@ impl<'a> Model for Survey<'a> {
 
     ghost view = { λ s. record { origin = s.origin.now; records = s.records.now } };
 
-    ghost invariant = { λ s. IsSurvey (record { origin = s.origin.now; records = s.records.now }) (behind s.cuts.items) };
+    ghost invariant = { λ s. IsSurvey (record { origin = s.origin.now; records = s.records.now })
+        s.keyed.now (behind s.cuts.items) };
 }
 
 impl<'a> Survey<'a> {
@@ -47,15 +51,18 @@ impl<'a> Survey<'a> {
         alloc: Global,
         origin: &'a Name,
         records: &'a [Record],
+        keyed: &'a [Keyed<'a>],
     ) -> Result<Survey<'a>, AllocError>
+        requires keyed { keyed.now ≡ records.now }
         requires ordered { AreOrdered records.now }
         requires lower { folded origin.now ≡ origin.now }
         ensures { IfOk result (λ survey. survey ≡ record { origin = origin.now; records = records.now }) }
     {
-        let cuts = topmost_cuts(alloc, origin, records)?;
+        let cuts = topmost_cuts(alloc, origin, keyed)?;
         Ok(Survey {
             origin,
             records,
+            keyed,
             cuts,
         })
     }
@@ -74,7 +81,7 @@ impl<'a> Survey<'a> {
         ensures own { result.now ≡ at self.now name.now }
         ensures by_types { IsNonDecreasingBy (λ (r : ResourceRecord). r.rtype) result.now }
     {
-        records_at(self.records, name)
+        records_at(self.keyed, self.records, name)
     }
 
     /// Whether the name owns a record of the type.
