@@ -6,7 +6,8 @@ use crate::socket::Socket;
 use dns_name::Tally;
 use dns_serve::{serve_stream, udp_turn};
 use dns_zone::Zone;
-use std::io;
+use std::alloc::Global;
+use std::io::{self, BufReader, Read, Write};
 use std::net::{Net, SocketAddr, TcpListener, TcpStream, UdpSocket};
 use std::time::Duration;
 
@@ -64,12 +65,14 @@ fn say_of_turn(rt: &impl Eprint, are_said: bool, word: TurnWord) -> bool {
 /// where it could not be written, or none was taken for ten seconds, `S3` where it ended inside a message. Such a turn counts.
 ///
 /// `bind` where the address can't be had.
-pub fn serve_connections<R: Net<Listener = TcpListener, Stream = TcpStream> + Eprint>(
+pub fn serve_connections<R>(
     rt: &R,
     zone: &Zone,
     address: &str,
     turns: u32,
 ) -> Result<bool, FaultWord>
+where
+    R: Net<Listener = TcpListener, Stream = TcpStream> + Eprint + AllocGlobal,
     ensures { IfErr result (λ fault. fault ≡ FaultWord.NotBound) }
 {
     let Ok(listener) = listening(rt, address) else {
@@ -77,7 +80,7 @@ pub fn serve_connections<R: Net<Listener = TcpListener, Stream = TcpStream> + Ep
     };
     let mut are_said = true;
     'turns: for _ in 0..turns {
-        if let Err(word) = serve_next(zone, &listener) {
+        if let Err(word) = serve_next(rt.alloc(), zone, &listener) {
             are_said = say_of_turn(rt, are_said, word);
         }
     }
@@ -92,7 +95,7 @@ fn listening<R: Net<Listener = TcpListener, Stream = TcpStream>>(
 }
 
 // Accepts a connection, and answers its messages.
-fn serve_next(zone: &Zone, listener: &TcpListener) -> Result<(), TurnWord> {
+fn serve_next(alloc: Global, zone: &Zone, listener: &TcpListener) -> Result<(), TurnWord> {
     let Ok((stream, _)) = listener.accept() else {
         return Err(TurnWord::NotAccepted);
     };
@@ -103,8 +106,21 @@ fn serve_next(zone: &Zone, listener: &TcpListener) -> Result<(), TurnWord> {
     if stream.set_write_timeout(Some(patience)).is_err() {
         return Err(TurnWord::StreamNotWritten);
     }
-    let mut source = Tally::new(&stream);
-    let mut sink = Tally::new(&stream);
+    // Questions that come together are read together. Where there is no memory for that, the stream is read as it is.
+    match BufReader::new(alloc, &stream) {
+        Ok(source) => serve_session(zone, source, &stream),
+        Err(_) => serve_session(zone, &stream, &stream),
+    }
+}
+
+// Answers the messages of a connection.
+fn serve_session<R: Read + Drop, W: Write + Drop>(
+    zone: &Zone,
+    source: R,
+    sink: W,
+) -> Result<(), TurnWord> {
+    let mut source = Tally::new(source);
+    let mut sink = Tally::new(sink);
     serve_stream(zone, &mut source, &mut sink, MOST_MESSAGES)?;
     Ok(())
 }
