@@ -11,3 +11,6 @@ mod names;
 mod reply;
 
 pub use reply::{Limit, respond};
+
+#[cfg(test)]
+mod tests;
