@@ -247,10 +247,7 @@ fn write_addresses(
 fn read(alloc: Global, rtype: RType, words: &[Word<'_>]) -> Result<Rdata, Fault>
     ensures { IfOk result (λ d. Valid rtype.0 d) }
 {
-    match Rdata::read_words(alloc, rtype, words, &Name::root()) {
-        Ok(rdata) => Ok(rdata),
-        Err(fault) => Err(Fault::Input(fault)),
-    }
+    Ok(Rdata::read_words(alloc, rtype, words, &Name::root())?)
 }
 
 // Writes what words say, so often.
@@ -292,10 +289,7 @@ fn read_file(alloc: Global, records: u32, rounds: u32) -> Result<Done, Fault> {
     let mut done = Done::NOTHING;
     for _ in 0..rounds {
         let mut source = Tally::new(text.as_slice());
-        let records = match read_zone(alloc, &origin, &mut source) {
-            Ok(records) => records,
-            Err(fault) => return Err(Fault::Zone(fault)),
-        };
+        let records = read_zone(alloc, &origin, &mut source)?;
         done.add(Done {
             data: records.len() as u64,
             octets: text.len() as u64,

@@ -1,9 +1,9 @@
 -- Octets that begin with labels: what is after a label decides of them.
 use Rattle.std.proofs.Common.{◌≡◌, ℕ, zero, suc, ◌-◌, ◌<◌, ◌≤◌, true, false, Option, None, Some, [], ◌∷◌, ◌++◌, length, take, drop, get_or, refl, sym, ap, ◌∙◌, arith, append_assoc, length-append, take-append-drop}
-use Rattle.std.proofs.lemmas.Bool.{and_parts, and_from, false_from_ne_true}
+use Rattle.std.proofs.lemmas.Bool.{and_parts, and_from}
 use Rattle.std.proofs.lemmas.List.{take_at, drop_at, length-take-le}
 use Rattle.std.proofs.lemmas.Option.{none-some, some_pair_parts}
-use Rattle.std.specs.Option.{option_map, option_and_then}
+use Rattle.std.specs.Option.{option_map}
 use Rattle.std.specs.List.{list_all}
 use Rattle.dns_spec.specs.Names.{Octets, DomainName, wire, is_label, is_name, name_of}
 use Rattle.dns_spec.specs.Data.{Part, octets as run, name, domain, piece_front, are_strings}

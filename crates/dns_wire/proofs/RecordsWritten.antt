@@ -1,5 +1,5 @@
 -- Records are written one after the other: those that are written and those that are to come are all.
-use Rattle.std.proofs.Common.{◌≡◌, ℕ, zero, suc, ◌+◌, ◌<◌, ◌≤◌, true, false, List, [], ◌∷◌, ◌++◌, map, length, drop, get_or, refl, sym, ap, ◌∙◌, subst, subst₂, Bool, arith, append_assoc, append-nil, length-append, lt_of_not-le}
+use Rattle.std.proofs.Common.{◌≡◌, ℕ, zero, suc, ◌+◌, ◌<◌, ◌≤◌, true, false, List, [], ◌∷◌, ◌++◌, map, length, drop, get_or, refl, sym, ap, ◌∙◌, subst, subst₂, Bool, arith, append_assoc, length-append, lt_of_not-le}
 use Rattle.std.proofs.lemmas.Bool.{false≢true}
 use Rattle.dns_spec.specs.Names.{Octets, DomainName}
 use Rattle.dns_spec.specs.Records.{ResourceRecord}

@@ -1,6 +1,6 @@
 -- The canonical order of names.
-use Rattle.std.proofs.Common.{◌≡◌, ℕ, Bool, true, false, cond, eqb, nat_lt, [], ◌∷◌, map, reverse, refl, sym, ap, ap₂, ◌∙◌, is_eq, is_gt, is_lt, nat_cmp, Ordering, Less, Equal, Greater, arith}
-use Rattle.std.proofs.lemmas.Bool.{ne_eqb, ltb-true, false≢true}
+use Rattle.std.proofs.Common.{◌≡◌, true, false, [], ◌∷◌, map, reverse, refl, sym, ap, ap₂, ◌∙◌, is_eq, is_gt, is_lt, nat_cmp, Ordering, Less, Equal, Greater}
+use Rattle.std.proofs.lemmas.Bool.{false≢true}
 use Rattle.std.proofs.lemmas.List.{reverse-reverse}
 use Rattle.std.proofs.lemmas.Cmp.{nat_list_cmp_total, lists_total, on_total, tied_itself}
 use Rattle.std.proofs.lemmas.Str.Ascii.{lowercase-lowercase}

@@ -1,5 +1,5 @@
 -- Worked names on the wire: each is computed from the definition.
-use Rattle.std.specs.Prelude.{◌≡◌, [], ◌++◌, ◌∷◌, replicate, Option, Some, None, codes}
+use Rattle.std.specs.Prelude.{◌≡◌, [], ◌++◌, ◌∷◌, replicate, Some, None, codes}
 use Rattle.std.proofs.Common.{refl}
 use Rattle.dns_spec.specs.Names.{labels_from, name_of}
 use Rattle.dns_spec.proofs.WorkedExamples.Zones.{dotted, hex}

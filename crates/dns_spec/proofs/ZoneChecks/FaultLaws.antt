@@ -1,17 +1,17 @@
 -- A fault stands among those of a zone exactly where its condition holds, once, by the order of owners and then of codes.
-use Rattle.std.proofs.Common.{◌≡◌, ℕ, zero, suc, ◌<◌, ◌↔◌, Bool, true, false, ◌&&◌, ◌||◌, not, cond, ◌⊎◌, inl, inr, List, [], ◌∷◌, ◌++◌, map, length, nat_lt, ◌==◌, filter, refl, sym, ap, ◌∙◌, subst, arith, Ordering, Less, Equal, Greater, nat_cmp, is_lt}
+use Rattle.std.proofs.Common.{◌≡◌, ℕ, ◌↔◌, Bool, true, false, ◌&&◌, ◌||◌, not, cond, ◌⊎◌, inl, inr, List, [], ◌∷◌, ◌++◌, map, length, nat_lt, ◌==◌, filter, refl, sym, ap, ◌∙◌, subst, arith, Ordering, Less, Equal, Greater, nat_cmp, is_lt}
 use Rattle.std.specs.List.{Contains, AllByRecursion, list_any, list_all, flat_map}
 use Rattle.std.specs.List.Sorted.{IsStrictlySortedBy}
 use Rattle.std.specs.Ordering.{ordering_then}
 use Rattle.std.specs.Option.{option_map_or}
-use Rattle.std.proofs.lemmas.Bool.{and_parts, and_from, false≢true, eqb-true, eq-eqb, lt-ltb, ltb-true}
+use Rattle.std.proofs.lemmas.Bool.{and_parts, and_from, false≢true, eqb-true, eq-eqb, lt-ltb}
 use Rattle.std.proofs.lemmas.Cmp.{tied_itself}
 use Rattle.std.proofs.lemmas.List.Concat.{flat_map-cons}
 use Rattle.dns_spec.specs.Names.{DomainName, folded, names_equal, same, name_order, at_or_below}
 use Rattle.dns_spec.specs.Data.{type_ns, type_cname, type_soa, type_mx, type_srv, target}
-use Rattle.dns_spec.specs.Records.{ResourceRecord, ZoneContents, at, owns, distinct, sort_by}
+use Rattle.dns_spec.specs.Records.{ResourceRecord, ZoneContents, at, owns, distinct}
 use Rattle.dns_spec.specs.Tree.{is_cut}
-use Rattle.dns_spec.specs.Checks.{Check, is_origin, is_owner, count, owns_such, has_target, is_address_type, below_cut, lacks_address, no_soa, many_soa, soa_elsewhere, no_ns, outside, cname_and_other, many_cname, ttls_differ, ns_target_alias, ns_target_lost, mx_target_alias, data_at_cut, wildcard_ns, large_set, many_sets, checks, fails, Fault, faults_at, checked_names, faults, fault_order}
+use Rattle.dns_spec.specs.Checks.{Check, is_origin, is_owner, count, owns_such, has_target, is_address_type, below_cut, lacks_address, checks, fails, Fault, faults_at, checked_names, faults, fault_order}
 use Rattle.dns_spec.proofs.Records.SortedOnce.{Each, Among, each_at, Rises, apart_distinct, sort_rises, among_sort, among_distinct, among_filter, filter_among, filter_each, each_filter}
 use Rattle.dns_spec.proofs.Records.RecordOrder.{contains_among, among_contains}
 use Rattle.dns_spec.proofs.ZoneChecks.FaultOrder.{Lower, one_lower, each_lower, name_order_total, name_tie, folded_folded, any_counted}

@@ -1,6 +1,5 @@
-use Rattle.std.proofs.Common.{◌≡◌, ℕ, ◌-◌, ◌<◌, ◌≤◌, ◌∙◌, suc, sym, ap, ap₂, subst, arith, get_or, slice_get, Some}
+use Rattle.std.proofs.Common.{ℕ, ◌-◌, ◌<◌, ◌≤◌, ◌∙◌, sym, ap, subst, arith, get_or, slice_get, Some}
 use Rattle.std.proofs.lemmas.Bool.{false≢true}
-use Rattle.std.proofs.lemmas.Option.{get_or_from_slice_get}
 use Rattle.dns_wire.specs.declared.places.Entry.{Entry}
 use Rattle.dns_wire.specs.Kept.{SpelledAt}
 use Rattle.dns_wire.proofs.ChainLemmas.{Chain, EntryRead, read_entry, chain_begins, chain_next, entry_kept, kept_entry}

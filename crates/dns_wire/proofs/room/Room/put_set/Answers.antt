@@ -1,8 +1,7 @@
-use Rattle.std.proofs.Common.{◌≡◌, ◌+◌, ◌≤◌, ◌∙◌, List, suc, true, false, refl, sym, ap₂, subst, subst₂, arith, length, drop, get_or, []}
+use Rattle.std.proofs.Common.{◌≡◌, ◌+◌, ◌≤◌, ◌∙◌, suc, refl, ap₂, subst, arith, length, drop}
 use Rattle.std.specs.Bool.{OnTrue}
 use Rattle.dns_spec.specs.Sets.{records_at}
-use Rattle.dns_spec.specs.Layout.{Placed, record_laid}
-use Rattle.dns_wire.specs.Writing.{Holds, IsWritten, shown}
+use Rattle.dns_wire.specs.Writing.{shown}
 use Rattle.dns_wire.proofs.Suffixes.{extends_none, extends_again}
 use Rattle.dns_wire.proofs.RecordsWritten.{RecordsGo, records_begin, records_step, records_written, records_past, records_at_hand, record_done, no_records_left}
 use Rattle.dns_wire.proofs.room.Room.put_set.Goals as goal
