@@ -62,12 +62,13 @@ fn places<'a>(
     ensures count { IfOk result (λ places. length places.items ≡ length records.now) }
     ensures below { IfOk result (λ places. All (λ (p : Place). p.at < length records.now) places.items) }
 {
-    let origin_octets = Key::of(origin).octets().len();
+    let mut room = Key::of(origin);
+    let origin_octets = room.octets().len();
     let mut places = Vec::with_capacity(alloc, records.len())?;
     let mut rest = records;
     let mut at = 0;
     'records: while let Some((listed, others)) = rest.split_first() {
-        let key = key_after(places.as_slice(), origin_octets, &listed.owner);
+        let key = key_after(places.as_slice(), origin_octets, &listed.owner, &mut room);
         places.push(Place { key, at, listed })?;
         rest = others;
         at += 1;
@@ -76,20 +77,20 @@ fn places<'a>(
 }
 
 // The key of an owner, which is mostly that of the record before.
-fn key_after(places: &[Place<'_>], origin_octets: usize, owner: &Name) -> u128 {
+fn key_after(places: &[Place<'_>], origin_octets: usize, owner: &Name, room: &mut Key) -> u128 {
     if let Some(last) = places.last() {
         let before = last.listed;
         if before.owner == *owner {
             return last.key;
         }
     }
-    key_below(origin_octets, owner)
+    key_below(origin_octets, owner, room)
 }
 
 // The first octets that the key of an owner has after that of the origin, by which most owners of a zone differ.
-fn key_below(origin_octets: usize, owner: &Name) -> u128 {
-    let key = Key::of(owner);
-    let octets = key.octets();
+fn key_below(origin_octets: usize, owner: &Name, room: &mut Key) -> u128 {
+    room.make_that_of(owner);
+    let octets = room.octets();
     if octets.len() < origin_octets {
         return 0;
     }

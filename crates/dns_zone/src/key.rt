@@ -25,13 +25,28 @@ impl Model for Key {
 }
 
 impl Key {
+    /// The key of the root, of no octets, to be made that of other names.
+    pub(crate) fn new() -> Key {
+        Key {
+            octets: ArrayVec::new(),
+        }
+    }
+
     /// The key of a name: its labels from the right, each ended, so that one which begins another comes first.
     pub(crate) fn of(name: &Name) -> Key
         ensures { result ≡ name_key name.now }
     {
-        let mut octets = ArrayVec::new();
-        append_labels(name.octets(), &mut octets);
-        Key { octets }
+        let mut key = Key::new();
+        key.make_that_of(name);
+        key
+    }
+
+    /// Makes it the key of a name. Where many are made in turn, that moves no octets but theirs.
+    pub(crate) fn make_that_of(&mut self, name: &Name)
+        ensures { self.new ≡ name_key name.now }
+    {
+        self.octets.clear();
+        append_labels(name.octets(), &mut self.octets);
     }
 
     /// Its octets, one fewer than the wire form of the name has.

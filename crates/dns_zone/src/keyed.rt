@@ -54,23 +54,30 @@ pub(crate) fn keys_of(alloc: Global, records: &[Record]) -> Result<Vec<u8>, Allo
     ensures { IfOk result (λ keys. keys.items ≡ keys_left records.now) }
 {
     let mut keys = Vec::new(alloc);
+    let mut key = Key::new();
     let mut rest = records;
     'records: while let Some((first, others)) = rest.split_first() {
-        add_key(first, others, &mut keys)?;
+        add_key(first, others, &mut key, &mut keys)?;
         rest = others;
     }
     Ok(keys)
 }
 
-// Adds the key of a record's owner, where it is not that of the next.
-fn add_key(first: &Record, others: &[Record], keys: &mut Vec<u8>) -> Result<(), AllocError>
+// Adds the key of a record's owner, where it is not that of the next. `key` is room to make it in.
+fn add_key(
+    first: &Record,
+    others: &[Record],
+    key: &mut Key,
+    keys: &mut Vec<u8>,
+) -> Result<(), AllocError>
     ensures { OnOk result (keys.new.items ++ keys_left others.now
         ≡ keys.old.items ++ keys_left (first.now ∷ others.now)) }
 {
     if shares_key(first, others) {
         return Ok(());
     }
-    keys.extend_from_slice(Key::of(&first.owner).octets())
+    key.make_that_of(&first.owner);
+    keys.extend_from_slice(key.octets())
 }
 
 // Whether the next record has the same owner.

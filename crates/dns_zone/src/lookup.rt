@@ -1,11 +1,11 @@
 //! Records of a name, found by halves among records in canonical order.
-ghost use Rattle.std.specs.Prelude.{◌≡◌, ◌≤◌, ◌==◌, length, take, drop, not, nat_lt};
+ghost use Rattle.std.specs.Prelude.{◌≡◌, ◌≤◌, ◌==◌, length, take, drop, not, nat_lt, IfSome};
 ghost use Rattle.std.specs.List.{list_any, filter, prefix_len};
 ghost use Rattle.std.specs.List.Sorted.{IsPartitionedBy, IsNonDecreasingBy};
 ghost use Rattle.std.specs.Ordering.{is_lt};
 ghost use Rattle.dns_spec.specs.Names.{folded, same, at_or_below, name_order};
 ghost use Rattle.dns_spec.specs.Records.{ResourceRecord};
-ghost use Rattle.dns_zone.specs.ZoneForm.{AreOrdered};
+ghost use Rattle.dns_zone.specs.ZoneForm.{AreOrdered, IsFront};
 
 use crate::key::Key;
 use crate::keyed::Keyed;
@@ -55,12 +55,26 @@ pub(crate) fn count_at(records: &[Record], name: &Name) -> usize
     ensures others { drop result records.now
         ≡ filter (λ (r : ResourceRecord). not (same r.owner name.now)) records.now }
 {
-    if let Some(next) = records.get(NEAR) {
-        if !is_at(next, name) {
-            return records[..NEAR].partition_point(|listed| is_at(listed, name));
-        }
+    if let Some(count) = count_at_among(records, name, 1) {
+        return count;
+    }
+    if let Some(count) = count_at_among(records, name, NEAR) {
+        return count;
     }
     records.partition_point(|listed| is_at(listed, name))
+}
+
+// The same where it is at most `near`, and a record stands there; or nothing.
+fn count_at_among(records: &[Record], name: &Name, near: usize) -> Option<usize>
+    requires in_front { IsPartitionedBy (λ (r : ResourceRecord). same r.owner name.now) records.now }
+    requires lower { folded name.now ≡ name.now }
+    ensures { IfSome result (λ k. IsFront (λ (r : ResourceRecord). same r.owner name.now) records.now k) }
+{
+    let next = records.get(near)?;
+    if is_at(next, name) {
+        return None;
+    }
+    Some(records[..near].partition_point(|listed| is_at(listed, name)))
 }
 
 /// How many of the records have owners at or below the name, where these stand in front.
@@ -72,12 +86,25 @@ pub(crate) fn count_under(records: &[Record], name: &Name) -> usize
     ensures others { drop result records.now
         ≡ filter (λ (r : ResourceRecord). not (at_or_below r.owner name.now)) records.now }
 {
-    if let Some(next) = records.get(NEAR) {
-        if !next.owner.at_or_below(name) {
-            return records[..NEAR].partition_point(|listed| listed.owner.at_or_below(name));
-        }
+    if let Some(count) = count_under_among(records, name, 1) {
+        return count;
+    }
+    if let Some(count) = count_under_among(records, name, NEAR) {
+        return count;
     }
     records.partition_point(|listed| listed.owner.at_or_below(name))
+}
+
+// The same where it is at most `near`, and a record stands there; or nothing.
+fn count_under_among(records: &[Record], name: &Name, near: usize) -> Option<usize>
+    requires { IsPartitionedBy (λ (r : ResourceRecord). at_or_below r.owner name.now) records.now }
+    ensures { IfSome result (λ k. IsFront (λ (r : ResourceRecord). at_or_below r.owner name.now) records.now k) }
+{
+    let next = records.get(near)?;
+    if next.owner.at_or_below(name) {
+        return None;
+    }
+    Some(records[..near].partition_point(|listed| listed.owner.at_or_below(name)))
 }
 
 /// How many records stand in front whose owner is the name. They are passed one by one.

@@ -111,44 +111,58 @@ impl<'a> Survey<'a> {
         self.owns(&target.fold(), RType::CNAME)
     }
 
-    /// Whether the record's target is a name of the zone that lacks an address there (RFC 1034 4.2.1). The record stands
-    /// at `owner`.
-    pub(crate) fn is_target_lost(&self, listed: &Record, owner: &Name, owner_is_cut: bool) -> bool
+    /// Whether the record's target is a name of the zone that owns a CNAME (RFC 2181 10.3), and whether it is one that
+    /// lacks an address there (RFC 1034 4.2.1). It is looked up once. The record stands at `owner`.
+    pub(crate) fn judged_target(
+        &self,
+        listed: &Record,
+        owner: &Name,
+        owner_is_cut: bool,
+    ) -> (bool, bool)
         requires { owner_is_cut ≡ is_cut self.now owner.now }
-        ensures { result ≡ option_map_or (λ m. at_or_below m self.now.origin && lacks_address self.now owner.now m) (target listed.now.rtype listed.now.rdata) false }
+        ensures alias { result.0 ≡ option_map_or (λ m. at_or_below m self.now.origin && owns self.now m type_cname) (target listed.now.rtype listed.now.rdata) false }
+        ensures lost { result.1 ≡ option_map_or (λ m. at_or_below m self.now.origin && lacks_address self.now owner.now m) (target listed.now.rtype listed.now.rdata) false }
     {
         match target(listed) {
-            Some(target) => self.is_lost(&target, owner, owner_is_cut),
-            None => false,
+            Some(target) => self.judged_name(&target, owner, owner_is_cut),
+            None => (false, false),
         }
     }
 
-    fn is_lost(&self, target: &Name, owner: &Name, owner_is_cut: bool) -> bool
+    fn judged_name(&self, target: &Name, owner: &Name, owner_is_cut: bool) -> (bool, bool)
         requires { owner_is_cut ≡ is_cut self.now owner.now }
-        ensures { result ≡ (at_or_below target.now self.now.origin && lacks_address self.now owner.now target.now) }
+        ensures alias { result.0 ≡ (at_or_below target.now self.now.origin && owns self.now target.now type_cname) }
+        ensures lost { result.1 ≡ (at_or_below target.now self.now.origin && lacks_address self.now owner.now target.now) }
     {
         if !target.at_or_below(self.origin) {
-            return false;
+            return (false, false);
         }
-        self.lacks_address(&target.fold(), owner, owner_is_cut)
+        let lower = target.fold();
+        let own = self.at(&lower);
+        let is_alias = has_type(own, RType::CNAME);
+        let is_lost = self.lacks_address(&lower, own, owner, owner_is_cut);
+        (is_alias, is_lost)
     }
 
-    fn lacks_address(&self, target: &Name, owner: &Name, owner_is_cut: bool) -> bool
+    // Whether a name that owns these records lacks an address that a server of `owner` needs.
+    fn lacks_address(&self, target: &Name, own: &[Record], owner: &Name, owner_is_cut: bool) -> bool
         requires lower { folded target.now ≡ target.now }
+        requires own { own.now ≡ at self.now target.now }
+        requires by_types { IsNonDecreasingBy (λ (r : ResourceRecord). r.rtype) own.now }
         requires cut { owner_is_cut ≡ is_cut self.now owner.now }
         ensures { result ≡ lacks_address self.now owner.now target.now }
     {
-        if self.has_address(target) {
+        if self.has_address(target, own) {
             return false;
         }
         !self.is_at_or_below_cut(target) || owner_is_cut && target.at_or_below(owner)
     }
 
-    fn has_address(&self, name: &Name) -> bool
-        requires { folded name.now ≡ name.now }
+    fn has_address(&self, name: &Name, own: &[Record]) -> bool
+        requires own { own.now ≡ at self.now name.now }
+        requires by_types { IsNonDecreasingBy (λ (r : ResourceRecord). r.rtype) own.now }
         ensures { result ≡ has_address self.now name.now }
     {
-        let own = self.at(name);
         has_type(own, RType::A) || has_type(own, RType::AAAA)
     }
 
