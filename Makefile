@@ -1,4 +1,4 @@
-.PHONY: run programs built install uninstall clean package examples docs-check test misuse memory bench
+.PHONY: run programs built install uninstall clean package examples docs-check test misuse clients memory bench
 
 PREFIX ?= /usr/local
 NAMES = zonecheck zoneserve dnsmsg
@@ -70,6 +70,10 @@ test:
 misuse: programs
 	tools/misuse crates/zonecheck/out/zonecheck crates/zoneserve/out/zoneserve
 	tools/must-not-compile
+
+# Serves real clients on loopback: dig, kdig, dnsperf, a resolver, and peers that behave badly. It is no part of the gate.
+clients: built
+	tools/clients crates/zoneserve/out/zoneserve
 
 # Refuses each program each of its allocations in turn. It proves nothing, and is no part of the gate.
 memory:
