@@ -88,7 +88,7 @@ module _ (z : ZoneContents) (h : Header) (q : MessageQuestion) where
         is_head ∙ (λ i. reply_head h (speaks i) (tc i) (rcode i));
   }
 
-  -- So they are where the zone and the question are told by other names.
+  -- So they are where the zone and the question are stated by other names.
   pub answers-found : (z1 : ZoneContents) (n : DomainName) (t : ℕ) (sought sought' : List DomainName) (w w' : State) (v : Verdict) (aa : Bool) (head : Header) → z1 ≡ z → n ≡ q.qname → t ≡ q.qtype → sought ≡ n ∷ []
       → Seeks w w' z1 t 16 sought n v → Followed z1 t (length sought) (length sought') n v → aa ≡ not (v.is_referral && (length sought' == 1))
       → head ≡ reply_head h aa v.is_truncated (code_of v.rcode) → Answers z h q w w' head
@@ -110,15 +110,15 @@ module _ (z : ZoneContents) (h : Header) (q : MessageQuestion) where
       → ((d : spec.Draft) → Holds w' d → len ≡ size (Some d.question) d.kept)
       → ((d : spec.Draft) → Holds w' d → take len out ≡ layout head (Some d.question) d.kept)
       → IsReply z limit (answered h q) len out
-  answer-put limit w w' head len out begun told sized laid =
+  answer-put limit w w' head len out begun stated sized laid =
       let all = items z q.qname q.qtype in
       let d = offered (empty_draft q limit) all in
-      let held : Holds w' d = told.offers.draft (empty_draft q limit) begun in
+      let held : Holds w' d = stated.offers.draft (empty_draft q limit) begun in
       record {
         octets =
             ap (λ x. Some x)
             (laid d held ∙ ap (λ (x : MessageQuestion). layout head (Some x) d.kept) (offered-question (empty_draft q limit) all)
-            ∙ ap (λ js. layout head (Some q) js) (offered-keeps q limit all) ∙ ap (λ x. layout x (Some q) (keep_longest z limit q)) (told.header limit begun));
+            ∙ ap (λ js. layout head (Some q) js) (offered-keeps q limit all) ∙ ap (λ x. layout x (Some q) (keep_longest z limit q)) (stated.header limit begun));
         within = laid_within _ _ _ out len (sized d held) (laid d held);
       }
 

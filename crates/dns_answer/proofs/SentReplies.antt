@@ -46,8 +46,8 @@ module _ (d : Octets) (y : QueryRead) (read : y ≡ query_read d) where
   pub silent : is_absent y ≡ true → (let none : Option ℕ = None in IsNone none) ↔ IsTrue (is_ignored d)
   silent e = (λ h. ignored-by ∙ e, λ h. refl)
 
-  pub told : is_absent y ≡ false → (len : ℕ) → IsNone (Some len) ↔ IsTrue (is_ignored d)
-  told e len = (λ h. absurd (true≢false h), λ h. sym h ∙ ignored-by ∙ e)
+  pub stated : is_absent y ≡ false → (len : ℕ) → IsNone (Some len) ↔ IsTrue (is_ignored d)
+  stated e len = (λ h. absurd (true≢false h), λ h. sym h ∙ ignored-by ∙ e)
 
   -- the octets and the decision
   pub octets-by : (z : ZoneContents) (limit : ℕ) → option_map (octets_by layout) (reply_of (keep_longest z limit) z (decide_query z y)) ≡ octets_of z d limit

@@ -14,10 +14,10 @@ pub struct Failed;
 /// `u64`. A device over memory tells the datagrams that it has handed out and those that it has sent; one over a socket
 /// tells neither.
 pub trait Datagrams {
-    /// The datagrams handed out so far, where they are told.
+    /// The datagrams handed out so far, where they are reported.
     ghost received: { Self → Option (List Octets) };
 
-    /// The datagrams sent so far, where they are told.
+    /// The datagrams sent so far, where they are reported.
     ghost sent: { Self → Option (List Octets) };
 
     /// How many calls have failed.

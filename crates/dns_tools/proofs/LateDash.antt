@@ -1,4 +1,4 @@
--- Where the options end, any word that begins with `-` stands behind them.
+-- Where the options end, any word that begins with `-` stands after them.
 use Rattle.std.proofs.Common.{◌≡◌, ℕ, ◌||◌, Bool, true, false, List, [], ◌∷◌, map, refl, ap, codes, ◌∙◌, sym}
 use Rattle.std.specs.List.{list_any}
 use Rattle.dns_spec.specs.Names.{octets_equal}

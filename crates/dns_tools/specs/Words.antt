@@ -14,7 +14,7 @@ is_dashed (octet ∷ rest) = octet == 45
 abbrev pub is_option : List ℕ → Bool
 is_option word = octets_equal word (codes "--quiet") || octets_equal word (codes "--print")
 
--- behind the options a word begins with `-`
+-- after the options a word begins with `-`
 abbrev pub has_late_dash : List (List ℕ) → Bool
 has_late_dash [] = false
 has_late_dash (word ∷ rest) = if is_option word then has_late_dash rest else list_any is_dashed (word ∷ rest)

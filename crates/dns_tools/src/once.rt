@@ -32,7 +32,7 @@ const DIGITS: usize = 128;
 
 /// Answers each line of the source by one line of the sink, and tells whether each line was a message.
 ///
-/// A line is a message in hexadecimal digits of either case, at most 131,070 of them; behind the last LF there is a
+/// A line is a message in hexadecimal digits of either case, at most 131,070 of them; after the last LF there is a
 /// line only where octets follow. Its answer is the reply in lower case digits, or `none` where there is no reply. A
 /// line that is no such message is answered by `bad hex`. At most 18,446,744,073,709,551,615 octets are read, and the
 /// source counts as ended there. All answers that are due are written before the source is asked for more.

@@ -92,10 +92,10 @@ pub struct CheckWords<'a> {
     pub file: &'a str,
 }
 
-/// Reads the words behind the program's own name: `--quiet` and `--print`, in either order and each at most once, then
+/// Reads the words after the program's own name: `--quiet` and `--print`, in either order and each at most once, then
 /// ORIGIN, a name relative to the root, and FILE.
 ///
-/// `usage` where they are other words, or one of them behind these options begins with `-`; then `bad origin` where ORIGIN
+/// `usage` where they are other words, or one of them after these options begins with `-`; then `bad origin` where ORIGIN
 /// is no name. No other option is known, and no word asks for help or for the version.
 pub fn check_words<'a, S: AsStr>(alloc: Global, words: &'a [S]) -> Result<CheckWords<'a>, FaultWord>
     ensures late { IsTrue (has_late_dash (map S.text words.entry.now)) → result ≡ Err FaultWord.Usage }
@@ -228,7 +228,7 @@ fn given_turns<'a>(matches: &ArgMatches<'a>) -> Option<(&'a str, u32)> {
     Some((matches.get_str("ADDR")?, turns))
 }
 
-// Whether a word behind the options begins with `-`.
+// Whether a word after the options begins with `-`.
 fn has_late_dash<S: AsStr>(words: &[S]) -> bool
     ensures { result ≡ has_late_dash (map S.text words.now) }
 {

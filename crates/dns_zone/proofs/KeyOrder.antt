@@ -68,7 +68,7 @@ then_of_then Less b c = refl
 then_of_then Equal b c = refl
 then_of_then Greater b c = refl
 
--- ended labels are compared as the labels, and what stands behind them after that
+-- ended labels are compared as the labels, and what stands after them after that
 ended_order : (xs ys us vs : Octets) → map to_ascii_lowercase xs ≡ xs → map to_ascii_lowercase ys ≡ ys
     → slice_cmp nat_cmp (ended xs ++ us) (ended ys ++ vs) ≡ ordering_then (label_order xs ys) (slice_cmp nat_cmp us vs)
 ended_order [] [] us vs p q = refl

@@ -38,10 +38,10 @@ first_key r rs keys k e long =
       ap (take k) whole ∙ ap (λ j. take j (name_key r.owner ++ f.0)) count ∙ take-append_seam (name_key r.owner) f.0,
     )
 
-pub keys_after : (r : ResourceRecord) (rs : List ResourceRecord) (keys behind : Octets) → keys ≡ keys_left (r ∷ rs) → keys ≡ name_key r.owner ++ behind
-    → shares_key r rs ≡ false → behind ≡ keys_left rs
-keys_after r rs keys behind e f g =
-    sym (drop-append_seam (name_key r.owner) behind) ∙ ap (drop (length (name_key r.owner))) (sym f ∙ e ∙ keys_own r rs g)
+pub keys_after : (r : ResourceRecord) (rs : List ResourceRecord) (keys after : Octets) → keys ≡ keys_left (r ∷ rs) → keys ≡ name_key r.owner ++ after
+    → shares_key r rs ≡ false → after ≡ keys_left rs
+keys_after r rs keys after e f g =
+    sym (drop-append_seam (name_key r.owner) after) ∙ ap (drop (length (name_key r.owner))) (sym f ∙ e ∙ keys_own r rs g)
     ∙ drop-append_seam (name_key r.owner) (keys_left rs)
 
 -- the same, of a record that was split from others, and the octets of its owner

@@ -7,5 +7,5 @@ use Rattle.dns_spec.proofs.DomainNames.SmallOctets.{Small, small_tail, small_fro
 pub small_labels : (n : DomainName) → Small (wire n) → All Small n
 small_labels [] h = All-nil Small
 small_labels (l ∷ n) h =
-    let behind = small_tail (length l) (l ++ wire n) h in
-    All-cons Small l n (small_front l (wire n) behind) (small_labels n (small_back l (wire n) behind))
+    let after = small_tail (length l) (l ++ wire n) h in
+    All-cons Small l n (small_front l (wire n) after) (small_labels n (small_back l (wire n) after))

@@ -10,7 +10,7 @@ pub mod NameTree
 pub mod AboveCuts
 pub mod TopmostLoop
 pub mod OwnRecords
-pub mod ToldNames
+pub mod ReportedNames
 pub mod OwnersWalk
 pub mod NodeSets
 pub mod Existing

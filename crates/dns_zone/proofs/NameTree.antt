@@ -1,4 +1,4 @@
--- Names at or below a name stand side by side in canonical order, directly behind it.
+-- Names at or below a name stand side by side in canonical order, directly after it.
 use Rattle.std.proofs.Common.{◌≡◌, ℕ, suc, ◌+◌, ◌-◌, ◌<◌, ◌≤◌, Bool, true, false, ◌&&◌, nat_lt, nat_le, ◌⊎◌, inl, inr, List, [], ◌∷◌, ◌++◌, map, reverse, length, take, drop, refl, sym, ap, ap₂, ◌∙◌, arith, length-append, is_eq, is_gt, nat_cmp, Ordering, Less, Equal, Greater}
 use Rattle.std.proofs.lemmas.Bool.{false≢true, true≢false, and_parts, and_from, or_cases, or_right, le-leb, leb-true, lt-ltb, false_from_ne_true, ltb-true}
 use Rattle.std.proofs.lemmas.List.{reverse-reverse, reverse-append, take-append-drop, drop-map, length-map, append_assoc}

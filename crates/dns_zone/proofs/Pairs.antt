@@ -1,4 +1,4 @@
--- Lists whose elements are in order, each with each behind it, and what a search by halves finds in them.
+-- Lists whose elements are in order, each with each after it, and what a search by halves finds in them.
 use Rattle.std.proofs.Common.{◌≡◌, ℕ, zero, suc, ◌<◌, ◌≤◌, Bool, true, false, not, cond, ◌⊎◌, inl, inr, List, [], ◌∷◌, length, take, drop, get_or, refl, sym, ap, ◌∙◌, subst, arith, filter}
 use Rattle.std.proofs.lemmas.Bool.{false≢true, false_from_ne_true, cases_lt}
 use Rattle.std.proofs.lemmas.List.{length-take, get_or-take}
@@ -6,7 +6,7 @@ use Rattle.std.proofs.Math.Nat.{min-eq_left}
 use Rattle.std.specs.List.Sorted.{IsPartitionPoint, IsPartitionedBy, IsNonDecreasingBy}
 use Rattle.dns_spec.proofs.Records.SortedOnce.{Each, each_filter, each_weaker}
 
--- R holds of each element and each behind it
+-- R holds of each element and each after it
 abbrev pub Pairs : {X : Type 0} → (X → X → Type 0) → List X → Type 0
 Pairs R [] = Unit {0}
 Pairs R (x ∷ xs) = Each (R x) xs × Pairs R xs

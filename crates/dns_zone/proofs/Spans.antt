@@ -40,7 +40,7 @@ take_span (suc a) (suc b) (x ∷ xs) h =
 pub filter_again : {X : Type 0} (p : X → Bool) (xs : List X) → filter p (filter p xs) ≡ filter p xs
 filter_again p xs = filter_all p (filter p xs) (filter_each p xs)
 
--- where a part is all that passes, nothing before it or behind it passes
+-- where a part is all that passes, nothing before it or after it passes
 module _ {X : Type 0} (p : X → Bool) (xs : List X) (a b : ℕ) (h : a ≤ b)
     (e : span xs a b ≡ filter p xs) where
   lengths : length (filter p xs)
@@ -64,8 +64,8 @@ module _ {X : Type 0} (p : X → Bool) (xs : List X) (a b : ℕ) (h : a ≤ b)
       let n : length (filter p (take a xs)) ≡ 0 = omega (arith, lengths) in
       nil_from_length (filter p (take a xs)) n
 
-  pub none_behind : filter p (drop b xs) ≡ []
-  none_behind =
+  pub none_after : filter p (drop b xs) ≡ []
+  none_after =
       let n : length (filter p (drop b xs)) ≡ 0 = omega (arith, lengths) in
       nil_from_length (filter p (drop b xs)) n
 

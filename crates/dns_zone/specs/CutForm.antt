@@ -8,9 +8,9 @@ use Rattle.dns_spec.specs.Records.{ResourceRecord, ZoneContents}
 use Rattle.dns_spec.specs.Tree.{is_cut}
 use Rattle.dns_zone.specs.ZoneForm.{AreOrdered}
 
--- the records behind references
-abbrev pub behind : List (Bor ResourceRecord) → List ResourceRecord
-behind = map (λ b. b.now)
+-- the records after references
+abbrev pub after : List (Bor ResourceRecord) → List ResourceRecord
+after = map (λ b. b.now)
 
 -- a test of a last element
 abbrev pub last_passes : {X : Type 0} → (X → Bool) → List X → Bool

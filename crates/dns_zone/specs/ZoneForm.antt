@@ -27,10 +27,10 @@ pub record IsBuilt (z : ZoneContents) : Type 0 where
   pub few : length z.records ≤ most_records
   pub passes : Passes z
 
--- what is told of a zone that can't be built: its faults, one at least, or nothing where no memory was found
-abbrev pub TellsFaults : BuildFault → ZoneContents → Type 0
-TellsFaults (Faults found) z = (found.items ≡ faults z) × (faults z ≢ [])
-TellsFaults NoMemory z = ⊤
+-- what is reported of a zone that can't be built: its faults, one at least, or nothing where no memory was found
+abbrev pub ReportsFaults : BuildFault → ZoneContents → Type 0
+ReportsFaults (Faults found) z = (found.items ≡ faults z) × (faults z ≢ [])
+ReportsFaults NoMemory z = ⊤
 
 -- the records that are an SOA, or those that are none
 abbrev pub is_chosen : Bool → ResourceRecord → Bool

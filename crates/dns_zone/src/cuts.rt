@@ -6,7 +6,7 @@ ghost use Rattle.dns_spec.specs.Names.{folded, name_order, at_or_below, below};
 ghost use Rattle.dns_spec.specs.Records.{ResourceRecord};
 ghost use Rattle.dns_spec.specs.Data.{type_ns};
 ghost use Rattle.dns_zone.specs.ZoneForm.{AreOrdered};
-ghost use Rattle.dns_zone.specs.CutForm.{behind, AreTopmost, AreApart, last_passes};
+ghost use Rattle.dns_zone.specs.CutForm.{after, AreTopmost, AreApart, last_passes};
 
 use crate::key::Key;
 use crate::keyed::Keyed;
@@ -25,7 +25,7 @@ pub(crate) fn topmost_cuts<'a>(
     records: &'a [Keyed<'a>],
 ) -> Result<Vec<&'a Keyed<'a>>, AllocError>
     requires { AreOrdered records.now }
-    ensures { IfOk result (λ cuts. AreTopmost (record { origin = origin.now; records = records.now }) (behind cuts.items)) }
+    ensures { IfOk result (λ cuts. AreTopmost (record { origin = origin.now; records = records.now }) (after cuts.items)) }
 {
     let mut cuts: Vec<&'a Keyed<'a>> = Vec::with_capacity(alloc, records.len())?;
     'records: for listed in records {
@@ -39,7 +39,7 @@ pub(crate) fn topmost_cuts<'a>(
 // Whether the record makes a cut that is not at or below the last of the cuts.
 fn is_topmost(origin: &Name, cuts: &[&Keyed<'_>], listed: &Keyed<'_>) -> bool
     ensures { result ≡ ((listed.now.rtype == type_ns && below listed.now.owner origin.now)
-        && not (last_passes (λ (c : ResourceRecord). at_or_below listed.now.owner c.owner) (behind cuts.now))) }
+        && not (last_passes (λ (c : ResourceRecord). at_or_below listed.now.owner c.owner) (after cuts.now))) }
 {
     let record = listed.listed();
     is_delegation(origin, record) && !is_covered(cuts, &record.owner)
@@ -51,11 +51,11 @@ fn is_delegation(origin: &Name, listed: &Record) -> bool
     listed.rtype == RType::NS && listed.owner.below(origin)
 }
 
-/// The cuts that are not behind the name in canonical order.
-pub(crate) fn not_behind<'a, 'b>(cuts: &'b [&'a Keyed<'a>], name: &Name) -> &'b [&'a Keyed<'a>]
-    requires apart { AreApart (behind cuts.now) }
+/// The cuts that are not after the name in canonical order.
+pub(crate) fn not_after<'a, 'b>(cuts: &'b [&'a Keyed<'a>], name: &Name) -> &'b [&'a Keyed<'a>]
+    requires apart { AreApart (after cuts.now) }
     requires lower { folded name.now ≡ name.now }
-    ensures { behind result.now ≡ filter (λ (c : ResourceRecord). not (is_gt (name_order c.owner name.now))) (behind cuts.now) }
+    ensures { after result.now ≡ filter (λ (c : ResourceRecord). not (is_gt (name_order c.owner name.now))) (after cuts.now) }
 {
     let key = Key::of(name);
     &cuts[..cuts.partition_point(|cut| !cut.order(name, &key).is_gt())]
@@ -63,7 +63,7 @@ pub(crate) fn not_behind<'a, 'b>(cuts: &'b [&'a Keyed<'a>], name: &Name) -> &'b 
 
 /// Whether the name is at or below the last of the cuts.
 pub(crate) fn is_covered(cuts: &[&Keyed<'_>], name: &Name) -> bool
-    ensures { result ≡ last_passes (λ (c : ResourceRecord). at_or_below name.now c.owner) (behind cuts.now) }
+    ensures { result ≡ last_passes (λ (c : ResourceRecord). at_or_below name.now c.owner) (after cuts.now) }
 {
     match cuts.last() {
         Some(cut) => {
@@ -76,7 +76,7 @@ pub(crate) fn is_covered(cuts: &[&Keyed<'_>], name: &Name) -> bool
 
 /// Whether the name is below the last of the cuts.
 pub(crate) fn is_below_last(cuts: &[&Keyed<'_>], name: &Name) -> bool
-    ensures { result ≡ last_passes (λ (c : ResourceRecord). below name.now c.owner) (behind cuts.now) }
+    ensures { result ≡ last_passes (λ (c : ResourceRecord). below name.now c.owner) (after cuts.now) }
 {
     match cuts.last() {
         Some(cut) => {

@@ -103,23 +103,23 @@ pub(crate) fn beside_keys<'a>(
     let mut rest = records;
     let mut left = keys;
     'records: while let Some((listed, others)) = rest.split_first() {
-        let (key, behind) = left.split_at(listed.owner.octets().len() - 1);
+        let (key, after) = left.split_at(listed.owner.octets().len() - 1);
         keyed.push(Keyed { key, listed })?;
-        left = keys_behind(listed, others, left, behind);
+        left = later_keys(listed, others, left, after);
         rest = others;
     }
     Ok(keyed)
 }
 
-// The keys that are left behind a record: all where the next record has its owner, else those behind its own.
-fn keys_behind<'a>(first: &Record, others: &[Record], keys: &'a [u8], behind: &'a [u8]) -> &'a [u8]
+// The keys that are left after a record: all where the next record has its owner, else those after its own.
+fn later_keys<'a>(first: &Record, others: &[Record], keys: &'a [u8], after: &'a [u8]) -> &'a [u8]
     requires keys { keys.now ≡ keys_left (first.now ∷ others.now) }
-    requires behind { keys.now ≡ name_key first.now.owner ++ behind.now }
+    requires after { keys.now ≡ name_key first.now.owner ++ after.now }
     ensures { result.now ≡ keys_left others.now }
 {
     if shares_key(first, others) {
         keys
     } else {
-        behind
+        after
     }
 }

@@ -10,9 +10,9 @@ ghost use Rattle.dns_spec.specs.Data.{type_ns, type_cname, target};
 ghost use Rattle.dns_spec.specs.Tree.{is_cut};
 ghost use Rattle.dns_spec.specs.Checks.{at_or_below_cut, below_cut, lacks_address, has_address};
 ghost use Rattle.dns_zone.specs.ZoneForm.{AreOrdered};
-ghost use Rattle.dns_zone.specs.CutForm.{behind, AreTopmost, AreApart, last_passes};
+ghost use Rattle.dns_zone.specs.CutForm.{after, AreTopmost, AreApart, last_passes};
 
-use crate::cuts::{is_below_last, is_covered, not_behind, topmost_cuts};
+use crate::cuts::{is_below_last, is_covered, not_after, topmost_cuts};
 use crate::keyed::Keyed;
 use crate::lookup::{has_type, records_at};
 use crate::target::target;
@@ -35,14 +35,14 @@ pub(crate) struct Survey<'a> {
 
 impl<'a> Model for Survey<'a> {
     ghost use Rattle.dns_spec.specs.Records.{ZoneContents};
-    ghost use Rattle.dns_zone.specs.CutForm.{IsSurvey, behind};
+    ghost use Rattle.dns_zone.specs.CutForm.{IsSurvey, after};
 
     ghost Value = { ZoneContents };
 
     ghost view = { λ s. record { origin = s.origin.now; records = s.records.now } };
 
     ghost invariant = { λ s. IsSurvey (record { origin = s.origin.now; records = s.records.now })
-        s.keyed.now (behind s.cuts.items) };
+        s.keyed.now (after s.cuts.items) };
 }
 
 impl<'a> Survey<'a> {
@@ -171,7 +171,7 @@ impl<'a> Survey<'a> {
         requires { folded name.now ≡ name.now }
         ensures { result ≡ at_or_below_cut self.now name.now }
     {
-        is_covered(not_behind(self.cuts.as_slice(), name), name)
+        is_covered(not_after(self.cuts.as_slice(), name), name)
     }
 
     /// Whether the name is below a cut. A cut is below the origin, so what is below a cut has two labels more than the
@@ -183,6 +183,6 @@ impl<'a> Survey<'a> {
         if name.label_count().saturating_sub(self.origin.label_count()) < 2 {
             return false;
         }
-        is_below_last(not_behind(self.cuts.as_slice(), name), name)
+        is_below_last(not_after(self.cuts.as_slice(), name), name)
     }
 }

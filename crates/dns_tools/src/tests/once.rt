@@ -181,7 +181,7 @@ fn more_answers_than_are_gathered(rt: HostRuntime) -> Result<(), Fail> {
 }
 
 #[test]
-fn a_failing_device_stops_the_run_behind_a_beginning(rt: HostRuntime) -> Result<(), Fail> {
+fn a_failing_device_stops_the_run_after_a_beginning(rt: HostRuntime) -> Result<(), Fail> {
     let (input, wanted) = (b"\n00\n\n", b"none\nnone\nnone\n".as_slice());
     for reads in 0..5 {
         let (output, outcome) = run(rt.alloc(), input, 1, reads, 1000)?;

@@ -2,7 +2,7 @@ use Rattle.std.proofs.Common.{◌<◌, All, Some, refl, sym, ap, ◌∙◌, subs
 use Rattle.std.proofs.lemmas.Grind.{get_or_default_zero}
 use Rattle.dns_spec.specs.Query.{absent, refused_with, query}
 use Rattle.dns_answer.specs.Limits.{limit_of}
-use Rattle.dns_answer.proofs.SentReplies.{silent, told, octets-by, costs-by, spelled}
+use Rattle.dns_answer.proofs.SentReplies.{silent, stated, octets-by, costs-by, spelled}
 use Rattle.dns_answer.proofs.reply.respond.Goals as goal
 
 pub returns-in-Absent-clause-absent : goal.returns-in-Absent-clause-absent
@@ -12,7 +12,7 @@ pub returns-in-Absent-clause-octets : goal.returns-in-Absent-clause-octets
 returns-in-Absent-clause-octets c = octets-by c.args.datagram.now absent c.in-Absent.ensures c.args.steps.now.zone (limit_of c.args.limit)
 
 pub returns-in-Refused-clause-absent : goal.returns-in-Refused-clause-absent
-returns-in-Refused-clause-absent c = told c.args.datagram.now (refused_with c.in-Refused.head) c.in-Refused.ensures refl c.put_refusal.result
+returns-in-Refused-clause-absent c = stated c.args.datagram.now (refused_with c.in-Refused.head) c.in-Refused.ensures refl c.put_refusal.result
 
 pub returns-in-Refused-clause-octets : goal.returns-in-Refused-clause-octets
 returns-in-Refused-clause-octets c =
@@ -25,7 +25,7 @@ returns-in-Refused-clause-spells c =
     (ap (λ x. Some x) c.put_refusal.ensures.octets ∙ octets-by c.args.datagram.now (refused_with c.in-Refused.head) c.in-Refused.ensures c.args.steps.now.zone (limit_of c.args.limit))
 
 pub returns-in-Query-clause-absent : goal.returns-in-Query-clause-absent
-returns-in-Query-clause-absent c = told c.args.datagram.now (query c.in-Query.head c.in-Query.question) c.in-Query.ensures refl c.put_reply.result
+returns-in-Query-clause-absent c = stated c.args.datagram.now (query c.in-Query.head c.in-Query.question) c.in-Query.ensures refl c.put_reply.result
 
 pub returns-in-Query-clause-octets : goal.returns-in-Query-clause-octets
 returns-in-Query-clause-octets c =

@@ -25,8 +25,8 @@ invariant_of-push c =
       subst (λ (s : ResourceRecord). folded s.owner ≡ s.owner) c.listed.view_is low,
     )
 
-pub keys_behind-left-requires-clause-behind : goal.keys_behind-left-requires-clause-behind
-keys_behind-left-requires-clause-behind c =
+pub later_keys-left-requires-clause-after : goal.later_keys-left-requires-clause-after
+later_keys-left-requires-clause-after c =
     let rest : c.records.rest.now ≡ c.in-Some.listed.now ∷ c.in-Some.others.now = search rules in
     let own = (first_cut _ _ _ _ _ _ rest c.records.invariant.1 c.listed.view_is c.octets.ensures.value).1 in
     sym (take-append-drop (length c.octets.result.now - 1) c.records.left.now)

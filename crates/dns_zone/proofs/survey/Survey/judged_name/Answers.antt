@@ -4,7 +4,7 @@ use Rattle.dns_spec.specs.Names.{DomainName, folded, at_or_below}
 use Rattle.dns_spec.specs.Data.{type_cname}
 use Rattle.dns_spec.specs.Records.{ResourceRecord, ZoneContents, owns}
 use Rattle.dns_spec.specs.Checks.{lacks_address}
-use Rattle.dns_zone.specs.CutForm.{behind, AreTopmost}
+use Rattle.dns_zone.specs.CutForm.{after, AreTopmost}
 use Rattle.dns_zone.proofs.NameOrder.{lower_twice}
 use Rattle.dns_zone.proofs.OwnRecords.{lacks-lower, owns-lower, own-owns}
 use Rattle.dns_zone.proofs.survey.Survey.judged_name.Goals as goal
@@ -31,5 +31,5 @@ returns-clause-lost c =
     let m = c.args.target.now in
     let inside = sym c.if-not-at_or_below.false ∙ c.at_or_below.ensures ∙ ap (λ (y : ZoneContents). at_or_below m y.origin) c.self.view_is in
     c.lacks_address-is_lost.ensures ∙ ap (lacks_address z n) c.fold-lower.ensures
-    ∙ lacks-lower z (behind c.self.inside.cuts.items) (subst (λ (y : ZoneContents). AreTopmost y (behind c.self.inside.cuts.items)) c.self.view_is c.self.invariant.topmost) n m
+    ∙ lacks-lower z (after c.self.inside.cuts.items) (subst (λ (y : ZoneContents). AreTopmost y (after c.self.inside.cuts.items)) c.self.view_is c.self.invariant.topmost) n m
     ∙ ap (λ b. b && lacks_address z n m) inside

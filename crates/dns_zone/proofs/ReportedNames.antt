@@ -1,4 +1,4 @@
--- The names that faults are told of: the owners before the origin, the origin, and the owners behind it.
+-- The names that faults are reported of: the owners before the origin, the origin, and the owners after it.
 use Rattle.std.proofs.Common.{◌≡◌, ℕ, suc, Bool, true, false, not, cond, ◌⊎◌, inl, inr, List, [], ◌∷◌, ◌++◌, map, refl, sym, ap, ap₂, ◌∙◌, filter, flat_map, is_gt, is_lt, Ordering, Less, Equal, Greater}
 use Rattle.std.proofs.lemmas.Bool.{false≢true, true≢false, not-true, false_from_ne_true}
 use Rattle.std.proofs.lemmas.List.{append_assoc}
@@ -10,7 +10,7 @@ use Rattle.dns_spec.specs.Records.{ResourceRecord, ZoneContents, distinct, inser
 use Rattle.dns_spec.specs.Checks.{Check, Fault, checks, faults_at, checked_names, faults}
 use Rattle.dns_spec.proofs.Records.SortedOnce.{Each, Among, each_filter, filter_each, each_weaker, same_sorted}
 use Rattle.dns_zone.specs.ZoneForm.{AreOrdered}
-use Rattle.dns_zone.specs.ToldForm.{failed_from, begins_with_owner, owners_once, told_at}
+use Rattle.dns_zone.specs.ReportedForm.{failed_from, begins_with_owner, owners_once, reported_at}
 use Rattle.dns_zone.proofs.Pairs.{Pairs, pairs_filter, filter_all}
 use Rattle.dns_zone.proofs.NameOrder.{name_order_total, same-is, same-from, same-tied, tied-same, lower_twice}
 use Rattle.dns_zone.proofs.AtName.{is_before, is_at, OwnerNotAfter, owners_in_order}
@@ -31,9 +31,9 @@ failed_in_order z n k (c ∷ cs) h = go (c.1 z n) (failed_in_order z n (suc k) c
     go true e = ap₂ (λ (i : ℕ) fs. record { owner = n; code = i } ∷ fs) (sym h.0) e
     go false e = e
 
-pub failed-told : (z : ZoneContents) (n : DomainName) → failed_from n 1 (map (λ (c : ℕ × Check). c.1 z n) checks) ≡ told_at z n
-unfolding told_at
-failed-told z n =
+pub failed-reported : (z : ZoneContents) (n : DomainName) → failed_from n 1 (map (λ (c : ℕ × Check). c.1 z n) checks) ≡ reported_at z n
+unfolding reported_at
+failed-reported z n =
     failed_in_order z n 1 checks
     (refl, (refl, (refl, (refl, (refl, (refl, (refl, (refl, (refl, (refl, (refl, (refl, (refl, (refl, (refl, tt)))))))))))))))
 
@@ -78,10 +78,10 @@ less_other n m h s = go (name_order n m) refl h
     go Equal e g = absurd (false≢true (sym s ∙ tied-same m n (tied_back name_order_total n m e)))
     go Greater e g = absurd (true≢false g)
 
--- behind an owner that is not that of the next record, all owners are greater
-pub greater_behind : (r : ResourceRecord) (rs : List ResourceRecord) → Pairs OwnerNotAfter (r ∷ rs) → begins_with_owner r.owner rs ≡ false → Each (λ s. Rises (folded r.owner) (folded s.owner)) rs
-greater_behind r [] h e = tt
-greater_behind r (q ∷ rs) h e =
+-- after an owner that is not that of the next record, all owners are greater
+pub greater_after : (r : ResourceRecord) (rs : List ResourceRecord) → Pairs OwnerNotAfter (r ∷ rs) → begins_with_owner r.owner rs ≡ false → Each (λ s. Rises (folded r.owner) (folded s.owner)) rs
+greater_after r [] h e = tt
+greater_after r (q ∷ rs) h e =
     let next = less_other r.owner q.owner h.0.0 e in (
       lower_order r.owner q.owner ∙ next,
       each_weaker (OwnerNotAfter q) (λ s. Rises (folded r.owner) (folded s.owner)) rs (λ s f. lower_order r.owner s.owner ∙ less_then r.owner q.owner s.owner next f) h.1.0,
@@ -93,7 +93,7 @@ once_rise (r ∷ rs) h = go (begins_with_owner r.owner rs) refl (once_rise rs h.
   where
     go : (b : Bool) → begins_with_owner r.owner rs ≡ b → Pairs Rises (owners_once rs) → Pairs Rises ((if b then [] else folded r.owner ∷ []) ++ owners_once rs)
     go true e f = f
-    go false e f = (each_once (Rises (folded r.owner)) rs (greater_behind r rs h e), f)
+    go false e f = (each_once (Rises (folded r.owner)) rs (greater_after r rs h e), f)
 
 -- a list that rises is sorted already, and has no name twice
 sort_risen : (ns : List DomainName) → Pairs Rises ns → sort_by name_order ns ≡ ns
@@ -182,11 +182,11 @@ module _ (o : DomainName) (low : folded o ≡ o) (rs : List ResourceRecord) (h :
   abbrev others : List ResourceRecord
   others = filter (λ r. not (is_before o r)) rs
 
-  abbrev behind : List ResourceRecord
-  behind = filter (λ r. not (is_at o r)) others
+  abbrev after : List ResourceRecord
+  after = filter (λ r. not (is_at o r)) others
 
   abbrev around : List DomainName
-  around = owners_once before ++ o ∷ owners_once behind
+  around = owners_once before ++ o ∷ owners_once after
 
   is_less : (c : Ordering) → is_lt c ≡ true → c ≡ Less
   is_less Less e = refl
@@ -205,28 +205,28 @@ module _ (o : DomainName) (low : folded o ≡ o) (rs : List ResourceRecord) (h :
   each_two P Q R [] f p q = tt
   each_two P Q R (s ∷ ss) f p q = (f s p.0 q.0, each_two P Q R ss f p.1 q.1)
 
-  behind_origin : (r : ResourceRecord) → not (is_before o r) ≡ true → not (is_at o r) ≡ true → Rises o (folded r.owner)
-  behind_origin r p q = go (name_order r.owner o) refl
+  after_origin : (r : ResourceRecord) → not (is_before o r) ≡ true → not (is_at o r) ≡ true → Rises o (folded r.owner)
+  after_origin r p q = go (name_order r.owner o) refl
     where
       go : (c : Ordering) → name_order r.owner o ≡ c → Rises o (folded r.owner)
       go Less e = absurd (false≢true (sym (not-true (is_before o r) p) ∙ ap is_lt e))
       go Equal e = absurd (false≢true (sym (not-true (is_at o r) q) ∙ tied-same r.owner o e))
       go Greater e = name_order_total.antisymm o (folded r.owner) ∙ ap ordering_reverse (lower_at_origin r.owner ∙ e)
 
-  all_behind : Each (Rises o) (owners_once behind)
-  all_behind =
-      each_once (Rises o) behind
-      (each_two (λ r. not (is_before o r) ≡ true) (λ r. not (is_at o r) ≡ true) (λ r. Rises o (folded r.owner)) behind behind_origin
+  all_after : Each (Rises o) (owners_once after)
+  all_after =
+      each_once (Rises o) after
+      (each_two (λ r. not (is_before o r) ≡ true) (λ r. not (is_at o r) ≡ true) (λ r. Rises o (folded r.owner)) after after_origin
       (each_filter (λ r. not (is_before o r) ≡ true) (λ r. not (is_at o r)) others (filter_each (λ r. not (is_before o r)) rs))
       (filter_each (λ r. not (is_at o r)) others))
 
   around_rises : Pairs Rises around
   around_rises =
-      append_pairs Rises (owners_once before) (o ∷ owners_once behind)
+      append_pairs Rises (owners_once before) (o ∷ owners_once after)
       (once_rise before (pairs_filter OwnerNotAfter (is_before o) rs (owners_in_order rs h)))
-      (all_behind, once_rise behind (pairs_filter OwnerNotAfter (λ r. not (is_at o r)) others (pairs_filter OwnerNotAfter (λ r. not (is_before o r)) rs (owners_in_order rs h))))
-      (each_weaker (λ n. Rises n o) (λ n. Each (Rises n) (o ∷ owners_once behind)) (owners_once before)
-      (λ n e. (e, each_weaker (Rises o) (Rises n) (owners_once behind) (λ m f. name_order_total.trans n o m e f) all_behind)) all_before)
+      (all_after, once_rise after (pairs_filter OwnerNotAfter (λ r. not (is_at o r)) others (pairs_filter OwnerNotAfter (λ r. not (is_before o r)) rs (owners_in_order rs h))))
+      (each_weaker (λ n. Rises n o) (λ n. Each (Rises n) (o ∷ owners_once after)) (owners_once before)
+      (λ n e. (e, each_weaker (Rises o) (Rises n) (owners_once after) (λ m f. name_order_total.trans n o m e f) all_after)) all_before)
 
   abbrev Lower : DomainName → Type 0
   Lower n = folded n ≡ n
@@ -242,8 +242,8 @@ module _ (o : DomainName) (low : folded o ≡ o) (rs : List ResourceRecord) (h :
       all [] = tt
       all (t ∷ ts) = (lower_twice t.owner, all ts)
 
-  around_lower : (ns : List DomainName) → Each Lower ns → Each Lower (ns ++ o ∷ owners_once behind)
-  around_lower [] e = (low, once_lower behind)
+  around_lower : (ns : List DomainName) → Each Lower ns → Each Lower (ns ++ o ∷ owners_once after)
+  around_lower [] e = (low, once_lower after)
   around_lower (n ∷ ns) e = (e.0, around_lower ns e.1)
 
   one_lower : (n m : DomainName) → Lower n → Lower m → same n m ≡ true → n ≡ m
@@ -254,32 +254,32 @@ module _ (o : DomainName) (low : folded o ≡ o) (rs : List ResourceRecord) (h :
   at_origin a (s ∷ ss) e (inl k) = k ∙ same-is s.owner o e.0 ∙ low
   at_origin a (s ∷ ss) e (inr m) = at_origin a ss e.1 m
 
-  told_around : (a : DomainName) → Among a (folded o ∷ owners rs) → Among a around
-  told_around a (inl e) = append_right a (owners_once before) (o ∷ owners_once behind) (inl (e ∙ low))
-  told_around a (inr m) = by_part (among_parted a (is_before o) rs m)
+  reported_around : (a : DomainName) → Among a (folded o ∷ owners rs) → Among a around
+  reported_around a (inl e) = append_right a (owners_once before) (o ∷ owners_once after) (inl (e ∙ low))
+  reported_around a (inr m) = by_part (among_parted a (is_before o) rs m)
     where
       by_part : Among a (owners before) ⊎ Among a (owners others) → Among a around
-      by_part (inl k) = append_left a (owners_once before) (o ∷ owners_once behind) (among_once a before k)
+      by_part (inl k) = append_left a (owners_once before) (o ∷ owners_once after) (among_once a before k)
       by_part (inr k) =
-          append_right a (owners_once before) (o ∷ owners_once behind)
+          append_right a (owners_once before) (o ∷ owners_once after)
           (elim (among_parted a (is_at o) others k) [
             | inl x ↦ inl (at_origin a (filter (is_at o) others) (filter_each (is_at o) others) x)
-            | inr y ↦ inr (among_once a behind y)
+            | inr y ↦ inr (among_once a after y)
           ])
 
-  around_told : (a : DomainName) → Among a around → Among a (folded o ∷ owners rs)
-  around_told a m = by_part (among_append a (owners_once before) (o ∷ owners_once behind) m)
+  around_reported : (a : DomainName) → Among a around → Among a (folded o ∷ owners rs)
+  around_reported a m = by_part (among_append a (owners_once before) (o ∷ owners_once after) m)
     where
-      by_part : Among a (owners_once before) ⊎ ((a ≡ o) ⊎ Among a (owners_once behind)) → (a ≡ folded o) ⊎ Among a (owners rs)
+      by_part : Among a (owners_once before) ⊎ ((a ≡ o) ⊎ Among a (owners_once after)) → (a ≡ folded o) ⊎ Among a (owners rs)
       by_part (inl k) = inr (kept_among a (is_before o) rs (once_among a before k))
       by_part (inr (inl e)) = inl (e ∙ sym low)
       by_part (inr (inr k)) =
-          inr (kept_among a (λ r. not (is_before o r)) rs (kept_among a (λ r. not (is_at o r)) others (once_among a behind k)))
+          inr (kept_among a (λ r. not (is_before o r)) rs (kept_among a (λ r. not (is_at o r)) others (once_among a after k)))
 
-  pub told-around : checked_names (record { origin = o; records = rs }) ≡ around
-  told-around =
+  pub reported-around : checked_names (record { origin = o; records = rs }) ≡ around
+  reported-around =
       same_sorted name_order name_order_total same (λ n m e. tied-same n m e) Lower one_lower (folded o ∷ owners rs) around
-      (lower_twice o, all_lower rs) (around_lower (owners_once before) (once_lower before)) told_around around_told
+      (lower_twice o, all_lower rs) (around_lower (owners_once before) (once_lower before)) reported_around around_reported
       ∙ ap (sort_by name_order) (distinct_risen around around_rises) ∙ sort_risen around around_rises
 
   flat_append : (f : DomainName → List Fault) (xs ys : List DomainName) → flat_map f (xs ++ ys) ≡ flat_map f xs ++ flat_map f ys
@@ -288,9 +288,9 @@ module _ (o : DomainName) (low : folded o ≡ o) (rs : List ResourceRecord) (h :
 
   -- all faults, in the order in which they are found
   pub faults-around : faults (record { origin = o; records = rs })
-      ≡ flat_map (told_at (record { origin = o; records = rs })) (owners_once before)
-      ++ (told_at (record { origin = o; records = rs }) o ++ flat_map (told_at (record { origin = o; records = rs })) (owners_once behind))
-  unfolding faults told_at
+      ≡ flat_map (reported_at (record { origin = o; records = rs })) (owners_once before)
+      ++ (reported_at (record { origin = o; records = rs }) o ++ flat_map (reported_at (record { origin = o; records = rs })) (owners_once after))
+  unfolding faults reported_at
   faults-around =
-      ap (flat_map (faults_at (record { origin = o; records = rs }))) told-around
-      ∙ flat_append (faults_at (record { origin = o; records = rs })) (owners_once before) (o ∷ owners_once behind)
+      ap (flat_map (faults_at (record { origin = o; records = rs }))) reported-around
+      ∙ flat_append (faults_at (record { origin = o; records = rs })) (owners_once before) (o ∷ owners_once after)

@@ -1,9 +1,9 @@
 use Rattle.std.proofs.Common.{rules, ◌≡◌, ◌++◌, ◌∷◌, List, sym, ap, ◌∙◌, flat_map}
 use Rattle.std.proofs.lemmas.List.{append_assoc}
 use Rattle.dns_spec.specs.Names.{DomainName}
-use Rattle.dns_zone.specs.ToldForm.{told_at, owners_once}
+use Rattle.dns_zone.specs.ReportedForm.{reported_at, owners_once}
 use Rattle.dns_zone.proofs.OwnersWalk.{Step, step}
-use Rattle.dns_zone.proofs.faults.tell_owners.Goals as goal
+use Rattle.dns_zone.proofs.faults.report_owners.Goals as goal
 
 pub tell-requires : goal.tell-requires
 tell-requires c =
@@ -25,13 +25,13 @@ owners-smaller c = (stepped c).fewer
 
 pub owners-preserved : goal.owners-preserved
 owners-preserved c =
-    let told = told_at c.args.survey.now in
-    let behind = c.split_at.result.1.now in
+    let reported = reported_at c.args.survey.now in
+    let after = c.split_at.result.1.now in
     let old = c.owners.found.items in
-    let here : c.tell.new.found.items ≡ old ++ told c.first.inside.owner = c.in_ok-tell.ensures in
+    let here : c.report.new.found.items ≡ old ++ reported c.first.inside.owner = c.in_ok-tell.ensures in
     record {
-      all = ap (λ fs. fs ++ flat_map told (owners_once behind)) here
-          ∙ append_assoc old (told c.first.inside.owner) (flat_map told (owners_once behind))
-          ∙ ap (λ (ns : List DomainName). old ++ flat_map told ns) (sym (stepped c).names) ∙ c.owners.invariant.all;
+      all = ap (λ fs. fs ++ flat_map reported (owners_once after)) here
+          ∙ append_assoc old (reported c.first.inside.owner) (flat_map reported (owners_once after))
+          ∙ ap (λ (ns : List DomainName). old ++ flat_map reported ns) (sym (stepped c).names) ∙ c.owners.invariant.all;
       whole = (stepped c).has_owners;
     }

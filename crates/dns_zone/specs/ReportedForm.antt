@@ -1,4 +1,4 @@
--- What a reader learns here: in which order faults are told.
+-- What a reader learns here: in which order faults are reported.
 use Rattle.std.specs.Prelude.{◌≡◌, ℕ, suc, Bool, false, List, [], ◌∷◌, ◌++◌, All, if◌then◌else◌}
 use Rattle.std.specs.List.{flat_map, filter}
 use Rattle.dns_spec.specs.Names.{DomainName, folded, same}
@@ -27,10 +27,10 @@ pub record HasOwners (z : ZoneContents) (rs : List ResourceRecord) : Type 0 wher
   pub all : All (λ (r : ResourceRecord). filter (λ (s : ResourceRecord). same s.owner r.owner) rs ≡ at z r.owner) rs
 
 -- the faults of a name, as one word
-unfoldable pub told_at : ZoneContents → DomainName → List Fault
-told_at z n = faults_at z n
+unfoldable pub reported_at : ZoneContents → DomainName → List Fault
+reported_at z n = faults_at z n
 
--- the faults of the owners before a name, of the name, and of the owners behind it
-abbrev pub told_around : ZoneContents → List ResourceRecord → DomainName → List ResourceRecord → List Fault
-told_around z before n behind =
-    flat_map (told_at z) (owners_once before) ++ (told_at z n ++ flat_map (told_at z) (owners_once behind))
+-- the faults of the owners before a name, of the name, and of the owners after it
+abbrev pub reported_around : ZoneContents → List ResourceRecord → DomainName → List ResourceRecord → List Fault
+reported_around z before n after =
+    flat_map (reported_at z) (owners_once before) ++ (reported_at z n ++ flat_map (reported_at z) (owners_once after))
