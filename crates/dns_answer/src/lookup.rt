@@ -6,7 +6,7 @@ ghost use Rattle.dns_name.specs.WireForm.{labels_of, IsWireForm};
 ghost use Rattle.dns_zone.specs.Nodes.{ZoneNode, IsNode};
 ghost use Rattle.dns_answer.specs.Walks.{IsApex, node_or, WalkedTo, FoundAs, ReachedAs, HasRoom, Took, TookWay, TookChild, missed, missed_name};
 
-use dns_name::{Label, Name};
+use dns_name::{Label, Name, first_label};
 use dns_rdata::RType;
 use dns_zone::{Node, Steps};
 
@@ -155,19 +155,4 @@ pub(crate) fn reach<'z>(
         Some(node) => Reached::Name(Some(node)),
         None => Reached::Missing,
     }
-}
-
-// The first label of a wire form that has one, and the wire form after it.
-fn first_label(octets: &[u8]) -> Option<(Label<'_>, &[u8])>
-    requires { IsWireForm octets.now }
-    ensures { MatchOption result (labels_of octets.now ≡ [])
-        (λ x. (labels_of octets.now ≡ x.0 ∷ labels_of x.1.now) × IsWireForm x.1.now) }
-{
-    let (length, rest) = octets.split_first()?;
-    let length = *length as usize;
-    if length == 0 {
-        return None;
-    }
-    let (label, rest) = rest.split_at(length);
-    Some((Label::new(label)?, rest))
 }
