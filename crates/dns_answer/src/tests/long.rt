@@ -1,20 +1,19 @@
 //! Replies over TCP that are past the limit of UDP, and one that just meets it.
 
-use super::replies::is_reply;
+use super::replies::{is_reply, joined};
 use super::zones::{LETTERS, large, long};
 use crate::Limit;
 use std::alloc::Global;
 use std::test::Fail;
 
-// Addresses 198.51.100.1 to 198.51.100.64, each after these octets.
-fn addresses(alloc: Global, before: &[u8]) -> Result<Vec<u8>, Fail> {
-    let mut octets = Vec::new(alloc);
+// Pushes the addresses 198.51.100.1 to 198.51.100.64, each after the same owner.
+fn push_addresses(octets: &mut Vec<u8>, owner: &[u8]) -> Result<(), Fail> {
     for last in 1..65_u8 {
-        octets.extend_from_slice(before)?;
+        octets.extend_from_slice(owner)?;
         octets.extend_from_slice(b"\x00\x01\x00\x01\x00\x00\x0e\x10\x00\x04\xc6\x33\x64")?;
         octets.extend_from_slice(&[last])?;
     }
-    Ok(octets)
+    Ok(())
 }
 
 #[test]
@@ -68,9 +67,17 @@ fn sixty_four_addresses(rt: HostRuntime) -> Result<(), Fail> {
         ),
     ];
     for (question, head, before, owner) in rows {
-        let addresses = addresses(rt.alloc(), owner)?;
-        let wanted = [head, question, before, addresses.as_slice()];
-        assert!(rt; is_reply(rt.alloc(), &zone, Limit::Tcp, question, &wanted)?);
+        let mut wanted = joined(rt.alloc(), &[head, question, before])?;
+        push_addresses(&mut wanted, owner)?;
+        assert!(rt;
+            is_reply(
+                rt.alloc(),
+                &zone,
+                Limit::Tcp,
+                question,
+                &[wanted.as_slice()]
+            )?
+        );
     }
     Ok(())
 }
@@ -122,8 +129,7 @@ fn names_past_the_reach_of_a_pointer(rt: HostRuntime) -> Result<(), Fail> {
     for number in 10..26_u8 {
         push_target(rt.alloc(), number, &mut wanted)?;
     }
-    let owner = addresses(rt.alloc(), b"\x03t26\xc0\x0e")?;
-    wanted.extend_from_slice(owner.as_slice())?;
+    push_addresses(&mut wanted, b"\x03t26\xc0\x0e")?;
     assert_eq!(rt; wanted.len(), 18_282);
     assert!(rt;
         is_reply(
@@ -142,8 +148,8 @@ fn push_target(alloc: Global, number: u8, octets: &mut Vec<u8>) -> Result<(), Fa
     let Ok(place) = u16::try_from(octets.len()) else {
         return Err(Fail::new("many octets"));
     };
-    let pointer = (0xc000 | place).to_be_bytes();
-    let addresses = addresses(alloc, &pointer)?;
+    let mut addresses = Vec::new(alloc);
+    push_addresses(&mut addresses, &(0xc000 | place).to_be_bytes())?;
     octets.extend_from_slice(b"\x03t")?;
     octets.extend_from_slice(&[b'0' + number / 10, b'0' + number % 10])?;
     octets.extend_from_slice(b"\xc0\x0e")?;

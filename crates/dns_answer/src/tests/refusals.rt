@@ -1,6 +1,6 @@
 //! Datagrams that get no reply, and replies without records.
 
-use super::replies::{joined, query, respond_to};
+use super::replies::{compare, joined, query};
 use super::zones::small;
 use crate::Limit;
 use std::test::Fail;
@@ -12,16 +12,18 @@ const WWW: &[u8] = b"\x03www\x07example\x00\x00\x01\x00\x01";
 fn datagrams_without_a_reply(rt: HostRuntime) -> Result<(), Fail> {
     let zone = small(rt.alloc())?;
     let asked = query(rt.alloc(), WWW)?;
+    let refused = b"\x12\x34\x80\x01\x00\x00\x00\x00\x00\x00\x00\x00".as_slice();
     for length in 0..29_usize {
         let datagram = asked.as_slice().get(..length).unwrap_or(&[]);
-        let found = respond_to(rt.alloc(), &zone, datagram, Limit::Udp)?;
+        let wanted = if length < 12 { None } else { Some(refused) };
+        let found = compare(rt.alloc(), &zone, Limit::Udp, datagram, wanted)?;
+        assert!(rt; found.is_wanted, "{length} octets");
         assert_eq!(rt; found.visits, 0);
-        assert_eq!(rt; found.octets.is_none(), length < 12, "{length} octets");
     }
     let head = b"\x12\x34\x80\x00\x00\x01\x00\x00\x00\x00\x00\x00";
     let sent = joined(rt.alloc(), &[head, WWW])?;
-    let found = respond_to(rt.alloc(), &zone, sent.as_slice(), Limit::Udp)?;
-    assert!(rt; found.octets.is_none(), "a reply to a reply");
+    let found = compare(rt.alloc(), &zone, Limit::Udp, sent.as_slice(), None)?;
+    assert!(rt; found.is_wanted, "a reply to a reply");
     Ok(())
 }
 
@@ -49,11 +51,8 @@ fn datagrams_that_a_header_answers(rt: HostRuntime) -> Result<(), Fail> {
     ];
     for (head, rest, wanted) in rows {
         let sent = joined(rt.alloc(), &[head, rest])?;
-        let found = respond_to(rt.alloc(), &zone, sent.as_slice(), Limit::Udp)?;
-        let Some(octets) = found.octets else {
-            return Err(Fail::new("no reply"));
-        };
-        assert_eq!(rt; octets.as_slice(), wanted, "{rest:?}");
+        let found = compare(rt.alloc(), &zone, Limit::Udp, sent.as_slice(), Some(wanted))?;
+        assert!(rt; found.is_wanted, "{rest:?}");
         assert_eq!(rt; found.visits, 0);
     }
     Ok(())
@@ -62,25 +61,24 @@ fn datagrams_that_a_header_answers(rt: HostRuntime) -> Result<(), Fail> {
 #[test]
 fn questions_that_are_repeated_alone(rt: HostRuntime) -> Result<(), Fail> {
     let zone = small(rt.alloc())?;
-    let rows: [(&[u8], u8); 6] = [
-        (b"\x03www\x05other\x00\x00\x01\x00\x01", 5),
-        (b"\x03www\x07example\x00\x00\x01\x00\x03", 5),
-        (b"\x07example\x00\x00\xfc\x00\x01", 4),
-        (b"\x07example\x00\x00\x00\x00\x01", 4),
-        (b"\x07example\x00\x00\x29\x00\x01", 4),
+    let refused = b"\x12\x34\x80\x05\x00\x01\x00\x00\x00\x00\x00\x00".as_slice();
+    let unknown = b"\x12\x34\x80\x04\x00\x01\x00\x00\x00\x00\x00\x00".as_slice();
+    let rows: [(&[u8], &[u8]); 6] = [
+        (b"\x03www\x05other\x00\x00\x01\x00\x01", refused),
+        (b"\x03www\x07example\x00\x00\x01\x00\x03", refused),
+        (b"\x07example\x00\x00\xfc\x00\x01", unknown),
+        (b"\x07example\x00\x00\x00\x00\x01", unknown),
         // The class is judged before the type, and the type before the name.
-        (b"\x05other\x00\x00\xfc\x00\x03", 5),
+        (b"\x05other\x00\x00\xfc\x00\x03", refused),
+        (b"\x05other\x00\x00\xfc\x00\x01", unknown),
     ];
-    for (question, rcode) in rows {
+    for (question, head) in rows {
         let sent = query(rt.alloc(), question)?;
+        let wanted = joined(rt.alloc(), &[head, question])?;
+        let wanted = Some(wanted.as_slice());
         for limit in [Limit::Udp, Limit::Tcp] {
-            let found = respond_to(rt.alloc(), &zone, sent.as_slice(), limit)?;
-            let Some(octets) = found.octets else {
-                return Err(Fail::new("no reply"));
-            };
-            let head = [0x12, 0x34, 0x80, rcode, 0, 1, 0, 0, 0, 0, 0, 0];
-            let wanted = joined(rt.alloc(), &[&head, question])?;
-            assert_eq!(rt; octets.as_slice(), wanted.as_slice());
+            let found = compare(rt.alloc(), &zone, limit, sent.as_slice(), wanted)?;
+            assert!(rt; found.is_wanted, "{question:?}");
             assert_eq!(rt; (found.visits, found.comparisons), (0, 0));
         }
     }

@@ -8,10 +8,10 @@ use std::test::Fail;
 // The header of a query of one question.
 const QUERY: &[u8] = b"\x12\x34\x00\x00\x00\x01\x00\x00\x00\x00\x00\x00";
 
-/// A reply, and what it took: how many nodes were handed out, and how many labels compared.
-#[derive(Drop)]
-pub(super) struct Reply {
-    pub(super) octets: Option<Vec<u8>>,
+/// Whether a reply is the one that is wanted, and what it took: how many nodes were handed out, and how many labels compared.
+#[derive(Clone, Copy)]
+pub(super) struct Compared {
+    pub(super) is_wanted: bool,
     pub(super) visits: u32,
     pub(super) comparisons: u32,
 }
@@ -30,31 +30,30 @@ pub(super) fn joined(alloc: Global, pieces: &[&[u8]]) -> Result<Vec<u8>, Fail> {
     Ok(octets)
 }
 
-/// The reply of a zone to a datagram.
-pub(super) fn respond_to(
+/// Compares the reply of a zone to a datagram with the one that is wanted, if any.
+pub(super) fn compare(
     alloc: Global,
     zone: &Zone,
-    datagram: &[u8],
     limit: Limit,
-) -> Result<Reply, Fail> {
+    datagram: &[u8],
+    wanted: Option<&[u8]>,
+) -> Result<Compared, Fail> {
     let mut out = vec![in alloc; 0; limit.octets()]?;
     let mut steps = Steps::new(zone);
     let length = respond(&mut steps, datagram, limit, &mut out);
-    let octets = match length {
-        None => None,
-        Some(length) => {
-            out.truncate(length);
-            Some(out)
-        }
+    let is_wanted = match (length, wanted) {
+        (None, None) => true,
+        (Some(length), Some(wanted)) => out.as_slice().get(..length) == Some(wanted),
+        _ => false,
     };
-    Ok(Reply {
-        octets,
+    Ok(Compared {
+        is_wanted,
         visits: steps.visits(),
         comparisons: steps.comparisons(),
     })
 }
 
-/// Whether the reply to a question over a zone is these octets.
+/// Whether the reply of a zone to a question is these octets.
 pub(super) fn is_reply(
     alloc: Global,
     zone: &Zone,
@@ -64,6 +63,14 @@ pub(super) fn is_reply(
 ) -> Result<bool, Fail> {
     let asked = query(alloc, question)?;
     let wanted = joined(alloc, wanted)?;
-    let found = respond_to(alloc, zone, asked.as_slice(), limit)?;
-    Ok(found.octets == Some(wanted))
+    Ok(
+        compare(
+            alloc,
+            zone,
+            limit,
+            asked.as_slice(),
+            Some(wanted.as_slice()),
+        )?
+        .is_wanted,
+    )
 }
