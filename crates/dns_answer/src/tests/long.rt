@@ -143,7 +143,7 @@ fn names_past_the_reach_of_a_pointer(rt: HostRuntime) -> Result<(), Fail> {
     Ok(())
 }
 
-// Pushes the addresses of a target; the first of their owners is spelled, and the others point to it.
+// Pushes the addresses of a target: the first owner is spelled, and the others point to it.
 fn push_target(alloc: Global, number: u8, octets: &mut Vec<u8>) -> Result<(), Fail> {
     let Ok(place) = u16::try_from(octets.len()) else {
         return Err(Fail::new("many octets"));

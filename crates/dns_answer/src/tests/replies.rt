@@ -8,7 +8,8 @@ use std::test::Fail;
 // The header of a query of one question.
 const QUERY: &[u8] = b"\x12\x34\x00\x00\x00\x01\x00\x00\x00\x00\x00\x00";
 
-/// Whether a reply is the one that is wanted, and what it took: how many nodes were handed out, and how many labels compared.
+/// Whether a reply is the one that is wanted, and what it took: the nodes that were handed out, and
+/// the labels that were compared.
 #[derive(Clone, Copy)]
 pub(super) struct Compared {
     pub(super) is_wanted: bool,
