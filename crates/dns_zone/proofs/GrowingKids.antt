@@ -20,7 +20,7 @@ use Rattle.dns_zone.proofs.NameOrder.{lower_twice}
 use Rattle.dns_zone.proofs.NameTree.{label-tie, under-trans}
 use Rattle.dns_zone.proofs.AtName.{OwnerNotAfter, owners_in_order, is_at}
 use Rattle.dns_zone.proofs.Existing.{under-lower}
-use Rattle.dns_zone.proofs.Spans.{drop_again, drop_span, take_span, none_before, none_after, in_span, nothing_each, each_nothing, nothing_there, nothing_further, some_passes, any_there, any_append, any_nothing, among_left, among_right, each_drop, each_push}
+use Rattle.dns_zone.proofs.Spans.{drop_again, drop_span, take_span, none_before, none_past, in_span, nothing_each, each_nothing, nothing_there, nothing_further, some_passes, any_there, any_append, any_nothing, among_left, among_right, each_drop, each_push}
 use Rattle.dns_zone.proofs.ChildNames.{cons_under, one_above, labels_in_order, other_below, under-longer}
 use Rattle.dns_zone.proofs.KidRows.{is_under, pairs_drop}
 
@@ -118,7 +118,7 @@ module _ (rs : List ResourceRecord) (canonical : IsCanonical rs) (n : DomainName
       in_span (is_under n) rs row.first row.end order is_row.below k blank (omega arith) h
       is_row.end_fits in
       let none : filter (is_at n) (drop row.own_end rs) ≡ [] =
-      none_after (is_at n) rs row.first row.own_end is_row.first_own is_row.own in
+      none_past (is_at n) rs row.first row.own_end is_row.first_own is_row.own in
       let other =
       nothing_there (is_at n) rs k blank
       (nothing_further (is_at n) rs row.own_end k a.from none) inside in
@@ -147,7 +147,7 @@ module _ (rs : List ResourceRecord) (canonical : IsCanonical rs) (n : DomainName
     group = ap (λ (i : ℕ). span rs i kid.end) (sym h.first) ∙ is_kid.below
 
     none_after : under m (drop kid.end rs) ≡ []
-    none_after = none_after (is_under m) rs k kid.end order group
+    none_after = none_past (is_under m) rs k kid.end order group
 
     label_is : row_label rs kid ≡ h.kid.label
     unfolding m
@@ -344,7 +344,7 @@ module _ (rs : List ResourceRecord) (canonical : IsCanonical rs) (n : DomainName
       none l =
           within (l ∷ n) (cons_under l n) (drop k rs)
           (nothing_further (is_under n) rs row.end k h
-          (none_after (is_under n) rs row.first row.end order is_row.below))
+          (none_past (is_under n) rs row.first row.end order is_row.below))
 
       found : (l : Octets) → list_any (is_under (l ∷ n)) rs ≡ true
           → list_any (is_under (l ∷ n)) (take k rs) ≡ true

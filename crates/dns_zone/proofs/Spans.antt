@@ -64,8 +64,8 @@ module _ {X : Type 0} (p : X → Bool) (xs : List X) (a b : ℕ) (h : a ≤ b)
       let n : length (filter p (take a xs)) ≡ 0 = omega (arith, lengths) in
       nil_from_length (filter p (take a xs)) n
 
-  pub none_after : filter p (drop b xs) ≡ []
-  none_after =
+  pub none_past : filter p (drop b xs) ≡ []
+  none_past =
       let n : length (filter p (drop b xs)) ≡ 0 = omega (arith, lengths) in
       nil_from_length (filter p (drop b xs)) n
 
