@@ -31,7 +31,9 @@ where
     let words = given_words(rt)?;
     let words = serve_words(alloc, words.as_slice())?;
     let file = open_file(rt, words.file)?;
-    match load_zone(alloc, &words.origin, &mut Tally::new(file)) {
+    // The file is closed before anything is served.
+    let loaded = load_zone(alloc, &words.origin, &mut Tally::new(file));
+    match loaded {
         Ok(zone) => serve(rt, &zone, &words.service),
         Err(LoadFault::Refused(refusal)) => refuse(rt, errors, &refusal),
         Err(LoadFault::Stopped(stop)) => Err(FaultWord::from(stop)),
