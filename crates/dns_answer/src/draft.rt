@@ -67,16 +67,11 @@ impl<const N: usize, const SIZE: usize> Draft<N, SIZE> {
     }
 
     /// Puts the reply at the front of `out`, with its header, and answers how many octets it has.
-    pub(crate) fn finish(self, head: Head, out: &mut [u8]) -> usize
-        requires { self.page.limit ≤ length out.old }
-        ensures length { (d : Offered) → Holds self.entry d → result ≡ size (Some d.question) d.kept }
-        ensures octets { (d : Offered) → Holds self.entry d → take result out.new ≡ layout head (Some d.question) d.kept }
+    pub(crate) fn finish(&self, head: Head, out: &mut [u8]) -> usize
+        requires { self.now.page.limit ≤ length out.old }
+        ensures length { (d : Offered) → Holds self.now d → result ≡ size (Some d.question) d.kept }
+        ensures octets { (d : Offered) → Holds self.now d → take result out.new ≡ layout head (Some d.question) d.kept }
     {
-        let Draft {
-            page,
-            hash: _,
-            is_full: _,
-        } = self;
-        page.finish(head, out)
+        self.page.finish(head, out)
     }
 }
