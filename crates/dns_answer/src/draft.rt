@@ -38,11 +38,9 @@ impl<const N: usize, const SIZE: usize> Draft<N, SIZE> {
         ensures draft { Holds result (empty_draft question.now limit) }
         ensures limit { result.page.limit ≡ limit }
     {
-        let mut hash = QuickHash;
-        let page = Page::new(limit, Some(question), &mut hash);
         Draft {
-            page,
-            hash,
+            page: Page::new(limit, Some(question), &mut QuickHash),
+            hash: QuickHash,
             is_full: false,
         }
     }
