@@ -1,3 +1,5 @@
 mod LateDash
 mod ReportLines
 mod CheckedZone
+pub mod LineDigits
+pub mod LineRuns

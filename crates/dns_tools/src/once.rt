@@ -1,7 +1,13 @@
 //! Messages that come as lines of hexadecimal digits, and the lines that answer them.
-ghost use Rattle.std.specs.Prelude.{◌≡◌, ◌+◌, ◌-◌, ◌*◌, ◌^◌, ◌<◌, ◌≤◌, ◌++◌, length, vec_len, vec_capacity, Err, OnOk, IfErr, IfSome, IfNone, IsErr, Ok, take, ◌≢◌};
+ghost use Rattle.std.specs.Prelude.{◌≡◌, ◌+◌, ◌-◌, ◌*◌, ◌^◌, ◌<◌, ◌≤◌, ◌++◌, length, vec_len, vec_capacity, Some, Err, OnOk, IfErr, IfSome, IfNone, IsErr, Ok, take, ◌≢◌};
 ghost use Rattle.hex.specs.Hex.{decode_of};
-ghost use Rattle.std.specs.Bool.{OnFalse};
+ghost use Rattle.std.specs.Bool.{OnTrue, OnFalse};
+ghost use Rattle.std.specs.Option.{is_some};
+ghost use Rattle.std.specs.Io.KnownBytes.{Appends};
+ghost use Rattle.dns_spec.specs.DataText.{hex_octets};
+ghost use Rattle.dns_spec.specs.WrittenText.{hex_text};
+ghost use Rattle.dns_spec.specs.Lines.{message_answer, reply_line};
+ghost use Rattle.dns_tools.specs.Exchanges.{reply_within};
 ghost use Rattle.dns_name.specs.Counted.{failures_after};
 ghost use Rattle.dns_tools.specs.Stops.{source_failures_after, sink_failures_after};
 ghost use Rattle.dns_answer.specs.Limits.{limit_of};
@@ -205,6 +211,9 @@ fn answer(
     requires room { vec_len answers.old + MOST_ANSWER ≤ vec_capacity answers.old }
     ensures len { vec_len answers.new ≤ vec_len answers.old + MOST_ANSWER }
     ensures capacity { vec_capacity answers.old ≤ vec_capacity answers.new }
+    ensures message { result ≡ is_some (hex_octets line.now) }
+    ensures answered { OnTrue result (answers.new.items ≡ answers.old.items
+        ++ message_answer (reply_within limit zone.now) (hex_octets line.now)) }
     ensures refused { OnFalse result (answers.new ≡ answers.old) }
 {
     let Some(len) = octets_of(line, datagram) else {
@@ -232,6 +241,7 @@ pub(crate) fn octets_of(line: &[u8], datagram: &mut [u8]) -> Option<usize>
 // Adds a line with the digits of a reply.
 fn put_reply(answers: &mut Vec<u8>, reply: &[u8])
     requires { vec_len answers.old + 2 * length reply.now + 1 ≤ vec_capacity answers.old }
+    ensures items { answers.new.items ≡ answers.old.items ++ reply_line (Some reply.now) }
     ensures len { vec_len answers.new ≡ vec_len answers.old + 2 * length reply.now + 1 }
     ensures capacity { vec_capacity answers.old ≤ vec_capacity answers.new }
 {
@@ -248,6 +258,7 @@ fn put_reply(answers: &mut Vec<u8>, reply: &[u8])
 fn put_digits(answers: &mut Vec<u8>, octets: &[u8])
     requires few { 2 * length octets.now ≤ DIGITS }
     requires room { vec_len answers.old + 2 * length octets.now ≤ vec_capacity answers.old }
+    ensures items { answers.new.items ≡ answers.old.items ++ hex_text octets.now }
     ensures len { vec_len answers.new ≡ vec_len answers.old + 2 * length octets.now }
     ensures capacity { vec_capacity answers.old ≤ vec_capacity answers.new }
 {
