@@ -3,3 +3,4 @@ mod ReportLines
 mod CheckedZone
 pub mod LineDigits
 pub mod LineRuns
+pub mod LineReads

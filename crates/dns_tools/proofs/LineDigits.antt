@@ -1,11 +1,13 @@
 -- The digits of a line, as the library of hexadecimal digits reads and writes them and as the definitions do.
-use Rattle.std.proofs.Common.{◌≡◌, ℕ, zero, suc, ◌+◌, ◌*◌, ◌/◌, ◌%◌, ◌<◌, ◌==◌, if◌then◌else◌, Bool, true, false, ◌&&◌, ◌⊎◌, inl, inr, List, [], ◌∷◌, ◌++◌, length, slice_index, Option, Some, None, Result, Ok, Err, refl, sym, ap, ap₂, ◌∙◌, arith}
+use Rattle.std.proofs.Common.{◌≡◌, ℕ, zero, suc, ◌+◌, ◌*◌, ◌/◌, ◌%◌, ◌<◌, ◌==◌, if◌then◌else◌, Bool, true, false, ◌&&◌, ◌⊎◌, inl, inr, List, [], ◌∷◌, ◌++◌, length, take, slice_index, Option, Some, None, Result, Ok, Err, refl, sym, ap, ap₂, ◌∙◌, arith}
 use Rattle.std.specs.Prelude.{IsErr}
 use Rattle.std.specs.Char.{is_ascii_hexdigit, digit_value, digit_char}
 use Rattle.std.specs.Option.{option_map, is_some}
 use Rattle.std.proofs.lemmas.Bool.{agree_below_at, eqb-true, cases_Bool, cases_lt, le-leb, lt-leb}
+use Rattle.std.proofs.lemmas.List.{take_all, take-append-le}
 use Rattle.hex.specs.Hex.{IsBytes, hex_digit_value, decode_pairs, decode_of, encode_lower, encode_with, lower_digits, pair_value}
 use Rattle.hex.specs.declared.error.FromHexError.{FromHexError}
+use Rattle.hex.proofs.HexLemmas.{length-encode_with}
 use Rattle.hex.proofs.Pairs.{cons_byte, decode_pairs-ok_pair, decode_pairs-err_pair}
 use Rattle.dns_spec.specs.Names.{Octets}
 use Rattle.dns_spec.specs.DataText.{hex_octets}
@@ -105,3 +107,9 @@ line_refused text h = sym (line_said text) ∙ none_said (decode_of text) h
     none_said : (r : Result (List ℕ) FromHexError) → IsErr r → said r ≡ None
     none_said (Ok d) h = cc
     none_said (Err e) h = refl
+
+-- the digits at the front of a buffer
+pub front_digits : (octets new rest : Octets) → new ≡ encode_lower octets → take (2 * length octets) (new ++ rest) ≡ new
+front_digits octets new rest e =
+    let len : length new ≡ 2 * length octets = ap length e ∙ length-encode_with lower_digits octets in
+    take-append-le (2 * length octets) new rest (omega (arith, len)) ∙ take_all (2 * length octets) new (omega (arith, len))

@@ -1,9 +1,9 @@
 -- How a run over lines goes on, octet by octet.
-use Rattle.std.proofs.Common.{◌≡◌, ◌≢◌, ℕ, zero, suc, ◌+◌, ◌-◌, ◌^◌, ◌<◌, ◌≤◌, ◌==◌, if◌then◌else◌, nat_le, nat_lt, Bool, true, false, ◌&&◌, ◌⊎◌, inl, inr, List, [], ◌∷◌, ◌++◌, length, take, Option, Some, None, Result, Ok, Err, refl, sym, ap, ap₂, ◌∙◌, subst, arith, append_assoc, append-nil, length-append, filter, flat_map, codes}
+use Rattle.std.proofs.Common.{◌≡◌, ◌≢◌, ℕ, zero, suc, ◌+◌, ◌-◌, ◌^◌, ◌<◌, ◌≤◌, ◌==◌, ◌/◌, ◌%◌, if◌then◌else◌, nat_le, nat_lt, Bool, true, false, ◌&&◌, ◌⊎◌, inl, inr, List, [], ◌∷◌, ◌++◌, length, take, drop, Option, Some, None, Result, Ok, Err, refl, sym, ap, ap₂, ◌∙◌, subst, arith, append_assoc, append-nil, length-append, filter, flat_map, codes}
 use Rattle.std.specs.List.{list_all}
 use Rattle.std.specs.Option.{is_some}
 use Rattle.std.proofs.lemmas.Bool.{cases_Bool, cases_lt, le-leb, lt-leb, lt-ltb, le-ltb, eq-eqb, ne_eqb, eqb-true}
-use Rattle.std.proofs.lemmas.List.{take_all, take-append-le, length-take-le}
+use Rattle.std.proofs.lemmas.List.{take_all, take-append-le, take-append-drop, length-take-le}
 use Rattle.std.proofs.lemmas.List.Elements.{filter-append}
 use Rattle.std.proofs.lemmas.List.Folds.{list_all-append}
 use Rattle.std.proofs.lemmas.Grind.{flat_map-append}
@@ -11,10 +11,12 @@ use Rattle.std.specs.Io.KnownBytes.{Appends, Consumes, IsAtEnd}
 use Rattle.std.proofs.KnownBytes.{Appends-trans, Appends-nil, Consumes-trans, Consumes-nil}
 use Rattle.dns_spec.specs.Names.{Octets}
 use Rattle.dns_spec.specs.DataText.{hex_octets}
-use Rattle.dns_spec.specs.Lines.{lines, line_ends, ended_lines, begin_line, line_message, message_answer, line_answers, are_messages}
+use Rattle.dns_spec.specs.Lines.{lines, line_ends, ended_lines, begin_line, line_message, reply_line, message_answer, line_answers, are_messages}
+use Rattle.std.specs.Char.{digit_char}
+use Rattle.dns_spec.specs.WrittenText.{hex_text}
 use Rattle.dns_name.specs.Counted.{AppendsBeginning}
 use Rattle.dns_name.proofs.WritesLemmas.{beginning_of_first, beginning_of_second}
-use Rattle.dns_tools.specs.Exchanges.{Kept, Progress, Begun, Passes, kept_message}
+use Rattle.dns_tools.specs.Exchanges.{Kept, KeepsOctet, EndsLine, Progress, Begun, Passes, kept_message}
 
 pub ends_append : (x y : Octets) → line_ends (x ++ y) ≡ line_ends x + line_ends y
 ends_append x y = ap length (filter-append (λ o. o == 10) x y) ∙ length-append (filter (λ o. o == 10) x) (filter (λ o. o == 10) y)
@@ -40,12 +42,12 @@ line_then [] y e = refl
 line_then (o ∷ front) y e = rw (ends_head o front e, line_then front y (ends_tail o front e)) refl
 
 -- a line that nothing ends
-line_alone : (o : ℕ) (front : Octets) → line_ends (o ∷ front) ≡ 0 → lines (o ∷ front) ≡ (o ∷ front) ∷ []
+pub line_alone : (o : ℕ) (front : Octets) → line_ends (o ∷ front) ≡ 0 → lines (o ∷ front) ≡ (o ∷ front) ∷ []
 unfolding lines
 line_alone o [] e = rw (ends_head o [] e) refl
 line_alone o (p ∷ front) e = rw (ends_head o (p ∷ front) e, line_alone p front (ends_tail o (p ∷ front) e)) refl
 
-lines_nil : lines [] ≡ []
+pub lines_nil : lines [] ≡ []
 unfolding lines
 lines_nil = refl
 
@@ -65,13 +67,6 @@ progress_none reply held k line over answers passes = record {
   answered = answers;
   passes_is = passes;
 }
-
--- what a line that goes on has to keep of its next octet
-pub record Keeps (old new : Kept) (o : ℕ) : Type 0 where
-  pub line : length old.line < 131070 → (new.line ≡ old.line ++ o ∷ []) × (new.is_overlong ≡ old.is_overlong)
-  pub full : 131070 ≤ length old.line → (new.line ≡ old.line) × (new.is_overlong ≡ true)
-  pub answers : new.answers ≡ old.answers
-  pub passes : new.passes ≡ old.passes
 
 kept_front : (front : Octets) → length (take 131070 front) < 131070 → length front < 131070
 kept_front front h = elim (cases_lt (length front) 131070) [
@@ -98,7 +93,7 @@ full_front front line e h = elim (cases_lt (length front) 131070) [
 ]
 
 -- the next octet is of the line that goes on
-pub progress_keep : (reply : Octets → Option Octets) (held holds : Option Octets) (x : Octets) (k n : Kept) (o : ℕ) → o ≢ 10 → Keeps k n o
+pub progress_keep : (reply : Octets → Option Octets) (held holds : Option Octets) (x : Octets) (k n : Kept) (o : ℕ) → o ≢ 10 → KeepsOctet k n o
     → Progress reply held holds x k → Progress reply held holds (x ++ o ∷ []) n
 progress_keep reply held holds x k n o other keeps p = record {
   ended = p.ended;
@@ -122,7 +117,7 @@ progress_keep reply held holds x k n o other keeps p = record {
 }
 
 -- what is kept of a line says which message it is
-kept_says : (front line : Octets) (is_overlong : Bool) → line ≡ take 131070 front → is_overlong ≡ nat_lt 131070 (length front)
+pub kept_says : (front line : Octets) (is_overlong : Bool) → line ≡ take 131070 front → is_overlong ≡ nat_lt 131070 (length front)
     → kept_message line is_overlong ≡ line_message front
 kept_says front line is_overlong e over = elim (cases_lt 131070 (length front)) [
   | inl long ↦ rw (over, lt-ltb 131070 (length front) long, lt-leb (length front) 131070 long) refl
@@ -130,14 +125,7 @@ kept_says front line is_overlong e over = elim (cases_lt 131070 (length front)) 
       (ap hex_octets (e ∙ take_all 131070 front short))
 ]
 
--- a line was ended and answered
-pub record Ends (reply : Octets → Option Octets) (old new : Option Octets) (k n : Kept) : Type 0 where
-  pub passed : Passes old new k.answers n.answers (message_answer reply (kept_message k.line k.is_overlong))
-  pub line : n.line ≡ []
-  pub overlong : n.is_overlong ≡ false
-  pub passes : n.passes ≡ (k.passes && is_some (kept_message k.line k.is_overlong))
-
-one_answer : (reply : Octets → Option Octets) (ended : List Octets) (front : Octets)
+pub one_answer : (reply : Octets → Option Octets) (ended : List Octets) (front : Octets)
     → line_answers reply (ended ++ front ∷ []) ≡ line_answers reply ended ++ message_answer reply (line_message front)
 one_answer reply ended front =
     flat_map-append (λ l. message_answer reply (line_message l)) ended (front ∷ [])
@@ -148,11 +136,11 @@ and_true true true = refl
 and_true true false = refl
 and_true false c = refl
 
-one_flag : (ended : List Octets) (front : Octets) → are_messages (ended ++ front ∷ []) ≡ (are_messages ended && is_some (line_message front))
+pub one_flag : (ended : List Octets) (front : Octets) → are_messages (ended ++ front ∷ []) ≡ (are_messages ended && is_some (line_message front))
 one_flag ended front =
     list_all-append (λ l. is_some (line_message l)) ended (front ∷ []) ∙ and_true (are_messages ended) (is_some (line_message front))
 
-pub progress_end : (reply : Octets → Option Octets) (held old new : Option Octets) (x : Octets) (k n : Kept) → Ends reply old new k n
+pub progress_end : (reply : Octets → Option Octets) (held old new : Option Octets) (x : Octets) (k n : Kept) → EndsLine reply old new k n
     → Progress reply held old x k → Progress reply held new (x ++ 10 ∷ []) n
 progress_end reply held old new x k n e p =
     let says = kept_says p.front k.line k.is_overlong p.kept p.overlong in
@@ -203,3 +191,61 @@ begun_flush reply held old new x k begun p = λ y.
 
 pub begun_more : (reply : Octets → Option Octets) (held new : Option Octets) (x more : Octets) → Begun reply held new x → Begun reply held new (x ++ more)
 begun_more reply held new x more b = λ y. subst (λ z. AppendsBeginning held new (line_answers reply (lines z))) (sym (append_assoc x more y)) (b (more ++ y))
+
+-- the answer to a line that is a message
+pub answered_by : (reply : Octets → Option Octets) (line m old new : Octets) (o : Option Octets) → hex_octets line ≡ Some m → o ≡ reply m → new ≡ old ++ reply_line o
+    → new ≡ old ++ message_answer reply (hex_octets line)
+answered_by reply line m old new o is gives e =
+    e ∙ ap (λ r. old ++ reply_line r) gives ∙ ap (λ h. old ++ message_answer reply h) (sym is)
+
+pub hex_more : (x y : Octets) → hex_text (x ++ y) ≡ hex_text x ++ hex_text y
+hex_more x y = flat_map-append (λ o. digit_char (o / 16) ∷ digit_char (o % 16) ∷ []) x y
+
+-- the digits of a few octets were added, and those of the others are still to come
+pub digits_added : (octets rest front back old now new : Octets) (n : ℕ) → front ≡ take n rest → back ≡ drop n rest → now ++ hex_text rest ≡ old ++ hex_text octets
+    → new ≡ now ++ hex_text front → new ++ hex_text back ≡ old ++ hex_text octets
+digits_added octets rest front back old now new n f b so_far added =
+    ap (λ a. a ++ hex_text back) added ∙ append_assoc now (hex_text front) (hex_text back)
+    ∙ ap (λ t. now ++ t) (sym (hex_more front back) ∙ ap hex_text (ap₂ ◌++◌ f b ∙ take-append-drop n rest)) ∙ so_far
+
+pub all_added : (octets rest old now new : Octets) → (length rest == 0) ≡ true → now ++ hex_text rest ≡ old ++ hex_text octets → new ≡ now ++ 10 ∷ []
+    → new ≡ old ++ reply_line (Some octets)
+all_added octets [] old now new e so_far added =
+    added ∙ ap (λ a. a ++ 10 ∷ []) (sym (append-nil now) ∙ so_far) ∙ append_assoc old (hex_text octets) (10 ∷ [])
+all_added octets (o ∷ rest) old now new e so_far added = absurd (omega (arith, eqb-true (length (o ∷ rest)) 0 e))
+
+-- room was made, by writing the answers that were due
+pub room_made : (old new : Option Octets) (due now : Octets) → Appends old new due → now ≡ [] → Passes old new due now []
+room_made old new due now written none = record { gone = due; written = written; rest = ap (λ z. due ++ z) none }
+
+pub room_had : (old : Option Octets) (due : Octets) → Passes old old due due []
+room_had old due = record { gone = []; written = Appends-nil old; rest = sym (append-nil due) }
+
+pub one_more : (old new : Option Octets) (due now answered text : Octets) → Passes old new due now [] → answered ≡ now ++ text → Passes old new due answered text
+one_more old new due now answered text p e = record {
+  gone = p.gone;
+  written = p.written;
+  rest = ap (λ z. p.gone ++ z) e ∙ sym (append_assoc p.gone now text) ∙ ap (λ z. z ++ text) (p.rest ∙ append-nil due);
+}
+
+pub taken_more : (r s : Octets → Option Octets) (held a b : Option Octets) (x front t : Octets) (o : ℕ) (k n : Kept) → s ≡ r → t ≡ front ++ o ∷ []
+    → ((h : Option Octets) (y : Octets) → Progress s h a y k → Progress s h b (y ++ o ∷ []) n)
+    → Progress r held a (x ++ front) k → Progress r held b (x ++ t) n
+taken_more r s held a b x front t o k n same grown step p =
+    let here = subst (λ q. (h : Option Octets) (y : Octets) → Progress q h a y k → Progress q h b (y ++ o ∷ []) n) same step in
+    subst (λ z. Progress r held b z n) (append_assoc x front (o ∷ []) ∙ ap (λ z. x ++ z) (sym grown)) (here held (x ++ front) p)
+
+pub begun_within : (r : Octets → Option Octets) (held a b : Option Octets) (x octets : Octets) (i : ℕ) (k : Kept) → AppendsBeginning a b k.answers
+    → Progress r held a (x ++ take i octets) k → Begun r held b (x ++ octets)
+begun_within r held a b x octets i k begun p =
+    subst (Begun r held b) (append_assoc x (take i octets) (drop i octets) ∙ ap (λ z. x ++ z) (take-append-drop i octets))
+    (begun_more r held b (x ++ take i octets) (drop i octets) (begun_flush r held a b (x ++ take i octets) k begun p))
+
+pub taken_all : (r : Octets → Option Octets) (held b : Option Octets) (x octets : Octets) (i : ℕ) (k : Kept) → take i octets ≡ octets
+    → Progress r held b (x ++ take i octets) k → Progress r held b (x ++ octets) k
+taken_all r held b x octets i k all p = subst (λ t. Progress r held b (x ++ t) k) all p
+
+-- the octet that ends a line
+pub ended_octet : (reply : Octets → Option Octets) (held old new : Option Octets) (x : Octets) (k n : Kept) (o : ℕ) → o ≡ 10 → EndsLine reply old new k n
+    → Progress reply held old x k → Progress reply held new (x ++ o ∷ []) n
+ended_octet reply held old new x k n o is e p = subst (λ o. Progress reply held new (x ++ o ∷ []) n) (sym is) (progress_end reply held old new x k n e p)
