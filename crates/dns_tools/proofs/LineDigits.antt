@@ -32,9 +32,13 @@ digit_same : (c : ℕ) → hex_digit_value c ≡ digit c
 digit_same c = elim (cases_lt c 103) [
   | inl small ↦ from_same _ _ (agree_below_at (λ e. same_option (hex_digit_value e) (digit e)) (λ e. true) 103 c refl small)
   | inr high ↦ rw (
-      le-leb 65 c (omega (arith, high)), le-leb 97 c (omega (arith, high)), le-leb 48 c (omega (arith, high)),
-      lt-leb c 70 (omega (arith, high)), lt-leb c 102 (omega (arith, high)), lt-leb c 57 (omega (arith, high)),
-    ) refl
+    le-leb 65 c (omega (arith, high)),
+    le-leb 97 c (omega (arith, high)),
+    le-leb 48 c (omega (arith, high)),
+    lt-leb c 70 (omega (arith, high)),
+    lt-leb c 102 (omega (arith, high)),
+    lt-leb c 57 (omega (arith, high)),
+  ) refl
 ]
 
 lower_digit : (d : ℕ) → d < 16 → slice_index lower_digits d ≡ digit_char d

@@ -140,15 +140,16 @@ impl<'z> Exchange<'z> {
     fn take<W: Write>(&mut self, octets: &[u8], sink: &mut Tally<W>) -> Result<(), SinkFailed>
         requires { sink.old.failures < 2 ^ 64 - 1 }
         ensures counted { sink.new.failures ≡ failures_after sink.old.failures result }
-        ensures task { OnOk result (reply_within self.new.limit self.new.zone.now ≡ reply_within self.old.limit self.old.zone.now) }
+        ensures task { OnOk result (reply_within self.new.limit self.new.zone.now
+            ≡ reply_within self.old.limit self.old.zone.now) }
         ensures taken { (held : Option Octets) (x : Octets)
             → Progress (reply_within self.old.limit self.old.zone.now) held (W.contents sink.old.device) x (kept_as self.old.line.items self.old.is_overlong self.old.answers.items self.old.are_all_messages)
             → OnOk result (Progress (reply_within self.old.limit self.old.zone.now) held (W.contents sink.new.device)
-                (x ++ octets.now) (kept_as self.new.line.items self.new.is_overlong self.new.answers.items self.new.are_all_messages)) }
+            (x ++ octets.now) (kept_as self.new.line.items self.new.is_overlong self.new.answers.items self.new.are_all_messages)) }
         ensures begun { (held : Option Octets) (x : Octets)
             → Progress (reply_within self.old.limit self.old.zone.now) held (W.contents sink.old.device) x (kept_as self.old.line.items self.old.is_overlong self.old.answers.items self.old.are_all_messages)
             → OnErr result (Begun (reply_within self.old.limit self.old.zone.now) held (W.contents sink.new.device)
-                (x ++ octets.now)) }
+            (x ++ octets.now)) }
     {
         'octets: for octet in octets {
             self.take_octet(*octet, sink)?;
@@ -164,10 +165,10 @@ impl<'z> Exchange<'z> {
             ≡ reply_within self.old.limit self.old.zone.now) }
         ensures taken { (held : Option Octets) (x : Octets)
             → Progress (reply_within self.old.limit self.old.zone.now) held (W.contents sink.old.device) x
-                (kept_as self.old.line.items self.old.is_overlong self.old.answers.items self.old.are_all_messages)
+            (kept_as self.old.line.items self.old.is_overlong self.old.answers.items self.old.are_all_messages)
             → OnOk result (Progress (reply_within self.old.limit self.old.zone.now) held
-                (W.contents sink.new.device) (x ++ octet ∷ [])
-                (kept_as self.new.line.items self.new.is_overlong self.new.answers.items self.new.are_all_messages)) }
+            (W.contents sink.new.device) (x ++ octet ∷ [])
+            (kept_as self.new.line.items self.new.is_overlong self.new.answers.items self.new.are_all_messages)) }
         ensures begun { OnErr result (AppendsBeginning (W.contents sink.old.device)
             (W.contents sink.new.device) self.old.answers.items) }
     {
@@ -181,7 +182,8 @@ impl<'z> Exchange<'z> {
     // Keeps the next octet of the line, as long as the line may be a message.
     fn keep(&mut self, octet: u8)
         ensures kept { KeepsOctet (kept_as self.old.line.items self.old.is_overlong self.old.answers.items self.old.are_all_messages) (kept_as self.new.line.items self.new.is_overlong self.new.answers.items self.new.are_all_messages) octet }
-        ensures task { reply_within self.new.limit self.new.zone.now ≡ reply_within self.old.limit self.old.zone.now }
+        ensures task { reply_within self.new.limit self.new.zone.now
+            ≡ reply_within self.old.limit self.old.zone.now }
     {
         if self.line.len() < MOST_DIGITS {
             self.line.push_reserved(octet);
@@ -194,7 +196,8 @@ impl<'z> Exchange<'z> {
     fn end_line<W: Write>(&mut self, sink: &mut Tally<W>) -> Result<(), SinkFailed>
         requires { sink.old.failures < 2 ^ 64 - 1 }
         ensures counted { sink.new.failures ≡ failures_after sink.old.failures result }
-        ensures task { OnOk result (reply_within self.new.limit self.new.zone.now ≡ reply_within self.old.limit self.old.zone.now) }
+        ensures task { OnOk result (reply_within self.new.limit self.new.zone.now
+            ≡ reply_within self.old.limit self.old.zone.now) }
         ensures ended { OnOk result (EndsLine (reply_within self.old.limit self.old.zone.now) (W.contents sink.old.device)
             (W.contents sink.new.device) (kept_as self.old.line.items self.old.is_overlong self.old.answers.items self.old.are_all_messages) (kept_as self.new.line.items self.new.is_overlong self.new.answers.items self.new.are_all_messages)) }
         ensures begun { OnErr result (AppendsBeginning (W.contents sink.old.device)
@@ -219,7 +222,8 @@ impl<'z> Exchange<'z> {
         ensures line { self.new.line.items ≡ self.old.line.items }
         ensures overlong { self.new.is_overlong ≡ self.old.is_overlong }
         ensures passes { self.new.are_all_messages ≡ self.old.are_all_messages }
-        ensures task { reply_within self.new.limit self.new.zone.now ≡ reply_within self.old.limit self.old.zone.now }
+        ensures task { reply_within self.new.limit self.new.zone.now
+            ≡ reply_within self.old.limit self.old.zone.now }
     {
         if ANSWERS - self.answers.len() < MOST_ANSWER {
             return self.flush(sink);
@@ -235,7 +239,8 @@ impl<'z> Exchange<'z> {
             (kept_message self.old.line.items self.old.is_overlong) }
         ensures passes { self.new.are_all_messages ≡ (self.old.are_all_messages
             && is_some (kept_message self.old.line.items self.old.is_overlong)) }
-        ensures task { reply_within self.new.limit self.new.zone.now ≡ reply_within self.old.limit self.old.zone.now }
+        ensures task { reply_within self.new.limit self.new.zone.now
+            ≡ reply_within self.old.limit self.old.zone.now }
     {
         if self.is_overlong {
             self.refuse_line();
@@ -244,7 +249,14 @@ impl<'z> Exchange<'z> {
         let line = self.line.as_slice();
         let datagram = self.datagram.as_mut_slice();
         let reply = self.reply.as_mut_slice();
-        if !answer(self.zone, self.limit, line, datagram, reply, &mut self.answers) {
+        if !answer(
+            self.zone,
+            self.limit,
+            line,
+            datagram,
+            reply,
+            &mut self.answers,
+        ) {
             self.refuse_line();
         }
     }
@@ -254,7 +266,8 @@ impl<'z> Exchange<'z> {
         requires { vec_len self.old.answers + MOST_ANSWER ≤ ANSWERS }
         ensures answers { self.new.answers.items ≡ self.old.answers.items ++ codes "bad hex\n" }
         ensures passes { self.new.are_all_messages ≡ false }
-        ensures task { reply_within self.new.limit self.new.zone.now ≡ reply_within self.old.limit self.old.zone.now }
+        ensures task { reply_within self.new.limit self.new.zone.now
+            ≡ reply_within self.old.limit self.old.zone.now }
     {
         self.are_all_messages = false;
         put(&mut self.answers, b"bad hex\n");
@@ -273,7 +286,8 @@ impl<'z> Exchange<'z> {
         ensures line { self.new.line.items ≡ self.old.line.items }
         ensures overlong { self.new.is_overlong ≡ self.old.is_overlong }
         ensures passes { self.new.are_all_messages ≡ self.old.are_all_messages }
-        ensures task { reply_within self.new.limit self.new.zone.now ≡ reply_within self.old.limit self.old.zone.now }
+        ensures task { reply_within self.new.limit self.new.zone.now
+            ≡ reply_within self.old.limit self.old.zone.now }
     {
         sink.write_all(self.answers.as_slice())?;
         self.answers.clear();
