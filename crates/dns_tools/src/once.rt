@@ -8,7 +8,7 @@ ghost use Rattle.dns_spec.specs.DataText.{hex_octets};
 ghost use Rattle.dns_spec.specs.Names.{Octets};
 ghost use Rattle.dns_spec.specs.WrittenText.{hex_text};
 ghost use Rattle.dns_spec.specs.Lines.{message_answer, reply_line};
-ghost use Rattle.dns_tools.specs.Exchanges.{Begun, EndsLine, IsFresh, KeepsOctet, Passes, Progress, kept_as, kept_message, reply_within};
+ghost use Rattle.dns_tools.specs.Exchanges.{LinesAnswered, Begun, EndsLine, IsFresh, KeepsOctet, Passes, Progress, kept_as, kept_message, reply_within};
 ghost use Rattle.dns_name.specs.Counted.{AppendsBeginning, failures_after};
 ghost use Rattle.dns_tools.specs.Stops.{source_failures_after, sink_failures_after};
 ghost use Rattle.dns_answer.specs.Limits.{limit_of};
@@ -57,6 +57,10 @@ pub fn run_once<R: Read, W: Write>(
     requires sink { sink.old.failures < 2 ^ 64 - 1 }
     ensures source { source.new.failures ≡ source_failures_after source.old.failures result }
     ensures sink { sink.new.failures ≡ sink_failures_after sink.old.failures result }
+    ensures lines { LinesAnswered (reply_within limit zone.now)
+        (record { unread = R.remaining source.old.device; left = R.remaining source.new.device;
+            held = W.contents sink.old.device; holds = W.contents sink.new.device })
+        result }
 
     // Without memory nothing was read and nothing was written.
     ensures unread { result ≡ Err Stop.Memory → source.new ≡ source.old }
@@ -114,8 +118,13 @@ impl<'z> Exchange<'z> {
         requires source { source.old.failures < 2 ^ 64 - 1 }
         requires sink { sink.old.failures < 2 ^ 64 - 1 }
         requires piece { 0 < length piece.old }
+        requires fresh { IsFresh (kept_as self.old.line.items self.old.is_overlong self.old.answers.items self.old.are_all_messages) }
         ensures source { source.new.failures ≡ source_failures_after source.old.failures result }
         ensures sink { sink.new.failures ≡ sink_failures_after sink.old.failures result }
+        ensures lines { LinesAnswered (reply_within self.old.limit self.old.zone.now)
+            (record { unread = R.remaining source.old.device; left = R.remaining source.new.device;
+                held = W.contents sink.old.device; holds = W.contents sink.new.device })
+            result }
         ensures memory { IfErr result (λ stop. stop ≢ Stop.Memory) }
     {
         let mut left = u64::MAX;
