@@ -11,7 +11,7 @@ ghost use Rattle.dns_answer.specs.Walks.{IsApex, HasRoom};
 ghost use Rattle.dns_answer.specs.Seeking.{Seeks, TookFrom, Followed, SoughtAs, NextIs};
 
 use crate::draft::Draft;
-use crate::ending::{Verdict, deny, offer_asked, refer};
+use crate::ending::{QTYPE_ANY, Verdict, deny, offer_asked, refer};
 use crate::lookup::{Found, look_up, or_apex};
 use crate::names::depth_below;
 use arrayvec::ArrayVec;
@@ -19,9 +19,6 @@ use dns_name::Name;
 use dns_rdata::{RType, Rdata, SetView};
 use dns_wire::{Rcode, Section};
 use dns_zone::{Node, RecordSet, Steps};
-
-// A QTYPE that asks for all types (RFC 1035 3.2.3).
-const QTYPE_ANY: u16 = 255;
 
 // The question's name and 16 targets: a limit of this project.
 pub(crate) const MOST_SOUGHT: usize = 17;

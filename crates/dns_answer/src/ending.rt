@@ -19,8 +19,8 @@ use dns_rdata::{RType, Rdata, SetView};
 use dns_wire::{Rcode, Section};
 use dns_zone::{Node, RecordSet, Steps};
 
-// A QTYPE that asks for all types (RFC 1035 3.2.3).
-const QTYPE_ANY: u16 = 255;
+/// A QTYPE that asks for all types (RFC 1035 3.2.3).
+pub(crate) const QTYPE_ANY: u16 = 255;
 
 /// What the header says of an answer.
 #[derive(Clone, Copy)]
