@@ -1,5 +1,5 @@
 -- What seeking a name has offered and taken, by what is found for it.
-use Rattle.std.proofs.Common.{◌≡◌, ◌⊎◌, inl, inr, ℕ, ◌+◌, ◌-◌, ◌<◌, Bool, true, false, cond, ◌&&◌, ◌||◌, not, List, [], ◌∷◌, ◌++◌, map, length, get_or, Option, None, Some, is_some, refl, sym, ap, subst, ◌∙◌, arith, length-append}
+use Rattle.std.proofs.Common.{◌≡◌, ◌⊎◌, inl, inr, ℕ, ◌+◌, ◌-◌, Bool, true, false, cond, ◌&&◌, ◌||◌, not, List, [], ◌∷◌, ◌++◌, map, length, get_or, Option, None, Some, is_some, refl, sym, ap, subst, ◌∙◌, arith}
 use Rattle.std.specs.List.{list_any}
 use Rattle.std.specs.Option.{option_and_then}
 use Rattle.dns_spec.specs.Names.{Octets, DomainName, same, at_or_below}
@@ -224,7 +224,6 @@ pub led-begin : (w : State) (s : Walk) (t k : ℕ) (kept : List DomainName) (n n
 led-begin w s t k kept n n0 e below = subst (LedOn w w s s t k k kept kept n0) (sym e) (record {
   zone = refl;
   below = below;
-  followed = inl (refl, refl);
   completes = λ before were. (before, were, record { seeks = λ last v h. h; took = λ last h. h });
 })
 
@@ -245,21 +244,9 @@ pub led-further : (w0 w w1 : State) (s0 s s1 : Walk) (t k0 k : ℕ) (kept0 kept 
 led-further w0 w w1 s0 s s1 t k0 k kept0 kept kept' n0 n m depth led next more = record {
   zone = next.took.zone ∙ led.zone;
   below = subst (λ (y : ZoneContents). at_or_below m y.origin ≡ true) led.zone next.below;
-  followed = inr (went led.followed);
   completes = λ before were. on before (led.completes before were);
 }
   where
-    longer : length kept' ≡ length kept + 1
-    longer = ap length more ∙ length-append kept (m ∷ [])
-
-    went : ((n ≡ n0) × (length kept ≡ length kept0)) ⊎ ((follows_alias t && has_any (alias_set s0.zone n0)) ≡ true × (length kept0 < length kept))
-        → (follows_alias t && has_any (alias_set s0.zone n0)) ≡ true × (length kept0 < length kept')
-    went (inl e) = (
-      subst (λ i. (follows_alias t && has_any (alias_set s0.zone i)) ≡ true) e.0 (subst (λ y. (follows_alias t && has_any (alias_set y n)) ≡ true) led.zone next.alias),
-      omega (arith, longer, e.1),
-    )
-    went (inr e) = (e.0, omega (arith, longer, e.1))
-
     on : (before0 : List DomainName) → (before : List DomainName) × AreSought kept (n ∷ before) × Completes w0 w s0 s s0.zone t k0 k before0 before n0 n
         → (before : List DomainName) × AreSought kept' (m ∷ before) × Completes w0 w1 s0 s1 s0.zone t k0 (k - 1) before0 before n0 m
     on before0 x =

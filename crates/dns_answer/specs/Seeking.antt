@@ -1,5 +1,5 @@
 -- What a reader learns here: what seeking a name has offered, and what the header says of it.
-use Rattle.std.specs.Prelude.{◌≡◌, ◌⊎◌, ℕ, ◌+◌, ◌-◌, ◌≤◌, ◌<◌, Bool, true, false, ◌&&◌, not, List, [], ◌∷◌, length, get_or, nat_lt, if◌then◌else◌}
+use Rattle.std.specs.Prelude.{◌≡◌, ◌⊎◌, ℕ, ◌+◌, ◌-◌, ◌≤◌, ◌<◌, Bool, true, false, ◌&&◌, not, List, [], ◌∷◌, length, get_or, if◌then◌else◌}
 use Rattle.std.specs.Prelude.{Option, None, Some}
 use Rattle.std.specs.Option.{is_some, option_and_then}
 use Rattle.std.specs.List.{list_any}
@@ -35,11 +35,9 @@ abbrev pub Seeks : State → State → ZoneContents → ℕ → ℕ → List Dom
 Seeks w w' z t k kept s v =
     (before : List DomainName) → AreSought kept (s ∷ before) → SeeksFrom w w' z t k before s v
 
--- More names were sought, and of a referral they say whether the name sought has an alias that is followed.
-abbrev pub Followed : ZoneContents → ℕ → ℕ → ℕ → DomainName → Verdict → Type 0
-Followed z t count count' s v =
-    (count ≤ count')
-    × (v.is_referral ≡ true → nat_lt count count' ≡ (follows_alias t && has_any (alias_set z s)))
+-- Of a referral it is said whether the name sought has an alias that is followed.
+abbrev pub Followed : ZoneContents → ℕ → DomainName → Verdict → Bool → Type 0
+Followed z t s v led = v.is_referral ≡ true → led ≡ (follows_alias t && has_any (alias_set z s))
 
 abbrev pub TookFrom : Walk → Walk → ℕ → ℕ → List DomainName → DomainName → Type 0
 TookFrom s s' t k kept n =
@@ -68,13 +66,10 @@ pub record LeadsTo (w w' : State) (s s' : Walk) (t k : ℕ) (kept : List DomainN
   pub took : Took s s' 127 2
   pub completes : (before : List DomainName) → AreSought kept (n ∷ before) → Completes w w' s s' s.zone t k (k - 1) before (n ∷ before) n m
 
--- Seeking a name n, the last of the names kept so far, completes what seeking n0 began; either they are one, or n0 has an
--- alias that was followed.
+-- Seeking a name n, the last of the names kept so far, completes what seeking n0 began.
 pub record LedOn (w0 w : State) (s0 s : Walk) (t k0 k : ℕ) (kept0 kept : List DomainName) (n0 n : DomainName) : Type 0 where
   pub zone : s.zone ≡ s0.zone
   pub below : at_or_below n s0.zone.origin ≡ true
-  pub followed : ((n ≡ n0) × (length kept ≡ length kept0))
-      ⊎ ((follows_alias t && has_any (alias_set s0.zone n0)) ≡ true × (length kept0 < length kept))
   pub completes : (before0 : List DomainName) → AreSought kept0 (n0 ∷ before0)
       → (before : List DomainName) × AreSought kept (n ∷ before) × Completes w0 w s0 s s0.zone t k0 k before0 before n0 n
 

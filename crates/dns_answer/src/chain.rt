@@ -1,5 +1,5 @@
 //! The names sought, one after the other (RFC 1034 4.3.2 step 3a).
-ghost use Rattle.std.specs.Prelude.{◌≡◌, ◌+◌, ◌*◌, ◌≤◌, ◌<◌, ◌⊎◌, length, true, false, IsTrue, IfSome, MatchOption};
+ghost use Rattle.std.specs.Prelude.{◌≡◌, ◌+◌, ◌*◌, ◌≤◌, ◌<◌, ◌⊎◌, [], ◌∷◌, length, true, false, IsTrue, IfSome, MatchOption};
 ghost use Rattle.std.specs.List.{list_any};
 ghost use Rattle.dns_spec.specs.Names.{same, at_or_below};
 ghost use Rattle.dns_spec.specs.Data.{type_cname};
@@ -19,9 +19,10 @@ use dns_name::Name;
 use dns_rdata::{RType, Rdata, SetView};
 use dns_wire::{Rcode, Section};
 use dns_zone::{Node, RecordSet, Steps};
+use std::slice::from_ref;
 
 // The question's name and 16 targets: a limit of this project.
-pub(crate) const MOST_SOUGHT: usize = 17;
+const MOST_SOUGHT: usize = 17;
 
 /// What seeking one name comes to.
 #[derive(Drop)]
@@ -32,34 +33,94 @@ pub(crate) enum Sought {
     Alias(Name, usize),
 }
 
-/// Seeks a name, `depth` labels below the origin, and after it the targets of aliases, `more` at most: offers the sets of the
-/// aliases, and those that the last name ends with. `sought` has the names sought so far, this one among them.
+/// What seeking the name of a question comes to.
+#[derive(Clone, Copy)]
+pub(crate) struct Ended {
+    pub(crate) verdict: Verdict,
+    /// Whether that name has an alias that was followed.
+    pub(crate) is_led_on: bool,
+}
+
+/// Seeks the name of a question, `depth` labels below the origin, and after it the targets of
+/// aliases: offers the sets of the aliases, and those that the last name ends with.
 pub(crate) fn seek<'z, const N: usize, const SIZE: usize>(
     name: &Name,
     depth: usize,
     qtype: u16,
-    more: usize,
-    sought: &mut ArrayVec<Name, MOST_SOUGHT>,
+    apex: &Node<'z>,
+    steps: &mut Steps<'z>,
+    draft: &mut Draft<N, SIZE>,
+) -> Ended
+    requires apex { IsApex steps.old.zone apex.now }
+    requires below { IsTrue (at_or_below name.now steps.old.zone.origin) }
+    requires depth { length name.now ≡ length steps.old.zone.origin + depth }
+    requires few { depth ≤ 127 }
+    requires room { HasRoom steps.old (129 * (16 + 129)) }
+    ensures seeks { Seeks draft.old draft.new steps.old.zone qtype 16 (name.now ∷ []) name.now
+        result.verdict }
+    ensures took { TookFrom steps.old steps.new qtype 16 (name.now ∷ []) name.now }
+    ensures followed { Followed steps.old.zone qtype name.now result.verdict result.is_led_on }
+{
+    match seek_one(
+        name,
+        depth,
+        qtype,
+        MOST_SOUGHT - 1,
+        from_ref(name),
+        apex,
+        steps,
+        draft,
+    ) {
+        Sought::Last(verdict) => Ended {
+            verdict,
+            is_led_on: false,
+        },
+        Sought::Alias(target, below) => Ended {
+            verdict: seek_target(name, target, below, qtype, apex, steps, draft),
+            is_led_on: true,
+        },
+    }
+}
+
+// Seeks the target of the first alias, `depth` labels below the origin, and after it those of the
+// others. It stands out of line, since most answers follow no alias and need no room for the names
+// that were sought.
+#[inline(never)]
+fn seek_target<'z, const N: usize, const SIZE: usize>(
+    first: &Name,
+    target: Name,
+    depth: usize,
+    qtype: u16,
     apex: &Node<'z>,
     steps: &mut Steps<'z>,
     draft: &mut Draft<N, SIZE>,
 ) -> Verdict
     requires apex { IsApex steps.old.zone apex.now }
-    requires below { IsTrue (at_or_below name.now steps.old.zone.origin) }
-    requires depth { length name.now ≡ length steps.old.zone.origin + depth }
+    requires below { IsTrue (at_or_below target steps.old.zone.origin) }
+    requires depth { length target ≡ length steps.old.zone.origin + depth }
     requires few { depth ≤ 127 }
-    requires room { HasRoom steps.old (129 * (more + 129)) }
-    requires count { length sought.old.items + more ≤ 17 }
-    ensures seeks { Seeks draft.old draft.new steps.old.zone qtype more sought.old.items name.now result }
-    ensures took { TookFrom steps.old steps.new qtype more sought.old.items name.now }
-    ensures followed { Followed steps.old.zone qtype
-        (length sought.old.items) (length sought.new.items) name.now result }
+    requires room { HasRoom steps.old (129 * (15 + 129)) }
+    ensures seeks { Seeks draft.old draft.new steps.old.zone qtype 15 (first.now ∷ target ∷ [])
+        target result }
+    ensures took { TookFrom steps.old steps.new qtype 15 (first.now ∷ target ∷ []) target }
 {
-    let mut name = name.copied();
+    let mut sought: ArrayVec<Name, MOST_SOUGHT> = ArrayVec::new();
+    sought.push(first.copied());
+    sought.push(target.copied());
+    let mut name = target;
     let mut depth = depth;
-    let mut more = more;
+    let mut more = MOST_SOUGHT - 2;
     'names: loop {
-        match seek_one(&name, depth, qtype, more, sought, apex, steps, draft) {
+        match seek_one(
+            &name,
+            depth,
+            qtype,
+            more,
+            sought.as_slice(),
+            apex,
+            steps,
+            draft,
+        ) {
             Sought::Last(verdict) => return verdict,
             Sought::Alias(target, below) => {
                 sought.push(target.copied());
@@ -77,7 +138,7 @@ fn seek_one<'z, const N: usize, const SIZE: usize>(
     depth: usize,
     qtype: u16,
     more: usize,
-    sought: &ArrayVec<Name, MOST_SOUGHT>,
+    sought: &[Name],
     apex: &Node<'z>,
     steps: &mut Steps<'z>,
     draft: &mut Draft<N, SIZE>,
@@ -87,7 +148,7 @@ fn seek_one<'z, const N: usize, const SIZE: usize>(
     requires depth { length name.now ≡ length steps.old.zone.origin + depth }
     requires few { depth ≤ 127 }
     requires room { HasRoom steps.old (129 * (more + 129)) }
-    ensures { SoughtAs draft.old draft.new steps.old steps.new qtype more sought.now.items name.now result }
+    ensures { SoughtAs draft.old draft.new steps.old steps.new qtype more sought.now name.now result }
 {
     let node = match look_up(name, depth, apex, steps) {
         Found::Cut(cut, octets) => return Sought::Last(refer(&cut, octets, apex, steps, draft)),
@@ -130,12 +191,12 @@ fn alias_at<'z>(node: &Node<'z>, qtype: u16) -> Option<RecordSet<'z>>
 fn next_sought(
     alias: &RecordSet<'_>,
     more: usize,
-    sought: &ArrayVec<Name, MOST_SOUGHT>,
+    sought: &[Name],
     origin: &Name,
 ) -> Option<(Name, usize)>
     requires some { 0 < length alias.now.rdata }
     requires valid { HasValidData alias.now }
-    ensures next { NextIs alias.now more sought.now.items origin.now result }
+    ensures next { NextIs alias.now more sought.now origin.now result }
 {
     if more == 0 {
         return None;

@@ -38,11 +38,9 @@ impl<const N: usize, const SIZE: usize> Draft<N, SIZE> {
         ensures draft { Holds result (empty_draft question.now limit) }
         ensures limit { result.page.limit ≡ limit }
     {
-        let mut hash = QuickHash;
-        let page = Page::new(limit, Some(question), &mut hash);
         Draft {
-            page,
-            hash,
+            page: Page::new(limit, Some(question), &mut QuickHash),
+            hash: QuickHash,
             is_full: false,
         }
     }
@@ -67,16 +65,11 @@ impl<const N: usize, const SIZE: usize> Draft<N, SIZE> {
     }
 
     /// Puts the reply at the front of `out`, with its header, and answers how many octets it has.
-    pub(crate) fn finish(self, head: Head, out: &mut [u8]) -> usize
-        requires { self.page.limit ≤ length out.old }
-        ensures length { (d : Offered) → Holds self.entry d → result ≡ size (Some d.question) d.kept }
-        ensures octets { (d : Offered) → Holds self.entry d → take result out.new ≡ layout head (Some d.question) d.kept }
+    pub(crate) fn finish(&self, head: Head, out: &mut [u8]) -> usize
+        requires { self.now.page.limit ≤ length out.old }
+        ensures length { (d : Offered) → Holds self.now d → result ≡ size (Some d.question) d.kept }
+        ensures octets { (d : Offered) → Holds self.now d → take result out.new ≡ layout head (Some d.question) d.kept }
     {
-        let Draft {
-            page,
-            hash: _,
-            is_full: _,
-        } = self;
-        page.finish(head, out)
+        self.page.finish(head, out)
     }
 }

@@ -1,7 +1,7 @@
 //! The reply to a datagram (RFC 1034 4.3.2).
 ghost use Rattle.std.specs.Prelude.{◌≡◌, ◌↔◌, ℕ, ◌+◌, ◌*◌, ◌≤◌, [], min, length, take, true, false, IsTrue, IsNone, IfSome};
 ghost use Rattle.std.specs.Option.{option_map, option_copied};
-ghost use Rattle.dns_spec.specs.Names.{at_or_below};
+ghost use Rattle.dns_spec.specs.Names.{at_or_below, is_name};
 ghost use Rattle.dns_spec.specs.Records.{ZoneContents};
 ghost use Rattle.dns_spec.specs.Reading.{Spells};
 ghost use Rattle.dns_spec.specs.Query.{is_ignored};
@@ -10,10 +10,9 @@ ghost use Rattle.dns_spec.specs.Reply.{answered, decide, decide_question, is_met
 ghost use Rattle.dns_answer.specs.Limits.{limit_of};
 ghost use Rattle.dns_answer.specs.Replies.{JudgedAs, IsReply, Answers, Costs, visits_for, names_for, comparisons_for};
 
-use crate::chain::{MOST_SOUGHT, seek};
+use crate::chain::{Ended, seek};
 use crate::draft::Draft;
 use crate::names::depth_below;
-use arrayvec::ArrayVec;
 use dns_name::Name;
 use dns_wire::{CLASS_IN, Head, Page, QueryRead, Question, QuickHash, Rcode, read_query};
 use dns_zone::Steps;
@@ -112,7 +111,7 @@ fn put_reply<'z>(
         }
         Judged::Answered(depth) => match limit {
             Limit::Udp => put_answer::<256, 512>(steps, head, question, depth, out),
-            Limit::Tcp => put_answer::<8192, 65_535>(steps, head, question, depth, out),
+            Limit::Tcp => put_long_answer(steps, head, question, depth, out),
         },
     }
 }
@@ -158,6 +157,28 @@ fn put_refusal(head: Head, question: Option<&Question>, out: &mut [u8]) -> usize
     page.finish(head, out)
 }
 
+// Puts the answer to a question over TCP. It stands out of line, since each reply over UDP would
+// pass its room on the stack too, which is far larger.
+#[inline(never)]
+fn put_long_answer<'z>(
+    steps: &mut Steps<'z>,
+    head: &Head,
+    question: &Question,
+    depth: usize,
+    out: &mut [u8],
+) -> usize
+    requires visits { steps.old.visits ≡ 0 }
+    requires comparisons { steps.old.comparisons ≡ 0 }
+    requires below { IsTrue (at_or_below question.now.qname steps.old.zone.origin) }
+    requires depth { length question.now.qname ≡ length steps.old.zone.origin + depth }
+    requires few { depth ≤ 127 }
+    requires out { length out.old ≡ 65535 }
+    ensures reply { IsReply steps.old.zone 65535 (answered head.now question.now) result out.new }
+    ensures costs { Costs (answered head.now question.now) steps.old steps.new }
+{
+    put_answer::<8192, 65_535>(steps, head, question, depth, out)
+}
+
 // Puts the answer to a question whose name is `depth` labels below the origin, of as many octets
 // as there is room for.
 fn put_answer<'z, const N: usize, const SIZE: usize>(
@@ -198,23 +219,20 @@ fn offer_answer<'z, const N: usize, const SIZE: usize>(
     requires below { IsTrue (at_or_below question.now.qname steps.old.zone.origin) }
     requires depth { length question.now.qname ≡ length steps.old.zone.origin + depth }
     requires few { depth ≤ 127 }
+    requires name { IsTrue (is_name question.now.qname) }
     ensures answers { Answers steps.old.zone head.now question.now draft.old draft.new result }
     ensures costs { Costs (answered head.now question.now) steps.old steps.new }
 {
     let apex = steps.apex();
-    let mut sought = ArrayVec::new();
-    sought.push(question.name.copied());
-    let verdict = seek(
+    let Ended { verdict, is_led_on } = seek(
         &question.name,
         depth,
         question.qtype,
-        MOST_SOUGHT - 1,
-        &mut sought,
         &apex,
         steps,
         draft,
     );
     // The server speaks for the zone, unless all that it answers is a referral (RFC 1035 4.1.1).
-    let only_refers = verdict.is_referral && sought.len() == 1;
+    let only_refers = verdict.is_referral && !is_led_on;
     head.reply(!only_refers, verdict.is_truncated, verdict.rcode)
 }

@@ -87,36 +87,19 @@ impl<const N: usize, const SIZE: usize> Page<N, SIZE> {
         ensures limit { result.limit ≡ limit }
         ensures same { H.numbers hash.new ≡ H.numbers hash.old }
     {
-        let mut room = Room::new(limit);
-        match question {
-            Some(question) => {
-                room.put_question(hash, question);
-                Page::begun(room, 1)
-            }
-            None => Page::begun(room, 0),
-        }
-    }
-
-    fn begun(room: Room<N, SIZE>, questions: u16) -> Page<N, SIZE>
-        requires sound { IsSound N SIZE room.limit room.octets.items room.places }
-        requires header { 12 ≤ length room.octets.items }
-        ensures { result ≡ record {
-          limit = room.entry.limit;
-          octets = room.entry.octets.items;
-          kept = room.entry.places;
-          questions = questions;
-          answers = 0;
-          authorities = 0;
-          additionals = 0;
-        } }
-    {
-        Page {
-            room,
-            questions,
+        let mut page = Page {
+            room: Room::new(limit),
+            questions: 0,
             answers: 0,
             authorities: 0,
             additionals: 0,
-        }
+        };
+        let Some(question) = question else {
+            return page;
+        };
+        page.room.put_question(hash, question);
+        page.questions = 1;
+        page
     }
 
     /// Writes the records of a set at an owner, with a TTL in seconds, into a section: all of them,
@@ -162,14 +145,14 @@ impl<const N: usize, const SIZE: usize> Page<N, SIZE> {
     /// in octets.
     ///
     /// Condition: `out` is as long as the limit.
-    pub fn finish(self, head: Head, out: &mut [u8]) -> usize
-        requires { self.limit ≤ length out.old }
+    pub fn finish(&self, head: Head, out: &mut [u8]) -> usize
+        requires { self.now.limit ≤ length out.old }
         ensures length { (h : Octets → ℕ) (q : Option MessageQuestion) (items : List Item)
-            → IsDraft h q items self.entry → result ≡ size q items }
+            → IsDraft h q items self.now → result ≡ size q items }
         ensures layout { (h : Octets → ℕ) (q : Option MessageQuestion) (items : List Item)
-            → IsDraft h q items self.entry → take result out.new ≡ layout head q items }
+            → IsDraft h q items self.now → take result out.new ≡ layout head q items }
         ensures spelled { (h : Octets → ℕ) (q : Option MessageQuestion) (items : List Item)
-            → IsDraft h q items self.entry
+            → IsDraft h q items self.now
             → IsTrue (sections_in_order items) → All IsWritable (records_of items)
             → Spells (take result out.new) (message_of head q items) }
     {

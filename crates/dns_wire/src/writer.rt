@@ -77,7 +77,6 @@ impl<'h, H: SuffixHash> Writer<'h, H> {
             → All IsWritable (records_of items)
             → Spells (take result out.new) (message_of head q items) }
     {
-        let Writer { page, .. } = self;
-        page.finish(head, out)
+        self.page.finish(head, out)
     }
 }

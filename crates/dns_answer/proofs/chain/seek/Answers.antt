@@ -1,35 +1,65 @@
-use Rattle.std.proofs.Common.{◌+◌, ◌∷◌, [], ◌++◌, ◌∙◌, ap, arith, length, length-append}
+use Rattle.std.proofs.Common.{rules, ◌+◌, ◌∷◌, [], length, refl, sym, ap, subst, ◌∙◌, arith}
+use Rattle.dns_spec.specs.Names.{at_or_below}
 use Rattle.dns_spec.specs.Records.{ZoneContents}
+use Rattle.dns_answer.specs.Walks.{IsApex}
+use Rattle.dns_answer.specs.Seeking.{Seeks, TookFrom, LeadsTo, LedOn}
 use Rattle.dns_answer.proofs.SeekSteps.{led-begin, led-seeks, led-took, led-further}
+use Rattle.dns_answer.proofs.chain.seek.Given as given
 use Rattle.dns_answer.proofs.chain.seek.Goals as goal
 
-pub names-init : goal.names-init
-names-init g c = record {
-  led = led-begin _ _ _ _ _ _ _ c.copied-name.ensures.value c.requires.below;
-  deep = ap length c.copied-name.ensures.value ∙ c.requires.depth;
-  few = c.requires.few;
-  room = c.requires.room;
-  count = c.requires.count;
-}
-
 pub returns-in-Last-clause-seeks : goal.returns-in-Last-clause-seeks
-returns-in-Last-clause-seeks g c = led-seeks _ _ _ _ _ _ _ _ _ _ _ _ _ c.names.invariant.led c.in-Last.ensures.seeks
+returns-in-Last-clause-seeks g c =
+    subst (λ ks. Seeks c.args.draft.now c.seek_one.new.draft c.args.steps.now.zone c.args.qtype 16 ks c.args.name.now c.in-Last.verdict)
+    c.from_ref.ensures.value c.in-Last.ensures.seeks
 
 pub returns-in-Last-clause-took : goal.returns-in-Last-clause-took
-returns-in-Last-clause-took g c = led-took _ _ _ _ _ _ _ _ _ _ _ _ c.names.invariant.led c.in-Last.ensures.took
+returns-in-Last-clause-took g c =
+    subst (λ ks. TookFrom c.args.steps.now c.seek_one.new.steps c.args.qtype 16 ks c.args.name.now) c.from_ref.ensures.value c.in-Last.ensures.took
 
-pub names-preserved : goal.names-preserved
-names-preserved g c =
+pub returns-in-Last-clause-followed : goal.returns-in-Last-clause-followed
+returns-in-Last-clause-followed g c = λ r. sym (c.in-Last.ensures.own r)
+
+pub seek_target-requires : goal.seek_target-requires
+seek_target-requires g c =
     let next = c.in-Alias.ensures in
-    let led = c.names.invariant.led in
-    let room = c.names.invariant.room in
-    record {
-      led = led-further _ _ _ _ _ _ _ _ _ _ _ _ _ _ _ _ led next (c.push.ensures.items ∙ ap (λ m. c.names.sought.items ++ m ∷ []) c.copied.ensures.value);
-      deep = next.deep ∙ ap (λ (z : ZoneContents). length z.origin + c.in-Alias.below) led.zone;
-      few = next.few;
-      room = record {
-        visits = omega (arith, next.took.visits, next.more, room.visits);
-        comparisons = omega (arith, next.took.visits, next.took.comparisons, next.more, room.comparisons);
-      };
-      count = omega (arith, ap length c.push.ensures.items, length-append c.names.sought.items (c.copied.result ∷ []), next.more, c.names.invariant.count);
-    }
+    let same_zone = next.took.zone in (
+      search rules,
+      (
+        subst (λ z. IsApex z c.args.apex.now) (sym same_zone) c.requires.apex,
+        (
+          ap (λ (z : ZoneContents). at_or_below c.in-Alias.target z.origin) same_zone ∙ next.below,
+          (
+            next.deep ∙ ap (λ (z : ZoneContents). length z.origin + c.in-Alias.below) (sym same_zone),
+            (
+              next.few,
+              record {
+                visits = omega (arith, next.took.visits, c.requires.room.visits);
+                comparisons = omega (arith, next.took.visits, next.took.comparisons, c.requires.room.comparisons);
+              },
+            ),
+          ),
+        ),
+      ),
+    )
+
+module _ (g : given.Over) (c : goal.After-seek_target g) where
+  led : LedOn c.args.draft.now c.seek_one.new.draft c.args.steps.now c.seek_one.new.steps c.args.qtype 16 15 (c.args.name.now ∷ []) (c.args.name.now ∷ c.in-Alias.target ∷ []) c.args.name.now c.in-Alias.target
+  led =
+      let next = subst (λ ks. LeadsTo c.args.draft.now c.seek_one.new.draft c.args.steps.now c.seek_one.new.steps c.args.qtype 16 ks c.args.name.now c.in-Alias.target c.in-Alias.below)
+      c.from_ref.ensures.value c.in-Alias.ensures in
+      led-further c.args.draft.now c.args.draft.now c.seek_one.new.draft c.args.steps.now c.args.steps.now c.seek_one.new.steps c.args.qtype 16 16
+      (c.args.name.now ∷ []) (c.args.name.now ∷ []) (c.args.name.now ∷ c.in-Alias.target ∷ []) c.args.name.now c.args.name.now c.in-Alias.target c.in-Alias.below
+      (led-begin c.args.draft.now c.args.steps.now c.args.qtype 16 (c.args.name.now ∷ []) c.args.name.now c.args.name.now refl c.requires.below) next refl
+
+pub returns-in-Alias-clause-seeks : goal.returns-in-Alias-clause-seeks
+returns-in-Alias-clause-seeks g c =
+    led-seeks c.args.draft.now c.seek_one.new.draft c.seek_target.new.draft c.args.steps.now c.seek_one.new.steps c.args.qtype 16 15 (c.args.name.now ∷ [])
+    (c.args.name.now ∷ c.in-Alias.target ∷ []) c.args.name.now c.in-Alias.target c.seek_target.result (led g c) c.seek_target.ensures.seeks
+
+pub returns-in-Alias-clause-took : goal.returns-in-Alias-clause-took
+returns-in-Alias-clause-took g c =
+    led-took c.args.draft.now c.seek_one.new.draft c.args.steps.now c.seek_one.new.steps c.seek_target.new.steps c.args.qtype 16 15 (c.args.name.now ∷ [])
+    (c.args.name.now ∷ c.in-Alias.target ∷ []) c.args.name.now c.in-Alias.target (led g c) c.seek_target.ensures.took
+
+pub returns-in-Alias-clause-followed : goal.returns-in-Alias-clause-followed
+returns-in-Alias-clause-followed g c = λ r. sym c.in-Alias.ensures.alias

@@ -1,5 +1,15 @@
+use Rattle.std.proofs.Common.{rules}
 use Rattle.dns_answer.proofs.PutReplies.{answer-put}
 use Rattle.dns_answer.proofs.reply.put_answer.Goals as goal
+
+pub offer_answer-head-requires : goal.offer_answer-head-requires
+offer_answer-head-requires g c = (
+  search rules,
+  (
+    c.requires.visits,
+    (c.requires.comparisons, (c.requires.below, (c.requires.depth, (c.requires.few, c.new-draft.ensures.draft.written.askable.qname)))),
+  ),
+)
 
 pub returns-clause-reply : goal.returns-clause-reply
 returns-clause-reply g c =
