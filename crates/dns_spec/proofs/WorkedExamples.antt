@@ -7,6 +7,7 @@ pub mod DataRows
 pub mod FileRows
 pub mod LayoutRows
 pub mod LimitRows
+pub mod LineRows
 pub mod LongRows
 pub mod MeaningRows
 pub mod MessageRows

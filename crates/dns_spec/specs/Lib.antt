@@ -24,4 +24,5 @@ pub mod UnboundedLayout
 pub mod Answer
 pub mod Reply
 pub mod Stream
+pub mod Lines
 pub mod Laws

@@ -1,3 +1,6 @@
 mod LateDash
 mod ReportLines
 mod CheckedZone
+pub mod LineDigits
+pub mod LineRuns
+pub mod LineReads

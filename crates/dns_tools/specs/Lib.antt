@@ -5,3 +5,4 @@ pub mod Stops
 pub mod Words
 pub mod Checked
 pub mod Sockets
+pub mod Exchanges

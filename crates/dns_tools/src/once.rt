@@ -1,8 +1,15 @@
 //! Messages that come as lines of hexadecimal digits, and the lines that answer them.
-ghost use Rattle.std.specs.Prelude.{◌≡◌, ◌+◌, ◌-◌, ◌*◌, ◌^◌, ◌<◌, ◌≤◌, ◌++◌, length, vec_len, vec_capacity, Err, OnOk, IfErr, IfSome, IfNone, IsErr, Ok, take, ◌≢◌};
+ghost use Rattle.std.specs.Prelude.{◌≡◌, ◌+◌, ◌-◌, ◌*◌, ◌^◌, ◌<◌, ◌≤◌, ◌++◌, ◌∷◌, ◌&&◌, [], false, length, codes, vec_len, vec_capacity, Option, Some, Err, OnOk, OnErr, IfOk, IfErr, IfSome, IfNone, IsErr, Ok, take, ◌≢◌};
 ghost use Rattle.hex.specs.Hex.{decode_of};
-ghost use Rattle.std.specs.Bool.{OnFalse};
-ghost use Rattle.dns_name.specs.Counted.{failures_after};
+ghost use Rattle.std.specs.Bool.{OnTrue, OnFalse};
+ghost use Rattle.std.specs.Option.{is_some};
+ghost use Rattle.std.specs.Io.KnownBytes.{Appends};
+ghost use Rattle.dns_spec.specs.DataText.{hex_octets};
+ghost use Rattle.dns_spec.specs.Names.{Octets};
+ghost use Rattle.dns_spec.specs.WrittenText.{hex_text};
+ghost use Rattle.dns_spec.specs.Lines.{message_answer, reply_line};
+ghost use Rattle.dns_tools.specs.Exchanges.{Begun, EndsLine, IsFresh, KeepsOctet, Passes, Progress, kept_as, kept_message, reply_within};
+ghost use Rattle.dns_name.specs.Counted.{AppendsBeginning, failures_after};
 ghost use Rattle.dns_tools.specs.Stops.{source_failures_after, sink_failures_after};
 ghost use Rattle.dns_answer.specs.Limits.{limit_of};
 ghost use Rattle.dns_tools.specs.declared.once.TheConstants.{MOST_DIGITS, MOST_OCTETS, MOST_ANSWER, ANSWERS, DIGITS};
@@ -82,7 +89,10 @@ struct Exchange<'z> {
 }
 
 impl<'z> Exchange<'z> {
-    fn new(alloc: Global, zone: &'z Zone, limit: Limit) -> Result<Self, AllocError> {
+    fn new(alloc: Global, zone: &'z Zone, limit: Limit) -> Result<Self, AllocError>
+        ensures fresh { IfOk result (λ e. IsFresh (kept_as e.line.items e.is_overlong e.answers.items e.are_all_messages)) }
+        ensures task { IfOk result (λ e. reply_within e.limit e.zone.now ≡ reply_within limit zone.now) }
+    {
         Ok(Exchange {
             zone,
             limit,
@@ -129,20 +139,52 @@ impl<'z> Exchange<'z> {
     // Takes the next octets of the source, and answers the lines that end in them.
     fn take<W: Write>(&mut self, octets: &[u8], sink: &mut Tally<W>) -> Result<(), SinkFailed>
         requires { sink.old.failures < 2 ^ 64 - 1 }
-        ensures { sink.new.failures ≡ failures_after sink.old.failures result }
+        ensures counted { sink.new.failures ≡ failures_after sink.old.failures result }
+        ensures task { OnOk result (reply_within self.new.limit self.new.zone.now
+            ≡ reply_within self.old.limit self.old.zone.now) }
+        ensures taken { (held : Option Octets) (x : Octets)
+            → Progress (reply_within self.old.limit self.old.zone.now) held (W.contents sink.old.device) x (kept_as self.old.line.items self.old.is_overlong self.old.answers.items self.old.are_all_messages)
+            → OnOk result (Progress (reply_within self.old.limit self.old.zone.now) held (W.contents sink.new.device)
+            (x ++ octets.now) (kept_as self.new.line.items self.new.is_overlong self.new.answers.items self.new.are_all_messages)) }
+        ensures begun { (held : Option Octets) (x : Octets)
+            → Progress (reply_within self.old.limit self.old.zone.now) held (W.contents sink.old.device) x (kept_as self.old.line.items self.old.is_overlong self.old.answers.items self.old.are_all_messages)
+            → OnErr result (Begun (reply_within self.old.limit self.old.zone.now) held (W.contents sink.new.device)
+            (x ++ octets.now)) }
     {
         'octets: for octet in octets {
-            if *octet == b'\n' {
-                self.end_line(sink)?;
-            } else {
-                self.keep(*octet);
-            }
+            self.take_octet(*octet, sink)?;
         }
         Ok(())
     }
 
+    // Takes the next octet of the source, and answers the line that it ends.
+    fn take_octet<W: Write>(&mut self, octet: u8, sink: &mut Tally<W>) -> Result<(), SinkFailed>
+        requires { sink.old.failures < 2 ^ 64 - 1 }
+        ensures counted { sink.new.failures ≡ failures_after sink.old.failures result }
+        ensures task { OnOk result (reply_within self.new.limit self.new.zone.now
+            ≡ reply_within self.old.limit self.old.zone.now) }
+        ensures taken { (held : Option Octets) (x : Octets)
+            → Progress (reply_within self.old.limit self.old.zone.now) held (W.contents sink.old.device) x
+            (kept_as self.old.line.items self.old.is_overlong self.old.answers.items self.old.are_all_messages)
+            → OnOk result (Progress (reply_within self.old.limit self.old.zone.now) held
+            (W.contents sink.new.device) (x ++ octet ∷ [])
+            (kept_as self.new.line.items self.new.is_overlong self.new.answers.items self.new.are_all_messages)) }
+        ensures begun { OnErr result (AppendsBeginning (W.contents sink.old.device)
+            (W.contents sink.new.device) self.old.answers.items) }
+    {
+        if octet == b'\n' {
+            return self.end_line(sink);
+        }
+        self.keep(octet);
+        Ok(())
+    }
+
     // Keeps the next octet of the line, as long as the line may be a message.
-    fn keep(&mut self, octet: u8) {
+    fn keep(&mut self, octet: u8)
+        ensures kept { KeepsOctet (kept_as self.old.line.items self.old.is_overlong self.old.answers.items self.old.are_all_messages) (kept_as self.new.line.items self.new.is_overlong self.new.answers.items self.new.are_all_messages) octet }
+        ensures task { reply_within self.new.limit self.new.zone.now
+            ≡ reply_within self.old.limit self.old.zone.now }
+    {
         if self.line.len() < MOST_DIGITS {
             self.line.push_reserved(octet);
         } else {
@@ -153,26 +195,79 @@ impl<'z> Exchange<'z> {
     // Answers the line that has ended, and begins the next.
     fn end_line<W: Write>(&mut self, sink: &mut Tally<W>) -> Result<(), SinkFailed>
         requires { sink.old.failures < 2 ^ 64 - 1 }
-        ensures { sink.new.failures ≡ failures_after sink.old.failures result }
+        ensures counted { sink.new.failures ≡ failures_after sink.old.failures result }
+        ensures task { OnOk result (reply_within self.new.limit self.new.zone.now
+            ≡ reply_within self.old.limit self.old.zone.now) }
+        ensures ended { OnOk result (EndsLine (reply_within self.old.limit self.old.zone.now) (W.contents sink.old.device)
+            (W.contents sink.new.device) (kept_as self.old.line.items self.old.is_overlong self.old.answers.items self.old.are_all_messages) (kept_as self.new.line.items self.new.is_overlong self.new.answers.items self.new.are_all_messages)) }
+        ensures begun { OnErr result (AppendsBeginning (W.contents sink.old.device)
+            (W.contents sink.new.device) self.old.answers.items) }
     {
-        if ANSWERS - self.answers.len() < MOST_ANSWER {
-            self.flush(sink)?;
-        }
-        let line = self.line.as_slice();
-        let datagram = self.datagram.as_mut_slice();
-        let reply = self.reply.as_mut_slice();
-        let answers = &mut self.answers;
-        if self.is_overlong || !answer(self.zone, self.limit, line, datagram, reply, answers) {
-            self.refuse_line();
-        }
+        self.make_room(sink)?;
+        self.answer_line();
         self.line.clear();
         self.is_overlong = false;
         Ok(())
     }
 
+    // Writes the answers that are due where there is no room for one more.
+    fn make_room<W: Write>(&mut self, sink: &mut Tally<W>) -> Result<(), SinkFailed>
+        requires { sink.old.failures < 2 ^ 64 - 1 }
+        ensures counted { sink.new.failures ≡ failures_after sink.old.failures result }
+        ensures room { OnOk result (vec_len self.new.answers + MOST_ANSWER ≤ ANSWERS) }
+        ensures passed { OnOk result (Passes (W.contents sink.old.device)
+            (W.contents sink.new.device) self.old.answers.items self.new.answers.items []) }
+        ensures begun { OnErr result (AppendsBeginning (W.contents sink.old.device)
+            (W.contents sink.new.device) self.old.answers.items) }
+        ensures line { self.new.line.items ≡ self.old.line.items }
+        ensures overlong { self.new.is_overlong ≡ self.old.is_overlong }
+        ensures passes { self.new.are_all_messages ≡ self.old.are_all_messages }
+        ensures task { reply_within self.new.limit self.new.zone.now
+            ≡ reply_within self.old.limit self.old.zone.now }
+    {
+        if ANSWERS - self.answers.len() < MOST_ANSWER {
+            return self.flush(sink);
+        }
+        Ok(())
+    }
+
+    // Answers the line, with room for the answer.
+    fn answer_line(&mut self)
+        requires { vec_len self.old.answers + MOST_ANSWER ≤ ANSWERS }
+        ensures answers { self.new.answers.items ≡ self.old.answers.items
+            ++ message_answer (reply_within self.old.limit self.old.zone.now)
+            (kept_message self.old.line.items self.old.is_overlong) }
+        ensures passes { self.new.are_all_messages ≡ (self.old.are_all_messages
+            && is_some (kept_message self.old.line.items self.old.is_overlong)) }
+        ensures task { reply_within self.new.limit self.new.zone.now
+            ≡ reply_within self.old.limit self.old.zone.now }
+    {
+        if self.is_overlong {
+            self.refuse_line();
+            return;
+        }
+        let line = self.line.as_slice();
+        let datagram = self.datagram.as_mut_slice();
+        let reply = self.reply.as_mut_slice();
+        if !answer(
+            self.zone,
+            self.limit,
+            line,
+            datagram,
+            reply,
+            &mut self.answers,
+        ) {
+            self.refuse_line();
+        }
+    }
+
     // Answers a line that is no message.
     fn refuse_line(&mut self)
         requires { vec_len self.old.answers + MOST_ANSWER ≤ ANSWERS }
+        ensures answers { self.new.answers.items ≡ self.old.answers.items ++ codes "bad hex\n" }
+        ensures passes { self.new.are_all_messages ≡ false }
+        ensures task { reply_within self.new.limit self.new.zone.now
+            ≡ reply_within self.old.limit self.old.zone.now }
     {
         self.are_all_messages = false;
         put(&mut self.answers, b"bad hex\n");
@@ -183,6 +278,16 @@ impl<'z> Exchange<'z> {
         requires { sink.old.failures < 2 ^ 64 - 1 }
         ensures counted { sink.new.failures ≡ failures_after sink.old.failures result }
         ensures empty { OnOk result (vec_len self.new.answers ≡ 0) }
+        ensures none { OnOk result (self.new.answers.items ≡ []) }
+        ensures written { OnOk result (Appends (W.contents sink.old.device)
+            (W.contents sink.new.device) self.old.answers.items) }
+        ensures begun { OnErr result (AppendsBeginning (W.contents sink.old.device)
+            (W.contents sink.new.device) self.old.answers.items) }
+        ensures line { self.new.line.items ≡ self.old.line.items }
+        ensures overlong { self.new.is_overlong ≡ self.old.is_overlong }
+        ensures passes { self.new.are_all_messages ≡ self.old.are_all_messages }
+        ensures task { reply_within self.new.limit self.new.zone.now
+            ≡ reply_within self.old.limit self.old.zone.now }
     {
         sink.write_all(self.answers.as_slice())?;
         self.answers.clear();
@@ -205,6 +310,9 @@ fn answer(
     requires room { vec_len answers.old + MOST_ANSWER ≤ vec_capacity answers.old }
     ensures len { vec_len answers.new ≤ vec_len answers.old + MOST_ANSWER }
     ensures capacity { vec_capacity answers.old ≤ vec_capacity answers.new }
+    ensures message { result ≡ is_some (hex_octets line.now) }
+    ensures answered { OnTrue result (answers.new.items ≡ answers.old.items
+        ++ message_answer (reply_within limit zone.now) (hex_octets line.now)) }
     ensures refused { OnFalse result (answers.new ≡ answers.old) }
 {
     let Some(len) = octets_of(line, datagram) else {
@@ -232,6 +340,7 @@ pub(crate) fn octets_of(line: &[u8], datagram: &mut [u8]) -> Option<usize>
 // Adds a line with the digits of a reply.
 fn put_reply(answers: &mut Vec<u8>, reply: &[u8])
     requires { vec_len answers.old + 2 * length reply.now + 1 ≤ vec_capacity answers.old }
+    ensures items { answers.new.items ≡ answers.old.items ++ reply_line (Some reply.now) }
     ensures len { vec_len answers.new ≡ vec_len answers.old + 2 * length reply.now + 1 }
     ensures capacity { vec_capacity answers.old ≤ vec_capacity answers.new }
 {
@@ -248,6 +357,7 @@ fn put_reply(answers: &mut Vec<u8>, reply: &[u8])
 fn put_digits(answers: &mut Vec<u8>, octets: &[u8])
     requires few { 2 * length octets.now ≤ DIGITS }
     requires room { vec_len answers.old + 2 * length octets.now ≤ vec_capacity answers.old }
+    ensures items { answers.new.items ≡ answers.old.items ++ hex_text octets.now }
     ensures len { vec_len answers.new ≡ vec_len answers.old + 2 * length octets.now }
     ensures capacity { vec_capacity answers.old ≤ vec_capacity answers.new }
 {

@@ -1,0 +1,119 @@
+-- The digits of a line, as the library of hexadecimal digits reads and writes them and as the definitions do.
+use Rattle.std.proofs.Common.{◌≡◌, ℕ, zero, suc, ◌+◌, ◌*◌, ◌/◌, ◌%◌, ◌<◌, ◌==◌, if◌then◌else◌, Bool, true, false, ◌&&◌, ◌⊎◌, inl, inr, List, [], ◌∷◌, ◌++◌, length, take, slice_index, Option, Some, None, Result, Ok, Err, refl, sym, ap, ap₂, ◌∙◌, arith}
+use Rattle.std.specs.Prelude.{IsErr}
+use Rattle.std.specs.Char.{is_ascii_hexdigit, digit_value, digit_char}
+use Rattle.std.specs.Option.{option_map, is_some}
+use Rattle.std.proofs.lemmas.Bool.{agree_below_at, eqb-true, cases_Bool, cases_lt, le-leb, lt-leb}
+use Rattle.std.proofs.lemmas.List.{take_all, take-append-le}
+use Rattle.hex.specs.Hex.{IsBytes, hex_digit_value, decode_pairs, decode_of, encode_lower, encode_with, lower_digits, pair_value}
+use Rattle.hex.specs.declared.error.FromHexError.{FromHexError}
+use Rattle.hex.proofs.HexLemmas.{length-encode_with}
+use Rattle.hex.proofs.Pairs.{cons_byte, decode_pairs-ok_pair, decode_pairs-err_pair}
+use Rattle.dns_spec.specs.Names.{Octets}
+use Rattle.dns_spec.specs.DataText.{hex_octets}
+use Rattle.dns_spec.specs.WrittenText.{hex_text}
+
+abbrev digit : ℕ → Option ℕ
+digit c = if is_ascii_hexdigit c then Some (digit_value c) else None
+
+abbrev same_option : Option ℕ → Option ℕ → Bool
+same_option None None = true
+same_option None (Some b) = false
+same_option (Some a) None = false
+same_option (Some a) (Some b) = a == b
+
+from_same : (o p : Option ℕ) → same_option o p ≡ true → o ≡ p
+from_same None None e = refl
+from_same None (Some b) e = cc
+from_same (Some a) None e = cc
+from_same (Some a) (Some b) e = ap Some (eqb-true a b e)
+
+digit_same : (c : ℕ) → hex_digit_value c ≡ digit c
+digit_same c = elim (cases_lt c 103) [
+  | inl small ↦ from_same _ _ (agree_below_at (λ e. same_option (hex_digit_value e) (digit e)) (λ e. true) 103 c refl small)
+  | inr high ↦ rw (
+    le-leb 65 c (omega (arith, high)),
+    le-leb 97 c (omega (arith, high)),
+    le-leb 48 c (omega (arith, high)),
+    lt-leb c 70 (omega (arith, high)),
+    lt-leb c 102 (omega (arith, high)),
+    lt-leb c 57 (omega (arith, high)),
+  ) refl
+]
+
+lower_digit : (d : ℕ) → d < 16 → slice_index lower_digits d ≡ digit_char d
+lower_digit d small = eqb-true _ _ (agree_below_at (λ e. slice_index lower_digits e == digit_char e) (λ e. true) 16 d refl small)
+
+pub digits_written : (d : Octets) → IsBytes d → encode_lower d ≡ hex_text d
+unfolding encode_with
+digits_written [] small = refl
+digits_written (o ∷ d) small =
+    let here : o < 256 = small 0 in
+    let after = digits_written d (λ i. small (suc i)) in
+    rw (lower_digit (o / 16) (omega (arith, here)), lower_digit (o % 16) (omega arith), after) refl
+
+-- what is read, without the reason where it is nothing
+abbrev said : Result (List ℕ) FromHexError → Option Octets
+said (Ok d) = Some d
+said (Err e) = None
+
+said_more : (v : ℕ) (r : Result (List ℕ) FromHexError) → said (cons_byte v r) ≡ option_map (λ d. v ∷ d) (said r)
+said_more v (Ok d) = refl
+said_more v (Err e) = refl
+
+pairs_said : (i : ℕ) (text : Octets) → said (decode_pairs i text) ≡ hex_octets text
+unfolding decode_pairs hex_octets
+pairs_said i [] = refl
+pairs_said i (h ∷ []) = refl
+pairs_said i (h ∷ l ∷ text) = by_cases (pairs_said (i + 2) text) (cases_Bool (is_ascii_hexdigit h)) (cases_Bool (is_ascii_hexdigit l))
+  where
+    by_cases : said (decode_pairs (i + 2) text) ≡ hex_octets text → (is_ascii_hexdigit h ≡ true) ⊎ (is_ascii_hexdigit h ≡ false) → (is_ascii_hexdigit l ≡ true) ⊎ (is_ascii_hexdigit l ≡ false)
+        → said (decode_pairs i (h ∷ l ∷ text)) ≡ hex_octets (h ∷ l ∷ text)
+    by_cases after (inl high) (inl low) =
+        let first : hex_digit_value h ≡ Some (digit_value h) = rw high at (digit_same h) in
+        let second : hex_digit_value l ≡ Some (digit_value l) = rw low at (digit_same l) in
+        let value : digit_value h * 16 + digit_value l ≡ 16 * digit_value h + digit_value l = omega arith in
+        rw (first, second, high, low) (said_more _ (decode_pairs (i + 2) text) ∙ ap₂ (λ v o. option_map (λ d. v ∷ d) o) value after)
+    by_cases after (inl high) (inr low) =
+        let first : hex_digit_value h ≡ Some (digit_value h) = rw high at (digit_same h) in
+        let second : hex_digit_value l ≡ None = rw low at (digit_same l) in
+        rw (first, second, high, low) refl
+    by_cases after (inr high) low =
+        let first : hex_digit_value h ≡ None = rw high at (digit_same h) in
+        rw (first, high) refl
+
+odd_is_none : (text : Octets) → length text % 2 ≡ 1 → hex_octets text ≡ None
+unfolding hex_octets
+odd_is_none [] odd = absurd (omega (arith, odd))
+odd_is_none (h ∷ []) odd = refl
+odd_is_none (h ∷ l ∷ text) odd =
+    let after = odd_is_none text (omega (arith, odd)) in
+    none_after (is_ascii_hexdigit h && is_ascii_hexdigit l) (16 * digit_value h + digit_value l) (hex_octets text) after
+  where
+    none_after : (b : Bool) (v : ℕ) (o : Option Octets) → o ≡ None → (if b then option_map (λ d. v ∷ d) o else None) ≡ None
+    none_after true v o e = ap (option_map (λ d. v ∷ d)) e
+    none_after false v o e = refl
+
+line_said : (text : Octets) → said (decode_of text) ≡ hex_octets text
+line_said text = by_cases (cases_Bool (length text % 2 == 1))
+  where
+    by_cases : ((length text % 2 == 1) ≡ true) ⊎ ((length text % 2 == 1) ≡ false) → said (decode_of text) ≡ hex_octets text
+    by_cases (inl odd) = rw odd (sym (odd_is_none text (eqb-true (length text % 2) 1 odd)))
+    by_cases (inr even) = rw even (pairs_said 0 text)
+
+-- a line that is read, and one that is none
+pub line_read : (text d : Octets) → decode_of text ≡ Ok d → hex_octets text ≡ Some d
+line_read text d e = sym (line_said text) ∙ ap said e
+
+pub line_refused : (text : Octets) → IsErr (decode_of text) → hex_octets text ≡ None
+line_refused text h = sym (line_said text) ∙ none_said (decode_of text) h
+  where
+    none_said : (r : Result (List ℕ) FromHexError) → IsErr r → said r ≡ None
+    none_said (Ok d) h = cc
+    none_said (Err e) h = refl
+
+-- the digits at the front of a buffer
+pub front_digits : (octets new rest : Octets) → new ≡ encode_lower octets → take (2 * length octets) (new ++ rest) ≡ new
+front_digits octets new rest e =
+    let len : length new ≡ 2 * length octets = ap length e ∙ length-encode_with lower_digits octets in
+    take-append-le (2 * length octets) new rest (omega (arith, len)) ∙ take_all (2 * length octets) new (omega (arith, len))

@@ -1,0 +1,251 @@
+-- How a run over lines goes on, octet by octet.
+use Rattle.std.proofs.Common.{◌≡◌, ◌≢◌, ℕ, zero, suc, ◌+◌, ◌-◌, ◌^◌, ◌<◌, ◌≤◌, ◌==◌, ◌/◌, ◌%◌, if◌then◌else◌, nat_le, nat_lt, Bool, true, false, ◌&&◌, ◌⊎◌, inl, inr, List, [], ◌∷◌, ◌++◌, length, take, drop, Option, Some, None, Result, Ok, Err, refl, sym, ap, ap₂, ◌∙◌, subst, arith, append_assoc, append-nil, length-append, filter, flat_map, codes}
+use Rattle.std.specs.List.{list_all}
+use Rattle.std.specs.Option.{is_some}
+use Rattle.std.proofs.lemmas.Bool.{cases_Bool, cases_lt, le-leb, lt-leb, lt-ltb, le-ltb, eq-eqb, ne_eqb, eqb-true}
+use Rattle.std.proofs.lemmas.List.{take_all, take-append-le, take-append-drop, length-take-le}
+use Rattle.std.proofs.lemmas.List.Elements.{filter-append}
+use Rattle.std.proofs.lemmas.List.Folds.{list_all-append}
+use Rattle.std.proofs.lemmas.Grind.{flat_map-append}
+use Rattle.std.specs.Io.KnownBytes.{Appends, Consumes, IsAtEnd}
+use Rattle.std.proofs.KnownBytes.{Appends-trans, Appends-nil, Consumes-trans, Consumes-nil}
+use Rattle.dns_spec.specs.Names.{Octets}
+use Rattle.dns_spec.specs.DataText.{hex_octets}
+use Rattle.dns_spec.specs.Lines.{lines, line_ends, ended_lines, begin_line, line_message, reply_line, message_answer, line_answers, are_messages}
+use Rattle.std.specs.Char.{digit_char}
+use Rattle.dns_spec.specs.WrittenText.{hex_text}
+use Rattle.dns_name.specs.Counted.{AppendsBeginning}
+use Rattle.dns_name.proofs.WritesLemmas.{beginning_of_first, beginning_of_second}
+use Rattle.dns_tools.specs.Exchanges.{Kept, KeepsOctet, EndsLine, Progress, Begun, Passes, kept_message}
+
+pub ends_append : (x y : Octets) → line_ends (x ++ y) ≡ line_ends x + line_ends y
+ends_append x y = ap length (filter-append (λ o. o == 10) x y) ∙ length-append (filter (λ o. o == 10) x) (filter (λ o. o == 10) y)
+
+-- an octet that ends no line
+ends_one : (o : ℕ) → o ≢ 10 → line_ends (o ∷ []) ≡ 0
+ends_one o other = rw (ne_eqb o 10 other) refl
+
+ends_head : (o : ℕ) (x : Octets) → line_ends (o ∷ x) ≡ 0 → (o == 10) ≡ false
+ends_head o x e = by_cases (o == 10) refl e
+  where
+    by_cases : (b : Bool) → (o == 10) ≡ b → length (if b then o ∷ filter (λ o. o == 10) x else filter (λ o. o == 10) x) ≡ 0 → (o == 10) ≡ false
+    by_cases true is e = absurd (omega (arith, e))
+    by_cases false is e = is
+
+ends_tail : (o : ℕ) (x : Octets) → line_ends (o ∷ x) ≡ 0 → line_ends x ≡ 0
+ends_tail o x e = rw (ends_head o x e) at e
+
+-- a line, and those after it
+line_then : (front y : Octets) → line_ends front ≡ 0 → lines (front ++ 10 ∷ y) ≡ front ∷ lines y
+unfolding lines
+line_then [] y e = refl
+line_then (o ∷ front) y e = rw (ends_head o front e, line_then front y (ends_tail o front e)) refl
+
+-- a line that nothing ends
+pub line_alone : (o : ℕ) (front : Octets) → line_ends (o ∷ front) ≡ 0 → lines (o ∷ front) ≡ (o ∷ front) ∷ []
+unfolding lines
+line_alone o [] e = rw (ends_head o [] e) refl
+line_alone o (p ∷ front) e = rw (ends_head o (p ∷ front) e, line_alone p front (ends_tail o (p ∷ front) e)) refl
+
+pub lines_nil : lines [] ≡ []
+unfolding lines
+lines_nil = refl
+
+-- nothing was read yet
+pub progress_none : (reply : Octets → Option Octets) (held : Option Octets) (k : Kept) → k.line ≡ [] → k.is_overlong ≡ false → k.answers ≡ [] → k.passes ≡ true
+    → Progress reply held held [] k
+progress_none reply held k line over answers passes = record {
+  ended = [];
+  front = [];
+  sent = [];
+  same = λ y. refl;
+  none_ended = refl;
+  count = refl;
+  kept = line;
+  overlong = over;
+  written = Appends-nil held;
+  answered = answers;
+  passes_is = passes;
+}
+
+kept_front : (front : Octets) → length (take 131070 front) < 131070 → length front < 131070
+kept_front front h = elim (cases_lt (length front) 131070) [
+  | inl small ↦ small
+  | inr large ↦ absurd (omega (arith, h, length-take-le 131070 front large))
+]
+
+keeps_line : (front line : Octets) (o : ℕ) → line ≡ take 131070 front → length line < 131070 → line ++ o ∷ [] ≡ take 131070 (front ++ o ∷ [])
+keeps_line front line o e h =
+    let small = kept_front front (subst (λ l. length l < 131070) e h) in
+    ap (λ l. l ++ o ∷ []) (e ∙ take_all 131070 front (omega (arith, small)))
+    ∙ sym (take_all 131070 (front ++ o ∷ []) (omega (arith, small, length-append front (o ∷ []))))
+
+keeps_flag : (front line : Octets) (o : ℕ) → line ≡ take 131070 front → length line < 131070 → nat_lt 131070 (length front) ≡ nat_lt 131070 (length (front ++ o ∷ []))
+keeps_flag front line o e h =
+    let small = kept_front front (subst (λ l. length l < 131070) e h) in
+    le-ltb 131070 (length front) (omega (arith, small))
+    ∙ sym (le-ltb 131070 (length (front ++ o ∷ [])) (omega (arith, small, length-append front (o ∷ []))))
+
+full_front : (front line : Octets) → line ≡ take 131070 front → 131070 ≤ length line → 131070 ≤ length front
+full_front front line e h = elim (cases_lt (length front) 131070) [
+  | inl small ↦ absurd (omega (arith, small, h, ap length (e ∙ take_all 131070 front (omega (arith, small)))))
+  | inr large ↦ large
+]
+
+-- the next octet is of the line that goes on
+pub progress_keep : (reply : Octets → Option Octets) (held holds : Option Octets) (x : Octets) (k n : Kept) (o : ℕ) → o ≢ 10 → KeepsOctet k n o
+    → Progress reply held holds x k → Progress reply held holds (x ++ o ∷ []) n
+progress_keep reply held holds x k n o other keeps p = record {
+  ended = p.ended;
+  front = p.front ++ o ∷ [];
+  sent = p.sent;
+  same = λ y. ap lines (append_assoc x (o ∷ []) y) ∙ p.same (o ∷ y) ∙ ap (λ z. p.ended ++ lines z) (sym (append_assoc p.front (o ∷ []) y));
+  none_ended = ends_append p.front (o ∷ []) ∙ omega (arith, p.none_ended, ends_one o other);
+  count = p.count ∙ omega (arith, ends_append x (o ∷ []), ends_one o other);
+  kept = elim (cases_lt (length k.line) 131070) [
+    | inl room ↦ (keeps.line room).0 ∙ keeps_line p.front k.line o p.kept room
+    | inr full ↦ (keeps.full full).0 ∙ p.kept ∙ sym (take-append-le 131070 p.front (o ∷ []) (full_front p.front k.line p.kept full))
+  ];
+  overlong = elim (cases_lt (length k.line) 131070) [
+    | inl room ↦ (keeps.line room).1 ∙ p.overlong ∙ keeps_flag p.front k.line o p.kept room
+    | inr full ↦ (keeps.full full).1
+        ∙ sym (lt-ltb 131070 (length (p.front ++ o ∷ [])) (omega (arith, full_front p.front k.line p.kept full, length-append p.front (o ∷ []))))
+  ];
+  written = p.written;
+  answered = ap (λ a. p.sent ++ a) keeps.answers ∙ p.answered;
+  passes_is = keeps.passes ∙ p.passes_is;
+}
+
+-- what is kept of a line says which message it is
+pub kept_says : (front line : Octets) (is_overlong : Bool) → line ≡ take 131070 front → is_overlong ≡ nat_lt 131070 (length front)
+    → kept_message line is_overlong ≡ line_message front
+kept_says front line is_overlong e over = elim (cases_lt 131070 (length front)) [
+  | inl long ↦ rw (over, lt-ltb 131070 (length front) long, lt-leb (length front) 131070 long) refl
+  | inr short ↦ rw (over, le-ltb 131070 (length front) short, le-leb (length front) 131070 short)
+      (ap hex_octets (e ∙ take_all 131070 front short))
+]
+
+pub one_answer : (reply : Octets → Option Octets) (ended : List Octets) (front : Octets)
+    → line_answers reply (ended ++ front ∷ []) ≡ line_answers reply ended ++ message_answer reply (line_message front)
+one_answer reply ended front =
+    flat_map-append (λ l. message_answer reply (line_message l)) ended (front ∷ [])
+    ∙ ap (λ a. line_answers reply ended ++ a) (append-nil (message_answer reply (line_message front)))
+
+and_true : (b c : Bool) → (b && (c && true)) ≡ (b && c)
+and_true true true = refl
+and_true true false = refl
+and_true false c = refl
+
+pub one_flag : (ended : List Octets) (front : Octets) → are_messages (ended ++ front ∷ []) ≡ (are_messages ended && is_some (line_message front))
+one_flag ended front =
+    list_all-append (λ l. is_some (line_message l)) ended (front ∷ []) ∙ and_true (are_messages ended) (is_some (line_message front))
+
+pub progress_end : (reply : Octets → Option Octets) (held old new : Option Octets) (x : Octets) (k n : Kept) → EndsLine reply old new k n
+    → Progress reply held old x k → Progress reply held new (x ++ 10 ∷ []) n
+progress_end reply held old new x k n e p =
+    let says = kept_says p.front k.line k.is_overlong p.kept p.overlong in
+    record {
+      ended = p.ended ++ p.front ∷ [];
+      front = [];
+      sent = p.sent ++ e.passed.gone;
+      same = λ y. ap lines (append_assoc x (10 ∷ []) y) ∙ p.same (10 ∷ y) ∙ ap (λ z. p.ended ++ z) (line_then p.front y p.none_ended)
+          ∙ sym (append_assoc p.ended (p.front ∷ []) (lines y));
+      none_ended = refl;
+      count = length-append p.ended (p.front ∷ []) ∙ ap (λ c. c + 1) p.count ∙ sym (ends_append x (10 ∷ []));
+      kept = e.line;
+      overlong = e.overlong;
+      written = Appends-trans held old new p.sent e.passed.gone p.written e.passed.written;
+      answered = append_assoc p.sent e.passed.gone n.answers ∙ ap (λ a. p.sent ++ a) e.passed.rest
+          ∙ sym (append_assoc p.sent k.answers (message_answer reply (kept_message k.line k.is_overlong)))
+          ∙ ap₂ ◌++◌ p.answered (ap (message_answer reply) says) ∙ sym (one_answer reply p.ended p.front);
+      passes_is = e.passes ∙ ap₂ ◌&&◌ p.passes_is (ap is_some says) ∙ sym (one_flag p.ended p.front);
+    }
+
+-- the answers that are due were written
+pub progress_flush : (reply : Octets → Option Octets) (held old new : Option Octets) (x : Octets) (k n : Kept) → Appends old new k.answers
+    → n.answers ≡ [] → n.line ≡ k.line → n.is_overlong ≡ k.is_overlong → n.passes ≡ k.passes → Progress reply held old x k → Progress reply held new x n
+progress_flush reply held old new x k n written answers line overlong passes p = record {
+  ended = p.ended;
+  front = p.front;
+  sent = p.sent ++ k.answers;
+  same = p.same;
+  none_ended = p.none_ended;
+  count = p.count;
+  kept = line ∙ p.kept;
+  overlong = overlong ∙ p.overlong;
+  written = Appends-trans held old new p.sent k.answers p.written written;
+  answered = ap (λ a. (p.sent ++ k.answers) ++ a) answers ∙ append-nil (p.sent ++ k.answers) ∙ p.answered;
+  passes_is = passes ∙ p.passes_is;
+}
+
+-- of the answers that are due only a beginning was written
+pub begun_flush : (reply : Octets → Option Octets) (held old new : Option Octets) (x : Octets) (k : Kept) → AppendsBeginning old new k.answers
+    → Progress reply held old x k → Begun reply held new x
+begun_flush reply held old new x k begun p = λ y.
+    let whole : line_answers reply (lines (x ++ y)) ≡ (p.sent ++ k.answers) ++ line_answers reply (lines (p.front ++ y)) =
+    ap (line_answers reply) (p.same y) ∙ flat_map-append (λ l. message_answer reply (line_message l)) p.ended (lines (p.front ++ y))
+    ∙ ap (λ a. a ++ line_answers reply (lines (p.front ++ y))) (sym p.answered)
+    in
+    subst (AppendsBeginning held new) (sym whole)
+    (beginning_of_first held new (p.sent ++ k.answers) _ (beginning_of_second held old new p.sent k.answers p.written begun))
+
+pub begun_more : (reply : Octets → Option Octets) (held new : Option Octets) (x more : Octets) → Begun reply held new x → Begun reply held new (x ++ more)
+begun_more reply held new x more b = λ y. subst (λ z. AppendsBeginning held new (line_answers reply (lines z))) (sym (append_assoc x more y)) (b (more ++ y))
+
+-- the answer to a line that is a message
+pub answered_by : (reply : Octets → Option Octets) (line m old new : Octets) (o : Option Octets) → hex_octets line ≡ Some m → o ≡ reply m → new ≡ old ++ reply_line o
+    → new ≡ old ++ message_answer reply (hex_octets line)
+answered_by reply line m old new o is gives e =
+    e ∙ ap (λ r. old ++ reply_line r) gives ∙ ap (λ h. old ++ message_answer reply h) (sym is)
+
+pub hex_more : (x y : Octets) → hex_text (x ++ y) ≡ hex_text x ++ hex_text y
+hex_more x y = flat_map-append (λ o. digit_char (o / 16) ∷ digit_char (o % 16) ∷ []) x y
+
+-- the digits of a few octets were added, and those of the others are still to come
+pub digits_added : (octets rest front back old now new : Octets) (n : ℕ) → front ≡ take n rest → back ≡ drop n rest → now ++ hex_text rest ≡ old ++ hex_text octets
+    → new ≡ now ++ hex_text front → new ++ hex_text back ≡ old ++ hex_text octets
+digits_added octets rest front back old now new n f b so_far added =
+    ap (λ a. a ++ hex_text back) added ∙ append_assoc now (hex_text front) (hex_text back)
+    ∙ ap (λ t. now ++ t) (sym (hex_more front back) ∙ ap hex_text (ap₂ ◌++◌ f b ∙ take-append-drop n rest)) ∙ so_far
+
+pub all_added : (octets rest old now new : Octets) → (length rest == 0) ≡ true → now ++ hex_text rest ≡ old ++ hex_text octets → new ≡ now ++ 10 ∷ []
+    → new ≡ old ++ reply_line (Some octets)
+all_added octets [] old now new e so_far added =
+    added ∙ ap (λ a. a ++ 10 ∷ []) (sym (append-nil now) ∙ so_far) ∙ append_assoc old (hex_text octets) (10 ∷ [])
+all_added octets (o ∷ rest) old now new e so_far added = absurd (omega (arith, eqb-true (length (o ∷ rest)) 0 e))
+
+-- room was made, by writing the answers that were due
+pub room_made : (old new : Option Octets) (due now : Octets) → Appends old new due → now ≡ [] → Passes old new due now []
+room_made old new due now written none = record { gone = due; written = written; rest = ap (λ z. due ++ z) none }
+
+pub room_had : (old : Option Octets) (due : Octets) → Passes old old due due []
+room_had old due = record { gone = []; written = Appends-nil old; rest = sym (append-nil due) }
+
+pub one_more : (old new : Option Octets) (due now answered text : Octets) → Passes old new due now [] → answered ≡ now ++ text → Passes old new due answered text
+one_more old new due now answered text p e = record {
+  gone = p.gone;
+  written = p.written;
+  rest = ap (λ z. p.gone ++ z) e ∙ sym (append_assoc p.gone now text) ∙ ap (λ z. z ++ text) (p.rest ∙ append-nil due);
+}
+
+pub taken_more : (r s : Octets → Option Octets) (held a b : Option Octets) (x front t : Octets) (o : ℕ) (k n : Kept) → s ≡ r → t ≡ front ++ o ∷ []
+    → ((h : Option Octets) (y : Octets) → Progress s h a y k → Progress s h b (y ++ o ∷ []) n)
+    → Progress r held a (x ++ front) k → Progress r held b (x ++ t) n
+taken_more r s held a b x front t o k n same grown step p =
+    let here = subst (λ q. (h : Option Octets) (y : Octets) → Progress q h a y k → Progress q h b (y ++ o ∷ []) n) same step in
+    subst (λ z. Progress r held b z n) (append_assoc x front (o ∷ []) ∙ ap (λ z. x ++ z) (sym grown)) (here held (x ++ front) p)
+
+pub begun_within : (r : Octets → Option Octets) (held a b : Option Octets) (x octets : Octets) (i : ℕ) (k : Kept) → AppendsBeginning a b k.answers
+    → Progress r held a (x ++ take i octets) k → Begun r held b (x ++ octets)
+begun_within r held a b x octets i k begun p =
+    subst (Begun r held b) (append_assoc x (take i octets) (drop i octets) ∙ ap (λ z. x ++ z) (take-append-drop i octets))
+    (begun_more r held b (x ++ take i octets) (drop i octets) (begun_flush r held a b (x ++ take i octets) k begun p))
+
+pub taken_all : (r : Octets → Option Octets) (held b : Option Octets) (x octets : Octets) (i : ℕ) (k : Kept) → take i octets ≡ octets
+    → Progress r held b (x ++ take i octets) k → Progress r held b (x ++ octets) k
+taken_all r held b x octets i k all p = subst (λ t. Progress r held b (x ++ t) k) all p
+
+-- the octet that ends a line
+pub ended_octet : (reply : Octets → Option Octets) (held old new : Option Octets) (x : Octets) (k n : Kept) (o : ℕ) → o ≡ 10 → EndsLine reply old new k n
+    → Progress reply held old x k → Progress reply held new (x ++ o ∷ []) n
+ended_octet reply held old new x k n o is e p = subst (λ o. Progress reply held new (x ++ o ∷ []) n) (sym is) (progress_end reply held old new x k n e p)

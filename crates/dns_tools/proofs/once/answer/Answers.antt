@@ -1,0 +1,27 @@
+use Rattle.std.proofs.Common.{rules, ◌≡◌, ◌∙◌, ap, sym, take}
+use Rattle.std.specs.Option.{is_some}
+use Rattle.dns_tools.specs.Exchanges.{reply_within}
+use Rattle.dns_tools.proofs.LineDigits.{line_read, line_refused}
+use Rattle.dns_tools.proofs.LineRuns.{answered_by}
+use Rattle.dns_tools.proofs.once.answer.Goals as goal
+
+pub returns-in_default-clause-message : goal.returns-in_default-clause-message
+returns-in_default-clause-message c = ap is_some (sym (line_refused c.args.line.now c.in_default.ensures.none))
+
+pub returns-in-Some-respond-clause-message : goal.returns-in-Some-respond-clause-message
+returns-in-Some-respond-clause-message c = sym (ap is_some (line_read c.args.line.now _ c.in-Some.ensures.some))
+
+pub returns-in-Some-respond-clause-answered : goal.returns-in-Some-respond-clause-answered
+returns-in-Some-respond-clause-answered c =
+    let zone : c.new.result.zone ≡ c.args.zone.now = search rules in
+    answered_by (reply_within c.args.limit c.args.zone.now) c.args.line.now _ _ _ _ (line_read c.args.line.now _ c.in-Some.ensures.some)
+    (c.in-Some-respond.ensures.octets ∙ ap (λ z. reply_within c.args.limit z (take c.in-Some.len c.octets_of.new.datagram)) zone) c.put_reply.ensures.items
+
+pub returns-in-None-clause-message : goal.returns-in-None-clause-message
+returns-in-None-clause-message c = sym (ap is_some (line_read c.args.line.now _ c.in-Some.ensures.some))
+
+pub returns-in-None-clause-answered : goal.returns-in-None-clause-answered
+returns-in-None-clause-answered c =
+    let zone : c.new.result.zone ≡ c.args.zone.now = search rules in
+    answered_by (reply_within c.args.limit c.args.zone.now) c.args.line.now _ _ _ _ (line_read c.args.line.now _ c.in-Some.ensures.some)
+    (c.in-None.ensures.octets ∙ ap (λ z. reply_within c.args.limit z (take c.in-Some.len c.octets_of.new.datagram)) zone) c.put.ensures.items

@@ -1,0 +1,113 @@
+-- What a reader learns here: what a run over lines has read and written, at its end and on its way.
+use Rattle.std.specs.Prelude.{⊤, ◌≡◌, ℕ, ◌^◌, ◌-◌, ◌<◌, ◌≤◌, Bool, false, true, ◌&&◌, List, [], ◌∷◌, ◌++◌, length, take, nat_lt, if◌then◌else◌}
+use Rattle.std.specs.Prelude.{MatchOption, Option, None, Result, Ok, Err}
+use Rattle.std.specs.Option.{is_some}
+use Rattle.std.specs.Io.KnownBytes.{Appends, Consumes}
+use Rattle.dns_spec.specs.Names.{Octets}
+use Rattle.dns_spec.specs.DataText.{hex_octets}
+use Rattle.dns_spec.specs.Records.{ZoneContents}
+use Rattle.dns_spec.specs.Reply.{octets_of}
+use Rattle.dns_spec.specs.Lines.{lines, line_ends, ended_lines, message_answer, line_answers, are_messages}
+use Rattle.dns_name.specs.Counted.{AppendsBeginning}
+use Rattle.dns_answer.specs.declared.reply.Limit.{Limit}
+use Rattle.dns_answer.specs.Limits.{limit_of}
+use Rattle.dns_serve.specs.Streams.{Session}
+use Rattle.dns_tools.specs.declared.fault.Stop.{Stop}
+use Rattle.dns_tools.specs.declared.fault.Stop.TheVariants.{Memory, Source, Sink}
+
+-- the reply of a zone that has at most so many octets
+abbrev pub reply_within : Limit → ZoneContents → Octets → Option Octets
+reply_within limit z m = octets_of z m (limit_of limit)
+
+-- The input of a run: what its source has still to give, up to the greatest count.
+abbrev pub IsInput : Option Octets → Octets → Type 0
+IsInput known x = MatchOption known ⊤ (λ all. x ≡ take (2 ^ 64 - 1) all)
+
+-- The input was read, and each of its lines answered.
+pub record HasAnsweredLines (reply : Octets → Option Octets) (s : Session) (passes : Bool) : Type 0 where
+  pub input : Octets
+  pub is_input : IsInput s.unread input
+  pub read : Consumes s.unread s.left input
+  pub written : Appends s.held s.holds (line_answers reply (lines input))
+  pub passes_is : passes ≡ are_messages (lines input)
+
+-- The source failed. Of what it had given each line that was ended is answered.
+pub record HasAnsweredEnded (reply : Octets → Option Octets) (s : Session) : Type 0 where
+  pub given : Octets
+  pub fewer : length given < 2 ^ 64 - 1
+  pub read : Consumes s.unread s.left given
+  pub written : Appends s.held s.holds (line_answers reply (ended_lines given))
+
+-- The sink failed. A beginning of the answers was written.
+pub record HasBegunAnswers (reply : Octets → Option Octets) (s : Session) : Type 0 where
+  pub input : Octets
+  pub is_input : IsInput s.unread input
+  pub written : AppendsBeginning s.held s.holds (line_answers reply (lines input))
+
+-- what a run over lines has done, by its answer
+abbrev pub LinesAnswered : (Octets → Option Octets) → Session → Result Bool Stop → Type 0
+LinesAnswered reply s (Ok passes) = HasAnsweredLines reply s passes
+LinesAnswered reply s (Err Source) = HasAnsweredEnded reply s
+LinesAnswered reply s (Err Sink) = HasBegunAnswers reply s
+LinesAnswered reply s (Err Memory) = (s.left ≡ s.unread) × (s.holds ≡ s.held)
+
+-- the message of a line of which so much is kept
+abbrev pub kept_message : Octets → Bool → Option Octets
+kept_message line is_overlong = if is_overlong then None else hex_octets line
+
+-- What was kept of an input so far: a beginning of the line that goes on, the answers that are not
+-- written, and whether all lines that are ended are messages.
+pub record Kept : Type 0 where
+  pub line : Octets
+  pub is_overlong : Bool
+  pub answers : Octets
+  pub passes : Bool
+
+abbrev pub kept_as : Octets → Bool → Octets → Bool → Kept
+kept_as line is_overlong answers passes = record { line = line; is_overlong = is_overlong; answers = answers; passes = passes }
+
+-- nothing was read
+pub record IsFresh (k : Kept) : Type 0 where
+  pub line : k.line ≡ []
+  pub overlong : k.is_overlong ≡ false
+  pub answers : k.answers ≡ []
+  pub passes : k.passes ≡ true
+
+-- The next octet of a line is kept, as long as the line may be a message.
+pub record KeepsOctet (old new : Kept) (o : ℕ) : Type 0 where
+  pub line : length old.line < 131070 → (new.line ≡ old.line ++ o ∷ []) × (new.is_overlong ≡ old.is_overlong)
+  pub full : 131070 ≤ length old.line → (new.line ≡ old.line) × (new.is_overlong ≡ true)
+  pub answers : new.answers ≡ old.answers
+  pub passes : new.passes ≡ old.passes
+
+-- The lines that are ended in the input so far are answered, and the front of the next is kept.
+pub record Progress (reply : Octets → Option Octets) (held holds : Option Octets) (x : Octets) (k : Kept) : Type 0 where
+  pub ended : List Octets
+  pub front : Octets
+  pub sent : Octets
+  pub same : (y : Octets) → lines (x ++ y) ≡ ended ++ lines (front ++ y)
+  pub none_ended : line_ends front ≡ 0
+  pub count : length ended ≡ line_ends x
+  pub kept : k.line ≡ take 131070 front
+  pub overlong : k.is_overlong ≡ nat_lt 131070 (length front)
+  pub written : Appends held holds sent
+  pub answered : sent ++ k.answers ≡ line_answers reply ended
+  pub passes_is : k.passes ≡ are_messages ended
+
+-- Of the answers to an input that begins so, a beginning was written.
+abbrev pub Begun : (Octets → Option Octets) → Option Octets → Option Octets → Octets → Type 0
+Begun reply held holds x =
+    (y : Octets) → AppendsBeginning held holds (line_answers reply (lines (x ++ y)))
+
+-- Some of the answers that are due were written, and one more is due.
+pub record Passes (old new : Option Octets) (due due_now text : Octets) : Type 0 where
+  pub gone : Octets
+  pub written : Appends old new gone
+  pub rest : gone ++ due_now ≡ due ++ text
+
+-- A line was ended, and is answered.
+pub record EndsLine (reply : Octets → Option Octets) (old new : Option Octets) (k n : Kept) : Type 0 where
+  pub passed : Passes old new k.answers n.answers (message_answer reply (kept_message k.line k.is_overlong))
+  pub line : n.line ≡ []
+  pub overlong : n.is_overlong ≡ false
+  pub passes : n.passes ≡ (k.passes && is_some (kept_message k.line k.is_overlong))
