@@ -25,7 +25,11 @@ impl<'a, 'w> Model for Fields<'a, 'w> {
 
     ghost Value = { meaning.Fields };
 
-    ghost view = { λ f. record { ttl = option_copied f.ttl; class = option_copied f.class; others = f.others.now } };
+    ghost view = { λ f. record {
+      ttl = option_copied f.ttl;
+      class = option_copied f.class;
+      others = f.others.now;
+    } };
 }
 
 impl<'a, 'w> Fields<'a, 'w> {

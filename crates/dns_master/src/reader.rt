@@ -26,8 +26,8 @@ use dns_rdata::{RType, Rdata, Word};
 use std::alloc::Global;
 use std::io::Read;
 
-// How many records are read.
-const MOST_RECORDS: usize = 100_000;
+/// The most records that are read: a limit of this product (`R14`).
+pub const MOST_RECORDS: usize = 100_000;
 
 /// Reads the zone file of a source, relative to the origin of the zone (RFC 1035 section 5).
 ///

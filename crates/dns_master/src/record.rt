@@ -23,7 +23,12 @@ impl Model for Record {
 
     ghost Value = { ResourceRecord };
 
-    ghost view = { λ r. record { owner = r.owner; ttl = r.ttl; rtype = r.rtype.0; rdata = r.rdata } };
+    ghost view = { λ r. record {
+      owner = r.owner;
+      ttl = r.ttl;
+      rtype = r.rtype.0;
+      rdata = r.rdata;
+    } };
 
     ghost invariant = { λ r. IsKept r.owner r.ttl r.rtype.0 r.rdata };
 }

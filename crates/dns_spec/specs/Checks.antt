@@ -34,8 +34,10 @@ owns_such z n test = list_any (λ (r : ResourceRecord). test r.rtype) (at z n)
 -- a record of the name, of such a type, has a target at or below the origin that passes the test
 abbrev pub has_target : ZoneContents → DomainName → (ℕ → Bool) → (DomainName → Bool) → Bool
 has_target z n type test =
-    list_any (λ (r : ResourceRecord). type r.rtype
-    && option_map_or (λ m. at_or_below m z.origin && test m) (target r.rtype r.rdata) false) (at z n)
+    list_any
+    (λ (r : ResourceRecord). type r.rtype
+    && option_map_or (λ m. at_or_below m z.origin && test m) (target r.rtype r.rdata) false)
+    (at z n)
 
 -- RFC 1034 4.2: what stands at or below a cut is not the zone's own
 abbrev pub at_or_below_cut : Check

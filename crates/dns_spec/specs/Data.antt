@@ -79,7 +79,12 @@ abbrev pub type_table : List TypeRow
 type_table =
     record { number = type_a; mnemonic = codes "A"; pieces = fixed ipv4 ∷ []; compresses = false }
     ∷ record { number = type_ns; mnemonic = codes "NS"; pieces = domain ∷ []; compresses = true }
-    ∷ record { number = type_cname; mnemonic = codes "CNAME"; pieces = domain ∷ []; compresses = true }
+    ∷ record {
+      number = type_cname;
+      mnemonic = codes "CNAME";
+      pieces = domain ∷ [];
+      compresses = true;
+    }
     ∷ record {
       number = type_soa;
       mnemonic = codes "SOA";
@@ -87,11 +92,36 @@ type_table =
       compresses = true;
     }
     ∷ record { number = type_ptr; mnemonic = codes "PTR"; pieces = domain ∷ []; compresses = true }
-    ∷ record { number = type_hinfo; mnemonic = codes "HINFO"; pieces = string ∷ string ∷ []; compresses = false }
-    ∷ record { number = type_mx; mnemonic = codes "MX"; pieces = fixed (numbers 1 2) ∷ domain ∷ []; compresses = true }
-    ∷ record { number = type_txt; mnemonic = codes "TXT"; pieces = strings ∷ []; compresses = false }
-    ∷ record { number = type_aaaa; mnemonic = codes "AAAA"; pieces = fixed ipv6 ∷ []; compresses = false }
-    ∷ record { number = type_srv; mnemonic = codes "SRV"; pieces = fixed (numbers 3 2) ∷ domain ∷ []; compresses = false }
+    ∷ record {
+      number = type_hinfo;
+      mnemonic = codes "HINFO";
+      pieces = string ∷ string ∷ [];
+      compresses = false;
+    }
+    ∷ record {
+      number = type_mx;
+      mnemonic = codes "MX";
+      pieces = fixed (numbers 1 2) ∷ domain ∷ [];
+      compresses = true;
+    }
+    ∷ record {
+      number = type_txt;
+      mnemonic = codes "TXT";
+      pieces = strings ∷ [];
+      compresses = false;
+    }
+    ∷ record {
+      number = type_aaaa;
+      mnemonic = codes "AAAA";
+      pieces = fixed ipv6 ∷ [];
+      compresses = false;
+    }
+    ∷ record {
+      number = type_srv;
+      mnemonic = codes "SRV";
+      pieces = fixed (numbers 3 2) ∷ domain ∷ [];
+      compresses = false;
+    }
     ∷ []
 
 -- RFC 3597 section 3: data of every other type is octets

@@ -59,7 +59,9 @@ failing options lines =
 abbrev pub passing : Options → ZoneContents → Report
 passing options z =
     record {
-      output = if options.is_printing then zone_text z else if options.is_quiet then [] else loaded_report z;
+      output =
+          if options.is_printing then zone_text z
+          else if options.is_quiet then [] else loaded_report z;
       passes = true;
     }
 

@@ -3,13 +3,12 @@
 use super::devices::{Kept, Pieces};
 use super::load::example;
 use crate::{Flags, Stop, check_zone};
+use dns_master::MOST_RECORDS;
 use dns_name::{Name, Tally};
 use std::alloc::Global;
 use std::test::Fail;
 
 const MOST_OCTETS: usize = 16_777_216;
-
-const MOST_RECORDS: u32 = 100_000;
 
 // A TTL line and three records: what a zone has at least.
 const LEAST: &str = "$TTL 60\n@ SOA ns h 1 2 3 4 5\n@ NS ns\nns A 192.0.2.1\n";
