@@ -9,7 +9,7 @@ use Rattle.dns_spec.specs.DataText.{Word}
 use Rattle.dns_spec.specs.Records.{ResourceRecord}
 use Rattle.dns_spec.specs.ZoneText.{Entry}
 use Rattle.dns_spec.specs.FileFaults.{directive_words, no_owner, FileFault, bad_owner}
-use Rattle.dns_spec.specs.Meaning.{Nothing, Sort, no_words, directive, owned, unowned, sort_of, sort_by_words, is_directive, Fields, fields, EntryMeaning, faulty, gives, OriginIs, NameIs, OneWord, OwnerBefore, TtlSays, nearest, directive_word, owner_word, ttl_word, is_record, IsRecord, RecordGives, SortGives}
+use Rattle.dns_spec.specs.Meaning.{Nothing, EntryKind, no_words, directive, owned, unowned, kind_of, kind_by_words, is_directive, Fields, fields, EntryMeaning, faulty, gives, OriginIs, NameIs, OneWord, OwnerBefore, TtlSays, nearest, directive_word, owner_word, ttl_word, is_record, IsRecord, RecordGives, KindGives}
 use Rattle.dns_master.specs.RecordForm.{TtlOf, Inherited, LastOwner, SpelledName}
 use Rattle.dns_master.specs.ReaderForm.{last_owner, Knows, RecordTaken, EntryTaken}
 use Rattle.dns_master.specs.declared.state.Reader.{Reader}
@@ -47,8 +47,8 @@ one-short [] n h = absurd h
 one-short (w ∷ []) n h = h.2
 one-short (w ∷ v ∷ ws) n h = absurd h
 
--- whether an entry of this sort is a record
-abbrev counts_as_record : Sort → Bool
+-- whether an entry of this kind is a record
+abbrev counts_as_record : EntryKind → Bool
 counts_as_record s = elim s [ no_words ↦ false | directive n ws ↦ false | owned w ws ↦ true | unowned ws ↦ true ]
 
 abbrev counted : Bool → ℕ → ℕ
@@ -59,14 +59,14 @@ length-counted true e es = omega arith
 length-counted false e es = refl
 
 module _ (o : DomainName) (earlier : List Entry) where
-  abbrev OriginAt : Sort → DomainName → Type 0
+  abbrev OriginAt : EntryKind → DomainName → Type 0
   OriginAt s n = MatchOption (directive_word (codes "$origin") s) (OriginIs o earlier n) (λ w. (m : DomainName) × OriginIs o earlier m × SpellsName m w.raw n)
 
-  abbrev OwnerAt : Sort → DomainName → Type 0
+  abbrev OwnerAt : EntryKind → DomainName → Type 0
   OwnerAt s n = MatchOption (owner_word s) (OwnerBefore o earlier n) (λ w. NameIs o earlier w n)
 
-  -- what is known after an entry of this sort
-  record After (s : Sort) (origin : DomainName) (owner : Option DomainName) (default_ttl stated_ttl : Option ℕ) (count : ℕ) : Type 0 where
+  -- what is known after an entry of this kind
+  record After (s : EntryKind) (origin : DomainName) (owner : Option DomainName) (default_ttl stated_ttl : Option ℕ) (count : ℕ) : Type 0 where
     origin_is : OriginAt s origin
     no_other : (n : DomainName) → OriginAt s n → n ≡ origin
     owner_is : MatchOption owner (Nothing (OwnerAt s)) (λ f. (n : DomainName) × OwnerAt s n × (f ≡ folded n))
@@ -75,7 +75,7 @@ module _ (o : DomainName) (earlier : List Entry) where
     count_is : count ≡ counted (counts_as_record s) (length (filter is_record earlier))
 
   known-after : (e : Entry) (origin : DomainName) (owner : Option DomainName) (default_ttl stated_ttl : Option ℕ) (count : ℕ)
-      → After (sort_of e) origin owner default_ttl stated_ttl count → Inherited o (e ∷ earlier) origin owner default_ttl stated_ttl count
+      → After (kind_of e) origin owner default_ttl stated_ttl count → Inherited o (e ∷ earlier) origin owner default_ttl stated_ttl count
   known-after e origin owner default_ttl stated_ttl count h =
       record {
         origin_is = h.origin_is;
@@ -86,19 +86,19 @@ module _ (o : DomainName) (earlier : List Entry) where
         count_is = h.count_is ∙ sym (length-counted (is_record e) e (filter is_record earlier));
       }
 
-  known-of_sort : (e : Entry) (s : Sort) (origin : DomainName) (owner : Option DomainName) (default_ttl stated_ttl : Option ℕ) (count : ℕ) → sort_of e ≡ s
+  known-of_kind : (e : Entry) (s : EntryKind) (origin : DomainName) (owner : Option DomainName) (default_ttl stated_ttl : Option ℕ) (count : ℕ) → kind_of e ≡ s
       → After s origin owner default_ttl stated_ttl count → Inherited o (e ∷ earlier) origin owner default_ttl stated_ttl count
-  known-of_sort e s origin owner default_ttl stated_ttl count is h =
+  known-of_kind e s origin owner default_ttl stated_ttl count is h =
       known-after e origin owner default_ttl stated_ttl count (subst (λ s. After s origin owner default_ttl stated_ttl count) (sym is) h)
 
   module _ (e : Entry) (old new : Reader) (known : Knows o earlier old) where
     -- an entry without words
-    pub nothing-taken : sort_of e ≡ no_words → EntryTaken o earlier e old old
+    pub nothing-taken : kind_of e ≡ no_words → EntryTaken o earlier e old old
     nothing-taken is =
         record {
           taken = [];
-          given = subst (λ s. SortGives o earlier s (gives [])) (sym is) refl;
-          known = known-of_sort e no_words _ _ _ _ _ is
+          given = subst (λ s. KindGives o earlier s (gives [])) (sym is) refl;
+          known = known-of_kind e no_words _ _ _ _ _ is
               (record { origin_is = known.origin_is; no_other = known.no_other; owner_is = known.owner_is; default_is = known.default_is; stated_is = known.stated_is; count_is = known.count_is });
           records = sym (append-nil old.records.items);
         }
@@ -107,8 +107,8 @@ module _ (o : DomainName) (earlier : List Entry) where
     owner_taken : (owner : DomainName) (f : Fields) (t : RecordTaken o earlier owner f old new) → last_owner new.records.items ≡ Some owner
     owner_taken owner f t = ap last_owner t.records ∙ last_owner-push old.records.items t.taken ∙ ap Some t.owner_is
 
-    -- what after a record is known, where its owner is the one of its sort
-    record_after : (s : Sort) (owner : DomainName) (f : Fields) → directive_word (codes "$origin") s ≡ None → directive_word (codes "$ttl") s ≡ None → ttl_word s ≡ f.ttl
+    -- what after a record is known, where its owner is the one of its kind
+    record_after : (s : EntryKind) (owner : DomainName) (f : Fields) → directive_word (codes "$origin") s ≡ None → directive_word (codes "$ttl") s ≡ None → ttl_word s ≡ f.ttl
         → counts_as_record s ≡ true → (n : DomainName) → OwnerAt s n → owner ≡ folded n → (t : RecordTaken o earlier owner f old new)
         → After s new.origin (last_owner new.records.items) new.default_ttl new.stated_ttl (length new.records.items)
     record_after s owner f no_origin no_ttl ttl counts n is low t =
@@ -121,25 +121,25 @@ module _ (o : DomainName) (earlier : List Entry) where
           count_is = rw counts (ap length t.records ∙ length-append old.records.items (t.taken ∷ []) ∙ ap (λ k. k + 1) known.count_is);
         }
 
-    pub owned-taken : (w : Word) (ws : List Word) (n owner : DomainName) → sort_of e ≡ owned w ws → NameIs o earlier w n → owner ≡ folded n → folded owner ≡ owner
+    pub owned-taken : (w : Word) (ws : List Word) (n owner : DomainName) → kind_of e ≡ owned w ws → NameIs o earlier w n → owner ≡ folded n → folded owner ≡ owner
         → RecordTaken o earlier owner (fields ws) old new → EntryTaken o earlier e old new
     owned-taken w ws n owner is named low twice t =
         record {
           taken = t.taken ∷ [];
-          given = subst (λ s. SortGives o earlier s (gives (t.taken ∷ []))) (sym is)
+          given = subst (λ s. KindGives o earlier s (gives (t.taken ∷ []))) (sym is)
               (given-owner o earlier (NameIs o earlier w) (fields ws) n owner named low twice bad_owner (gives (t.taken ∷ [])) t.given);
-          known = known-of_sort e (owned w ws) _ _ _ _ _ is (record_after (owned w ws) owner (fields ws) refl refl refl refl n named low t);
+          known = known-of_kind e (owned w ws) _ _ _ _ _ is (record_after (owned w ws) owner (fields ws) refl refl refl refl n named low t);
           records = t.records;
         }
 
-    pub unowned-taken : (ws : List Word) (n owner : DomainName) → sort_of e ≡ unowned ws → OwnerBefore o earlier n → owner ≡ folded n → folded owner ≡ owner
+    pub unowned-taken : (ws : List Word) (n owner : DomainName) → kind_of e ≡ unowned ws → OwnerBefore o earlier n → owner ≡ folded n → folded owner ≡ owner
         → RecordTaken o earlier owner (fields ws) old new → EntryTaken o earlier e old new
     unowned-taken ws n owner is named low twice t =
         record {
           taken = t.taken ∷ [];
-          given = subst (λ s. SortGives o earlier s (gives (t.taken ∷ []))) (sym is)
+          given = subst (λ s. KindGives o earlier s (gives (t.taken ∷ []))) (sym is)
               (given-owner o earlier (OwnerBefore o earlier) (fields ws) n owner named low twice no_owner (gives (t.taken ∷ [])) t.given);
-          known = known-of_sort e (unowned ws) _ _ _ _ _ is (record_after (unowned ws) owner (fields ws) refl refl refl refl n named low t);
+          known = known-of_kind e (unowned ws) _ _ _ _ _ is (record_after (unowned ws) owner (fields ws) refl refl refl refl n named low t);
           records = t.records;
         }
 
@@ -152,16 +152,16 @@ module _ (o : DomainName) (earlier : List Entry) where
     owner_kept : LastOwner o earlier (last_owner new.records.items)
     owner_kept = subst (LastOwner o earlier) (sym (ap last_owner records_kept)) known.owner_is
 
-    pub origin-taken : (ws : List Word) → sort_of e ≡ directive (codes "$origin") ws → OneWord (λ w. SpelledName old.origin w new.origin) ws
+    pub origin-taken : (ws : List Word) → kind_of e ≡ directive (codes "$origin") ws → OneWord (λ w. SpelledName old.origin w new.origin) ws
         → ((n : DomainName) → OneWord (λ w. SpelledName old.origin w n) ws → n ≡ new.origin) → new.default_ttl ≡ old.default_ttl → EntryTaken o earlier e old new
     origin-taken [] is one only default_kept = absurd one
     origin-taken (w ∷ v ∷ ws) is one only default_kept = absurd one
     origin-taken (w ∷ []) is one only default_kept =
         record {
           taken = [];
-          given = subst (λ s. SortGives o earlier s (gives [])) (sym is)
+          given = subst (λ s. KindGives o earlier s (gives [])) (sym is)
               (inr ((λ none. none new.origin (one.0, (old.origin, known.origin_is, one.1))), refl));
-          known = known-of_sort e (directive (codes "$origin") (w ∷ [])) _ _ _ _ _ is
+          known = known-of_kind e (directive (codes "$origin") (w ∷ [])) _ _ _ _ _ is
               (record {
                 origin_is = (old.origin, known.origin_is, one.1);
                 no_other = λ n h. only n (one.0, subst (λ m. SpellsName m w.raw n) (known.no_other h.0 h.1) h.2);
@@ -174,15 +174,15 @@ module _ (o : DomainName) (earlier : List Entry) where
         }
 
     -- `$TTL`
-    pub default-taken : (ws : List Word) (n : ℕ) → sort_of e ≡ directive (codes "$ttl") ws → OneWord (λ w. TtlSays w n) ws → new.default_ttl ≡ Some n
+    pub default-taken : (ws : List Word) (n : ℕ) → kind_of e ≡ directive (codes "$ttl") ws → OneWord (λ w. TtlSays w n) ws → new.default_ttl ≡ Some n
         → new.origin ≡ old.origin → EntryTaken o earlier e old new
     default-taken [] n is one default_is origin_kept = absurd one
     default-taken (w ∷ v ∷ ws) n is one default_is origin_kept = absurd one
     default-taken (w ∷ []) n is one default_is origin_kept =
         record {
           taken = [];
-          given = subst (λ s. SortGives o earlier s (gives [])) (sym is) (inr ((λ none. none n one), refl));
-          known = known-of_sort e (directive (codes "$ttl") (w ∷ [])) _ _ _ _ _ is
+          given = subst (λ s. KindGives o earlier s (gives [])) (sym is) (inr ((λ none. none n one), refl));
+          known = known-of_kind e (directive (codes "$ttl") (w ∷ [])) _ _ _ _ _ is
               (record {
                 origin_is = rw origin_kept known.origin_is;
                 no_other = λ m h. known.no_other m h ∙ sym origin_kept;
@@ -196,7 +196,7 @@ module _ (o : DomainName) (earlier : List Entry) where
 
   -- the words of `$ORIGIN` are none
   pub origin-fault : (old : Reader) → Knows o earlier old → (ws : List Word) → ((n : DomainName) → OneWord (λ w. SpelledName old.origin w n) ws → ⊥)
-      → SortGives o earlier (directive (codes "$origin") ws) (faulty directive_words)
+      → KindGives o earlier (directive (codes "$origin") ws) (faulty directive_words)
   origin-fault old known ws none = inl (no_origin ws none, refl)
     where
       no_origin : (ws : List Word) → ((n : DomainName) → OneWord (λ w. SpelledName old.origin w n) ws → ⊥) → Nothing (λ (n : DomainName). OneWord (λ w. NameIs o earlier w n) ws)
@@ -204,13 +204,13 @@ module _ (o : DomainName) (earlier : List Entry) where
       no_origin (w ∷ v ∷ ws) none n h = h
       no_origin (w ∷ []) none n h = none n (h.0, subst (λ m. SpellsName m w.raw n) (known.no_other h.1.0 h.1.1) h.1.2)
 
-  pub default-fault : (ws : List Word) → ((n : ℕ) → OneWord (λ w. TtlSays w n) ws → ⊥) → SortGives o earlier (directive (codes "$ttl") ws) (faulty directive_words)
+  pub default-fault : (ws : List Word) → ((n : ℕ) → OneWord (λ w. TtlSays w n) ws → ⊥) → KindGives o earlier (directive (codes "$ttl") ws) (faulty directive_words)
   default-fault ws none = inl (none, refl)
 
--- the sort of an entry by its first octet and its words
-pub sort-unowned : (blank : Bool) (ws : List Word) (w : Word) (others : List Word) → blank ≡ true → ws ≡ w ∷ others → sort_by_words blank ws ≡ unowned ws
-sort-unowned blank ws w others b e = rw e (rw b refl)
+-- the kind of an entry by its first octet and its words
+pub kind-unowned : (blank : Bool) (ws : List Word) (w : Word) (others : List Word) → blank ≡ true → ws ≡ w ∷ others → kind_by_words blank ws ≡ unowned ws
+kind-unowned blank ws w others b e = rw e (rw b refl)
 
-pub sort-owned : (blank : Bool) (ws : List Word) (w : Word) (others : List Word) → blank ≡ false → is_directive w ≡ false → ws ≡ w ∷ others
-    → sort_by_words blank ws ≡ owned w others
-sort-owned blank ws w others b d e = rw e (rw b (rw d refl))
+pub kind-owned : (blank : Bool) (ws : List Word) (w : Word) (others : List Word) → blank ≡ false → is_directive w ≡ false → ws ≡ w ∷ others
+    → kind_by_words blank ws ≡ owned w others
+kind-owned blank ws w others b d e = rw e (rw b (rw d refl))

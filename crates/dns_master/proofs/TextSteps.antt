@@ -9,7 +9,7 @@ use Rattle.dns_spec.specs.DataText.{Word}
 use Rattle.dns_spec.specs.Records.{ResourceRecord}
 use Rattle.dns_spec.specs.ZoneText.{Token, quoted_string, line_end, Entry, ended, token_front, TokensThen, is_blank, is_blank_token, begins_blank, closed, line_feed_front, word_length, string_length, cut_entries, with_end, is_open_at_end, take_turns, parentheses, whole_text, extent_by, stop_fault, stop_at, Extent, beginning, in_string, in_token}
 use Rattle.dns_spec.specs.FileFaults.{bad_parenthesis, too_long, FileFault}
-use Rattle.dns_spec.specs.Meaning.{EntryMeaning, faulty, gives, Meaning, records, fault_at, after, line_after, SortGives, sort_of, sort_by_words, EntryGives, EntriesMean}
+use Rattle.dns_spec.specs.Meaning.{EntryMeaning, faulty, gives, Meaning, records, fault_at, after, line_after, KindGives, kind_of, kind_by_words, EntryGives, EntriesMean}
 use Rattle.dns_spec.proofs.ZoneTexts.TextTokens.{has_tokens, front-shorter}
 use Rattle.dns_master.specs.EntryForm.{Reads, unended, wrong, IsWrong, line_ends, token_words, EntryRead, outcome_of, TextMeans}
 use Rattle.dns_master.specs.EntryForm as form
@@ -20,9 +20,9 @@ tokens-append : (text middle rest : Octets) (ps qs : List Token) → TokensThen 
 tokens-append text middle rest [] qs h k = subst (λ x. TokensThen x qs rest) (sym h) k
 tokens-append text middle rest (p ∷ ps) qs h k = (h.0, h.1, tokens-append h.0 middle rest ps qs h.2 k)
 
--- an entry that nothing is wrong with by its place gives what its sort gives
+-- an entry that nothing is wrong with by its place gives what its kind gives
 by_sort : (o : DomainName) (earlier : List Entry) (e : Entry) (answer : EntryMeaning) → take_turns false (parentheses e.tokens) ≡ true → e.end_fault ≡ None
-    → SortGives o earlier (sort_of e) answer → EntryGives o earlier e answer
+    → KindGives o earlier (kind_of e) answer → EntryGives o earlier e answer
 by_sort o earlier e answer turns none h = rw turns (rw none h)
 
 by_end : (o : DomainName) (earlier : List Entry) (e : Entry) (code : FileFault) → take_turns false (parentheses e.tokens) ≡ true → e.end_fault ≡ Some code
@@ -44,7 +44,7 @@ module _ (o : DomainName) (earlier : List Entry) (goes_on : Bool) (text : Octets
     cut_after rest qs =
         ap (with_end (extent_by goes_on) rest) ((reads-ended false text ps others reads).cuts qs) ∙ with_end-more goes_on rest ps (cut_entries false qs) (has_first false qs)
 
-    pub ended-gives : (rs : List ResourceRecord) → SortGives o earlier (sort_of (ended ps)) (gives rs)
+    pub ended-gives : (rs : List ResourceRecord) → KindGives o earlier (kind_of (ended ps)) (gives rs)
         → (later : Meaning) → TextMeans o (ended ps ∷ earlier) goes_on others later → TextMeans o earlier goes_on text (after rs later)
     ended-gives rs given later h =
         let c = reads-ended false text ps others reads in
@@ -57,7 +57,7 @@ module _ (o : DomainName) (earlier : List Entry) (goes_on : Bool) (text : Octets
               (gives rs, by_sort o earlier (ended ps) (gives rs) c.turns refl given, (later, h.meant, refl));
         }
 
-    pub ended-faulty : (code : FileFault) → SortGives o earlier (sort_of (ended ps)) (faulty code) → TextMeans o earlier goes_on text (fault_at code (line_after earlier))
+    pub ended-faulty : (code : FileFault) → KindGives o earlier (kind_of (ended ps)) (faulty code) → TextMeans o earlier goes_on text (fault_at code (line_after earlier))
     ended-faulty code given =
         let c = reads-ended false text ps others reads in
         let h = has_tokens others in
@@ -96,14 +96,14 @@ module _ (o : DomainName) (earlier : List Entry) (goes_on : Bool) (text : Octets
         last_means (fault_at code (line_after earlier))
         (faulty code, by_end o earlier last_entry code (reads-unended false text ps is_open rest reads).turns (same_end ∙ e), refl)
 
-    pub unended-faulty : (code : FileFault) → stop_fault (extent_by goes_on) is_open (stop_at rest) ≡ None → SortGives o earlier (sort_of (ended ps)) (faulty code)
+    pub unended-faulty : (code : FileFault) → stop_fault (extent_by goes_on) is_open (stop_at rest) ≡ None → KindGives o earlier (kind_of (ended ps)) (faulty code)
         → TextMeans o earlier goes_on text (fault_at code (line_after earlier))
     unfolding last_entry
     unended-faulty code e given =
         last_means (fault_at code (line_after earlier))
         (faulty code, by_sort o earlier last_entry (faulty code) (reads-unended false text ps is_open rest reads).turns (same_end ∙ e) given, refl)
 
-    pub unended-gives : (rs : List ResourceRecord) → stop_fault (extent_by goes_on) is_open (stop_at rest) ≡ None → SortGives o earlier (sort_of (ended ps)) (gives rs)
+    pub unended-gives : (rs : List ResourceRecord) → stop_fault (extent_by goes_on) is_open (stop_at rest) ≡ None → KindGives o earlier (kind_of (ended ps)) (gives rs)
         → TextMeans o earlier goes_on text (after rs (records []))
     unfolding last_entry
     unended-gives rs e given =
@@ -239,14 +239,14 @@ over-at_end true is_open [] e = absurd (none-some too_long (sym e))
 over-at_end false is_open [] e = (refl, refl)
 
 pub same_sort : (text : Octets) (ps : List Token) (words : List Word) (outcome : form.Outcome) → Reads false text ps outcome → words ≡ [] ++ token_words ps
-    → sort_of (ended ps) ≡ sort_by_words (list_any is_blank (take 1 text)) words
+    → kind_of (ended ps) ≡ kind_by_words (list_any is_blank (take 1 text)) words
 same_sort text ps words outcome h e =
-    ap (λ b. sort_by_words b (token_words ps)) (begins-blank false text ps outcome h) ∙ ap (sort_by_words (list_any is_blank (take 1 text))) (sym e)
+    ap (λ b. kind_by_words b (token_words ps)) (begins-blank false text ps outcome h) ∙ ap (kind_by_words (list_any is_blank (take 1 text))) (sym e)
 
 module _ (o : DomainName) (earlier : List Entry) (goes_on : Bool) (text rest : Octets) (words : List Word) (lines : ℕ) (is_ended is_open : Bool)
     (read : EntryRead text [] words lines (outcome_of is_ended is_open rest)) where
   -- an entry that ends without fault, and what it gives
-  pub entry-means : (is_ended ≡ true) ⊎ (stop_fault (extent_by goes_on) is_open (stop_at rest) ≡ None) → (rs : List ResourceRecord) → SortGives o earlier (sort_of (ended read.tokens)) (gives rs)
+  pub entry-means : (is_ended ≡ true) ⊎ (stop_fault (extent_by goes_on) is_open (stop_at rest) ≡ None) → (rs : List ResourceRecord) → KindGives o earlier (kind_of (ended read.tokens)) (gives rs)
       → (later : Meaning) → TextMeans o (ended read.tokens ∷ earlier) goes_on rest later → TextMeans o earlier goes_on text (after rs later)
   entry-means (inl e) rs given later h =
       ended-gives o earlier goes_on text read.tokens rest (subst (λ b. Reads false text read.tokens (outcome_of b is_open rest)) e read.reads) rs given later h
@@ -262,7 +262,7 @@ module _ (o : DomainName) (earlier : List Entry) (goes_on : Bool) (text rest : O
           (unended-gives o earlier goes_on text read.tokens is_open rest reads rs e given)
 
   -- one whose words are at fault
-  pub entry-faulty : (is_ended ≡ true) ⊎ (stop_fault (extent_by goes_on) is_open (stop_at rest) ≡ None) → (code : FileFault) → SortGives o earlier (sort_of (ended read.tokens)) (faulty code)
+  pub entry-faulty : (is_ended ≡ true) ⊎ (stop_fault (extent_by goes_on) is_open (stop_at rest) ≡ None) → (code : FileFault) → KindGives o earlier (kind_of (ended read.tokens)) (faulty code)
       → TextMeans o earlier goes_on text (fault_at code (line_after earlier))
   entry-faulty (inl e) code given =
       ended-faulty o earlier goes_on text read.tokens rest (subst (λ b. Reads false text read.tokens (outcome_of b is_open rest)) e read.reads) code given

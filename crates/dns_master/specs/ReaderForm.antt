@@ -8,7 +8,7 @@ use Rattle.dns_spec.specs.DataText.{Word}
 use Rattle.dns_spec.specs.Records.{ResourceRecord}
 use Rattle.dns_spec.specs.ZoneText.{Entry}
 use Rattle.dns_spec.specs.FileFaults.{no_owner}
-use Rattle.dns_spec.specs.Meaning.{Fields, gives, RecordGives, SortGives, sort_of, Meaning, after, line_after}
+use Rattle.dns_spec.specs.Meaning.{Fields, gives, RecordGives, KindGives, kind_of, Meaning, after, line_after}
 use Rattle.dns_master.specs.EntryForm.{TextMeans}
 use Rattle.dns_master.specs.RecordForm.{Inherited, TtlOf}
 use Rattle.dns_master.specs.declared.state.Reader.{Reader}
@@ -38,7 +38,7 @@ pub record RecordTaken (o : DomainName) (earlier : List Entry) (owner : DomainNa
 pub record EntryTaken (o : DomainName) (earlier : List Entry) (e : Entry)
     (old new : Reader) : Type 0 where
   pub taken : List ResourceRecord
-  pub given : SortGives o earlier (sort_of e) (gives taken)
+  pub given : KindGives o earlier (kind_of e) (gives taken)
   pub known : Knows o (e ∷ earlier) new
   pub records : new.records.items ≡ old.records.items ++ taken
 

@@ -7,7 +7,7 @@ ghost use Rattle.dns_spec.specs.DataText.{Says};
 ghost use Rattle.dns_spec.specs.TypeText.{text_in_lower_case};
 ghost use Rattle.dns_spec.specs.ZoneText.{Entry};
 ghost use Rattle.dns_spec.specs.FileFaults.{no_owner};
-ghost use Rattle.dns_spec.specs.Meaning.{Nothing, TtlSays, gives, faulty, directive, owned, unowned, sort_of, sort_by_words, fields, RecordGives, SortGives, records, fault_at, line_after, most_records};
+ghost use Rattle.dns_spec.specs.Meaning.{Nothing, TtlSays, gives, faulty, directive, owned, unowned, kind_of, kind_by_words, fields, RecordGives, KindGives, records, fault_at, line_after, most_records};
 ghost use Rattle.dns_master.specs.Codes.{fault_of, failures_after_read};
 ghost use Rattle.dns_master.specs.EntryForm.{TextMeans};
 ghost use Rattle.dns_master.specs.SourceForm.{GivesMeaning};
@@ -155,12 +155,12 @@ impl Reader {
     // Takes what the words of an entry say.
     fn take_words(&mut self, is_blank_led: bool, words: &[Word<'_>]) -> Result<(), ReadCode>
         ensures ok { OnOk result ((o : DomainName) (earlier : List Entry) (e : Entry)
-            → Knows o earlier self.old → sort_of e ≡ sort_by_words is_blank_led words.now
+            → Knows o earlier self.old → kind_of e ≡ kind_by_words is_blank_led words.now
             → EntryTaken o earlier e self.old self.new) }
         ensures line { OnOk result (self.new.line ≡ self.old.line) }
         ensures err { IfErr result (λ code. code ≢ ReadCode.NoMemory
             → (o : DomainName) (earlier : List Entry) → Knows o earlier self.old
-            → SortGives o earlier (sort_by_words is_blank_led words.now) (faulty (fault_of code))) }
+            → KindGives o earlier (kind_by_words is_blank_led words.now) (faulty (fault_of code))) }
         ensures source { IfErr result (λ code. code ≢ ReadCode.SourceFailed) }
     {
         let Some((first, others)) = words.split_first() else {
@@ -178,13 +178,13 @@ impl Reader {
     // Takes a directive: its name, and the words after it.
     fn take_directive(&mut self, name: &[u8], words: &[Word<'_>]) -> Result<(), ReadCode>
         ensures ok { OnOk result ((o : DomainName) (earlier : List Entry) (e : Entry)
-            → Knows o earlier self.old → sort_of e
+            → Knows o earlier self.old → kind_of e
             ≡ directive (text_in_lower_case name.now) words.now
             → EntryTaken o earlier e self.old self.new) }
         ensures line { OnOk result (self.new.line ≡ self.old.line) }
         ensures err { IfErr result (λ code. code ≢ ReadCode.NoMemory
             → (o : DomainName) (earlier : List Entry) → Knows o earlier self.old
-            → SortGives o earlier (directive (text_in_lower_case name.now) words.now)
+            → KindGives o earlier (directive (text_in_lower_case name.now) words.now)
             (faulty (fault_of code))) }
         ensures source { IfErr result (λ code. code ≢ ReadCode.SourceFailed) }
     {
@@ -200,12 +200,12 @@ impl Reader {
     // Takes the words of `$ORIGIN`.
     fn take_origin(&mut self, words: &[Word<'_>]) -> Result<(), ReadCode>
         ensures ok { OnOk result ((o : DomainName) (earlier : List Entry) (e : Entry)
-            → Knows o earlier self.old → sort_of e ≡ directive (codes "$origin") words.now
+            → Knows o earlier self.old → kind_of e ≡ directive (codes "$origin") words.now
             → EntryTaken o earlier e self.old self.new) }
         ensures line { OnOk result (self.new.line ≡ self.old.line) }
         ensures err { IfErr result (λ code. (o : DomainName) (earlier : List Entry)
             → Knows o earlier self.old
-            → SortGives o earlier (directive (codes "$origin") words.now)
+            → KindGives o earlier (directive (codes "$origin") words.now)
             (faulty (fault_of code))) }
         ensures source { IfErr result (λ code. code ≢ ReadCode.SourceFailed) }
     {
@@ -219,12 +219,12 @@ impl Reader {
     // Takes the words of `$TTL`.
     fn take_default_ttl(&mut self, words: &[Word<'_>]) -> Result<(), ReadCode>
         ensures ok { OnOk result ((o : DomainName) (earlier : List Entry) (e : Entry)
-            → Knows o earlier self.old → sort_of e ≡ directive (codes "$ttl") words.now
+            → Knows o earlier self.old → kind_of e ≡ directive (codes "$ttl") words.now
             → EntryTaken o earlier e self.old self.new) }
         ensures line { OnOk result (self.new.line ≡ self.old.line) }
         ensures err { IfErr result (λ code. (o : DomainName) (earlier : List Entry)
             → Knows o earlier self.old
-            → SortGives o earlier (directive (codes "$ttl") words.now) (faulty (fault_of code))) }
+            → KindGives o earlier (directive (codes "$ttl") words.now) (faulty (fault_of code))) }
         ensures source { IfErr result (λ code. code ≢ ReadCode.SourceFailed) }
     {
         let Some(ttl) = read_default_ttl(words) else {
@@ -237,12 +237,12 @@ impl Reader {
     // Takes a record that states its owner: that word, and the words after it.
     fn take_owned(&mut self, owner: &Word<'_>, words: &[Word<'_>]) -> Result<(), ReadCode>
         ensures ok { OnOk result ((o : DomainName) (earlier : List Entry) (e : Entry)
-            → Knows o earlier self.old → sort_of e ≡ owned owner.now words.now
+            → Knows o earlier self.old → kind_of e ≡ owned owner.now words.now
             → EntryTaken o earlier e self.old self.new) }
         ensures line { OnOk result (self.new.line ≡ self.old.line) }
         ensures err { IfErr result (λ code. code ≢ ReadCode.NoMemory
             → (o : DomainName) (earlier : List Entry) → Knows o earlier self.old
-            → SortGives o earlier (owned owner.now words.now) (faulty (fault_of code))) }
+            → KindGives o earlier (owned owner.now words.now) (faulty (fault_of code))) }
         ensures source { IfErr result (λ code. code ≢ ReadCode.SourceFailed) }
     {
         let Some(mut owner) = read_name(owner, &self.origin) else {
@@ -255,12 +255,12 @@ impl Reader {
     // Takes a record whose owner is that of the record before.
     fn take_unowned(&mut self, words: &[Word<'_>]) -> Result<(), ReadCode>
         ensures ok { OnOk result ((o : DomainName) (earlier : List Entry) (e : Entry)
-            → Knows o earlier self.old → sort_of e ≡ unowned words.now
+            → Knows o earlier self.old → kind_of e ≡ unowned words.now
             → EntryTaken o earlier e self.old self.new) }
         ensures line { OnOk result (self.new.line ≡ self.old.line) }
         ensures err { IfErr result (λ code. code ≢ ReadCode.NoMemory
             → (o : DomainName) (earlier : List Entry) → Knows o earlier self.old
-            → SortGives o earlier (unowned words.now) (faulty (fault_of code))) }
+            → KindGives o earlier (unowned words.now) (faulty (fault_of code))) }
         ensures source { IfErr result (λ code. code ≢ ReadCode.SourceFailed) }
     {
         let Some(last) = self.records.last() else {

@@ -29,15 +29,15 @@ step_of b i (Some o) =
     else pointer_step o (slice_get b (i + 1))
 
 -- a name, and the place after its own octets
-abbrev pub Placed : Type 0
-Placed = DomainName × ℕ
+abbrev pub SpelledName : Type 0
+SpelledName = DomainName × ℕ
 
-abbrev pub with_label : Octets → Placed → Placed
+abbrev pub with_label : Octets → SpelledName → SpelledName
 with_label l (n, e) = (l ∷ n, e)
 
 -- A pointer is lawful to a place after the header and before its run. `earlier` has what the runs
 -- begun before that spell.
-abbrev pub jump : (ℕ → Option Placed) → ℕ → ℕ → ℕ → Option Placed
+abbrev pub jump : (ℕ → Option SpelledName) → ℕ → ℕ → ℕ → Option SpelledName
 jump earlier s i p =
     elim (nat_le 12 p && nat_lt p s) [
       | true ↦ option_map (λ r. (r.0, i + 2)) (earlier p)
@@ -46,7 +46,7 @@ jump earlier s i p =
 
 -- What a run begun at place s spells from place i on. It has no more steps than there are octets,
 -- since each takes one or more.
-unfoldable pub run : (ℕ → Option Placed) → Octets → ℕ → ℕ → ℕ → Option Placed
+unfoldable pub run : (ℕ → Option SpelledName) → Octets → ℕ → ℕ → ℕ → Option SpelledName
 run earlier b s zero i = None
 run earlier b s (suc r) i =
     elim (step_of b i (slice_get b i)) [
@@ -58,15 +58,15 @@ run earlier b s (suc r) i =
     ]
 
 -- what the runs begun before place k spell
-unfoldable pub runs_before : Octets → ℕ → ℕ → Option Placed
+unfoldable pub runs_before : Octets → ℕ → ℕ → Option SpelledName
 runs_before b zero p = None
 runs_before b (suc k) p = run (runs_before b k) b p (length b) p
 
-abbrev pub name_if_short : Placed → Option Placed
+abbrev pub name_if_short : SpelledName → Option SpelledName
 name_if_short (n, e) = if is_name n then Some (n, e) else None
 
 -- the name spelled at place i, and the place after it
-unfoldable pub name_at : Octets → ℕ → Option Placed
+unfoldable pub name_at : Octets → ℕ → Option SpelledName
 name_at b i = option_and_then name_if_short (runs_before b (suc i) i)
 
 -- RFC 1035 2.3.2: the number that k octets from place i spell
@@ -101,7 +101,7 @@ data_at b t c i e =
     then pieces_at b (if c == class_in then pieces_of t else anything ∷ []) i e else None
 
 -- the question, and the record, at a place, and the place after it
-abbrev pub question_after : Octets → Placed → Option (MessageQuestion × ℕ)
+abbrev pub question_after : Octets → SpelledName → Option (MessageQuestion × ℕ)
 question_after b (n, j) =
     if nat_le (j + 4) (length b)
     then Some (record { qname = n; qtype = value_at b j 2; qclass = value_at b (j + 2) 2 }, j + 4)
@@ -110,7 +110,7 @@ question_after b (n, j) =
 abbrev pub message_question_at : Octets → ℕ → Option (MessageQuestion × ℕ)
 message_question_at b i = option_and_then (question_after b) (name_at b i)
 
-abbrev pub record_with : Octets → Placed → Octets → MessageRecord × ℕ
+abbrev pub record_with : Octets → SpelledName → Octets → MessageRecord × ℕ
 record_with b (n, j) d = (
   record {
     owner = n;
@@ -122,7 +122,7 @@ record_with b (n, j) d = (
   j + 10 + value_at b (j + 8) 2,
 )
 
-abbrev pub record_after : Octets → Placed → Option (MessageRecord × ℕ)
+abbrev pub record_after : Octets → SpelledName → Option (MessageRecord × ℕ)
 record_after b (n, j) =
     if nat_le (j + 10) (length b)
     then option_map (record_with b (n, j))

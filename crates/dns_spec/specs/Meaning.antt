@@ -42,18 +42,18 @@ Lowest ((fault, Condition) ∷ higher) Faultless given =
     (Condition × (given ≡ faulty fault)) ⊎ ((Condition → ⊥) × Lowest higher Faultless given)
 
 -- RFC 1035 5.1: what an entry is. Words are compared in lower case.
-pub data Sort : Type 0 where
-  no_words : Sort
-  directive : Octets → List Word → Sort
-  owned : Word → List Word → Sort
-  unowned : List Word → Sort
+pub data EntryKind : Type 0 where
+  no_words : EntryKind
+  directive : Octets → List Word → EntryKind
+  owned : Word → List Word → EntryKind
+  unowned : List Word → EntryKind
 
 abbrev pub is_directive : Word → Bool
 is_directive w = not w.is_quoted && begins_with 36 w.raw
 
-abbrev pub sort_by_words : Bool → List Word → Sort
-sort_by_words blank [] = no_words
-sort_by_words blank (w ∷ ws) =
+abbrev pub kind_by_words : Bool → List Word → EntryKind
+kind_by_words blank [] = no_words
+kind_by_words blank (w ∷ ws) =
     if blank then unowned (w ∷ ws)
     else if is_directive w then directive (text_in_lower_case w.raw) ws
     else owned w ws
@@ -61,8 +61,8 @@ sort_by_words blank (w ∷ ws) =
 -- An entry without words is nothing. One that begins with a blank is a record without an owner of
 -- its own; else one whose first word begins with `$` is a directive; else the first word is the
 -- owner of a record.
-abbrev pub sort_of : Entry → Sort
-sort_of e = sort_by_words (begins_blank e.tokens) (entry_words e)
+abbrev pub kind_of : Entry → EntryKind
+kind_of e = kind_by_words (begins_blank e.tokens) (entry_words e)
 
 -- RFC 1035 5.1: after the owner come a TTL and a class, in either order, where they are stated;
 -- then the type and the data
@@ -109,43 +109,43 @@ fields (w ∷ ws) =
 
 -- the first word of a directive of this name; below it, the word that states an owner, and the one
 -- that states a TTL
-abbrev pub directive_word : Octets → Sort → Option Word
+abbrev pub directive_word : Octets → EntryKind → Option Word
 directive_word name no_words = None
 directive_word name (directive n []) = None
 directive_word name (directive n (w ∷ ws)) = if octets_equal n name then Some w else None
 directive_word name (owned w ws) = None
 directive_word name (unowned ws) = None
 
-abbrev pub owner_word : Sort → Option Word
+abbrev pub owner_word : EntryKind → Option Word
 owner_word no_words = None
 owner_word (directive n ws) = None
 owner_word (owned w ws) = Some w
 owner_word (unowned ws) = None
 
-abbrev pub ttl_word : Sort → Option Word
+abbrev pub ttl_word : EntryKind → Option Word
 ttl_word no_words = None
 ttl_word (directive n ws) = None
 ttl_word (owned w ws) = (fields ws).ttl
 ttl_word (unowned ws) = (fields ws).ttl
 
 abbrev pub is_record : Entry → Bool
-is_record e = elim (sort_of e) [
+is_record e = elim (kind_of e) [
   | no_words ↦ false
   | directive n ws ↦ false
   | owned w ws ↦ true
   | unowned ws ↦ true
 ]
 
-abbrev pub nearest : (Sort → Option Word) → List Entry → Option Word
+abbrev pub nearest : (EntryKind → Option Word) → List Entry → Option Word
 nearest word_of [] = None
-nearest word_of (e ∷ earlier) = option_or (word_of (sort_of e)) (nearest word_of earlier)
+nearest word_of (e ∷ earlier) = option_or (word_of (kind_of e)) (nearest word_of earlier)
 
 -- RFC 1035 5.1: the origin is that of the last `$ORIGIN` before, which is relative to the origin
 -- before it; else that of the file
 abbrev pub OriginIs : DomainName → List Entry → DomainName → Type 0
 OriginIs o [] n = n ≡ o
 OriginIs o (e ∷ earlier) n =
-    MatchOption (directive_word (codes "$origin") (sort_of e)) (OriginIs o earlier n)
+    MatchOption (directive_word (codes "$origin") (kind_of e)) (OriginIs o earlier n)
     (λ w. (m : DomainName) × OriginIs o earlier m × SpellsName m w.raw n)
 
 -- an unquoted word spells a name, relative to the origin in force
@@ -158,7 +158,7 @@ NameIs o earlier w n =
 abbrev pub OwnerBefore : DomainName → List Entry → DomainName → Type 0
 OwnerBefore o [] n = ⊥
 OwnerBefore o (e ∷ earlier) n =
-    MatchOption (owner_word (sort_of e)) (OwnerBefore o earlier n) (λ w. NameIs o earlier w n)
+    MatchOption (owner_word (kind_of e)) (OwnerBefore o earlier n) (λ w. NameIs o earlier w n)
 
 -- a TTL in decimal, without zeros in front (in this product)
 abbrev pub TtlSays : Word → ℕ → Type 0
@@ -252,18 +252,18 @@ DirectiveGives o earlier name ws given =
     (DirectiveSays (λ n w. TtlSays w n) ws given)
     (given ≡ faulty unknown_directive))
 
-abbrev pub SortGives : DomainName → List Entry → Sort → EntryMeaning → Type 0
-SortGives o earlier no_words given = given ≡ gives []
-SortGives o earlier (directive name ws) given = DirectiveGives o earlier name ws given
-SortGives o earlier (owned w ws) given =
+abbrev pub KindGives : DomainName → List Entry → EntryKind → EntryMeaning → Type 0
+KindGives o earlier no_words given = given ≡ gives []
+KindGives o earlier (directive name ws) given = DirectiveGives o earlier name ws given
+KindGives o earlier (owned w ws) given =
     RecordGives o earlier bad_owner (NameIs o earlier w) (fields ws) given
-SortGives o earlier (unowned ws) given =
+KindGives o earlier (unowned ws) given =
     RecordGives o earlier no_owner (OwnerBefore o earlier) (fields ws) given
 
 -- what an entry gives: its fault by place, else what its words give
 abbrev pub EntryGives : DomainName → List Entry → Entry → EntryMeaning → Type 0
 EntryGives o earlier e given =
-    MatchOption (lexical_fault e) (SortGives o earlier (sort_of e) given)
+    MatchOption (lexical_fault e) (KindGives o earlier (kind_of e) given)
     (λ fault. given ≡ faulty fault)
 
 -- What a text means: its records in order, or a fault and its line.

@@ -184,12 +184,12 @@ extent_of text = extent_by (nat_lt most_octets (length text))
 
 -- Why no token begins: the text is over; or it can't go on, in a string or where a token should
 -- begin, with the octets from there on.
-pub data Stop : Type 0 where
-  text_over : Stop
-  in_string : Octets → Stop
-  in_token : Octets → Stop
+pub data EntryStop : Type 0 where
+  text_over : EntryStop
+  in_string : Octets → EntryStop
+  in_token : Octets → EntryStop
 
-abbrev pub stop_at : Octets → Stop
+abbrev pub stop_at : Octets → EntryStop
 stop_at [] = text_over
 stop_at (o ∷ text) =
     if o == 34 then in_string (drop (string_length text) text) else in_token (o ∷ text)
@@ -210,7 +210,7 @@ unless_cut_short beginning place fault = if is_cut_short place then too_long els
 
 -- The fault of an entry that isn't ended by a line end, inside parentheses or outside them: `R15`,
 -- the text goes on past its limit; `R04`, it ends inside parentheses; or a token that is wrong.
-abbrev pub stop_fault : Extent → Bool → Stop → Option FileFault
+abbrev pub stop_fault : Extent → Bool → EntryStop → Option FileFault
 stop_fault whole_text is_open text_over = if is_open then Some bad_parenthesis else None
 stop_fault beginning is_open text_over = Some too_long
 stop_fault extent is_open (in_string place) =

@@ -19,7 +19,7 @@ use Rattle.dns_spec.specs.WrittenText.{plain, written_words}
 use Rattle.dns_spec.specs.Records.{ResourceRecord}
 use Rattle.dns_spec.specs.ZoneText.{Token, most_octets, TokensThen, take_turns, cut_entries, begins_with, Entry, Entries, ended, with_end, lexical_fault, whole_text, extent_by}
 use Rattle.dns_spec.specs.FileFaults.{bad_owner, bad_parenthesis}
-use Rattle.dns_spec.specs.Meaning.{faulty, gives, no_words, directive, owned, unowned, sort_by_words, sort_of, Fields, fields, is_ttl_word, directive_word, is_record, OriginIs, NameIs, IsRecord, most_records, RecordGives, SortGives, EntryGives, records, EntriesMean, Means}
+use Rattle.dns_spec.specs.Meaning.{faulty, gives, no_words, directive, owned, unowned, kind_by_words, kind_of, Fields, fields, is_ttl_word, directive_word, is_record, OriginIs, NameIs, IsRecord, most_records, RecordGives, KindGives, EntryGives, records, EntriesMean, Means}
 use Rattle.dns_spec.specs.ZonePrinted.{IsReadRecord, HasZoneType, record_line}
 use Rattle.dns_spec.proofs.Records.SortedOnce.{Each}
 use Rattle.dns_spec.proofs.NameTexts.WrittenNames.{name_spelled}
@@ -100,9 +100,9 @@ name_begins ((x ∷ l) ∷ n) =
 abbrev words_after : ResourceRecord → List Word
 words_after r = plain (decimal r.ttl) ∷ plain (codes "IN") ∷ plain (type_text r.rtype) ∷ written_words r.rtype r.rdata
 
-line_sort : (r : ResourceRecord) → sort_of (line_entry r) ≡ owned (plain (name_text r.owner)) (words_after r)
-line_sort r =
-    ap (sort_by_words false) (line_words_again r)
+line_kind : (r : ResourceRecord) → kind_of (line_entry r) ≡ owned (plain (name_text r.owner)) (words_after r)
+line_kind r =
+    ap (kind_by_words false) (line_words_again r)
     ∙ ap (λ d. if d then directive (text_in_lower_case (name_text r.owner)) (words_after r) else owned (plain (name_text r.owner)) (words_after r)) (name_begins r.owner)
 
 digits_begin : (x : Octets) → 0 < length x → AllDigits 10 x → list_any is_ascii_digit (take 1 x) ≡ true
@@ -156,7 +156,7 @@ type_named t small = go (row_of t) refl
 
 -- where no entry before is `$ORIGIN`
 abbrev KeepsOrigin : Entry → Type 0
-KeepsOrigin e = directive_word (codes "$origin") (sort_of e) ≡ None
+KeepsOrigin e = directive_word (codes "$origin") (kind_of e) ≡ None
 
 origin_stays : (o : DomainName) (earlier : List Entry) → Each KeepsOrigin earlier → OriginIs o earlier o
 origin_stays o [] h = refl
@@ -184,20 +184,20 @@ line_given o earlier r origin h zone_type few =
     let given : RecordGives o earlier bad_owner Owner (line_fields r) answer =
     record_given o earlier bad_owner Owner (line_fields r) r (line_record o earlier r origin h zone_type) refl (lt-leb most_records (length (filter is_record earlier)) few)
     in
-    let by_words : SortGives o earlier (owned (plain (name_text r.owner)) (words_after r)) answer =
+    let by_words : KindGives o earlier (owned (plain (name_text r.owner)) (words_after r)) answer =
     subst (λ f. RecordGives o earlier bad_owner Owner f answer) (sym (fields_are r h)) given
     in
-    let by_sort : SortGives o earlier (sort_of (line_entry r)) answer = subst (λ s. SortGives o earlier s answer) (sym (line_sort r)) by_words in
-    subst (λ fault. MatchOption fault (SortGives o earlier (sort_of (line_entry r)) answer) (λ code. answer ≡ faulty code)) (sym (line_faultless r)) by_sort
+    let by_kind : KindGives o earlier (kind_of (line_entry r)) answer = subst (λ s. KindGives o earlier s answer) (sym (line_kind r)) by_words in
+    subst (λ fault. MatchOption fault (KindGives o earlier (kind_of (line_entry r)) answer) (λ code. answer ≡ faulty code)) (sym (line_faultless r)) by_kind
 
 line_keeps_origin : (r : ResourceRecord) → KeepsOrigin (line_entry r)
-line_keeps_origin r = ap (directive_word (codes "$origin")) (line_sort r)
+line_keeps_origin r = ap (directive_word (codes "$origin")) (line_kind r)
 
 line_counts : (r : ResourceRecord) (earlier : List Entry) → length (filter is_record (line_entry r ∷ earlier)) ≡ suc (length (filter is_record earlier))
 line_counts r earlier = ap (λ t. length (cond t (line_entry r ∷ filter is_record earlier) (filter is_record earlier))) counted
   where
     counted : is_record (line_entry r) ≡ true
-    counted = ap (λ s. elim s as (λ _. Bool) [ no_words ↦ false | directive n ws ↦ false | owned w ws ↦ true | unowned ws ↦ true ]) (line_sort r)
+    counted = ap (λ s. elim s as (λ _. Bool) [ no_words ↦ false | directive n ws ↦ false | owned w ws ↦ true | unowned ws ↦ true ]) (line_kind r)
 
 lines_mean : (o : DomainName) (earlier : List Entry) (rs : List ResourceRecord) → Each KeepsOrigin earlier → Each IsReadRecord rs → Each HasZoneType rs
     → length (filter is_record earlier) + length rs ≤ most_records → EntriesMean o earlier (lines_entries rs) (records rs)

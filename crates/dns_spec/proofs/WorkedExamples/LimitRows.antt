@@ -8,7 +8,7 @@ use Rattle.std.proofs.lemmas.List.{append_assoc, take_all, length-take, drop_all
 use Rattle.dns_spec.specs.Names.{Octets}
 use Rattle.dns_spec.specs.ZoneText.{Token, blank, word, line_end, most_octets, is_blank, token_front, TokensThen, run_length, Entry, ended, cut_entries, with_end, whole_text, beginning, extent_by, stop_fault, stop_at}
 use Rattle.dns_spec.specs.FileFaults.{bad_escape, bad_octet, bad_owner, too_long, too_many_records, FileFault}
-use Rattle.dns_spec.specs.Meaning.{no_words, SortGives, faulty, gives, fault_at, most_records, OriginIs, NameIs, IsRecord, is_record, line_after, fields, EntryGives, EntriesMean, Means}
+use Rattle.dns_spec.specs.Meaning.{no_words, KindGives, faulty, gives, fault_at, most_records, OriginIs, NameIs, IsRecord, is_record, line_after, fields, EntryGives, EntriesMean, Means}
 use Rattle.dns_spec.specs.Data.{cut, type_txt}
 use Rattle.dns_spec.specs.DataText.{Word, Says}
 use Rattle.dns_spec.specs.Records.{ResourceRecord}
@@ -234,7 +234,7 @@ cut_at_limit text ends more code full some goes_on blanks none at_end reports = 
     long : most_octets < length (text ++ (ends ++ more))
     long = omega (arith, ap length whole, length-append (text ++ ends) more, length-append text ends, full, goes_on)
 
-    reported : (o : Option FileFault) → o ≡ Some code → MatchOption o (SortGives example [] no_words (faulty code)) (λ c. faulty code ≡ faulty c)
+    reported : (o : Option FileFault) → o ≡ Some code → MatchOption o (KindGives example [] no_words (faulty code)) (λ c. faulty code ≡ faulty c)
     reported None e = cc
     reported (Some c) e = cc
 

@@ -8,8 +8,8 @@ use mathlib.Core.Bool.{xor}
 use Rattle.dns_spec.specs.Names.{Octets, DomainName}
 use Rattle.dns_spec.specs.Records.{ResourceRecord}
 use Rattle.dns_spec.specs.FileFaults.{FileFault, bad_parenthesis, unended_string, too_long}
-use Rattle.dns_spec.specs.ZoneText.{most_octets, extent_of, Token, token_front, TokensThen, parenthesis, parentheses, is_line_end, open_after, before_first, cut_entries, take_turns, is_open_at_end, is_cut_short, begins_line_end, string_length, is_string_octet, Extent, whole_text, beginning, Stop, text_over, in_string, in_token, stop_at, token_fault, string_fault, stop_fault, Entry, ended, unended, with_end}
-use Rattle.dns_spec.specs.Meaning.{faulty, gives, SortGives, sort_of, Meaning, records, fault_at, after, line_after, EntriesMean, OctetsMean, Means}
+use Rattle.dns_spec.specs.ZoneText.{most_octets, extent_of, Token, token_front, TokensThen, parenthesis, parentheses, is_line_end, open_after, before_first, cut_entries, take_turns, is_open_at_end, is_cut_short, begins_line_end, string_length, is_string_octet, Extent, whole_text, beginning, EntryStop, text_over, in_string, in_token, stop_at, token_fault, string_fault, stop_fault, Entry, ended, unended, with_end}
+use Rattle.dns_spec.specs.Meaning.{faulty, gives, KindGives, kind_of, Meaning, records, fault_at, after, line_after, EntriesMean, OctetsMean, Means}
 use Rattle.dns_spec.proofs.ZoneTexts.TextTokens.{has_tokens}
 use Rattle.dns_spec.proofs.ZoneTexts.OneMeaning.{FromHere}
 use Rattle.dns_spec.proofs.ZoneTexts.Beginnings.{mark_uncut, Loose, uncut, run_more, dropped_more, stop_place, front_kept, none_kept, cut_none}
@@ -153,7 +153,7 @@ no_end [] = refl
 no_end (t ∷ ts) = ap (cons_option (parenthesis t)) (no_end ts)
 
 -- why a beginning can't go on, and why the text can't
-never_none : (is_open : Bool) (stop : Stop) → stop_fault beginning is_open stop ≡ None → ⊥
+never_none : (is_open : Bool) (stop : EntryStop) → stop_fault beginning is_open stop ≡ None → ⊥
 never_none is_open text_over e = none-some too_long (sym e)
 never_none is_open (in_string place) e = none-some _ (sym e)
 never_none is_open (in_token place) e = none-some _ (sym e)
@@ -271,7 +271,7 @@ module _ (o : DomainName) (fault : FileFault) (line : ℕ) where
       found f is = same_fault fault f line (line_after earlier) (subst (FromHere o earlier (unended beginning rest ts) [] (fault_at fault line)) is k)
 
       stopped : (s : Option FileFault) → stop_fault beginning (is_open_at_end ts) (stop_at rest) ≡ s → take_turns false (parentheses ts) ≡ true
-          → MatchOption s (SortGives o earlier (sort_of (unended beginning rest ts)) given) (λ f. given ≡ faulty f) → LastFault earlier ts rest
+          → MatchOption s (KindGives o earlier (kind_of (unended beginning rest ts)) given) (λ f. given ≡ faulty f) → LastFault earlier ts rest
       stopped None e turns h = absurd (never_none (is_open_at_end ts) (stop_at rest) e)
       stopped (Some f) e turns h =
           let same = found f h in
@@ -279,7 +279,7 @@ module _ (o : DomainName) (fault : FileFault) (line : ℕ) where
 
       go : (b : Bool) → take_turns false (parentheses ts) ≡ b
           → MatchOption (if b then stop_fault beginning (is_open_at_end ts) (stop_at rest) else Some bad_parenthesis)
-          (SortGives o earlier (sort_of (unended beginning rest ts)) given) (λ f. given ≡ faulty f) → LastFault earlier ts rest
+          (KindGives o earlier (kind_of (unended beginning rest ts)) given) (λ f. given ≡ faulty f) → LastFault earlier ts rest
       go false turns h = let same = found bad_parenthesis h in record { line_is = same.1; why = inl (turns, same.0) }
       go true turns h = stopped (stop_fault beginning (is_open_at_end ts) (stop_at rest)) refl turns h
 

@@ -10,7 +10,7 @@ use Rattle.dns_spec.specs.DataText.{Word, Says}
 use Rattle.dns_spec.specs.Records.{ResourceRecord}
 use Rattle.dns_spec.specs.ZoneText.{Token, most_octets, token_front, TokensThen, cut_entries, with_end, extent_of, Entry, Entries, lexical_fault}
 use Rattle.dns_spec.specs.FileFaults.{FileFault, unknown_directive, directive_words, bad_owner, no_owner}
-use Rattle.dns_spec.specs.Meaning.{EntryMeaning, faulty, gives, Nothing, Lowest, Sort, no_words, directive, owned, unowned, sort_of, directive_word, owner_word, OriginIs, NameIs, OwnerBefore, TtlSays, ttl_in_force, TtlIs, TypeIs, DataIs, IsRecord, Fields, fields, record_faults, RecordGives, OneWord, DirectiveSays, DirectiveGives, SortGives, EntryGives, Meaning, fault_at, after, line_after, EntriesMean, Means}
+use Rattle.dns_spec.specs.Meaning.{EntryMeaning, faulty, gives, Nothing, Lowest, EntryKind, no_words, directive, owned, unowned, kind_of, directive_word, owner_word, OriginIs, NameIs, OwnerBefore, TtlSays, ttl_in_force, TtlIs, TypeIs, DataIs, IsRecord, Fields, fields, record_faults, RecordGives, OneWord, DirectiveSays, DirectiveGives, KindGives, EntryGives, Meaning, fault_at, after, line_after, EntriesMean, Means}
 use Rattle.dns_spec.proofs.NameTexts.OneName.{name_once}
 use Rattle.dns_spec.proofs.DataWords.OneData.{data_once}
 use Rattle.dns_spec.proofs.DataWords.TypeWords.{one_type}
@@ -40,7 +40,7 @@ lowest_once ((fault, Condition) ∷ higher) P once a b (inr (none, h)) (inr (non
 origin_once : (o : DomainName) (earlier : List Entry) (n m : DomainName) → OriginIs o earlier n → OriginIs o earlier m → n ≡ m
 origin_once o [] n m h k = h ∙ sym k
 origin_once o (e ∷ earlier) n m h k =
-    by_option (directive_word (codes "$origin") (sort_of e)) n m (origin_once o earlier n m)
+    by_option (directive_word (codes "$origin") (kind_of e)) n m (origin_once o earlier n m)
     (λ w before before'.
     (let same = origin_once o earlier before.0 before'.0 before.1 before'.1 in
     name_once before'.0 w.raw n m (subst (λ x. SpellsName x w.raw n) same before.2) before'.2))
@@ -53,7 +53,7 @@ name_is_once o earlier w n m (unquoted, (x, h, spelled)) (unquoted', (y, k, spel
 owner_once : (o : DomainName) (earlier : List Entry) (n m : DomainName) → OwnerBefore o earlier n → OwnerBefore o earlier m → n ≡ m
 owner_once o [] n m h k = absurd h
 owner_once o (e ∷ earlier) n m h k =
-    by_option (owner_word (sort_of e)) n m (owner_once o earlier n m) (λ w. name_is_once o earlier w n m) h k
+    by_option (owner_word (kind_of e)) n m (owner_once o earlier n m) (λ w. name_is_once o earlier w n m) h k
 
 ttl_says_once : (w : Word) (n m : ℕ) → TtlSays w n → TtlSays w m → n ≡ m
 ttl_says_once w n m (unquoted, spelled, few) (unquoted', spelled', few') =
@@ -103,15 +103,15 @@ directive_gives_once o earlier name ws a b =
     (says_once (λ n w. TtlSays w n) ws a b)
     (given (faulty unknown_directive) a b))
 
-sort_gives_once : (o : DomainName) (earlier : List Entry) (s : Sort) → Once (SortGives o earlier s)
-sort_gives_once o earlier no_words = given (gives [])
-sort_gives_once o earlier (directive name ws) = directive_gives_once o earlier name ws
-sort_gives_once o earlier (owned w ws) = record_gives_once o earlier bad_owner (NameIs o earlier w) (fields ws) (name_is_once o earlier w)
-sort_gives_once o earlier (unowned ws) = record_gives_once o earlier no_owner (OwnerBefore o earlier) (fields ws) (owner_once o earlier)
+kind_gives_once : (o : DomainName) (earlier : List Entry) (s : EntryKind) → Once (KindGives o earlier s)
+kind_gives_once o earlier no_words = given (gives [])
+kind_gives_once o earlier (directive name ws) = directive_gives_once o earlier name ws
+kind_gives_once o earlier (owned w ws) = record_gives_once o earlier bad_owner (NameIs o earlier w) (fields ws) (name_is_once o earlier w)
+kind_gives_once o earlier (unowned ws) = record_gives_once o earlier no_owner (OwnerBefore o earlier) (fields ws) (owner_once o earlier)
 
 entry_gives_once : (o : DomainName) (earlier : List Entry) (e : Entry) → Once (EntryGives o earlier e)
 entry_gives_once o earlier e a b =
-    by_option (lexical_fault e) a b (sort_gives_once o earlier (sort_of e) a b) (λ code. given (faulty code) a b)
+    by_option (lexical_fault e) a b (kind_gives_once o earlier (kind_of e) a b) (λ code. given (faulty code) a b)
 
 -- what the entries mean from here, where this one gives that
 abbrev pub FromHere : DomainName → List Entry → Entry → List Entry → Meaning → EntryMeaning → Type 0

@@ -11,7 +11,7 @@ use Rattle.dns_spec.specs.DataText.{Word}
 use Rattle.dns_spec.specs.Records.{ResourceRecord}
 use Rattle.dns_spec.specs.ZoneText.{Entry, entry_words, begins_blank, lexical_fault}
 use Rattle.dns_spec.specs.FileFaults.{too_many_records, FileFault, bad_owner, no_owner, unknown_directive, directive_words, bad_ttl, other_class, bad_type, no_ttl, bad_data}
-use Rattle.dns_spec.specs.Meaning.{EntryMeaning, faulty, gives, Sort, no_words, directive, owned, unowned, is_directive, sort_by_words, sort_of, directive_word, owner_word, is_record, OriginIs, NameIs, OwnerBefore, TtlSays, ttl_in_force, most_ttl, TtlIs, TypeIs, DataIs, is_zone_type, Fields, class_after, ttl_after, is_ttl_word, is_class_word, fields, IsRecord, most_records, are_too_many, RecordGives, DirectiveGives, SortGives, EntryGives, Meaning, records, fault_at, after, EntriesMean, Means}
+use Rattle.dns_spec.specs.Meaning.{EntryMeaning, faulty, gives, EntryKind, no_words, directive, owned, unowned, is_directive, kind_by_words, kind_of, directive_word, owner_word, is_record, OriginIs, NameIs, OwnerBefore, TtlSays, ttl_in_force, most_ttl, TtlIs, TypeIs, DataIs, is_zone_type, Fields, class_after, ttl_after, is_ttl_word, is_class_word, fields, IsRecord, most_records, are_too_many, RecordGives, DirectiveGives, KindGives, EntryGives, Meaning, records, fault_at, after, EntriesMean, Means}
 use Rattle.dns_spec.specs.ZonePrinted.{IsReadRecord, HasZoneType}
 use Rattle.dns_spec.proofs.ZoneChecks.FaultOrder.{folded_folded}
 use Rattle.dns_spec.proofs.Records.SortedOnce.{Each}
@@ -23,8 +23,8 @@ use Rattle.dns_spec.proofs.ZoneTexts.OneMeaning.{type_once}
 use Rattle.dns_spec.proofs.ZoneTexts.ReadOctets.{Octet, SmallName, SmallWord, name_small, folded_small, data_small}
 use Rattle.dns_spec.proofs.ZoneTexts.ReadTokens.{SmallEntry, entries_small, words_small}
 
--- a record by the words of an entry of this sort
-abbrev IsRecordOf : DomainName → List Entry → Sort → ResourceRecord → Type 0
+-- a record by the words of an entry of this kind
+abbrev IsRecordOf : DomainName → List Entry → EntryKind → ResourceRecord → Type 0
 IsRecordOf o earlier no_words r = ⊥
 IsRecordOf o earlier (directive name ws) r = ⊥
 IsRecordOf o earlier (owned w ws) r = IsRecord o earlier (NameIs o earlier w) (fields ws) r
@@ -42,7 +42,7 @@ unless_holds Q faults code answer others (inr (none, h)) = others h
 
 -- What holds of each record by the words of an entry holds of all that a text means. The entries of the text keep what `Kept` says.
 module _ (o : DomainName) (Kept : Entry → Type 0) (P : ResourceRecord → Type 0)
-    (holds : (earlier : List Entry) (e : Entry) → Each Kept earlier → Kept e → (r : ResourceRecord) → IsRecordOf o earlier (sort_of e) r → P r) where
+    (holds : (earlier : List Entry) (e : Entry) → Each Kept earlier → Kept e → (r : ResourceRecord) → IsRecordOf o earlier (kind_of e) r → P r) where
   abbrev Given : EntryMeaning → Type 0
   Given (faulty code) = ⊤
   Given (gives rs) = Each P rs
@@ -78,7 +78,7 @@ module _ (o : DomainName) (Kept : Entry → Type 0) (P : ResourceRecord → Type
       by_bool (octets_equal name (codes "$origin")) (unless_given directive_words answer (none_given answer))
       (by_bool (octets_equal name (codes "$ttl")) (unless_given directive_words answer (none_given answer)) (fault_given answer unknown_directive))
 
-  sort_given : (earlier : List Entry) (s : Sort) (answer : EntryMeaning) → ((r : ResourceRecord) → IsRecordOf o earlier s r → P r) → SortGives o earlier s answer → Given answer
+  sort_given : (earlier : List Entry) (s : EntryKind) (answer : EntryMeaning) → ((r : ResourceRecord) → IsRecordOf o earlier s r → P r) → KindGives o earlier s answer → Given answer
   sort_given earlier no_words answer each h = none_given answer h
   sort_given earlier (directive name ws) answer each h = directive_given earlier name ws answer h
   sort_given earlier (owned w ws) answer each h = record_given earlier bad_owner (NameIs o earlier w) (fields ws) answer each h
@@ -87,8 +87,8 @@ module _ (o : DomainName) (Kept : Entry → Type 0) (P : ResourceRecord → Type
   entry_given : (earlier : List Entry) (e : Entry) (answer : EntryMeaning) → Each Kept earlier → Kept e → EntryGives o earlier e answer → Given answer
   entry_given earlier e answer keeps kept = by_fault (lexical_fault e)
     where
-      by_fault : (fault : Option FileFault) → MatchOption fault (SortGives o earlier (sort_of e) answer) (λ code. answer ≡ faulty code) → Given answer
-      by_fault None h = sort_given earlier (sort_of e) answer (holds earlier e keeps kept) h
+      by_fault : (fault : Option FileFault) → MatchOption fault (KindGives o earlier (kind_of e) answer) (λ code. answer ≡ faulty code) → Given answer
+      by_fault None h = sort_given earlier (kind_of e) answer (holds earlier e keeps kept) h
       by_fault (Some code) h = fault_given answer code h
 
   each_joined : (rs ss : List ResourceRecord) → Each P rs → Each P ss → Each P (rs ++ ss)
@@ -119,7 +119,7 @@ record_low o earlier Owner f r is =
     let (n, _, e) = is.owner in
     ap folded e ∙ folded_folded n ∙ sym e
 
-sort_low : (o : DomainName) (earlier : List Entry) (s : Sort) (r : ResourceRecord) → IsRecordOf o earlier s r → LowerOwner r
+sort_low : (o : DomainName) (earlier : List Entry) (s : EntryKind) (r : ResourceRecord) → IsRecordOf o earlier s r → LowerOwner r
 sort_low o earlier no_words r is = absurd is
 sort_low o earlier (directive name ws) r is = absurd is
 sort_low o earlier (owned w ws) r is = record_low o earlier (NameIs o earlier w) (fields ws) r is
@@ -127,31 +127,31 @@ sort_low o earlier (unowned ws) r is = record_low o earlier (OwnerBefore o earli
 
 pub owners_low : (o : DomainName) (text : Octets) (rs : List ResourceRecord) → Means o text (records rs) → All LowerOwner rs
 owners_low o text rs (es, cut, h) =
-    records_hold o (λ _. Unit {0}) LowerOwner (λ earlier e keeps kept r is. sort_low o earlier (sort_of e) r is) es rs (each_kept es) h
+    records_hold o (λ _. Unit {0}) LowerOwner (λ earlier e keeps kept r is. sort_low o earlier (kind_of e) r is) es rs (each_kept es) h
 
 -- the words of an entry spell octets below 256
-abbrev SmallSort : Sort → Type 0
+abbrev SmallSort : EntryKind → Type 0
 SmallSort no_words = Unit {0}
 SmallSort (directive name ws) = Each SmallWord ws
 SmallSort (owned w ws) = SmallWord w × Each SmallWord ws
 SmallSort (unowned ws) = Each SmallWord ws
 
-sort_by : (b : Bool) (s s' : Sort) → SmallSort s → SmallSort s' → SmallSort (cond b s s')
+sort_by : (b : Bool) (s s' : EntryKind) → SmallSort s → SmallSort s' → SmallSort (cond b s s')
 sort_by true s s' h k = h
 sort_by false s s' h k = k
 
-words_sort : (blank : Bool) (ws : List Word) → Each SmallWord ws → SmallSort (sort_by_words blank ws)
-words_sort blank [] small = tt
-words_sort blank (w ∷ ws) small = sort_by blank _ _ small (sort_by (is_directive w) _ _ small.1 small)
+words_kind : (blank : Bool) (ws : List Word) → Each SmallWord ws → SmallSort (kind_by_words blank ws)
+words_kind blank [] small = tt
+words_kind blank (w ∷ ws) small = sort_by blank _ _ small (sort_by (is_directive w) _ _ small.1 small)
 
-sort_small : (e : Entry) → SmallEntry e → SmallSort (sort_of e)
-sort_small e small = words_sort (begins_blank e.tokens) (entry_words e) (words_small e small)
+sort_small : (e : Entry) → SmallEntry e → SmallSort (kind_of e)
+sort_small e small = words_kind (begins_blank e.tokens) (entry_words e) (words_small e small)
 
 abbrev SmallOption : Option Word → Type 0
 SmallOption None = Unit {0}
 SmallOption (Some w) = SmallWord w
 
-directive_small : (name : Octets) (s : Sort) → SmallSort s → SmallOption (directive_word name s)
+directive_small : (name : Octets) (s : EntryKind) → SmallSort s → SmallOption (directive_word name s)
 directive_small name no_words small = tt
 directive_small name (directive n []) small = tt
 directive_small name (directive n (w ∷ ws)) small = go (octets_equal n name)
@@ -192,7 +192,7 @@ module _ (o : DomainName) (from : SmallName o) where
   origin_small : (earlier : List Entry) (n : DomainName) → Each SmallEntry earlier → OriginIs o earlier n → SmallName n
   origin_small [] n small h = subst SmallName (sym h) from
   origin_small (e ∷ earlier) n small h =
-      go (directive_word (codes "$origin") (sort_of e)) (directive_small (codes "$origin") (sort_of e) (sort_small e small.0)) (λ m. origin_small earlier m small.1) h
+      go (directive_word (codes "$origin") (kind_of e)) (directive_small (codes "$origin") (kind_of e) (sort_small e small.0)) (λ m. origin_small earlier m small.1) h
     where
       go : (w : Option Word) → SmallOption w → ((m : DomainName) → OriginIs o earlier m → SmallName m)
           → MatchOption w (OriginIs o earlier n) (λ w. (m : DomainName) × OriginIs o earlier m × SpellsName m w.raw n) → SmallName n
@@ -204,9 +204,9 @@ module _ (o : DomainName) (from : SmallName o) where
 
   owner_small : (earlier : List Entry) (n : DomainName) → Each SmallEntry earlier → OwnerBefore o earlier n → SmallName n
   owner_small [] n small h = absurd h
-  owner_small (e ∷ earlier) n small h = go (sort_of e) (sort_small e small.0) h (owner_small earlier n small.1)
+  owner_small (e ∷ earlier) n small h = go (kind_of e) (sort_small e small.0) h (owner_small earlier n small.1)
     where
-      go : (s : Sort) → SmallSort s → MatchOption (owner_word s) (OwnerBefore o earlier n) (λ w. NameIs o earlier w n) → (OwnerBefore o earlier n → SmallName n) → SmallName n
+      go : (s : EntryKind) → SmallSort s → MatchOption (owner_word s) (OwnerBefore o earlier n) (λ w. NameIs o earlier w n) → (OwnerBefore o earlier n → SmallName n) → SmallName n
       go no_words words is before = before is
       go (directive name ws) words is before = before is
       go (owned w ws) words is before = name_is_small earlier w n small.1 words.0 is
@@ -219,7 +219,7 @@ module _ (o : DomainName) (from : SmallName o) where
 -- owners are names
 owner_is_name : (o : DomainName) (earlier : List Entry) (n : DomainName) → OwnerBefore o earlier n → is_name n ≡ true
 owner_is_name o [] n h = absurd h
-owner_is_name o (e ∷ earlier) n h = go (owner_word (sort_of e)) h (owner_is_name o earlier n)
+owner_is_name o (e ∷ earlier) n h = go (owner_word (kind_of e)) h (owner_is_name o earlier n)
   where
     go : (w : Option Word) → MatchOption w (OwnerBefore o earlier n) (λ w. NameIs o earlier w n) → (OwnerBefore o earlier n → is_name n ≡ true) → is_name n ≡ true
     go None h before = before h
@@ -283,7 +283,7 @@ record_read o earlier Owner f r from small owners words is =
       known.1,
     )
 
-sort_read : (o : DomainName) (earlier : List Entry) (s : Sort) (r : ResourceRecord) → SmallName o → Each SmallEntry earlier → SmallSort s → IsRecordOf o earlier s r
+sort_read : (o : DomainName) (earlier : List Entry) (s : EntryKind) (r : ResourceRecord) → SmallName o → Each SmallEntry earlier → SmallSort s → IsRecordOf o earlier s r
     → IsReadRecord r × HasZoneType r
 sort_read o earlier no_words r from small words is = absurd is
 sort_read o earlier (directive name ws) r from small words is = absurd is
@@ -296,7 +296,7 @@ pub records_read : (o : DomainName) (text : Octets) (rs : List ResourceRecord) �
 records_read o text rs from (es, cut, h) =
     let all : All (λ r. IsReadRecord r × HasZoneType r) rs =
     records_hold o SmallEntry (λ r. IsReadRecord r × HasZoneType r)
-    (λ earlier e keeps kept r is. sort_read o earlier (sort_of e) r (small_name o from) keeps (sort_small e kept) is) es rs (entries_small text es cut) h
+    (λ earlier e keeps kept r is. sort_read o earlier (kind_of e) r (small_name o from) keeps (sort_small e kept) is) es rs (entries_small text es cut) h
     in
     (All-weaker (λ r. IsReadRecord r × HasZoneType r) IsReadRecord (λ r is. is.0) rs all, All-weaker (λ r. IsReadRecord r × HasZoneType r) HasZoneType (λ r is. is.1) rs all)
 
@@ -304,7 +304,7 @@ records_read o text rs from (es, cut, h) =
 abbrev counted : List Entry → ℕ
 counted es = length (filter is_record es)
 
-abbrev states_record : Sort → Bool
+abbrev states_record : EntryKind → Bool
 states_record s = elim s as (λ _. Bool) [ no_words ↦ false | directive n ws ↦ false | owned w ws ↦ true | unowned ws ↦ true ]
 
 -- an entry that states a record gives one, if there is room for it, and another none
@@ -349,7 +349,7 @@ directive_fits o earlier name ws answer few =
     by_bool (octets_equal name (codes "$origin")) (unless_fits false (counted earlier) directive_words answer none)
     (by_bool (octets_equal name (codes "$ttl")) (unless_fits false (counted earlier) directive_words answer none) (λ e. subst (Fits false (counted earlier)) (sym e) tt))
 
-sort_fits : (o : DomainName) (earlier : List Entry) (s : Sort) (answer : EntryMeaning) → counted earlier ≤ most_records → SortGives o earlier s answer
+sort_fits : (o : DomainName) (earlier : List Entry) (s : EntryKind) (answer : EntryMeaning) → counted earlier ≤ most_records → KindGives o earlier s answer
     → Fits (states_record s) (counted earlier) answer
 sort_fits o earlier no_words answer few h = none_fits (counted earlier) answer few h
 sort_fits o earlier (directive name ws) answer few h = directive_fits o earlier name ws answer few h
@@ -360,8 +360,8 @@ entry_fits : (o : DomainName) (earlier : List Entry) (e : Entry) (answer : Entry
     → Fits (is_record e) (counted earlier) answer
 entry_fits o earlier e answer few = go (lexical_fault e)
   where
-    go : (fault : Option FileFault) → MatchOption fault (SortGives o earlier (sort_of e) answer) (λ code. answer ≡ faulty code) → Fits (is_record e) (counted earlier) answer
-    go None h = sort_fits o earlier (sort_of e) answer few h
+    go : (fault : Option FileFault) → MatchOption fault (KindGives o earlier (kind_of e) answer) (λ code. answer ≡ faulty code) → Fits (is_record e) (counted earlier) answer
+    go None h = sort_fits o earlier (kind_of e) answer few h
     go (Some code) h = subst (Fits (is_record e) (counted earlier)) (sym h) tt
 
 counted_more : (b : Bool) (e : Entry) (es : List Entry) → length (cond b (e ∷ es) es) ≡ cond b 1 0 + length es

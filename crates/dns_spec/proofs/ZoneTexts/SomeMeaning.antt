@@ -12,7 +12,7 @@ use Rattle.dns_spec.specs.DataText.{Word}
 use Rattle.dns_spec.specs.Records.{ResourceRecord}
 use Rattle.dns_spec.specs.FileFaults.{FileFault, unknown_directive, directive_words, bad_owner, no_owner, bad_ttl}
 use Rattle.dns_spec.specs.ZoneText.{most_octets, Extent, extent_of, Entry, with_end, cut_entries, lexical_fault}
-use Rattle.dns_spec.specs.Meaning.{EntryMeaning, faulty, gives, Nothing, Lowest, Sort, no_words, directive, owned, unowned, sort_of, nearest, directive_word, ttl_word, NameIs, OwnerBefore, TtlSays, ttl_in_force, IsRecord, Fields, fields, IsNoTtl, record_faults, RecordGives, OneWord, DirectiveSays, DirectiveGives, SortGives, EntryGives, Meaning, records, fault_at, after, line_after, EntriesMean, OctetsMean, Means}
+use Rattle.dns_spec.specs.Meaning.{EntryMeaning, faulty, gives, Nothing, Lowest, EntryKind, no_words, directive, owned, unowned, kind_of, nearest, directive_word, ttl_word, NameIs, OwnerBefore, TtlSays, ttl_in_force, IsRecord, Fields, fields, IsNoTtl, record_faults, RecordGives, OneWord, DirectiveSays, DirectiveGives, KindGives, EntryGives, Meaning, records, fault_at, after, line_after, EntriesMean, OctetsMean, Means}
 use Rattle.dns_spec.proofs.ZoneTexts.TextTokens.{has_tokens}
 use Rattle.dns_spec.proofs.DomainNames.NameLaws.{octets_equal-decides}
 
@@ -105,7 +105,7 @@ module _ (o : DomainName) (earlier : List Entry) where
           subst SaysTtl (same_Some v w e) (and_so (some_there some) (λ found. sure (found.0, one_says v ws found.0 found.1)))
 
   -- what an entry without fault says of TTLs
-  default_says : (rs : List ResourceRecord) (s : Sort) → SortGives o earlier s (gives rs) → EachSays (directive_word (codes "$ttl") s)
+  default_says : (rs : List ResourceRecord) (s : EntryKind) → KindGives o earlier s (gives rs) → EachSays (directive_word (codes "$ttl") s)
   default_says rs no_words h w e = absurd (none-some w e)
   default_says rs (directive name []) h w e = absurd (none-some w e)
   default_says rs (directive name (v ∷ ws)) h w e = directive_says rs name v ws h w e
@@ -118,23 +118,23 @@ module _ (o : DomainName) (earlier : List Entry) where
   record_says rs owner_fault Owner f (inr (some, inl (none, is))) = absurd (faultless rs bad_ttl is)
   record_says rs owner_fault Owner f (inr (some, inr (stated, more))) = stated_says f.ttl stated
 
-  record_ttl_says : (rs : List ResourceRecord) (s : Sort) → SortGives o earlier s (gives rs) → EachSays (ttl_word s)
+  record_ttl_says : (rs : List ResourceRecord) (s : EntryKind) → KindGives o earlier s (gives rs) → EachSays (ttl_word s)
   record_ttl_says rs no_words h w e = absurd (none-some w e)
   record_ttl_says rs (directive name ws) h w e = absurd (none-some w e)
   record_ttl_says rs (owned v ws) h w e = record_says rs bad_owner (NameIs o earlier v) (fields ws) h w e
   record_ttl_says rs (unowned ws) h w e = record_says rs no_owner (OwnerBefore o earlier) (fields ws) h w e
 
-  known_more : (rs : List ResourceRecord) (e : Entry) → Known earlier → SortGives o earlier (sort_of e) (gives rs) → Known (e ∷ earlier)
+  known_more : (rs : List ResourceRecord) (e : Entry) → Known earlier → KindGives o earlier (kind_of e) (gives rs) → Known (e ∷ earlier)
   known_more rs e known h = record {
-    default = either_says (directive_word (codes "$ttl") (sort_of e)) (nearest (directive_word (codes "$ttl")) earlier) (default_says rs (sort_of e) h) known.default;
-    stated = either_says (ttl_word (sort_of e)) (nearest ttl_word earlier) (record_ttl_says rs (sort_of e) h) known.stated;
+    default = either_says (directive_word (codes "$ttl") (kind_of e)) (nearest (directive_word (codes "$ttl")) earlier) (default_says rs (kind_of e) h) known.default;
+    stated = either_says (ttl_word (kind_of e)) (nearest ttl_word earlier) (record_ttl_says rs (kind_of e) h) known.stated;
   }
 
-  sort_given : (rs : List ResourceRecord) (e : Entry) → EntryGives o earlier e (gives rs) → SortGives o earlier (sort_of e) (gives rs)
+  sort_given : (rs : List ResourceRecord) (e : Entry) → EntryGives o earlier e (gives rs) → KindGives o earlier (kind_of e) (gives rs)
   sort_given rs e = go (lexical_fault e)
     where
-      go : (fault : Option FileFault) → MatchOption fault (SortGives o earlier (sort_of e) (gives rs)) (λ f. gives rs ≡ faulty f)
-          → SortGives o earlier (sort_of e) (gives rs)
+      go : (fault : Option FileFault) → MatchOption fault (KindGives o earlier (kind_of e) (gives rs)) (λ f. gives rs ≡ faulty f)
+          → KindGives o earlier (kind_of e) (gives rs)
       go None h = h
       go (Some f) h = absurd (faultless rs f h)
 
@@ -166,7 +166,7 @@ module _ (o : DomainName) (earlier : List Entry) where
             ),
           )))))
 
-  sort_sure : (s : Sort) → Known earlier → Sure ((given : EntryMeaning) × SortGives o earlier s given)
+  sort_sure : (s : EntryKind) → Known earlier → Sure ((given : EntryMeaning) × KindGives o earlier s given)
   sort_sure no_words known = sure (gives [], refl)
   sort_sure (directive name ws) known = go (octets_equal name (codes "$origin")) (octets_equal name (codes "$ttl"))
     where
@@ -181,8 +181,8 @@ module _ (o : DomainName) (earlier : List Entry) where
   entry_sure : (e : Entry) → Known earlier → Sure ((given : EntryMeaning) × EntryGives o earlier e given)
   entry_sure e known = go (lexical_fault e)
     where
-      go : (fault : Option FileFault) → Sure ((given : EntryMeaning) × MatchOption fault (SortGives o earlier (sort_of e) given) (λ f. given ≡ faulty f))
-      go None = sort_sure (sort_of e) known
+      go : (fault : Option FileFault) → Sure ((given : EntryMeaning) × MatchOption fault (KindGives o earlier (kind_of e) given) (λ f. given ≡ faulty f))
+      go None = sort_sure (kind_of e) known
       go (Some f) = sure (faulty f, refl)
 
 entries_sure : (o : DomainName) (earlier es : List Entry) → Known earlier → Sure ((m : Meaning) × EntriesMean o earlier es m)

@@ -1,6 +1,6 @@
 use Rattle.std.proofs.Common.{◌≡◌, ◌+◌, subst, sym, ap, ◌∙◌}
 use Rattle.dns_spec.specs.ZoneText.{ended}
-use Rattle.dns_spec.specs.Meaning.{Sort, SortGives, sort_of, sort_by_words, faulty}
+use Rattle.dns_spec.specs.Meaning.{EntryKind, KindGives, kind_of, kind_by_words, faulty}
 use Rattle.dns_master.specs.Codes.{fault_of}
 use Rattle.dns_master.specs.EntryForm.{EntryRead, outcome_of}
 use Rattle.dns_name.proofs.Results.{fault_handed_on}
@@ -26,20 +26,20 @@ returns-in_err-take_words-clause-err c =
     fault_handed_on c.from_residual-in_err-take_words.result c.in_err-take_words.field-0.0 _ c.from_residual-in_err-take_words.ensures.1 (λ other o earlier known.
     let read = subst (λ before. EntryRead c.args.text.now before c.read_entry.new.words.items c.in_ok-end.end.lines (outcome_of c.in_ok-end.end.is_ended c.in_ok-end.end.is_open c.in_ok-end.end.rest.now))
     c.clear.ensures.items c.in_ok-end.ensures.ok in
-    let sort : sort_of (ended read.tokens) ≡ sort_by_words c.begins_blank.result c.as_slice.result.now =
+    let sort : kind_of (ended read.tokens) ≡ kind_by_words c.begins_blank.result c.as_slice.result.now =
     same_sort c.args.text.now read.tokens c.read_entry.new.words.items _ read.reads read.words
-    ∙ ap (λ b. sort_by_words b c.read_entry.new.words.items) (sym c.begins_blank.ensures) ∙ ap (sort_by_words c.begins_blank.result) (sym c.as_slice.ensures.value) in
+    ∙ ap (λ b. kind_by_words b c.read_entry.new.words.items) (sym c.begins_blank.ensures) ∙ ap (kind_by_words c.begins_blank.result) (sym c.as_slice.ensures.value) in
     entry-faulty o earlier c.args.goes_on c.args.text.now c.in_ok-end.end.rest.now _ _ c.in_ok-end.end.is_ended c.in_ok-end.end.is_open read
     c.in_ok-check_end.ensures.ok (fault_of c.in_err-take_words.field-0.0)
-    (subst (λ (s : Sort). SortGives o earlier s (faulty (fault_of c.in_err-take_words.field-0.0))) (sym sort) (c.in_err-take_words.ensures.err other o earlier known)))
+    (subst (λ (s : EntryKind). KindGives o earlier s (faulty (fault_of c.in_err-take_words.field-0.0))) (sym sort) (c.in_err-take_words.ensures.err other o earlier known)))
 
 pub returns-clause-ok : goal.returns-clause-ok
 returns-clause-ok c = λ o earlier known line.
     let read = subst (λ before. EntryRead c.args.text.now before c.read_entry.new.words.items c.in_ok-end.end.lines (outcome_of c.in_ok-end.end.is_ended c.in_ok-end.end.is_open c.in_ok-end.end.rest.now))
     c.clear.ensures.items c.in_ok-end.ensures.ok in
-    let sort : sort_of (ended read.tokens) ≡ sort_by_words c.begins_blank.result c.as_slice.result.now =
+    let sort : kind_of (ended read.tokens) ≡ kind_by_words c.begins_blank.result c.as_slice.result.now =
     same_sort c.args.text.now read.tokens c.read_entry.new.words.items _ read.reads read.words
-    ∙ ap (λ b. sort_by_words b c.read_entry.new.words.items) (sym c.begins_blank.ensures) ∙ ap (sort_by_words c.begins_blank.result) (sym c.as_slice.ensures.value) in
+    ∙ ap (λ b. kind_by_words b c.read_entry.new.words.items) (sym c.begins_blank.ensures) ∙ ap (kind_by_words c.begins_blank.result) (sym c.as_slice.ensures.value) in
     let done = c.in_ok-take_words.ensures.ok o earlier (ended read.tokens) known sort in
     record {
       entry = ended read.tokens;

@@ -2,7 +2,7 @@ use Rattle.std.proofs.Common.{◌≡◌, ◌≢◌, List}
 use Rattle.dns_spec.specs.Names.{DomainName}
 use Rattle.dns_spec.specs.ZoneText.{Entry}
 use Rattle.dns_spec.specs.FileFaults.{bad_owner, no_owner}
-use Rattle.dns_spec.specs.Meaning.{RecordGives, faulty, NameIs, owned, sort_of, fields}
+use Rattle.dns_spec.specs.Meaning.{RecordGives, faulty, NameIs, owned, kind_of, fields}
 use Rattle.dns_spec.proofs.DataWords.LoweredData.{folded-folded}
 use Rattle.dns_master.specs.Codes.{fault_of}
 use Rattle.dns_master.specs.declared.fault.ReadCode.{ReadCode}
@@ -19,7 +19,7 @@ pub returns-clause-ok : goal.returns-clause-ok
 returns-clause-ok c =
     let all : ((o : DomainName) (earlier : List Entry) → Knows o earlier c.args.self.now
     → RecordTaken o earlier c.fold_in_place.new.self (fields c.args.words.now) c.args.self.now c.take_record.new.self)
-    → (o : DomainName) (earlier : List Entry) (e : Entry) → Knows o earlier c.args.self.now → sort_of e ≡ owned c.args.owner.now c.args.words.now
+    → (o : DomainName) (earlier : List Entry) (e : Entry) → Knows o earlier c.args.self.now → kind_of e ≡ owned c.args.owner.now c.args.words.now
     → EntryTaken o earlier e c.args.self.now c.take_record.new.self =
     λ taken o earlier e known is.
     let named = (c.read_name.ensures c.in-Some.owner).0 c.in-Some.is in

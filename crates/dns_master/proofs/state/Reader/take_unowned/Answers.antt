@@ -5,7 +5,7 @@ use Rattle.dns_spec.specs.Names.{DomainName, folded}
 use Rattle.dns_spec.specs.Records.{ResourceRecord}
 use Rattle.dns_spec.specs.ZoneText.{Entry}
 use Rattle.dns_spec.specs.FileFaults.{no_owner}
-use Rattle.dns_spec.specs.Meaning.{RecordGives, faulty, OwnerBefore, unowned, sort_of, fields}
+use Rattle.dns_spec.specs.Meaning.{RecordGives, faulty, OwnerBefore, unowned, kind_of, fields}
 use Rattle.dns_master.specs.Codes.{fault_of}
 use Rattle.dns_master.specs.declared.fault.ReadCode.{ReadCode}
 use Rattle.dns_master.specs.declared.fault.ReadCode.TheVariants.{NoMemory}
@@ -33,7 +33,7 @@ pub returns-clause-ok : goal.returns-clause-ok
 returns-clause-ok c =
     let all : ((o : DomainName) (earlier : List Entry) → Knows o earlier c.args.self.now
     → RecordTaken o earlier c.copied-owner.result (fields c.args.words.now) c.args.self.now c.take_record.new.self)
-    → (o : DomainName) (earlier : List Entry) (e : Entry) → Knows o earlier c.args.self.now → sort_of e ≡ unowned c.args.words.now
+    → (o : DomainName) (earlier : List Entry) (e : Entry) → Knows o earlier c.args.self.now → kind_of e ≡ unowned c.args.words.now
     → EntryTaken o earlier e c.args.self.now c.take_record.new.self =
     λ taken o earlier e known is.
     let last = subst (LastOwner o earlier) (copied_is c) known.owner_is in
