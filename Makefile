@@ -1,4 +1,4 @@
-.PHONY: run programs built install uninstall clean package examples docs-check test misuse clients messages memory bench
+.PHONY: run programs built install uninstall clean package examples docs-check test misuse clients speed messages memory bench
 
 PREFIX ?= /usr/local
 NAMES = zonecheck zoneserve dnsmsg
@@ -74,6 +74,10 @@ misuse: programs
 # Serves real clients on loopback: dig, kdig, dnsperf, a resolver, and peers that behave badly. It is no part of the gate.
 clients: built
 	tools/clients crates/zoneserve/out/zoneserve
+
+# Measures zoneserve beside NSD, Knot and BIND where they are installed. It decides nothing, and is no part of the gate.
+speed: built
+	tools/speed crates/zoneserve/out/zoneserve
 
 # Gives broken messages to dnsmsg, and times the worst one. It is no part of the gate.
 messages: built
