@@ -63,7 +63,7 @@ docs-check: built
 	tools/test-units crates/zonecheck/out/zonecheck
 
 test:
-	rt ci
+	RT_JOBS=$$(tools/lanes) rt ci
 
 # Runs the programs on wrong words, on files that can't be read, on faulty files, and on outputs that take nothing, and sees
 # that callers which misuse a walk over a zone don't compile. It is no part of the gate.
