@@ -1,4 +1,4 @@
-.PHONY: run programs built install uninstall clean package examples docs-check test misuse clients speed messages memory bench
+.PHONY: run programs built install uninstall clean package examples docs-check test misuse clients speed faults messages memory bench
 
 PREFIX ?= /usr/local
 NAMES = zonecheck zoneserve dnsmsg
@@ -78,6 +78,11 @@ clients: built
 # Measures zoneserve beside NSD, Knot and BIND where they are installed. It decides nothing, and is no part of the gate.
 speed: built
 	tools/speed crates/zoneserve/out/zoneserve
+
+# Runs the programs on bad days: refused memory, failing calls of the system, bad streams, signals. It is no part of the
+# gate.
+faults: built
+	tools/faults $(PROGRAMS)
 
 # Gives broken messages to dnsmsg, and times the worst one. It is no part of the gate.
 messages: built
