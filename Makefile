@@ -1,4 +1,4 @@
-.PHONY: run programs built install uninstall clean package examples docs-check test misuse memory bench
+.PHONY: run programs built install uninstall clean package examples docs-check test misuse clients messages memory bench
 
 PREFIX ?= /usr/local
 NAMES = zonecheck zoneserve dnsmsg
@@ -6,6 +6,7 @@ PROGRAMS = $(foreach name,$(NAMES),crates/$(name)/out/$(name))
 PAGES = $(wildcard man/*.1)
 DOC = $(DESTDIR)$(PREFIX)/share/doc/mitrehyssop
 SHARE = $(DESTDIR)$(PREFIX)/share/mitrehyssop
+UNITS = $(DESTDIR)$(PREFIX)/lib/systemd/system
 COMPLETIONS = $(DESTDIR)$(PREFIX)/share/bash-completion/completions
 
 # Builds the programs, checks two zones in examples/, and asks the server about one of them.
@@ -26,18 +27,20 @@ built:
 # Installs what is built below PREFIX, or below DESTDIR where a package is made. The examples lie beside the documents by a link,
 # since small systems keep no documents, and scripts use them.
 install: built
-	install -d "$(DESTDIR)$(PREFIX)/bin" "$(DESTDIR)$(PREFIX)/share/man/man1" "$(DOC)/docs" "$(SHARE)/examples" "$(COMPLETIONS)"
+	install -d "$(DESTDIR)$(PREFIX)/bin" "$(DESTDIR)$(PREFIX)/share/man/man1" "$(DOC)/docs" "$(SHARE)/examples" "$(COMPLETIONS)" "$(UNITS)"
 	install -m 755 $(PROGRAMS) "$(DESTDIR)$(PREFIX)/bin"
 	install -m 644 $(PAGES) "$(DESTDIR)$(PREFIX)/share/man/man1"
 	install -m 644 README.md LICENSE-MIT LICENSE-APACHE "$(DOC)"
 	install -m 644 docs/*.md "$(DOC)/docs"
 	cp examples/* "$(SHARE)/examples"
 	ln -sfn ../../mitrehyssop/examples "$(DOC)/examples"
+	for unit in systemd/*; do sed 's|@PREFIX@|$(PREFIX)|' "$$unit" >"$(UNITS)/$${unit##*/}"; done
 	for name in $(NAMES); do install -m 644 tools/completion "$(COMPLETIONS)/$$name"; done
 
 uninstall:
 	rm -f $(foreach name,$(NAMES),"$(DESTDIR)$(PREFIX)/bin/$(name)" "$(COMPLETIONS)/$(name)")
 	rm -f $(foreach page,$(PAGES),"$(DESTDIR)$(PREFIX)/share/man/man1/$(notdir $(page))")
+	rm -f $(foreach unit,$(wildcard systemd/*),"$(UNITS)/$(notdir $(unit))")
 	rm -rf "$(DOC)" "$(SHARE)"
 
 # Takes away what was built, proofs that are kept too: the next build proves all.
@@ -67,6 +70,14 @@ test:
 misuse: programs
 	tools/misuse crates/zonecheck/out/zonecheck crates/zoneserve/out/zoneserve
 	tools/must-not-compile
+
+# Serves real clients on loopback: dig, kdig, dnsperf, a resolver, and peers that behave badly. It is no part of the gate.
+clients: built
+	tools/clients crates/zoneserve/out/zoneserve
+
+# Gives broken messages to dnsmsg, and times the worst one. It is no part of the gate.
+messages: built
+	tools/messages crates/dnsmsg/out/dnsmsg
 
 # Refuses each program each of its allocations in turn. It proves nothing, and is no part of the gate.
 memory:

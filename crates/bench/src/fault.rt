@@ -41,6 +41,12 @@ impl From<RdataFault> for Fault {
     }
 }
 
+impl From<ReadFault> for Fault {
+    fn from(fault: ReadFault) -> Fault {
+        Fault::Zone(fault)
+    }
+}
+
 impl From<SinkFailed> for Fault {
     fn from(_fault: SinkFailed) -> Fault {
         Fault::Sink

@@ -1,7 +1,7 @@
 //! How long it takes to read data from the words of a zone file, and to write it.
 //!
-//! `bench` prints a table of times. `bench count` does each work once and prints what came of it, with no times.
-//! `bench WORK ROUNDS` does one work so often, for a tool that counts instructions.
+//! `bench` prints a table of times. `bench count` does each work once and prints what came of it,
+//! with no times. `bench WORK ROUNDS` does one work so often, for a tool that counts instructions.
 #![tactic(auto)]
 
 mod fault;
@@ -16,7 +16,8 @@ use std::rt::Env;
 use std::time::CpuClock;
 use work::{WORKS, Work};
 
-// How often a work is timed: the shortest time counts, since other programs can only make it longer.
+// How often a work is timed: the shortest time counts, since other programs can only make it
+// longer.
 const TRIES: u32 = 5;
 
 fn main(rt: HostRuntime) -> Result<(), Fault> {
@@ -29,7 +30,7 @@ fn main(rt: HostRuntime) -> Result<(), Fault> {
     }
 }
 
-// The words behind the program's own name.
+// The words after the program's own name.
 fn given_words<R: Env + AllocGlobal>(rt: &R) -> Result<Vec<String>, Fault> {
     let mut words = Vec::new(rt.alloc());
     for word in env::args(rt)?.skip(1) {
@@ -38,7 +39,8 @@ fn given_words<R: Env + AllocGlobal>(rt: &R) -> Result<Vec<String>, Fault> {
     Ok(words)
 }
 
-// The table: a line for each work, with the processor's time for each datum and for each octet of data.
+// The table: a line for each work, with the processor's time for each datum and for each octet of
+// data.
 fn print_times<R: CpuClock + Print + AllocGlobal>(rt: &R) -> Result<(), Fault> {
     println!(rt;
         "{:<20} {:>8} {:>12} {:>12}",

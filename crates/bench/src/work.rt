@@ -32,7 +32,8 @@ pub(crate) struct Done {
 
 #[derive(Clone, Copy)]
 enum Kind {
-    // TXT data of full strings, as many as this, and one string of 254 octets, each octet spelled so.
+    // TXT data of full strings, as many as this, and one string of 254 octets, each octet spelled
+    // so.
     ReadText(usize, &'static [u8]),
     WriteText(usize, &'static [u8]),
     // Addresses, a datum each.
@@ -44,7 +45,8 @@ enum Kind {
     ReadZone(u32),
 }
 
-/// The works, in the order of the table. Those over text of different lengths have the same octets in all.
+/// The works, in the order of the table. Those over text of different lengths have the same octets
+/// in all.
 pub(crate) const WORKS: [Work; 22] = [
     Work {
         name: "read-txt-8191",
@@ -245,10 +247,7 @@ fn write_addresses(
 fn read(alloc: Global, rtype: RType, words: &[Word<'_>]) -> Result<Rdata, Fault>
     ensures { IfOk result (λ d. Valid rtype.0 d) }
 {
-    match Rdata::read_words(alloc, rtype, words, &Name::root()) {
-        Ok(rdata) => Ok(rdata),
-        Err(fault) => Err(Fault::Input(fault)),
-    }
+    Ok(Rdata::read_words(alloc, rtype, words, &Name::root())?)
 }
 
 // Writes what words say, so often.
@@ -290,10 +289,7 @@ fn read_file(alloc: Global, records: u32, rounds: u32) -> Result<Done, Fault> {
     let mut done = Done::NOTHING;
     for _ in 0..rounds {
         let mut source = Tally::new(text.as_slice());
-        let records = match read_zone(alloc, &origin, &mut source) {
-            Ok(records) => records,
-            Err(fault) => return Err(Fault::Zone(fault)),
-        };
+        let records = read_zone(alloc, &origin, &mut source)?;
         done.add(Done {
             data: records.len() as u64,
             octets: text.len() as u64,
@@ -302,7 +298,8 @@ fn read_file(alloc: Global, records: u32, rounds: u32) -> Result<Done, Fault> {
     Ok(done)
 }
 
-// Looks at the octets that were written last, so that no write is left out as useless. No text has octets 0.
+// Looks at the octets that were written last, so that no write is left out as useless. No text has
+// octets 0.
 fn looked_at(sink: Tally<Scratch>, done: Done) -> Result<Done, Fault> {
     if sink.into_inner().octets.iter().all(|octet| *octet == 0) {
         return Err(Fault::Sink);

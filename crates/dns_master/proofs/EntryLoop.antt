@@ -4,7 +4,7 @@ use Rattle.std.specs.List.{filter, cons_option}
 use Rattle.dns_spec.specs.Names.{Octets}
 use Rattle.dns_spec.specs.DataText.{Word}
 use Rattle.dns_spec.specs.ZoneText.{Token, token_front, is_line_end, word_of}
-use Rattle.dns_spec.proofs.TextTokens.{front-shorter}
+use Rattle.dns_spec.proofs.ZoneTexts.TextTokens.{front-shorter}
 use Rattle.dns_master.specs.EntryForm.{misplaced, over, onward, step, Outcome, ended, unended, wrong, Reads, token_words, line_ends, EntryRead, IsWrong}
 
 cons_option-append : {X : Type 0} (x : Option X) (xs ys : List X) → cons_option x (xs ++ ys) ≡ cons_option x xs ++ ys

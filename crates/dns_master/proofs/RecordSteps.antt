@@ -1,18 +1,20 @@
--- The parts of a record one after another: the first that is wrong is the fault that is told.
+-- The parts of a record one after another: the first that is wrong is the fault that is reported.
 use Rattle.std.proofs.Common.{◌≡◌, ℕ, true, false, List, [], ◌∷◌, drop, refl, sym, ap, ◌∙◌, subst, inl, inr, Option, Some, None}
 use Rattle.std.proofs.lemmas.Bool.{false≢true}
 use Rattle.std.proofs.lemmas.Option.{none-some, same_Some}
 use Rattle.std.specs.Prelude.{MatchOption, IfSome, if◌then◌else◌}
 use Rattle.std.specs.Option.{option_or, option_copied, is_none, is_some}
+use Rattle.std.specs.Bool.{IsTrue}
 use Rattle.std.specs.Borrow.{Bor}
 use Rattle.dns_spec.specs.Names.{Octets, DomainName, folded}
+use Rattle.dns_spec.specs.Records.{ResourceRecord}
 use Rattle.dns_spec.specs.Data.{lower_case}
 use Rattle.dns_spec.specs.DataText.{Word, Says}
 use Rattle.dns_spec.specs.ZoneText.{Entry}
 use Rattle.dns_spec.specs.FileFaults.{bad_data, bad_ttl, bad_type, no_owner, no_ttl, other_class, too_many_records}
-use Rattle.dns_spec.specs.Meaning.{Nothing, Fields, EntryMeaning, faulty, gives, OriginIs, TtlSays, ttl_in_force, TypeIs, DataIs, IsNoTtl, is_other_class, are_too_many, RecordGives}
-use Rattle.dns_spec.proofs.LoweredData.{lowered-twice}
-use Rattle.dns_spec.proofs.TypeWords.{one_type}
+use Rattle.dns_spec.specs.Meaning.{Nothing, Lowest, IsRecord, Fields, EntryMeaning, faulty, gives, OriginIs, TtlSays, ttl_in_force, TypeIs, DataIs, IsNoTtl, is_other_class, are_too_many, RecordGives}
+use Rattle.dns_spec.proofs.DataWords.LoweredData.{lowered-twice}
+use Rattle.dns_spec.proofs.DataWords.TypeWords.{one_type}
 use Rattle.dns_master.specs.RecordForm.{TtlOf}
 
 pub type-one : (ws : List Word) (t u : ℕ) → TypeIs ws t → TypeIs ws u → t ≡ u
@@ -78,77 +80,34 @@ module _ (o : DomainName) (earlier : List Entry) (owner : DomainName) (f : Field
         inr (named, inr (ttl-stated f.ttl stated a, inr (is_in b, inr (typed, inl (none_known (ttl_in_force earlier f.ttl) known k e, refl)))))
 
     module _ (ttl : ℕ) (e : known ≡ Some ttl) (origin : DomainName) (is : OriginIs o earlier origin) (only : (n : DomainName) → OriginIs o earlier n → n ≡ origin) where
+      -- what is given where no part before the data is wrong
+      from_data : (given : EntryMeaning)
+          → Lowest ((bad_data, Nothing (DataIs o earlier f.others)) ∷ (too_many_records, IsTrue (are_too_many earlier)) ∷ [])
+          (λ given. (r : ResourceRecord) × IsRecord o earlier (λ n. n ≡ owner) f r × (given ≡ gives (r ∷ []))) given
+          → RecordGives o earlier no_owner (λ n. n ≡ owner) f given
+      from_data given rest =
+          inr (named, inr (ttl-stated f.ttl stated a, inr (is_in b, inr (typed, inr (some_ttl (ttl_in_force earlier f.ttl) known ttl k e, rest)))))
+
       pub data-fault : Nothing (Says t (drop 1 f.others) origin) → RecordGives o earlier no_owner (λ n. n ≡ owner) f (faulty bad_data)
       data-fault none =
-          inr (
-            named,
-            inr (
-              ttl-stated f.ttl stated a,
-              inr (
-                is_in b,
-                inr (
-                  typed,
-                  inr (
-                    some_ttl (ttl_in_force earlier f.ttl) known ttl k e,
-                    inl ((λ d h. none d (subst (λ u. Says u (drop 1 f.others) origin d) (type-one f.others h.0 t h.1 c) (subst (λ m. Says h.0 (drop 1 f.others) m d) (only h.2.0 h.2.1) h.2.2))), refl),
-                  ),
-                ),
-              ),
-            ),
-          )
+          let other : Nothing (DataIs o earlier f.others) = λ d h.
+          none d (subst (λ u. Says u (drop 1 f.others) origin d) (type-one f.others h.0 t h.1 c) (subst (λ m. Says h.0 (drop 1 f.others) m d) (only h.2.0 h.2.1) h.2.2)) in
+          from_data (faulty bad_data) (inl (other, refl))
 
       module _ (d : Octets) (said : Says t (drop 1 f.others) origin d) where
-        told : Nothing (DataIs o earlier f.others) → ⊥
-        told none = none d (t, c, (origin, is, said))
+        has_data : Nothing (DataIs o earlier f.others) → ⊥
+        has_data none = none d (t, c, (origin, is, said))
 
         pub count-fault : are_too_many earlier ≡ true → RecordGives o earlier no_owner (λ n. n ≡ owner) f (faulty too_many_records)
-        count-fault h =
-            inr (
-              named,
-              inr (
-                ttl-stated f.ttl stated a,
-                inr (
-                  is_in b,
-                  inr (
-                    typed,
-                    inr (
-                      some_ttl (ttl_in_force earlier f.ttl) known ttl k e,
-                      inr (told, inl (h, refl)),
-                    ),
-                  ),
-                ),
-              ),
-            )
+        count-fault h = from_data (faulty too_many_records) (inr (has_data, inl (h, refl)))
 
         pub record-given : folded owner ≡ owner → are_too_many earlier ≡ false
             → RecordGives o earlier no_owner (λ n. n ≡ owner) f (gives (record { owner = owner; ttl = ttl; rtype = t; rdata = d } ∷ []))
         record-given low h =
-            inr (
-              named,
-              inr (
-                ttl-stated f.ttl stated a,
-                inr (
-                  is_in b,
-                  inr (
-                    typed,
-                    inr (
-                      some_ttl (ttl_in_force earlier f.ttl) known ttl k e,
-                      inr (
-                        told,
-                        inr (
-                          (λ x. false≢true (sym h ∙ x)),
-                          (
-                            record { owner = owner; ttl = ttl; rtype = t; rdata = d },
-                            record { owner = (owner, refl, sym low); ttl = known_ttl (ttl_in_force earlier f.ttl) known ttl k e; rtype = c; rdata = (t, c, (origin, is, said)) },
-                            refl,
-                          ),
-                        ),
-                      ),
-                    ),
-                  ),
-                ),
-              ),
-            )
+            let r : ResourceRecord = record { owner = owner; ttl = ttl; rtype = t; rdata = d } in
+            let is_record : IsRecord o earlier (λ n. n ≡ owner) f r =
+            record { owner = (owner, refl, sym low); ttl = known_ttl (ttl_in_force earlier f.ttl) known ttl k e; rtype = c; rdata = (t, c, (origin, is, said)) } in
+            from_data (gives (r ∷ [])) (inr (has_data, inr ((λ x. false≢true (sym h ∙ x)), (r, is_record, refl))))
 
 -- data that words say has its names in lower case
 pub said-lowered : (t : ℕ) (ws : List Word) (o : DomainName) (d : Octets) → Says t ws o d → lower_case t d ≡ d

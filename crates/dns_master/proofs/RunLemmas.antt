@@ -3,7 +3,7 @@ use Rattle.std.proofs.Common.{◌≡◌, ℕ, zero, suc, ◌+◌, ◌≤◌, Boo
 use Rattle.std.specs.Prelude.{if◌then◌else◌}
 use Rattle.dns_spec.specs.Names.{Octets}
 use Rattle.dns_spec.specs.ZoneText.{escape_left, unit_left, run_length}
-use Rattle.dns_spec.proofs.Escapes.{counted_escape, escape-counted}
+use Rattle.dns_spec.proofs.NameTexts.Escapes.{counted_escape, escape-counted}
 
 module _ (by : ℕ → Bool) where
   -- the octets of an escape

@@ -10,7 +10,7 @@ use Rattle.dns_spec.specs.Records.{ResourceRecord}
 use Rattle.dns_spec.specs.ZoneText.{Token, quoted_string, line_end, Entry, ended, token_front, TokensThen, is_blank, is_blank_token, begins_blank, closed, line_feed_front, word_length, string_length, cut_entries, with_end, is_open_at_end, take_turns, parentheses, whole_text, extent_by, stop_fault, stop_at, Extent, beginning, in_string, in_token}
 use Rattle.dns_spec.specs.FileFaults.{bad_parenthesis, too_long, FileFault}
 use Rattle.dns_spec.specs.Meaning.{EntryMeaning, faulty, gives, Meaning, records, fault_at, after, line_after, SortGives, sort_of, sort_by_words, EntryGives, EntriesMean}
-use Rattle.dns_spec.proofs.TextTokens.{has_tokens, front-shorter}
+use Rattle.dns_spec.proofs.ZoneTexts.TextTokens.{has_tokens, front-shorter}
 use Rattle.dns_master.specs.EntryForm.{Reads, unended, wrong, IsWrong, line_ends, token_words, EntryRead, outcome_of, TextMeans}
 use Rattle.dns_master.specs.EntryForm as form
 use Rattle.dns_master.proofs.EntryLoop.{lines-append}

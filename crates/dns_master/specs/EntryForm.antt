@@ -1,5 +1,5 @@
--- What a reader learns here: how the tokens of an entry are read from left to right, by the cases of the code, and what a
--- text means from one of its entries on.
+-- What a reader learns here: how the tokens of an entry are read from left to right, by the cases
+-- of the code, and what a text means from one of its entries on.
 use Rattle.std.specs.Prelude.{◌≡◌, ℕ, Bool, true, false, List, [], ◌∷◌, ◌++◌, length, if◌then◌else◌, Some, None}
 use Rattle.std.specs.List.{filter, filter_map}
 use Rattle.dns_spec.specs.Names.{Octets, DomainName}
@@ -7,8 +7,8 @@ use Rattle.dns_spec.specs.DataText.{Word}
 use Rattle.dns_spec.specs.ZoneText.{Token, blank, comment, word, quoted_string, opening, closing, line_end, Entry, token_front, TokensThen, cut_entries, with_end, is_line_end, word_of, extent_by}
 use Rattle.dns_spec.specs.Meaning.{Meaning, EntriesMean}
 
--- How reading goes on after a token: not at all, since a parenthesis is misplaced, or since the entry has ended; or inside
--- parentheses or outside them.
+-- How reading goes on after a token: not at all, since a parenthesis is misplaced, or since the
+-- entry has ended; or inside parentheses or outside them.
 pub data Step : Type 0 where
   misplaced : Step
   over : Step
@@ -23,14 +23,15 @@ step is_open opening = if is_open then misplaced else onward true
 step is_open closing = if is_open then onward false else misplaced
 step is_open line_end = if is_open then onward true else over
 
--- Where reading an entry ends: after its line end, at the rest of the text, inside parentheses or outside them, where no
--- token begins; or at a parenthesis that is misplaced.
+-- Where reading an entry ends: after its line end, at the rest of the text, inside parentheses or
+-- outside them, where no token begins; or at a parenthesis that is misplaced.
 pub data Outcome : Type 0 where
   ended : Octets → Outcome
   unended : Bool → Octets → Outcome
   wrong : Outcome
 
--- the tokens of an entry from here on, inside parentheses or outside them, and where reading it ends
+-- the tokens of an entry from here on, inside parentheses or outside them, and where reading it
+-- ends
 abbrev pub Reads : Bool → Octets → List Token → Outcome → Type 0
 Reads is_open text [] outcome = (token_front text ≡ None) × (outcome ≡ unended is_open text)
 Reads is_open text (p ∷ ps) outcome =
@@ -48,7 +49,8 @@ abbrev pub line_ends : List Token → ℕ
 line_ends ps = length (filter is_line_end ps)
 
 -- an entry was read: its words are pushed, and its line ends counted
-pub record EntryRead (text : Octets) (before after : List Word) (lines : ℕ) (outcome : Outcome) : Type 0 where
+pub record EntryRead (text : Octets) (before after : List Word) (lines : ℕ)
+    (outcome : Outcome) : Type 0 where
   pub tokens : List Token
   pub reads : Reads false text tokens outcome
   pub words : after ≡ before ++ token_words tokens
@@ -62,7 +64,8 @@ abbrev pub outcome_of : Bool → Bool → Octets → Outcome
 outcome_of is_ended is_open rest = if is_ended then ended rest else unended is_open rest
 
 -- what a text means from an entry on, after the entries before it
-pub record TextMeans (o : DomainName) (earlier : List Entry) (goes_on : Bool) (text : Octets) (m : Meaning) : Type 0 where
+pub record TextMeans (o : DomainName) (earlier : List Entry) (goes_on : Bool) (text : Octets)
+    (m : Meaning) : Type 0 where
   pub tokens : List Token
   pub rest : Octets
   pub spelled : TokensThen text tokens rest

@@ -1,4 +1,5 @@
--- What a reader learns here: what the reader of a zone file reads from single words, and what it keeps of the entries so far.
+-- What a reader learns here: what the reader of a zone file reads from single words, and what it
+-- keeps of the entries so far.
 use Rattle.std.specs.Prelude.{⊤, ◌≡◌, ℕ, ◌≤◌, not, List, [], ◌∷◌, length, IsTrue, MatchOption, Option, Some, None, codes}
 use Rattle.std.specs.Borrow.{Bor}
 use Rattle.std.specs.List.{filter}
@@ -33,10 +34,13 @@ TtlOf (Some w) ttl = (n : ℕ) × (ttl ≡ Some n) × TtlSays w n
 -- the owner that was stated last, in lower case
 abbrev pub LastOwner : DomainName → List Entry → Option DomainName → Type 0
 LastOwner o earlier owner =
-    MatchOption owner (Nothing (OwnerBefore o earlier)) (λ f. (n : DomainName) × OwnerBefore o earlier n × (f ≡ folded n))
+    MatchOption owner (Nothing (OwnerBefore o earlier))
+    (λ f. (n : DomainName) × OwnerBefore o earlier n × (f ≡ folded n))
 
--- What the entries so far give to those after them: the origin, the owner and the TTLs in force, and how many records they are.
-pub record Inherited (o : DomainName) (earlier : List Entry) (origin : DomainName) (owner : Option DomainName) (default_ttl stated_ttl : Option ℕ) (count : ℕ) : Type 0 where
+-- What the entries so far give to those after them: the origin, the owner and the TTLs in force,
+-- and how many records they are.
+pub record Inherited (o : DomainName) (earlier : List Entry) (origin : DomainName)
+    (owner : Option DomainName) (default_ttl stated_ttl : Option ℕ) (count : ℕ) : Type 0 where
   pub origin_is : OriginIs o earlier origin
   pub no_other : (n : DomainName) → OriginIs o earlier n → n ≡ origin
   pub owner_is : LastOwner o earlier owner
@@ -44,8 +48,8 @@ pub record Inherited (o : DomainName) (earlier : List Entry) (origin : DomainNam
   pub stated_is : TtlOf (nearest ttl_word earlier) stated_ttl
   pub count_is : count ≡ length (filter is_record earlier)
 
--- what every record keeps: its owner is in lower case, its TTL within the limit, and its data valid for its type, with its
--- names in lower case
+-- what every record keeps: its owner is in lower case, its TTL within the limit, and its data valid
+-- for its type, with its names in lower case
 pub record IsKept (owner : DomainName) (ttl t : ℕ) (d : Octets) : Type 0 where
   pub low : folded owner ≡ owner
   pub short : ttl ≤ most_ttl

@@ -1,11 +1,13 @@
--- What a reader learns here: what one read of a source appends to a text, and which text all reads give.
+-- What a reader learns here: what one read of a source appends to a text, and which text all reads
+-- give.
 use Rattle.std.specs.Prelude.{⊤, ◌≡◌, ℕ, ◌≤◌, ◌<◌, Bool, true, false, [], ◌++◌, length, take, MatchOption, Option}
 use Rattle.std.specs.Io.KnownBytes.{Consumes, IsAtEnd}
 use Rattle.dns_spec.specs.Names.{Octets, DomainName}
 use Rattle.dns_spec.specs.Meaning.{Meaning, Means}
 
 -- a read appended what came of the known octets, of so many at most; nothing only at their end
-pub record AppendsPiece (old new : Option Octets) (most : ℕ) (before after : Octets) (more : Bool) : Type 0 where
+pub record AppendsPiece (old new : Option Octets) (most : ℕ) (before after : Octets)
+    (more : Bool) : Type 0 where
   pub came : Octets
   pub grown : after ≡ before ++ came
   pub consumed : Consumes old new came
@@ -17,6 +19,7 @@ pub record AppendsPiece (old new : Option Octets) (most : ℕ) (before after : O
 abbrev pub TextOf : Option Octets → Octets → Type 0
 TextOf known text = MatchOption known ⊤ (λ x. text ≡ take 16777217 x)
 
--- the octets that the source has still to give, to its end, mean this as the file of a zone with this origin
+-- the octets that the source has still to give, to its end, mean this as the file of a zone with
+-- this origin
 abbrev pub GivesMeaning : Option Octets → DomainName → Meaning → Type 0
 GivesMeaning known origin m = MatchOption known ⊤ (λ x. Means origin x m)

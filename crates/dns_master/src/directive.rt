@@ -17,7 +17,8 @@ pub(crate) fn is_directive(word: &Word<'_>) -> bool
 
 /// The origin that the words of `$ORIGIN` say, which is relative to the one before.
 pub(crate) fn read_origin(words: &[Word<'_>], origin: &Name) -> Option<Name>
-    ensures { (n : DomainName) → (result ≡ Some n) ↔ OneWord (λ w. SpelledName origin.now w n) words.now }
+    ensures { (n : DomainName) → (result ≡ Some n)
+        ↔ OneWord (λ w. SpelledName origin.now w n) words.now }
 {
     match only_word(words) {
         Some(word) => read_name(word, origin),

@@ -1,4 +1,5 @@
-//! The entries of a text: from the beginning of a line to the first line end outside parentheses (RFC 1035 5.1).
+//! The entries of a text: from the beginning of a line to the first line end outside parentheses
+//! (RFC 1035 5.1).
 ghost use Rattle.std.specs.Prelude.{◌≡◌, ◌≢◌, ◌+◌, ◌≤◌, ◌++◌, [], ◌∷◌, ◌⊎◌, true, false, Some, None, length, take, IfOk, IfErr, IfSome, OnOk};
 ghost use Rattle.std.specs.List.{list_any};
 ghost use Rattle.std.specs.Option.{option_map};
@@ -34,9 +35,11 @@ pub(crate) fn read_entry<'a>(
     words: &mut Vec<Word<'a>>,
 ) -> Result<EntryEnd<'a>, ReadCode>
     requires { length text.now ≤ 16777217 }
-    ensures ok { IfOk result (λ end. EntryRead text.now words.old.items words.new.items end.lines (outcome_of end.is_ended end.is_open end.rest.now)) }
+    ensures ok { IfOk result (λ end. EntryRead text.now words.old.items words.new.items end.lines
+        (outcome_of end.is_ended end.is_open end.rest.now)) }
     ensures bound { IfOk result (λ end. end.lines + length end.rest.now ≤ length text.now) }
-    ensures err { IfErr result (λ code. code ≢ ReadCode.NoMemory → (code ≡ ReadCode.Parenthesis) × IsWrong text.now) }
+    ensures err { IfErr result (λ code. code ≢ ReadCode.NoMemory
+        → (code ≡ ReadCode.Parenthesis) × IsWrong text.now) }
     ensures source { IfErr result (λ code. code ≢ ReadCode.SourceFailed) }
 {
     let mut lines = 0;
@@ -65,8 +68,8 @@ pub(crate) fn read_entry<'a>(
     })
 }
 
-// How reading an entry goes on after a token: not at all, since a parenthesis is misplaced, or since the entry has ended;
-// or inside parentheses or outside them.
+// How reading an entry goes on after a token: not at all, since a parenthesis is misplaced, or
+// since the entry has ended; or inside parentheses or outside them.
 #[derive(Clone, Copy, Debug, PartialEq, Eq)]
 enum Step {
     Misplaced,
@@ -89,7 +92,8 @@ fn step_after(token: Token<'_>, is_open: bool) -> Step
 
 // Pushes the word that a token is.
 fn push_word<'a>(words: &mut Vec<Word<'a>>, token: Token<'a>) -> Result<(), ReadCode>
-    ensures ok { OnOk result (words.new.items ≡ words.old.items ++ token_words (shown_token token.entry ∷ [])) }
+    ensures ok { OnOk result (words.new.items ≡ words.old.items ++ token_words
+        (shown_token token.entry ∷ [])) }
     ensures err { IfErr result (λ code. code ≡ ReadCode.NoMemory) }
 {
     let word = match token {
@@ -97,7 +101,7 @@ fn push_word<'a>(words: &mut Vec<Word<'a>>, token: Token<'a>) -> Result<(), Read
         Token::Quoted(raw) => Word { raw, quoted: true },
         _ => return Ok(()),
     };
-    words.push(word).map_err(|_| ReadCode::NoMemory)
+    Ok(words.push(word)?)
 }
 
 fn line_ends(token: Token<'_>) -> u32
@@ -116,10 +120,14 @@ pub(crate) fn begins_blank(text: &[u8]) -> bool
     text.first().is_some_and(|first| is_blank(*first))
 }
 
-/// Whether an entry may end as it does: it is ended by its line end, or by the end of a text that does not go on.
+/// Whether an entry may end as it does: it is ended by its line end, or by the end of a text that
+/// does not go on.
 pub(crate) fn check_end(end: &EntryEnd<'_>, goes_on: bool) -> Result<(), ReadCode>
-    ensures ok { OnOk result ((end.now.is_ended ≡ true) ⊎ (stop_fault (extent_by goes_on) end.now.is_open (stop_at end.now.rest.now) ≡ None)) }
-    ensures err { IfErr result (λ code. (end.now.is_ended ≡ false) × (stop_fault (extent_by goes_on) end.now.is_open (stop_at end.now.rest.now) ≡ Some (fault_of code))) }
+    ensures ok { OnOk result ((end.now.is_ended ≡ true)
+        ⊎ (stop_fault (extent_by goes_on) end.now.is_open (stop_at end.now.rest.now) ≡ None)) }
+    ensures err { IfErr result (λ code. (end.now.is_ended ≡ false)
+        × (stop_fault (extent_by goes_on) end.now.is_open (stop_at end.now.rest.now)
+        ≡ Some (fault_of code))) }
     ensures source { IfErr result (λ code. code ≢ ReadCode.SourceFailed) }
 {
     if end.is_ended {
@@ -131,9 +139,11 @@ pub(crate) fn check_end(end: &EntryEnd<'_>, goes_on: bool) -> Result<(), ReadCod
     }
 }
 
-// The fault of an entry that no line end ends: `goes_on` is whether the text goes on past its limit.
+// The fault of an entry that no line end ends: `goes_on` is whether the text goes on past its
+// limit.
 fn end_fault(end: &EntryEnd<'_>, goes_on: bool) -> Option<ReadCode>
-    ensures value { option_map fault_of result ≡ stop_fault (extent_by goes_on) end.now.is_open (stop_at end.now.rest.now) }
+    ensures value { option_map fault_of result ≡ stop_fault (extent_by goes_on) end.now.is_open
+        (stop_at end.now.rest.now) }
     ensures source { IfSome result (λ code. code ≢ ReadCode.SourceFailed) }
 {
     let Some((first, others)) = end.rest.split_first() else {
@@ -153,9 +163,11 @@ fn end_fault(end: &EntryEnd<'_>, goes_on: bool) -> Option<ReadCode>
     Some(unless_cut_short(goes_on, end.rest, token_fault(end.rest)))
 }
 
-// A fault at a place where the text can't go on, unless more octets than are looked at would be needed to tell.
+// A fault at a place where the text can't go on, unless more octets than are looked at would be
+// needed to tell.
 fn unless_cut_short(goes_on: bool, place: &[u8], fault: ReadCode) -> ReadCode
-    ensures value { fault_of result ≡ unless_cut_short (extent_by goes_on) place.now (fault_of fault) }
+    ensures value { fault_of result ≡ unless_cut_short (extent_by goes_on) place.now
+        (fault_of fault) }
     ensures source { fault ≢ ReadCode.SourceFailed → result ≢ ReadCode.SourceFailed }
 {
     if goes_on && is_cut_short(place) {

@@ -2,6 +2,9 @@
 ghost use Rattle.std.specs.Prelude.{◌≡◌};
 ghost use Rattle.dns_master.specs.Codes.{code_number};
 
+use dns_rdata::RdataFault;
+use std::alloc::{AllocError, AllocFailed};
+
 /// Why a zone file gives no records, by its code.
 #[derive(Clone, Copy, Debug, PartialEq, Eq)]
 pub enum ReadCode {
@@ -11,7 +14,8 @@ pub enum ReadCode {
     BadEscape = 2,
     /// A quoted string is not ended on its line.
     UnendedString = 3,
-    /// A parenthesis in a parenthesis, a close one without an open one, or the end of the text inside.
+    /// A parenthesis in a parenthesis, a close one without an open one, or the end of the text
+    /// inside.
     Parenthesis = 4,
     /// A directive other than `$ORIGIN` and `$TTL`.
     UnknownDirective = 5,
@@ -50,11 +54,50 @@ impl ReadCode {
     }
 }
 
+impl From<AllocError> for ReadCode {
+    ghost use Rattle.dns_master.specs.declared.fault.ReadCode.{ReadCode};
+
+    ghost from_gives = { λ _ code. code ≡ ReadCode.NoMemory };
+
+    fn from(_refused: AllocError) -> ReadCode {
+        ReadCode::NoMemory
+    }
+}
+
+impl<T: Drop> From<AllocFailed<T>> for ReadCode {
+    ghost use Rattle.dns_master.specs.declared.fault.ReadCode.{ReadCode};
+
+    ghost from_gives = { λ _ code. code ≡ ReadCode.NoMemory };
+
+    fn from(_refused: AllocFailed<T>) -> ReadCode {
+        ReadCode::NoMemory
+    }
+}
+
+/// The code of data that is none, whatever its fault.
+impl From<RdataFault> for ReadCode {
+    ghost use Rattle.std.specs.Prelude.{◌≢◌, ◌⊎◌};
+    ghost use Rattle.dns_rdata.specs.declared.fault.RdataFault.{RdataFault};
+    ghost use Rattle.dns_master.specs.declared.fault.ReadCode.{ReadCode};
+
+    ghost from_gives = { λ fault code.
+        ((fault ≡ RdataFault.NoMemory) × (code ≡ ReadCode.NoMemory))
+        ⊎ ((fault ≢ RdataFault.NoMemory) × (code ≡ ReadCode.BadData)) };
+
+    fn from(fault: RdataFault) -> ReadCode {
+        match fault {
+            RdataFault::NoMemory => ReadCode::NoMemory,
+            _ => ReadCode::BadData,
+        }
+    }
+}
+
 /// The fault of a zone file.
 #[derive(Clone, Copy, Debug, PartialEq, Eq)]
 pub struct ReadFault {
     /// What it is.
     pub code: ReadCode,
-    /// The line on which the faulty entry begins, counted from 1; 0 where the source failed or no memory was found.
+    /// The line on which the faulty entry begins, counted from 1; 0 where the source failed or no
+    /// memory was found.
     pub line: u32,
 }

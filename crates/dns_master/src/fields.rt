@@ -10,8 +10,8 @@ use crate::words::{is_word, read_ttl};
 use dns_rdata::{RType, Word};
 use std::marker::Model;
 
-/// The words of the TTL and the class, in either order and where they are stated, and the words after them: the type and
-/// the data.
+/// The words of the TTL and the class, in either order and where they are stated, and the words
+/// after them: the type and the data.
 #[derive(Debug, Drop)]
 pub(crate) struct Fields<'a, 'w> {
     pub(crate) ttl: Option<&'a Word<'w>>,
@@ -119,7 +119,8 @@ fn is_class_word(word: &Word<'_>) -> bool
 }
 
 fn is_class_name(raw: &[u8]) -> bool
-    ensures { result ≡ list_any (λ c. is_word c raw.now) (codes "in" ∷ codes "ch" ∷ codes "cs" ∷ codes "hs" ∷ []) }
+    ensures { result ≡ list_any (λ c. is_word c raw.now)
+        (codes "in" ∷ codes "ch" ∷ codes "cs" ∷ codes "hs" ∷ []) }
 {
     is_word(b"in", raw) || is_word(b"ch", raw) || is_word(b"cs", raw) || is_word(b"hs", raw)
 }
@@ -133,7 +134,8 @@ fn begins_class(raw: &[u8]) -> bool
 
 /// The TTL that is stated, if one is: `Ttl` where it is none.
 pub(crate) fn stated_ttl(stated: Option<&Word<'_>>) -> Result<Option<u32>, ReadCode>
-    ensures { MatchResult result (λ ttl. TtlOf (option_copied stated.entry) ttl) (λ code. (code ≡ ReadCode.BadTtl) × IsNoTtl (option_copied stated.entry)) }
+    ensures { MatchResult result (λ ttl. TtlOf (option_copied stated.entry) ttl)
+        (λ code. (code ≡ ReadCode.BadTtl) × IsNoTtl (option_copied stated.entry)) }
 {
     let Some(word) = stated else {
         return Ok(None);
@@ -153,7 +155,8 @@ pub(crate) fn is_other_class(stated: Option<&Word<'_>>) -> bool
 
 /// The type that the first word names, and the words of the data after it.
 pub(crate) fn type_and_words<'a, 'w>(words: &'a [Word<'w>]) -> Option<(RType, &'a [Word<'w>])>
-    ensures { MatchOption result (Nothing (TypeIs words.now)) (λ x. TypeIs words.now x.0.0 × (x.1.now ≡ drop 1 words.now)) }
+    ensures { MatchOption result (Nothing (TypeIs words.now))
+        (λ x. TypeIs words.now x.0.0 × (x.1.now ≡ drop 1 words.now)) }
 {
     let (first, others) = words.split_first()?;
     Some((read_type(first)?, others))
@@ -176,7 +179,8 @@ fn read_type(word: &Word<'_>) -> Option<RType>
     }
 }
 
-// Whether zones have the type: not 0, none of questions and messages (RFC 6895 3.1), none of DNSSEC and not DNAME.
+// Whether zones have the type: not 0, none of questions and messages (RFC 6895 3.1), none of DNSSEC
+// and not DNAME.
 fn is_zone_type(rtype: u16) -> bool
     ensures { result ≡ is_zone_type rtype }
 {

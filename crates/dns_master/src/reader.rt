@@ -22,7 +22,7 @@ use crate::source::{MOST_OCTETS, read_text};
 use crate::state::Reader;
 use crate::words::{is_word, read_name};
 use dns_name::{Name, Tally};
-use dns_rdata::{RType, Rdata, RdataFault, Word};
+use dns_rdata::{RType, Rdata, Word};
 use std::alloc::Global;
 use std::io::Read;
 
@@ -31,23 +31,27 @@ const MOST_RECORDS: usize = 100_000;
 
 /// Reads the zone file of a source, relative to the origin of the zone (RFC 1035 section 5).
 ///
-/// The records come in the order of the file, owners and names in data in lower case. At most 100,000 records and
-/// 16,777,216 octets are read, and never more than one octet past them is asked for.
+/// The records come in the order of the file, owners and names in data in lower case. At most
+/// 100,000 records and 16,777,216 octets are read, and never more than one octet past them is asked
+/// for.
 ///
-/// A faulty file gives no records: the first faulty entry is told by its line and code. In it the first of `R01` to `R04`
-/// and `R15` by place goes first, else the lowest code from `R05`. `R16` is told where the source failed, and `R17` only
-/// where no memory was found.
+/// A faulty file gives no records: the first faulty entry is reported by its line and code. In it
+/// the first of `R01` to `R04` and `R15` by place goes first, else the lowest code from `R05`.
+/// `R16` is reported where the source failed, and `R17` only where no memory was found.
 pub fn read_zone<R: Read>(
     alloc: Global,
     origin: &Name,
     source: &mut Tally<R>,
 ) -> Result<Vec<Record>, ReadFault>
     requires { source.old.failures < 2 ^ 64 - 1 }
-    ensures ok { IfOk result (λ found. GivesMeaning (R.remaining source.old.device) origin.now (records found.items)) }
+    ensures ok { IfOk result (λ found. GivesMeaning (R.remaining source.old.device) origin.now
+        (records found.items)) }
     ensures fault { IfErr result (λ f. f.code ≢ ReadCode.SourceFailed → f.code ≢ ReadCode.NoMemory
-        → GivesMeaning (R.remaining source.old.device) origin.now (fault_at (fault_of f.code) f.line)) }
+        → GivesMeaning (R.remaining source.old.device) origin.now
+        (fault_at (fault_of f.code) f.line)) }
     ensures few { IfOk result (λ found. length found.items ≤ most_records) }
-    ensures line { IfErr result (λ f. (f.code ≡ ReadCode.SourceFailed) ⊎ (f.code ≡ ReadCode.NoMemory) → f.line ≡ 0) }
+    ensures line { IfErr result (λ f. (f.code ≡ ReadCode.SourceFailed)
+        ⊎ (f.code ≡ ReadCode.NoMemory) → f.line ≡ 0) }
     ensures counted { source.new.failures ≡ failures_after_read source.old.failures result }
 {
     let text = match read_text(alloc, source) {
@@ -67,9 +71,11 @@ fn read_entries(
     goes_on: bool,
 ) -> Result<Vec<Record>, ReadFault>
     requires { length text.now ≤ 16777216 }
-    ensures ok { IfOk result (λ found. TextMeans origin.now [] goes_on text.now (records found.items)) }
+    ensures ok { IfOk result (λ found. TextMeans origin.now [] goes_on text.now
+        (records found.items)) }
     ensures few { IfOk result (λ found. length found.items ≤ most_records) }
-    ensures err { IfErr result (λ f. f.code ≢ ReadCode.NoMemory → TextMeans origin.now [] goes_on text.now (fault_at (fault_of f.code) f.line)) }
+    ensures err { IfErr result (λ f. f.code ≢ ReadCode.NoMemory
+        → TextMeans origin.now [] goes_on text.now (fault_at (fault_of f.code) f.line)) }
     ensures source { IfErr result (λ f. f.code ≢ ReadCode.SourceFailed) }
     ensures memory { IfErr result (λ f. f.code ≡ ReadCode.NoMemory → f.line ≡ 0) }
 {
@@ -126,12 +132,16 @@ impl Reader {
     ) -> Result<&'a [u8], ReadCode>
         requires some { text.now ≢ [] }
         requires fits { self.old.line + length text.now ≤ 16777217 }
-        ensures ok { IfOk result (λ rest. (o : DomainName) (earlier : List Entry) → Knows o earlier self.old → self.old.line ≡ line_after earlier
+        ensures ok { IfOk result (λ rest. (o : DomainName) (earlier : List Entry)
+            → Knows o earlier self.old → self.old.line ≡ line_after earlier
             → EntryDone o earlier goes_on text.now rest.now self.old self.new) }
         ensures shorter { IfOk result (λ rest. length rest.now < length text.now) }
-        ensures lines { IfOk result (λ rest. self.new.line + length rest.now ≤ self.old.line + length text.now) }
-        ensures err { IfErr result (λ code. code ≢ ReadCode.NoMemory → (o : DomainName) (earlier : List Entry) → Knows o earlier self.old
-            → TextMeans o earlier goes_on text.now (fault_at (fault_of code) (line_after earlier))) }
+        ensures lines { IfOk result (λ rest. self.new.line + length rest.now
+            ≤ self.old.line + length text.now) }
+        ensures err { IfErr result (λ code. code ≢ ReadCode.NoMemory
+            → (o : DomainName) (earlier : List Entry) → Knows o earlier self.old
+            → TextMeans o earlier goes_on text.now
+            (fault_at (fault_of code) (line_after earlier))) }
         ensures source { IfErr result (λ code. code ≢ ReadCode.SourceFailed) }
     {
         words.clear();
@@ -144,10 +154,12 @@ impl Reader {
 
     // Takes what the words of an entry say.
     fn take_words(&mut self, is_blank_led: bool, words: &[Word<'_>]) -> Result<(), ReadCode>
-        ensures ok { OnOk result ((o : DomainName) (earlier : List Entry) (e : Entry) → Knows o earlier self.old → sort_of e ≡ sort_by_words is_blank_led words.now
+        ensures ok { OnOk result ((o : DomainName) (earlier : List Entry) (e : Entry)
+            → Knows o earlier self.old → sort_of e ≡ sort_by_words is_blank_led words.now
             → EntryTaken o earlier e self.old self.new) }
         ensures line { OnOk result (self.new.line ≡ self.old.line) }
-        ensures err { IfErr result (λ code. code ≢ ReadCode.NoMemory → (o : DomainName) (earlier : List Entry) → Knows o earlier self.old
+        ensures err { IfErr result (λ code. code ≢ ReadCode.NoMemory
+            → (o : DomainName) (earlier : List Entry) → Knows o earlier self.old
             → SortGives o earlier (sort_by_words is_blank_led words.now) (faulty (fault_of code))) }
         ensures source { IfErr result (λ code. code ≢ ReadCode.SourceFailed) }
     {
@@ -165,11 +177,15 @@ impl Reader {
 
     // Takes a directive: its name, and the words after it.
     fn take_directive(&mut self, name: &[u8], words: &[Word<'_>]) -> Result<(), ReadCode>
-        ensures ok { OnOk result ((o : DomainName) (earlier : List Entry) (e : Entry) → Knows o earlier self.old → sort_of e ≡ directive (text_in_lower_case name.now) words.now
+        ensures ok { OnOk result ((o : DomainName) (earlier : List Entry) (e : Entry)
+            → Knows o earlier self.old → sort_of e
+            ≡ directive (text_in_lower_case name.now) words.now
             → EntryTaken o earlier e self.old self.new) }
         ensures line { OnOk result (self.new.line ≡ self.old.line) }
-        ensures err { IfErr result (λ code. code ≢ ReadCode.NoMemory → (o : DomainName) (earlier : List Entry) → Knows o earlier self.old
-            → SortGives o earlier (directive (text_in_lower_case name.now) words.now) (faulty (fault_of code))) }
+        ensures err { IfErr result (λ code. code ≢ ReadCode.NoMemory
+            → (o : DomainName) (earlier : List Entry) → Knows o earlier self.old
+            → SortGives o earlier (directive (text_in_lower_case name.now) words.now)
+            (faulty (fault_of code))) }
         ensures source { IfErr result (λ code. code ≢ ReadCode.SourceFailed) }
     {
         if is_word(b"$origin", name) {
@@ -183,11 +199,14 @@ impl Reader {
 
     // Takes the words of `$ORIGIN`.
     fn take_origin(&mut self, words: &[Word<'_>]) -> Result<(), ReadCode>
-        ensures ok { OnOk result ((o : DomainName) (earlier : List Entry) (e : Entry) → Knows o earlier self.old → sort_of e ≡ directive (codes "$origin") words.now
+        ensures ok { OnOk result ((o : DomainName) (earlier : List Entry) (e : Entry)
+            → Knows o earlier self.old → sort_of e ≡ directive (codes "$origin") words.now
             → EntryTaken o earlier e self.old self.new) }
         ensures line { OnOk result (self.new.line ≡ self.old.line) }
-        ensures err { IfErr result (λ code. (o : DomainName) (earlier : List Entry) → Knows o earlier self.old
-            → SortGives o earlier (directive (codes "$origin") words.now) (faulty (fault_of code))) }
+        ensures err { IfErr result (λ code. (o : DomainName) (earlier : List Entry)
+            → Knows o earlier self.old
+            → SortGives o earlier (directive (codes "$origin") words.now)
+            (faulty (fault_of code))) }
         ensures source { IfErr result (λ code. code ≢ ReadCode.SourceFailed) }
     {
         let Some(origin) = read_origin(words, &self.origin) else {
@@ -199,10 +218,12 @@ impl Reader {
 
     // Takes the words of `$TTL`.
     fn take_default_ttl(&mut self, words: &[Word<'_>]) -> Result<(), ReadCode>
-        ensures ok { OnOk result ((o : DomainName) (earlier : List Entry) (e : Entry) → Knows o earlier self.old → sort_of e ≡ directive (codes "$ttl") words.now
+        ensures ok { OnOk result ((o : DomainName) (earlier : List Entry) (e : Entry)
+            → Knows o earlier self.old → sort_of e ≡ directive (codes "$ttl") words.now
             → EntryTaken o earlier e self.old self.new) }
         ensures line { OnOk result (self.new.line ≡ self.old.line) }
-        ensures err { IfErr result (λ code. (o : DomainName) (earlier : List Entry) → Knows o earlier self.old
+        ensures err { IfErr result (λ code. (o : DomainName) (earlier : List Entry)
+            → Knows o earlier self.old
             → SortGives o earlier (directive (codes "$ttl") words.now) (faulty (fault_of code))) }
         ensures source { IfErr result (λ code. code ≢ ReadCode.SourceFailed) }
     {
@@ -215,10 +236,12 @@ impl Reader {
 
     // Takes a record that states its owner: that word, and the words after it.
     fn take_owned(&mut self, owner: &Word<'_>, words: &[Word<'_>]) -> Result<(), ReadCode>
-        ensures ok { OnOk result ((o : DomainName) (earlier : List Entry) (e : Entry) → Knows o earlier self.old → sort_of e ≡ owned owner.now words.now
+        ensures ok { OnOk result ((o : DomainName) (earlier : List Entry) (e : Entry)
+            → Knows o earlier self.old → sort_of e ≡ owned owner.now words.now
             → EntryTaken o earlier e self.old self.new) }
         ensures line { OnOk result (self.new.line ≡ self.old.line) }
-        ensures err { IfErr result (λ code. code ≢ ReadCode.NoMemory → (o : DomainName) (earlier : List Entry) → Knows o earlier self.old
+        ensures err { IfErr result (λ code. code ≢ ReadCode.NoMemory
+            → (o : DomainName) (earlier : List Entry) → Knows o earlier self.old
             → SortGives o earlier (owned owner.now words.now) (faulty (fault_of code))) }
         ensures source { IfErr result (λ code. code ≢ ReadCode.SourceFailed) }
     {
@@ -231,10 +254,12 @@ impl Reader {
 
     // Takes a record whose owner is that of the record before.
     fn take_unowned(&mut self, words: &[Word<'_>]) -> Result<(), ReadCode>
-        ensures ok { OnOk result ((o : DomainName) (earlier : List Entry) (e : Entry) → Knows o earlier self.old → sort_of e ≡ unowned words.now
+        ensures ok { OnOk result ((o : DomainName) (earlier : List Entry) (e : Entry)
+            → Knows o earlier self.old → sort_of e ≡ unowned words.now
             → EntryTaken o earlier e self.old self.new) }
         ensures line { OnOk result (self.new.line ≡ self.old.line) }
-        ensures err { IfErr result (λ code. code ≢ ReadCode.NoMemory → (o : DomainName) (earlier : List Entry) → Knows o earlier self.old
+        ensures err { IfErr result (λ code. code ≢ ReadCode.NoMemory
+            → (o : DomainName) (earlier : List Entry) → Knows o earlier self.old
             → SortGives o earlier (unowned words.now) (faulty (fault_of code))) }
         ensures source { IfErr result (λ code. code ≢ ReadCode.SourceFailed) }
     {
@@ -248,10 +273,14 @@ impl Reader {
     // Takes the record of an owner and of the words after it.
     fn take_record(&mut self, owner: Name, words: &[Word<'_>]) -> Result<(), ReadCode>
         requires { folded owner ≡ owner }
-        ensures ok { OnOk result ((o : DomainName) (earlier : List Entry) → Knows o earlier self.old → RecordTaken o earlier owner (fields words.now) self.old self.new) }
+        ensures ok { OnOk result ((o : DomainName) (earlier : List Entry)
+            → Knows o earlier self.old → RecordTaken o earlier owner
+            (fields words.now) self.old self.new) }
         ensures line { OnOk result (self.new.line ≡ self.old.line) }
-        ensures err { IfErr result (λ code. code ≢ ReadCode.NoMemory → (o : DomainName) (earlier : List Entry) → Knows o earlier self.old
-            → RecordGives o earlier no_owner (λ n. n ≡ owner) (fields words.now) (faulty (fault_of code))) }
+        ensures err { IfErr result (λ code. code ≢ ReadCode.NoMemory
+            → (o : DomainName) (earlier : List Entry) → Knows o earlier self.old
+            → RecordGives o earlier no_owner (λ n. n ≡ owner) (fields words.now)
+            (faulty (fault_of code))) }
         ensures source { IfErr result (λ code. code ≢ ReadCode.SourceFailed) }
     {
         let fields = Fields::of(words);
@@ -263,11 +292,14 @@ impl Reader {
     // The record of an owner and of the fields after it.
     fn read_record(&self, owner: Name, fields: &Fields<'_, '_>) -> Result<Record, ReadCode>
         requires { folded owner ≡ owner }
-        ensures ok { IfOk result (λ r. (o : DomainName) (earlier : List Entry) → Knows o earlier self.now → RecordGives o earlier no_owner (λ n. n ≡ owner) fields.now (gives (r ∷ []))) }
+        ensures ok { IfOk result (λ r. (o : DomainName) (earlier : List Entry)
+            → Knows o earlier self.now → RecordGives o earlier no_owner
+            (λ n. n ≡ owner) fields.now (gives (r ∷ []))) }
         ensures few { IfOk result (λ r. length self.now.records.items < most_records) }
         ensures owner { IfOk result (λ r. r.owner ≡ owner) }
         ensures ttl { IfOk result (λ r. IfSome fields.now.ttl (λ w. TtlSays w r.ttl)) }
-        ensures err { IfErr result (λ code. code ≢ ReadCode.NoMemory → (o : DomainName) (earlier : List Entry) → Knows o earlier self.now
+        ensures err { IfErr result (λ code. code ≢ ReadCode.NoMemory
+            → (o : DomainName) (earlier : List Entry) → Knows o earlier self.now
             → RecordGives o earlier no_owner (λ n. n ≡ owner) fields.now (faulty (fault_of code))) }
         ensures source { IfErr result (λ code. code ≢ ReadCode.SourceFailed) }
     {
@@ -306,13 +338,11 @@ impl Reader {
         ensures valid { IfOk result (λ d. Valid rtype.0 d) }
         ensures lowered { IfOk result (λ d. lower_case rtype.0 d ≡ d) }
         ensures ok { IfOk result (λ d. Says rtype.0 words.now self.now.origin d) }
-        ensures err { IfErr result (λ code. code ≢ ReadCode.NoMemory → (code ≡ ReadCode.BadData) × Nothing (Says rtype.0 words.now self.now.origin)) }
+        ensures err { IfErr result (λ code. code ≢ ReadCode.NoMemory
+            → (code ≡ ReadCode.BadData) × Nothing (Says rtype.0 words.now self.now.origin)) }
         ensures source { IfErr result (λ code. code ≢ ReadCode.SourceFailed) }
     {
-        match Rdata::read_words(self.alloc, rtype, words, &self.origin) {
-            Ok(rdata) => Ok(rdata),
-            Err(fault) => Err(code_of_data(fault)),
-        }
+        Ok(Rdata::read_words(self.alloc, rtype, words, &self.origin)?)
     }
 }
 
@@ -321,7 +351,7 @@ fn push_record(records: &mut Vec<Record>, last: Record) -> Result<(), ReadCode>
     ensures bound { length records.new.items ≤ length records.old.items + 1 }
     ensures err { IfErr result (λ code. code ≡ ReadCode.NoMemory) }
 {
-    records.push(last).map_err(|_| ReadCode::NoMemory)
+    Ok(records.push(last)?)
 }
 
 // The TTL that was stated last, after a record that states one or not.
@@ -329,14 +359,4 @@ fn last_stated(is_stated: bool, ttl: u32, before: Option<u32>) -> Option<u32>
     ensures { result ≡ (if is_stated then Some ttl else before) }
 {
     if is_stated { Some(ttl) } else { before }
-}
-
-// The code of data that is none.
-fn code_of_data(fault: RdataFault) -> ReadCode
-    ensures { ((fault ≡ RdataFault.NoMemory) × (result ≡ ReadCode.NoMemory)) ⊎ ((fault ≢ RdataFault.NoMemory) × (result ≡ ReadCode.BadData)) }
-{
-    match fault {
-        RdataFault::NoMemory => ReadCode::NoMemory,
-        _ => ReadCode::BadData,
-    }
 }

@@ -3,8 +3,8 @@ use dns_name::Name;
 use dns_rdata::{RType, Rdata};
 use std::marker::Model;
 
-/// A record of class IN (RFC 1035 3.2.1). Its owner and the names in its data are in lower case, and its data is valid for its
-/// type.
+/// A record of class IN (RFC 1035 3.2.1). Its owner and the names in its data are in lower case,
+/// and its data is valid for its type.
 #[derive(Drop)]
 pub struct Record {
     /// The name that it stands at.

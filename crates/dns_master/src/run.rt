@@ -2,7 +2,7 @@
 ghost use Rattle.std.specs.Prelude.{◌≡◌, ◌==◌, ◌≤◌, not, length, drop};
 ghost use Rattle.std.specs.List.{prefix_len};
 ghost use Rattle.dns_spec.specs.ZoneText.{is_blank, is_word_octet, is_string_octet, run_length};
-ghost use Rattle.dns_spec.proofs.Escapes.{counted_digits, counted_escape};
+ghost use Rattle.dns_spec.proofs.NameTexts.Escapes.{counted_digits, counted_escape};
 ghost use Rattle.dns_master.specs.TokenForm.{by_itself};
 
 /// What a run is made of, beside escapes.
@@ -25,7 +25,8 @@ impl Run {
         }
     }
 
-    /// How many octets the run has that a text begins with, escapes counted with all of their octets.
+    /// How many octets the run has that a text begins with, escapes counted with all of their
+    /// octets.
     pub(crate) fn length(self, text: &[u8]) -> usize
         ensures value { result ≡ run_length (by_itself self) 0 text.now }
         ensures bound { result ≤ length text.now }
@@ -64,8 +65,8 @@ fn is_string_octet(octet: u8) -> bool
     (octet == b'\t' || octet >= b' ' && octet <= b'~') && octet != b'"' && octet != b'\\'
 }
 
-// How many octets after a backslash belong to its escape: one that is printable and no digit, or three digits up to 255.
-// 0 where it begins no escape.
+// How many octets after a backslash belong to its escape: one that is printable and no digit, or
+// three digits up to 255. 0 where it begins no escape.
 fn escape_length(text: &[u8]) -> usize
     ensures value { result ≡ counted_escape text.now }
     ensures bound { result ≤ length text.now }

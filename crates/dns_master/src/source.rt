@@ -21,7 +21,8 @@ const PIECE: usize = 65_536;
 pub(crate) fn read_text<R: Read>(alloc: Global, source: &mut Tally<R>) -> Result<Vec<u8>, ReadCode>
     requires { source.old.failures < 2 ^ 64 - 1 }
     ensures ok { IfOk result (λ text. TextOf (R.remaining source.old.device) text.items) }
-    ensures err { IfErr result (λ code. (code ≡ ReadCode.SourceFailed) ⊎ (code ≡ ReadCode.NoMemory)) }
+    ensures err { IfErr result (λ code. (code ≡ ReadCode.SourceFailed)
+        ⊎ (code ≡ ReadCode.NoMemory)) }
     ensures counted { source.new.failures ≡ failures_after_code source.old.failures result }
 {
     let mut piece = new_piece(alloc)?;
@@ -40,7 +41,7 @@ fn new_piece(alloc: Global) -> Result<Vec<u8>, ReadCode>
     ensures ok { IfOk result (λ piece. length piece.items ≡ PIECE) }
     ensures err { IfErr result (λ code. code ≡ ReadCode.NoMemory) }
 {
-    vec![in alloc; 0; PIECE].map_err(|_| ReadCode::NoMemory)
+    Ok(vec![in alloc; 0; PIECE]?)
 }
 
 // Reads so many octets at most, once, and appends what came: false at the end of the source.
@@ -53,9 +54,11 @@ fn append_piece<R: Read>(
     requires count { source.old.failures < 2 ^ 64 - 1 }
     requires some { 0 < asked }
     requires room { asked ≤ length piece.old }
-    ensures ok { IfOk result (λ more. AppendsPiece (R.remaining source.old.device) (R.remaining source.new.device) asked text.old.items text.new.items more) }
+    ensures ok { IfOk result (λ more. AppendsPiece (R.remaining source.old.device)
+        (R.remaining source.new.device) asked text.old.items text.new.items more) }
     ensures same { length piece.new ≡ length piece.old }
-    ensures err { IfErr result (λ code. (code ≡ ReadCode.SourceFailed) ⊎ (code ≡ ReadCode.NoMemory)) }
+    ensures err { IfErr result (λ code. (code ≡ ReadCode.SourceFailed)
+        ⊎ (code ≡ ReadCode.NoMemory)) }
     ensures counted { source.new.failures ≡ failures_after_code source.old.failures result }
 {
     let (front, _) = piece.split_at_mut(asked);
@@ -63,8 +66,6 @@ fn append_piece<R: Read>(
         return Err(ReadCode::SourceFailed);
     };
     let (came, _) = front.split_at(count);
-    match text.extend_from_slice(came) {
-        Ok(()) => Ok(count > 0),
-        Err(_) => Err(ReadCode::NoMemory),
-    }
+    text.extend_from_slice(came)?;
+    Ok(count > 0)
 }

@@ -16,7 +16,8 @@ pub(crate) enum Token<'a> {
     LineEnd,
 }
 
-/// The token that a text begins with, and the text after it. `None` at the end of the text, and where no token begins.
+/// The token that a text begins with, and the text after it. `None` at the end of the text, and
+/// where no token begins.
 pub(crate) fn first_token(text: &[u8]) -> Option<(Token<'_>, &[u8])>
     ensures { Begins result (token_front text.now) }
 {

@@ -32,7 +32,7 @@ then_equal Equal = refl
 then_equal Greater = refl
 
 module _ {A : Type 0} (R : A → A → Ordering) where
-  -- as long lists go before what stands behind them
+  -- as long lists go before what stands after them
   slice_cmp-append : (xs ys us vs : List A) → length xs ≡ length ys → slice_cmp R (xs ++ us) (ys ++ vs) ≡ ordering_then (slice_cmp R xs ys) (slice_cmp R us vs)
   slice_cmp-append [] [] us vs e = refl
   slice_cmp-append [] (y ∷ ys) us vs e = absurd (omega arith)
@@ -116,8 +116,8 @@ order_stays n m order e =
 pub order_of_first : (n n' m m' : DomainName) (l k : Octets) (result : Ordering) → n ≡ l ∷ n' → m ≡ k ∷ m' → n' ≡ m' → result ≡ label_order l k
     → result ≡ slice_cmp label_order (reverse n) (reverse m)
 order_of_first n n' m m' l k result e f same g =
-    let behind : ordering_then (slice_cmp label_order (reverse n') (reverse m')) (ordering_then (label_order l k) Equal) ≡ ordering_then (label_order l k) Equal =
+    let after : ordering_then (slice_cmp label_order (reverse n') (reverse m')) (ordering_then (label_order l k) Equal) ≡ ordering_then (label_order l k) Equal =
     order_stays n' m' (ordering_then (label_order l k) Equal) same
     in
     let all = slice_cmp-reverse-cons label_order l k n' m' Equal (ap length same) in
-    g ∙ sym (then_equal (label_order l k)) ∙ sym behind ∙ all ∙ then_equal (slice_cmp label_order (reverse (l ∷ n')) (reverse (k ∷ m'))) ∙ rw (e, f) refl
+    g ∙ sym (then_equal (label_order l k)) ∙ sym after ∙ all ∙ then_equal (slice_cmp label_order (reverse (l ∷ n')) (reverse (k ∷ m'))) ∙ rw (e, f) refl

@@ -26,3 +26,8 @@ IfErr-map (Err e) f h = f e h
 pub fault_handed_on : {A F : Type 0} (result : Result A F) (fault : F) (P : F → Type 0) → IsErrAnd result (λ e. e ≡ fault) → P fault → IfErr result P
 fault_handed_on (Ok a) fault P h p = tt
 fault_handed_on (Err e) fault P h p = subst P (sym h) p
+
+-- a fault that is turned into another, and what holds of that
+pub fault_turned : {A F : Type 0} (result : Result A F) (R P : F → Type 0) → IsErrAnd result R → ((f : F) → R f → P f) → IfErr result P
+fault_turned (Ok a) R P h turn = tt
+fault_turned (Err f) R P h turn = turn f h

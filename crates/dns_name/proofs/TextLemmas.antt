@@ -9,7 +9,7 @@ use Rattle.std.specs.Prelude.{if◌then◌else◌}
 use Rattle.std.specs.Char.{is_ascii_digit, IsAsciiDigit, IsNotAsciiDigit}
 use Rattle.std.specs.List.{list_all, position, position_or_len}
 use Rattle.std.proofs.Math.ListN.{drop_of_length-le}
-use Rattle.dns_spec.proofs.NameLaws.{is_label-head, length-wire-append, IsName-is_name, IsLabel-is_label}
+use Rattle.dns_spec.proofs.DomainNames.NameLaws.{is_label-head, length-wire-append, IsName-is_name, IsLabel-is_label}
 use Rattle.dns_spec.specs.Names.{Octets, DomainName, wire, is_label, is_name}
 use Rattle.dns_spec.specs.NameText.{three_digits_value, SpellsOctet, LabelThen, TextSpells, SpellsName}
 use Rattle.dns_name.specs.TextForm.{digit_at, decimal_at, escaped_at, octet_at, is_mark, is_label_end, ReadsLabel, PushesLabel, HasNoLabel, Appended, SpellsIff}
@@ -42,7 +42,7 @@ decimal_here a b c x rest p q r e h =
     let small : nat_lt (three_digits_value a b c) 256 ≡ true = lt-ltb _ _ (omega arith) in
     rw (is_digit a p, is_digit b q, is_digit c r, small) (ap (λ y. Some (y, rest)) e)
 
--- a spelling is read, whatever stands behind it
+-- a spelling is read, whatever stands after it
 octet_at-spelled : (first : Octets) (x : ℕ) (others : Octets) → SpellsOctet first x → octet_at (first ++ others) ≡ Some (x, others)
 unfolding octet_at escaped_at
 octet_at-spelled [] x others h = absurd h
@@ -97,8 +97,8 @@ decimal_read text x others e =
     ∙ ap (λ w. w.0) fits.1
     in
     let small : 100 * one.0.0 + 10 * two.0.0 + three.0.0 < 256 = ltb-true _ _ fits.0 in
-    let behind : three.0.1 ≡ others = ap (λ w. w.1) fits.1 in
-    let whole : 92 ∷ text ≡ (92 ∷ a.0 ∷ b.0 ∷ c.0 ∷ []) ++ others = cc (a.1, b.1, c.1, behind) in
+    let after : three.0.1 ≡ others = ap (λ w. w.1) fits.1 in
+    let whole : 92 ∷ text ≡ (92 ∷ a.0 ∷ b.0 ∷ c.0 ∷ []) ++ others = cc (a.1, b.1, c.1, after) in
     let below : x < 256 = omega (arith, ap (λ w. w.0) fits.1) in
     (92 ∷ a.0 ∷ b.0 ∷ c.0 ∷ [], whole, (refl, a.2, b.2, c.2, value, below))
 
@@ -113,9 +113,9 @@ escaped_read (a ∷ rest) x others e =
           let printable = if_some (nat_le 32 a && nat_le a 126) (a, rest) (x, others) f in
           let parts = and_parts (nat_le 32 a) _ printable.0 in
           let same_octet : a ≡ x = ap (λ w. w.0) printable.1 in
-          let behind : rest ≡ others = ap (λ w. w.1) printable.1 in (
+          let after : rest ≡ others = ap (λ w. w.1) printable.1 in (
             92 ∷ a ∷ [],
-            ap (λ w. 92 ∷ a ∷ w) behind,
+            ap (λ w. 92 ∷ a ∷ w) after,
             (refl, same_octet, leb-true _ _ parts.0, leb-true _ _ parts.1, no_digit_from a none),
           )
     ]
@@ -160,8 +160,8 @@ OctetThen-shorter text x others (first, e, h) =
 -- one octet more of a label
 pub LabelThen-push : (text l : Octets) (rest : Octets) (x : ℕ) (others : Octets) → LabelThen text l rest → OctetThen rest x others → LabelThen text (l ++ x ∷ []) others
 LabelThen-push text [] rest x others e (first, f, h) = (first, others, e ∙ f, h, refl)
-LabelThen-push text (y ∷ l) rest x others (first, behind, f, h, g) next =
-    (first, behind, f, h, LabelThen-push behind l rest x others g next)
+LabelThen-push text (y ∷ l) rest x others (first, after, f, h, g) next =
+    (first, after, f, h, LabelThen-push after l rest x others g next)
 
 -- octets up to the first dot or backslash spell themselves
 up_to_mark : (text : Octets) → LabelThen text (take (position_or_len is_mark text) text) (drop (position_or_len is_mark text) text)
@@ -170,9 +170,9 @@ up_to_mark (a ∷ text) = elim (cases_Bool (is_mark a)) [
   | inl mark ↦ rw mark refl
   | inr plain ↦
       let parts = or_parts (a == 46) (a == 92) plain in
-      let behind : suc (position_or_len is_mark text) ≡ position_or_len is_mark (a ∷ text) = rw plain (omega arith) in
+      let after : suc (position_or_len is_mark text) ≡ position_or_len is_mark (a ∷ text) = rw plain (omega arith) in
       let P : ℕ → Type 0 = λ n. LabelThen (a ∷ text) (take n (a ∷ text)) (drop n (a ∷ text)) in
-      subst P behind (a ∷ [], text, refl, (refl, eqb-false a 46 parts.0, eqb-false a 92 parts.1), up_to_mark text)
+      subst P after (a ∷ [], text, refl, (refl, eqb-false a 46 parts.0, eqb-false a 92 parts.1), up_to_mark text)
 ]
 
 pub LabelThen-mark : (text : Octets) (n : ℕ) → position is_mark text ≡ Some n → (n ≤ length text) × LabelThen text (take n text) (drop n text)
@@ -201,15 +201,15 @@ LabelThen-at text l rest text' e h = let P : Octets → Type 0 = λ t. LabelThen
 -- where a label is read so far, each label that the text spells goes on from there
 pub LabelThen-rest : (text l rest l' rest' : Octets) → LabelThen text l rest → LabelThen text l' rest' → is_label_end rest' ≡ true → (m : Octets) × (l' ≡ l ++ m) × LabelThen rest m rest'
 LabelThen-rest text [] rest l' rest' e h end = (l', refl, LabelThen-at text l' rest' rest e h)
-LabelThen-rest text (x ∷ l) rest [] rest' (first, behind, f, p, h) e end =
-    absurd (true≢false (sym end ∙ ap is_label_end (sym e) ∙ OctetThen-goes_on text x behind (first, f, p)))
-LabelThen-rest text (x ∷ l) rest (y ∷ l') rest' (first, behind, f, p, h) (first', behind', f', p', h') end =
-    let one : octet_at text ≡ Some (x, behind) = octet_at-OctetThen text x behind (first, f, p) in
-    let two : octet_at text ≡ Some (y, behind') = octet_at-OctetThen text y behind' (first', f', p') in
-    let parts = some_parts (x, behind) (y, behind') (sym one ∙ two) in
+LabelThen-rest text (x ∷ l) rest [] rest' (first, after, f, p, h) e end =
+    absurd (true≢false (sym end ∙ ap is_label_end (sym e) ∙ OctetThen-goes_on text x after (first, f, p)))
+LabelThen-rest text (x ∷ l) rest (y ∷ l') rest' (first, after, f, p, h) (first', after', f', p', h') end =
+    let one : octet_at text ≡ Some (x, after) = octet_at-OctetThen text x after (first, f, p) in
+    let two : octet_at text ≡ Some (y, after') = octet_at-OctetThen text y after' (first', f', p') in
+    let parts = some_parts (x, after) (y, after') (sym one ∙ two) in
     let octets : x ≡ y = parts.0 in
-    let texts : behind' ≡ behind = sym parts.1 in
-    let others = LabelThen-rest behind l rest l' rest' h (LabelThen-at behind' l' rest' behind texts h') end in
+    let texts : after' ≡ after = sym parts.1 in
+    let others = LabelThen-rest after l rest l' rest' h (LabelThen-at after' l' rest' after texts h') end in
     let m = others.0 in
     (m, ap (λ w. w ∷ l') (sym octets) ∙ ap (λ w. x ∷ w) others.1, others.2)
 
@@ -220,14 +220,14 @@ LabelThen-unique text l rest l' rest' h h' end end' =
   where
     by_cases : (m : Octets) × (l' ≡ l ++ m) × LabelThen rest m rest' → (l' ≡ l) × (rest ≡ rest')
     by_cases ([], e, f) = (e ∙ append-nil l, f)
-    by_cases (x ∷ m, e, (first, behind, f, p, g)) =
-        absurd (true≢false (sym end ∙ OctetThen-goes_on rest x behind (first, f, p)))
+    by_cases (x ∷ m, e, (first, after, f, p, g)) =
+        absurd (true≢false (sym end ∙ OctetThen-goes_on rest x after (first, f, p)))
 
 -- the empty text spells the empty label, and nothing follows
 LabelThen-nil : (l rest : Octets) → LabelThen [] l rest → (l ≡ []) × (rest ≡ [])
 LabelThen-nil [] rest h = (refl, sym h)
-LabelThen-nil (x ∷ l) rest (first, behind, e, p, h) =
-    absurd (true≢false (OctetThen-goes_on [] x behind (first, e, p)))
+LabelThen-nil (x ∷ l) rest (first, after, e, p, h) =
+    absurd (true≢false (OctetThen-goes_on [] x after (first, e, p)))
 
 no_empty_label : is_label [] ≡ true → ⊥
 no_empty_label h = false≢true h
@@ -241,14 +241,14 @@ pub ReadSoFar-none : (origin : DomainName) (word : Octets) → ReadSoFar origin 
 ReadSoFar-none origin word = record { all = λ n h. h; only = λ n h. (n, refl, h) }
 
 -- what a text that begins with a label and a dot spells
-spells_behind_dot : (origin : DomainName) (rest l others : Octets) (m : DomainName) → LabelThen rest l (46 ∷ others) → TextSpells origin rest m → (k : DomainName) × (m ≡ l ∷ k) × TextSpells origin others k
-spells_behind_dot origin rest l others [] h e =
+spells_after_dot : (origin : DomainName) (rest l others : Octets) (m : DomainName) → LabelThen rest l (46 ∷ others) → TextSpells origin rest m → (k : DomainName) × (m ≡ l ∷ k) × TextSpells origin others k
+spells_after_dot origin rest l others [] h e =
     let ended : 46 ∷ others ≡ [] = (LabelThen-nil l (46 ∷ others) (LabelThen-at rest l (46 ∷ others) [] e h)).1 in
     cc
-spells_behind_dot origin rest l others (k ∷ m) h (inl (g, e)) =
+spells_after_dot origin rest l others (k ∷ m) h (inl (g, e)) =
     let ended : [] ≡ 46 ∷ others = (LabelThen-unique rest k [] l (46 ∷ others) g h refl refl).1 in
     cc
-spells_behind_dot origin rest l others (k ∷ m) h (inr (others', g, e)) =
+spells_after_dot origin rest l others (k ∷ m) h (inr (others', g, e)) =
     let one = LabelThen-unique rest k (46 ∷ others') l (46 ∷ others) g h refl refl in
     let same_text : others' ≡ others = ap (drop 1) one.1 in
     let P : Octets → Type 0 = λ t. TextSpells origin t m in
@@ -264,9 +264,9 @@ ReadSoFar-push origin word read rest l others so_far h = record { all = all; onl
 
     only : (n : DomainName) → TextSpells origin word n → (m : DomainName) × (n ≡ (read ++ l ∷ []) ++ m) × TextSpells origin others m
     only n g =
-        let behind = so_far.only n g in
-        let next = spells_behind_dot origin rest l others behind.0 h behind.2 in
-        (next.0, behind.1 ∙ ap (λ m. read ++ m) next.1 ∙ sym (append_assoc read (l ∷ []) next.0), next.2)
+        let after = so_far.only n g in
+        let next = spells_after_dot origin rest l others after.0 h after.2 in
+        (next.0, after.1 ∙ ap (λ m. read ++ m) next.1 ∙ sym (append_assoc read (l ∷ []) next.0), next.2)
 
 -- the word is read, and spells the name n alone
 pub record SpellsOnly (origin : DomainName) (word : Octets) (n : DomainName) : Type 0 where
@@ -301,8 +301,8 @@ SpellsOnly-relative origin word read rest l so_far h is_l =
     record {
       spelled = subst P (sym joined) (so_far.all (l ∷ origin) (inl (h, refl)));
       only = λ m ok g.
-          let behind = so_far.only m g in
-          behind.1 ∙ ap (λ k. read ++ k) (spells_last origin rest l behind.0 h is_l behind.2) ∙ sym joined;
+          let after = so_far.only m g in
+          after.1 ∙ ap (λ k. read ++ k) (spells_last origin rest l after.0 h is_l after.2) ∙ sym joined;
     }
 
 -- a final dot
@@ -322,13 +322,13 @@ SpellsOnly-absolute origin word read rest so_far e = record { spelled = spelled;
         absurd (no_empty_label (ap is_label (sym empty.0) ∙ is_label-inside read l k m f ok))
 
     only : (m : DomainName) → is_name m ≡ true → TextSpells origin word m → m ≡ read
-    only m ok g = let behind = so_far.only m g in no_more m behind.0 behind.1 ok behind.2
+    only m ok g = let after = so_far.only m g in no_more m after.0 after.1 ok after.2
 
 -- no name is spelled where no label stands next
-pub nothing_spelled : (origin : DomainName) (word : Octets) (read : DomainName) (rest : Octets) → ReadSoFar origin word read rest → (rest ≡ [] → ⊥) → ((l behind : Octets) → LabelThen rest l behind → is_label_end behind ≡ true → is_label l ≡ true → ⊥) → (n : DomainName) → is_name n ≡ true → TextSpells origin word n → ⊥
+pub nothing_spelled : (origin : DomainName) (word : Octets) (read : DomainName) (rest : Octets) → ReadSoFar origin word read rest → (rest ≡ [] → ⊥) → ((l after : Octets) → LabelThen rest l after → is_label_end after ≡ true → is_label l ≡ true → ⊥) → (n : DomainName) → is_name n ≡ true → TextSpells origin word n → ⊥
 nothing_spelled origin word read rest so_far more none n ok h =
-    let behind = so_far.only n h in
-    by_cases behind.0 behind.1 behind.2
+    let after = so_far.only n h in
+    by_cases after.0 after.1 after.2
   where
     by_cases : (m : DomainName) → n ≡ read ++ m → TextSpells origin rest m → ⊥
     by_cases [] e g = more g
@@ -365,8 +365,8 @@ no_label_read text octets rest reads goes_on none l end h at_end =
   where
     by_cases : (m : Octets) × (l ≡ reads.label ++ m) × LabelThen rest m end → ⊥
     by_cases ([], e, f) = true≢false (sym at_end ∙ ap is_label_end (sym f) ∙ goes_on)
-    by_cases (x ∷ m, e, (first, behind, f, p, g)) =
-        let read = octet_at-OctetThen rest x behind (first, f, p) in
+    by_cases (x ∷ m, e, (first, after, f, p, g)) =
+        let read = octet_at-OctetThen rest x after (first, f, p) in
         cc
 
 -- a label that was read is the only one that the text begins with
@@ -448,7 +448,7 @@ Reads-push origin word name fits rest more end new dot others reads pushes e =
       holds = Holds-append reads.read fits name (pushes.label ∷ []) more new reads.holds pushes.appended;
     }
 
--- the result that is told at the end
+-- the result that is reported at the end
 pub SpellsIff-only : {E : Type 0} (origin : DomainName) (word : Octets) (n name : DomainName) (fits : Bool) (e : E) (r : Result DomainName E) → SpellsOnly origin word n → Holds n fits name → r ≡ (if fits then Ok name else Err e) → SpellsIff origin word r
 SpellsIff-only origin word n name true e r spells (f, ok) g = λ m.
     let P : DomainName → Type 0 = λ k. (is_name k ≡ true) × TextSpells origin word k in (
@@ -483,8 +483,8 @@ SpellsIff-none origin word name fits rest (Err e) reads more none g = λ m. (
 
 LabelThen-shorter : (text l rest : Octets) → LabelThen text l rest → length rest ≤ length text
 LabelThen-shorter text [] rest h = omega (arith, ap length h)
-LabelThen-shorter text (x ∷ l) rest (first, behind, e, p, h) =
-    omega (arith, LabelThen-shorter behind l rest h, OctetThen-shorter text x behind (first, e, p))
+LabelThen-shorter text (x ∷ l) rest (first, after, e, p, h) =
+    omega (arith, LabelThen-shorter after l rest h, OctetThen-shorter text x after (first, e, p))
 
 pub PushesLabel-shorter : (text : Octets) (old : DomainName) (fits : Bool) (end : Octets) (new : DomainName) (dot : ℕ) (others : Octets) → PushesLabel text old fits end new → end ≡ dot ∷ others → length others < length text
 PushesLabel-shorter text old fits end new dot others pushes e =
@@ -502,8 +502,8 @@ empty_or_dot word h e = cc
 -- only the empty label stands at a label's end
 LabelThen-at_end : (text l rest : Octets) → is_label_end text ≡ true → LabelThen text l rest → l ≡ []
 LabelThen-at_end text [] rest e h = refl
-LabelThen-at_end text (x ∷ l) rest e (first, behind, f, p, h) =
-    absurd (true≢false (sym e ∙ OctetThen-goes_on text x behind (first, f, p)))
+LabelThen-at_end text (x ∷ l) rest e (first, after, f, p, h) =
+    absurd (true≢false (sym e ∙ OctetThen-goes_on text x after (first, f, p)))
 
 dot_spells_none : (origin : DomainName) (word : Octets) (n : DomainName) → word ≡ 46 ∷ [] → is_name n ≡ true → TextSpells origin word n → ⊥
 dot_spells_none origin word [] e ok h = absurd (empty_or_dot word h e)

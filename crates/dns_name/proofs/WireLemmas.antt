@@ -4,7 +4,7 @@ use Rattle.std.proofs.lemmas.List.{take_at, drop_at, append_assoc, append-nil, n
 use Rattle.std.proofs.lemmas.Bool.{and_parts}
 use Rattle.std.specs.List.{list_all}
 use Rattle.std.specs.Char.{to_ascii_lowercase}
-use Rattle.dns_spec.proofs.NameLaws.{same_tests, same-wire, wire-injective, octets_equal-decides, names_equal-decides, map-lowercase-wire, IsLabel-is_label, IsName-is_name, is_name-tail}
+use Rattle.dns_spec.proofs.DomainNames.NameLaws.{same_tests, same-wire, wire-injective, octets_equal-decides, names_equal-decides, map-lowercase-wire, IsLabel-is_label, IsName-is_name, is_name-tail}
 use Rattle.dns_spec.specs.Names.{folded, same, octets_equal, names_equal, Octets, DomainName, wire, is_label, is_name}
 use Rattle.dns_name.specs.WireForm.{labels_up_to, labels_of, IsWireForm}
 
@@ -34,7 +34,7 @@ IsWireForm-wire xs n e ok =
     let spelled : labels_of xs ≡ n = labels_of_spelled xs n e ok in
     record { wire_is = ap wire spelled ∙ sym e; is_name = ap is_name spelled ∙ ok }
 
--- octets xs are a first label's length x and ys: its octets, and the wire form behind it
+-- octets xs are a first label's length x and ys: its octets, and the wire form after it
 pub record BeginsWithLabel (xs : Octets) (x : ℕ) (ys : Octets) : Type 0 where
   pub fits : x ≤ length ys
   pub label : is_label (take x ys) ≡ true
@@ -142,10 +142,10 @@ map-lowercase-octets xs n form e =
 -- the labels of another name next to the root: what stands before the root's length stays
 pub wire-append : (n m : DomainName) (xs : Octets) → xs ≡ take (length (wire n) - 1) (wire n) → xs ++ wire m ≡ wire (n ++ m)
 unfolding front
-wire-append n m xs e = ap (λ ys. ys ++ wire m) (e ∙ front_taken n) ∙ sym (behind_front n)
+wire-append n m xs e = ap (λ ys. ys ++ wire m) (e ∙ front_taken n) ∙ sym (after_front n)
   where
-    behind_front : (n : DomainName) → wire (n ++ m) ≡ front n ++ wire m
-    behind_front [] = refl
-    behind_front (l ∷ n) =
-        ap (λ xs. length l ∷ (l ++ xs)) (behind_front n)
+    after_front : (n : DomainName) → wire (n ++ m) ≡ front n ++ wire m
+    after_front [] = refl
+    after_front (l ∷ n) =
+        ap (λ xs. length l ∷ (l ++ xs)) (after_front n)
         ∙ ap (λ xs. length l ∷ xs) (sym (append_assoc l (front n) (wire m)))

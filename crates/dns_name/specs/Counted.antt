@@ -1,4 +1,5 @@
--- What a reader learns here: a device with the number of its failed calls, and what a call and a whole text do to it.
+-- What a reader learns here: a device with the number of its failed calls, and what a call and a
+-- whole text do to it.
 use Rattle.std.specs.Prelude.{◌≡◌, ℕ, ◌+◌, ◌≤◌, List, length, take, Result, OnOk, OnErr, is_ok, if◌then◌else◌, Option}
 use Rattle.std.specs.Borrow.{Bor}
 use Rattle.std.specs.List.{flat_map}
@@ -13,7 +14,7 @@ pub record Counted (T : Type 0) : Type 0 where
 abbrev pub failures_after : {A E : Type 0} → ℕ → Result A E → ℕ
 failures_after count outcome = if is_ok outcome then count else count + 1
 
--- texts behind references, one after another
+-- texts that are lent, one after another
 abbrev pub joined : List (Bor (List ℕ)) → List ℕ
 joined = flat_map (λ part. part.now)
 
@@ -21,9 +22,11 @@ joined = flat_map (λ part. part.now)
 abbrev pub AppendsBeginning : Option (List ℕ) → Option (List ℕ) → List ℕ → Type 0
 AppendsBeginning old new text = (n : ℕ) × (n ≤ length text) × Appends old new (take n text)
 
--- What a call that writes a text does to a counted device, whose octets `contents` tells where they are known: the call
--- answers Ok with the whole text written, or an error with a beginning of it written and one more failure counted.
-pub record Writes {W A E : Type 0} (contents : W → Option (List ℕ)) (old new : Counted W) (result : Result A E) (text : List ℕ) : Type 0 where
+-- What a call that writes a text does to a counted device, whose octets `contents` gives where they
+-- are known: the call answers Ok with the whole text written, or an error with a beginning of it
+-- written and one more failure counted.
+pub record Writes {W A E : Type 0} (contents : W → Option (List ℕ)) (old new : Counted W)
+    (result : Result A E) (text : List ℕ) : Type 0 where
   pub ok : OnOk result (Appends (contents old.device) (contents new.device) text)
   pub err : OnErr result (AppendsBeginning (contents old.device) (contents new.device) text)
   pub counted : new.failures ≡ failures_after old.failures result

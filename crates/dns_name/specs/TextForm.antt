@@ -1,4 +1,5 @@
--- What a reader learns here: how the text of a name is read from left to right, by the cases of the code.
+-- What a reader learns here: how the text of a name is read from left to right, by the cases of the
+-- code.
 use Rattle.std.specs.Prelude.{◌≡◌, ℕ, ◌+◌, ◌-◌, ◌*◌, ◌<◌, Bool, true, ◌&&◌, ◌||◌, ◌==◌, nat_le, nat_lt, if◌then◌else◌, [], ◌∷◌, ◌++◌, length, take, Option, Some, None, Result, Ok, ◌↔◌}
 use Rattle.std.specs.Option.{option_and_then}
 use Rattle.std.specs.Bool.{MatchBool}
@@ -7,12 +8,12 @@ use Rattle.std.specs.Char.{is_ascii_digit}
 use Rattle.dns_spec.specs.Names.{Octets, DomainName, wire, is_label, is_name}
 use Rattle.dns_spec.specs.NameText.{LabelThen, TextSpells}
 
--- what a function returned, the rest of the text behind a reference, is what reading gives
+-- what a function returned, the rest of the text, lent, is what reading gives
 abbrev pub Gives : Option (ℕ × Bor Octets) → Option (ℕ × Octets) → Type 0
 Gives None read = read ≡ None
 Gives (Some x) read = read ≡ Some (x.0, x.1.now)
 
--- a digit's value, and the text behind it
+-- a digit's value, and the text after it
 abbrev pub digit_at : Octets → Option (ℕ × Octets)
 digit_at [] = None
 digit_at (a ∷ rest) = if is_ascii_digit a then Some (a - 48, rest) else None
@@ -23,14 +24,16 @@ octet_of value rest = if nat_lt value 256 then Some (value, rest) else None
 -- the octet that three digits spell
 unfoldable pub decimal_at : Octets → Option (ℕ × Octets)
 decimal_at text =
-    option_and_then (λ a. option_and_then (λ b. option_and_then (λ c. octet_of (100 * a.0 + 10 * b.0 + c.0) c.1)
+    option_and_then (λ a. option_and_then (λ b.
+    option_and_then (λ c. octet_of (100 * a.0 + 10 * b.0 + c.0) c.1)
     (digit_at b.1)) (digit_at a.1)) (digit_at text)
 
--- the octet that what stands behind a backslash spells
+-- the octet that what stands after a backslash spells
 unfoldable pub escaped_at : Octets → Option (ℕ × Octets)
 escaped_at [] = None
 escaped_at (a ∷ rest) =
-    if is_ascii_digit a then decimal_at (a ∷ rest) else (if nat_le 32 a && nat_le a 126 then Some (a, rest) else None)
+    if is_ascii_digit a then decimal_at (a ∷ rest)
+    else (if nat_le 32 a && nat_le a 126 then Some (a, rest) else None)
 
 -- the octet that a text begins with
 unfoldable pub octet_at : Octets → Option (ℕ × Octets)
@@ -46,19 +49,23 @@ abbrev pub is_label_end : Octets → Bool
 is_label_end [] = true
 is_label_end (a ∷ rest) = a == 46
 
--- new is old with labels added next to the root, and a name; where they don't fit, they make it too long
+-- new is old with labels added next to the root, and a name; where they don't fit, they make it too
+-- long
 abbrev pub Appended : DomainName → DomainName → Bool → DomainName → Type 0
 Appended old labels fits new =
-    MatchBool fits ((new ≡ old ++ labels) × (is_name new ≡ true)) (255 < length (wire (old ++ labels)))
+    MatchBool fits ((new ≡ old ++ labels) × (is_name new ≡ true))
+    (255 < length (wire (old ++ labels)))
 
--- a text begins with the spelling of a label, of which the octets are the first 64, and `end` is what follows
+-- a text begins with the spelling of a label, of which the octets are the first 64, and `end` is
+-- what follows
 pub record ReadsLabel (text octets end : Octets) : Type 0 where
   pub label : Octets
   pub spelled : LabelThen text label end
   pub kept : octets ≡ take 64 label
 
 -- a label was read up to its end, and added to the name where it fits
-pub record PushesLabel (text : Octets) (old : DomainName) (fits : Bool) (end : Octets) (new : DomainName) : Type 0 where
+pub record PushesLabel (text : Octets) (old : DomainName) (fits : Bool) (end : Octets)
+    (new : DomainName) : Type 0 where
   pub label : Octets
   pub spelled : LabelThen text label end
   pub at_end : is_label_end end ≡ true
@@ -67,8 +74,10 @@ pub record PushesLabel (text : Octets) (old : DomainName) (fits : Bool) (end : O
 
 -- no label of 1 to 63 octets stands at the beginning
 abbrev pub HasNoLabel : Octets → Type 0
-HasNoLabel text = (l end : Octets) → LabelThen text l end → is_label_end end ≡ true → is_label l ≡ true → ⊥
+HasNoLabel text =
+    (l end : Octets) → LabelThen text l end → is_label_end end ≡ true → is_label l ≡ true → ⊥
 
 -- the result is the name that labels and dots spell, if there is one
 abbrev pub SpellsIff : {E : Type 0} → DomainName → Octets → Result DomainName E → Type 0
-SpellsIff origin word r = (n : DomainName) → (r ≡ Ok n) ↔ ((is_name n ≡ true) × TextSpells origin word n)
+SpellsIff origin word r =
+    (n : DomainName) → (r ≡ Ok n) ↔ ((is_name n ≡ true) × TextSpells origin word n)

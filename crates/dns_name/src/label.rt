@@ -4,7 +4,8 @@ ghost use Rattle.dns_spec.specs.Names.{is_label};
 
 use std::marker::Model;
 
-/// A label: 1 to 63 octets of any value, borrowed from where they stand (RFC 1035 2.3.4, RFC 2181 11).
+/// A label: 1 to 63 octets of any value, borrowed from where they stand (RFC 1035 2.3.4, RFC 2181
+/// 11).
 #[derive(Drop)]
 pub struct Label<'a> {
     octets: &'a [u8],

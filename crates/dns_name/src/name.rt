@@ -82,7 +82,7 @@ impl Name {
         true
     }
 
-    /// The wire form: each label behind its length, and the length 0 of the root (RFC 1035 3.1).
+    /// The wire form: each label after its length, and the length 0 of the root (RFC 1035 3.1).
     pub fn octets(&self) -> &[u8]
         ensures value { result.now ≡ wire self.now }
         ensures bound { length result.now ≤ 255 }
@@ -125,7 +125,8 @@ impl Name {
         folded
     }
 
-    /// Puts the name itself in lower case, as `fold` gives a second name (RFC 1035 2.3.3). Nothing is copied.
+    /// Puts the name itself in lower case, as `fold` gives a second name (RFC 1035 2.3.3). Nothing
+    /// is copied.
     pub fn fold_in_place(&mut self)
         ensures { self.new ≡ folded self.old }
     {
@@ -139,8 +140,8 @@ impl Name {
         same_octets(self.octets(), other.octets())
     }
 
-    /// Whether the name is `ancestor` or a name below it: whether its last labels are those of `ancestor`,
-    /// without regard to the case of ASCII letters (RFC 1034 3.1).
+    /// Whether the name is `ancestor` or a name below it: whether its last labels are those of
+    /// `ancestor`, without regard to the case of ASCII letters (RFC 1034 3.1).
     pub fn at_or_below(&self, ancestor: &Name) -> bool
         ensures { result ≡ at_or_below self.now ancestor.now }
     {
@@ -176,15 +177,16 @@ impl Name {
 
     /// Which of two names comes first in the canonical order (RFC 4034 6.1).
     ///
-    /// Labels are compared from the right, each as octets in lower case. A label comes before one that it begins, and
-    /// a name before all names below it. No memory is taken.
+    /// Labels are compared from the right, each as octets in lower case. A label comes before one
+    /// that it begins, and a name before all names below it. No memory is taken.
     pub fn order(&self, other: &Name) -> Ordering
         ensures { result ≡ name_order self.now other.now }
     {
         self.fold().order_as_spelled(&other.fold())
     }
 
-    /// The same of two names in lower case, of which no copy is made: what many names are sorted by.
+    /// The same of two names in lower case, of which no copy is made: what many names are sorted
+    /// by.
     pub fn order_in_lower_case(&self, other: &Name) -> Ordering
         requires this { folded self.now ≡ self.now }
         requires other { folded other.now ≡ other.now }
@@ -221,7 +223,8 @@ impl Name {
         labels
     }
 
-    /// The name whose wire form the octets are, as the octets of a name in data. It takes no memory.
+    /// The name whose wire form the octets are, as the octets of a name in data. It takes no
+    /// memory.
     pub fn from_octets(octets: &[u8]) -> Name
         requires { IsWireForm octets.now }
         ensures value { result ≡ labels_of octets.now }
@@ -238,6 +241,15 @@ impl Name {
         ensures is_name { IsTrue (is_name result) }
     {
         Name::from_octets(self.octets())
+    }
+}
+
+/// The root.
+impl Default for Name {
+    ghost is_default = { λ name. name ≡ [] };
+
+    fn default() -> Name {
+        Name::root()
     }
 }
 
@@ -306,8 +318,8 @@ impl Labels<'_> {
     }
 }
 
-/// The first label of a name in wire form, and the wire form of the rest: of `www.example.`, `www` and `example.` The root
-/// has none.
+/// The first label of a name in wire form, and the wire form of the rest: of `www.example.`, `www`
+/// and `example.` The root has none.
 pub fn first_label(octets: &[u8]) -> Option<(Label<'_>, &[u8])>
     requires { IsWireForm octets.now }
     ensures { MatchOption result (labels_of octets.now ≡ [])
@@ -322,10 +334,11 @@ pub fn first_label(octets: &[u8]) -> Option<(Label<'_>, &[u8])>
     Some((Label::new(label)?, rest))
 }
 
-// The order of two names below one name, which is that of their first labels. Most names of a zone are such, so that
-// their labels need not be counted.
+// The order of two names below one name, which is that of their first labels. Most names of a zone
+// are such, so that their labels need not be counted.
 fn order_of_siblings(one: &Name, other: &Name) -> Option<Ordering>
-    ensures { IfSome result (λ order. order ≡ slice_cmp label_order (reverse one.now) (reverse other.now)) }
+    ensures { IfSome result (λ order. order ≡ slice_cmp label_order (reverse one.now)
+        (reverse other.now)) }
 {
     let (mut left, mut right) = (one.labels(), other.labels());
     let (first, second) = (left.next()?, right.next()?);
@@ -335,11 +348,13 @@ fn order_of_siblings(one: &Name, other: &Name) -> Option<Ordering>
     Some(first.octets().cmp(second.octets()))
 }
 
-// The order of as many labels on both sides, compared from the right, and `longer` where they are equal. Names of a zone
-// mostly differ in their first labels alone, and what is equal behind a label need not be walked.
+// The order of as many labels on both sides, compared from the right, and `longer` where they are
+// equal. Names of a zone mostly differ in their first labels alone, and what is equal after a label
+// need not be walked.
 fn order_of_labels(left: Labels<'_>, right: Labels<'_>, longer: Ordering) -> Ordering
     requires { length left ≡ length right }
-    ensures { result ≡ ordering_then (slice_cmp label_order (reverse left.entry) (reverse right.entry)) longer }
+    ensures { result ≡ ordering_then (slice_cmp label_order (reverse left.entry)
+        (reverse right.entry)) longer }
 {
     let mut left = left;
     let mut right = right;

@@ -16,8 +16,8 @@ pub struct SinkFailed;
 
 /// A reader or a writer with the count of its failures.
 ///
-/// The count rises by one exactly where a call answers an error, and no call is tried again. Each call over the
-/// device asks that the count is below the greatest `u64`.
+/// The count rises by one exactly where a call answers an error, and no call is tried again. Each
+/// call over the device asks that the count is below the greatest `u64`.
 #[derive(Drop)]
 pub struct Tally<T> {
     device: T,
@@ -65,12 +65,14 @@ impl<T> Tally<T> {
 }
 
 impl<T: Read> Tally<T> {
-    /// Reads once, into the front of `buf`, and answers how many octets came: 0 at the end of the input, or where
-    /// `buf` is empty. Where the device fails, the failure is counted and no octet was taken.
+    /// Reads once, into the front of `buf`, and answers how many octets came: 0 at the end of the
+    /// input, or where `buf` is empty. Where the device fails, the failure is counted and no octet
+    /// was taken.
     pub fn read(&mut self, buf: &mut [u8]) -> Result<usize, SourceFailed>
         requires { self.old.failures < 2 ^ 64 - 1 }
         ensures bound { ReadsAtMost result buf.new }
-        ensures bytes { ReadConsumes (T.remaining self.old.device) (T.remaining self.new.device) result buf.new }
+        ensures bytes { ReadConsumes (T.remaining self.old.device)
+            (T.remaining self.new.device) result buf.new }
         ensures counted { self.new.failures ≡ failures_after self.old.failures result }
     {
         match self.device.read(buf) {
@@ -84,13 +86,15 @@ impl<T: Read> Tally<T> {
 }
 
 impl<T: Write> Tally<T> {
-    /// Writes once, from the front of `piece`, and answers how many octets the device took. Where it fails, or takes
-    /// nothing of a piece that isn't empty, the failure is counted and nothing was written.
+    /// Writes once, from the front of `piece`, and answers how many octets the device took. Where
+    /// it fails, or takes nothing of a piece that isn't empty, the failure is counted and nothing
+    /// was written.
     pub fn write(&mut self, piece: &[u8]) -> Result<usize, SinkFailed>
         requires { self.old.failures < 2 ^ 64 - 1 }
         ensures bound { WritesAtMost result piece.now }
         ensures progress { IfOk result (λ count. 0 < length piece.now → 0 < count) }
-        ensures bytes { WriteAppends (T.contents self.old.device) (T.contents self.new.device) result piece.now }
+        ensures bytes { WriteAppends (T.contents self.old.device)
+            (T.contents self.new.device) result piece.now }
         ensures counted { self.new.failures ≡ failures_after self.old.failures result }
     {
         match self.device.write(piece) {
@@ -102,8 +106,8 @@ impl<T: Write> Tally<T> {
         }
     }
 
-    /// Writes the whole text, call by call. Where one of them fails, a beginning of the text was written, and nothing
-    /// is tried after it.
+    /// Writes the whole text, call by call. Where one of them fails, a beginning of the text was
+    /// written, and nothing is tried after it.
     pub fn write_all(&mut self, text: &[u8]) -> Result<(), SinkFailed>
         requires { self.old.failures < 2 ^ 64 - 1 }
         ensures { Writes T.contents self.old self.new result text.now }
@@ -115,8 +119,8 @@ impl<T: Write> Tally<T> {
         Ok(())
     }
 
-    /// Writes texts, one after another. Where a call fails, a beginning of them all was written, and nothing is tried
-    /// after it.
+    /// Writes texts, one after another. Where a call fails, a beginning of them all was written,
+    /// and nothing is tried after it.
     pub fn write_parts(&mut self, parts: &[&[u8]]) -> Result<(), SinkFailed>
         requires { self.old.failures < 2 ^ 64 - 1 }
         ensures { Writes T.contents self.old self.new result (joined parts.now) }

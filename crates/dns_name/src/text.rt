@@ -10,7 +10,7 @@ use crate::label::Label;
 use crate::name::Name;
 use arrayvec::ArrayVec;
 
-// A label has at most 63 octets. One more is kept, which tells that it is too long.
+// A label has at most 63 octets. One more is kept, which shows that it is too long.
 const KEPT_OCTETS: usize = 64;
 
 /// Why a word spells no name.
@@ -20,9 +20,11 @@ pub enum NameFault {
     EmptyLabel = 1,
     /// A label has more than 63 octets (RFC 1035 2.3.4).
     LabelTooLong = 2,
-    /// The name, with the origin where it is relative, has more than 255 octets on the wire (RFC 1035 2.3.4).
+    /// The name, with the origin where it is relative, has more than 255 octets on the wire (RFC
+    /// 1035 2.3.4).
     NameTooLong = 3,
-    /// A backslash begins neither `\X`, with X printable and no digit, nor `\DDD`, three digits up to 255.
+    /// A backslash begins neither `\X`, with X printable and no digit, nor `\DDD`, three digits up
+    /// to 255.
     BadEscape = 4,
 }
 
@@ -38,12 +40,12 @@ impl NameFault {
 impl Name {
     /// The name that a word of a zone file spells, relative to `origin` (RFC 1035 5.1).
     ///
-    /// `@` alone is the origin and `.` alone the root. A word without a final dot goes on with the labels of the
-    /// origin: `www` at `example.` is `www.example.` The case of letters is kept. An octet is spelled as itself, as
-    /// `\X` or as `\DDD`.
+    /// `@` alone is the origin and `.` alone the root. A word without a final dot goes on with the
+    /// labels of the origin: `www` at `example.` is `www.example.` The case of letters is kept. An
+    /// octet is spelled as itself, as `\X` or as `\DDD`.
     ///
-    /// Labels are judged from the left. In a label a bad escape is told first, then no octet or too many of them.
-    /// That the whole name is too long is told only where no label is faulty.
+    /// Labels are judged from the left. In a label a bad escape is reported first, then no octet or
+    /// too many of them. That the whole name is too long is reported only where no label is faulty.
     pub fn read_text(word: &[u8], origin: &Name) -> Result<Name, NameFault>
         ensures { (n : DomainName) → (result ≡ Ok n) ↔ SpellsName origin.now word.now n }
     {
@@ -92,8 +94,8 @@ fn name_that_fits(name: Name, fits: bool) -> Result<Name, NameFault>
 
 // Reads the label that a text begins with, and adds it to the name where it fits there.
 //
-// Gives whether it fits, and the text from the label's end on: empty, or with a dot first. Most labels have no escape:
-// their octets are taken from the text itself.
+// Gives whether it fits, and the text from the label's end on: empty, or with a dot first. Most
+// labels have no escape: their octets are taken from the text itself.
 fn push_label<'a>(name: &mut Name, text: &'a [u8]) -> Result<(bool, &'a [u8]), NameFault>
     ensures ok { IfOk result (λ x. PushesLabel text.now name.old x.0 x.1.now name.new) }
     ensures err { OnErr result (HasNoLabel text.now) }
@@ -123,7 +125,8 @@ fn push_octets(name: &mut Name, octets: &[u8]) -> Result<bool, NameFault>
     Ok(name.push(label))
 }
 
-// The octets at the beginning of a text that spell themselves, up to a dot or a backslash, and the text from there on.
+// The octets at the beginning of a text that spell themselves, up to a dot or a backslash, and the
+// text from there on.
 fn plain_octets(text: &[u8]) -> (&[u8], &[u8])
     ensures { LabelThen text.now result.0.now result.1.now }
 {
@@ -146,12 +149,13 @@ fn is_mark(octet: u8) -> bool
     octet == b'.' || octet == b'\\'
 }
 
-// The octets of the label that a text begins with, at most 64 of them, and the text from its end on. `None` where
-// an escape in it is bad.
+// The octets of the label that a text begins with, at most 64 of them, and the text from its end
+// on. `None` where an escape in it is bad.
 fn label_text(text: &[u8]) -> Option<(ArrayVec<u8, KEPT_OCTETS>, &[u8])>
     ensures some { IfSome result (λ x. ReadsLabel text.now x.0.items x.1.now) }
     ensures end { IfSome result (λ x. IsTrue (is_label_end x.1.now)) }
-    ensures none { IsNone result → (l end : Octets) → LabelThen text.now l end → is_label_end end ≡ true → ⊥ }
+    ensures none { IsNone result → (l end : Octets) → LabelThen text.now l end
+        → is_label_end end ≡ true → ⊥ }
 {
     let mut octets = ArrayVec::new();
     let mut rest = text;
@@ -165,9 +169,11 @@ fn label_text(text: &[u8]) -> Option<(ArrayVec<u8, KEPT_OCTETS>, &[u8])>
     Some((octets, rest))
 }
 
-/// The octet that a text begins with, and the text behind its spelling: the octet itself, `\X` or `\DDD` (RFC 1035 5.1).
+/// The octet that a text begins with, and the text after its spelling: the octet itself, `\X` or
+/// `\DDD` (RFC 1035 5.1).
 ///
-/// `None` at the end of the text, and where a backslash begins no escape. A dot is an octet as others are.
+/// `None` at the end of the text, and where a backslash begins no escape. A dot is an octet as
+/// others are.
 #[tactic(auto, unfolding(crate::specs::TextForm::octet_at))]
 pub fn first_octet(text: &[u8]) -> Option<(u8, &[u8])>
     ensures { Gives result (octet_at text.now) }

@@ -14,11 +14,12 @@ use std::io::Write;
 const MAX_TEXT: usize = 1020;
 
 impl Name {
-    /// Writes the name as it stands in a zone file (RFC 1035 5.1): its labels, each with a dot after it, and the root
-    /// as `.`
+    /// Writes the name as it stands in a zone file (RFC 1035 5.1): its labels, each with a dot
+    /// after it, and the root as `.`
     ///
-    /// In a label `"`, `$`, `(`, `)`, `.`, `;`, `@` and `\` have a backslash before them. Other octets 33 to 126 are
-    /// written as they are, and all others as `\DDD`, three decimal digits. No memory is taken.
+    /// In a label `"`, `$`, `(`, `)`, `.`, `;`, `@` and `\` have a backslash before them. Other
+    /// octets 33 to 126 are written as they are, and all others as `\DDD`, three decimal digits. No
+    /// memory is taken.
     ///
     /// Where the writer fails, a beginning of the text was written, and the failure is counted.
     pub fn write_text<W: Write>(&self, sink: &mut Tally<W>) -> Result<(), SinkFailed>
@@ -28,10 +29,11 @@ impl Name {
         sink.write_all(self.text().as_slice())
     }
 
-    /// Writes the name as most programs print it: its labels with a dot between them, and the root as `.`
+    /// Writes the name as most programs print it: its labels with a dot between them, and the root
+    /// as `.`
     ///
-    /// Octets are written as `write_text` writes them. No memory is taken. Where the writer fails, a beginning of the
-    /// text was written, and the failure is counted.
+    /// Octets are written as `write_text` writes them. No memory is taken. Where the writer fails,
+    /// a beginning of the text was written, and the failure is counted.
     pub fn write_bare_text<W: Write>(&self, sink: &mut Tally<W>) -> Result<(), SinkFailed>
         requires { sink.old.failures < 2 ^ 64 - 1 }
         ensures { Writes W.contents sink.old sink.new result (bare_name_text self.now) }

@@ -5,7 +5,7 @@ use Rattle.std.specs.Int.{bytes_high_first}
 use Rattle.dns_spec.specs.Names.{Octets}
 use Rattle.dns_spec.specs.DataText.{SaysNumber}
 use Rattle.dns_rdata.specs.WordForms.{AppendsOnly}
-use Rattle.dns_spec.proofs.OneData.{number_once}
+use Rattle.dns_spec.proofs.DataWords.OneData.{number_once}
 
 pub ok_or-some : {A E : Type 0} (x : Option A) (e : E) (a : A) → ok_or x e ≡ Ok a → x ≡ Some a
 ok_or-some None e a h = cc

@@ -15,7 +15,7 @@ none_is_some x e = cc
 some_inner : {A : Type 0} (x y : A) → Some x ≡ Some y → x ≡ y
 some_inner x y e = cc
 
--- what two digits and what stands behind them say
+-- what two digits and what stands after them say
 front_says : (text : Octets) (x : ℕ) (others : Octets) → hex_front text ≡ Some (x, others) → hex_octets text ≡ option_map (λ d. x ∷ d) (hex_octets others)
 unfolding hex_front hex_octets
 front_says [] x others e = cc
@@ -93,7 +93,7 @@ HexSoFar-end text old octets rest so_far empty = (
   so_far.appended,
 )
 
--- two texts of hex digits, one behind the other
+-- two texts of hex digits, one after the other
 abbrev pub joined_octets : Option Octets → Option Octets → Option Octets
 joined_octets o p = option_and_then (λ d. option_map (λ e. d ++ e) p) o
 
@@ -117,9 +117,9 @@ hex_octets-append (h ∷ l ∷ text) others even =
     onto x (Some d) (Some e) = refl
 
     by_cases : hex_octets (text ++ others) ≡ joined_octets (hex_octets text) (hex_octets others) → ((is_ascii_hexdigit h && is_ascii_hexdigit l) ≡ true) ⊎ ((is_ascii_hexdigit h && is_ascii_hexdigit l) ≡ false) → hex_octets ((h ∷ l ∷ text) ++ others) ≡ joined_octets (hex_octets (h ∷ l ∷ text)) (hex_octets others)
-    by_cases behind (inl digits) =
-        rw digits (ap (option_map (λ d. (16 * digit_value h + digit_value l) ∷ d)) behind ∙ onto (16 * digit_value h + digit_value l) (hex_octets text) (hex_octets others))
-    by_cases behind (inr none) = rw none refl
+    by_cases after (inl digits) =
+        rw digits (ap (option_map (λ d. (16 * digit_value h + digit_value l) ∷ d)) after ∙ onto (16 * digit_value h + digit_value l) (hex_octets text) (hex_octets others))
+    by_cases after (inr none) = rw none refl
 
 -- digits that say octets are of an even number
 pub even_digits : (text d : Octets) → hex_octets text ≡ Some d → length text % 2 ≡ 0

@@ -1,4 +1,4 @@
--- The first dot of a text stands behind its first number.
+-- The first dot of a text stands after its first number.
 use Rattle.std.proofs.Common.{◌≡◌, ◌↔◌, ℕ, [], ◌∷◌, ◌++◌, ◌<◌, ◌≤◌, Bool, true, false, ◌==◌, length, take, drop, refl, sym, ◌∙◌, ap, subst, arith, decimal, length-append, drop-cons, get_or, nat_lt}
 use Rattle.std.specs.Prelude.{Option, Some, None, position}
 use Rattle.std.specs.List.{position_or_len}
@@ -6,27 +6,28 @@ use Rattle.std.specs.Str.Parse.{AllDigits}
 use Rattle.std.proofs.Math.Seq.{take-append_seam, drop-append_seam}
 use Rattle.std.proofs.lemmas.List.{take-append-drop}
 use Rattle.std.proofs.lemmas.List.Quantifiers.{position-Some}
-use Rattle.std.proofs.lemmas.Bool.{ne_eqb, lt-ltb, ltb-true, eqb-true, and_parts, and_from}
+use Rattle.std.proofs.lemmas.Bool.{ne_eqb, lt-ltb, eqb-true, and_from}
 use Rattle.std.proofs.lemmas.Fmt.{decimal_is_IsNumeral, decimal_injective}
 use Rattle.std.proofs.lemmas.Str.Parse.{digit_from_value}
 use Rattle.dns_spec.specs.Names.{Octets}
 use Rattle.dns_spec.specs.AddressText.{SaysIpv4}
+use Rattle.dns_spec.proofs.DataWords.OneData.{four_numbers}
 use Rattle.dns_rdata.specs.AddressForm.{OctetThen}
 
 abbrev is_dot : ℕ → Bool
 is_dot o = o == 46
 
-behind_digits : (ds rest : Octets) → AllDigits 10 ds → position_or_len is_dot (ds ++ 46 ∷ rest) ≡ length ds
-behind_digits [] rest all = refl
-behind_digits (c ∷ ds) rest (digit, all) =
+after_digits : (ds rest : Octets) → AllDigits 10 ds → position_or_len is_dot (ds ++ 46 ∷ rest) ≡ length ds
+after_digits [] rest all = refl
+after_digits (c ∷ ds) rest (digit, all) =
     let in_range = digit_from_value c digit in
     let no_dot : is_dot c ≡ false = ne_eqb c 46 (λ e. omega (arith, in_range.0)) in
-    rw no_dot (omega (arith, behind_digits ds rest all))
+    rw no_dot (omega (arith, after_digits ds rest all))
 
 dot_place : (text rest : Octets) (n : ℕ) → OctetThen text n rest → position is_dot text ≡ Some (length (decimal n))
 dot_place text rest n said =
     let numeral = decimal_is_IsNumeral n (omega (arith, said.1)) in
-    let place : position_or_len is_dot text ≡ length (decimal n) = ap (position_or_len is_dot) said.0 ∙ behind_digits (decimal n) rest numeral.0.1 in
+    let place : position_or_len is_dot text ≡ length (decimal n) = ap (position_or_len is_dot) said.0 ∙ after_digits (decimal n) rest numeral.0.1 in
     let inside : length (decimal n) < length text = omega (arith, ap length said.0, length-append (decimal n) (46 ∷ rest)) in
     rw place (rw (lt-ltb _ _ inside) refl)
 
@@ -50,12 +51,12 @@ only_head : {a b : ℕ} {xs ys : Octets} → a ∷ xs ≡ b ∷ ys → (a ≡ b)
 only_head e = (cc, cc)
 
 pub number_then : (text front back rest : Octets) (end n dot : ℕ) → Some end ≡ position is_dot text → front ≡ take end text → back ≡ drop end text → back ≡ dot ∷ rest → front ≡ decimal n → n ≤ 255 → OctetThen text n rest
-number_then text front back rest end n dot place front_is back_is behind said le =
+number_then text front back rest end n dot place front_is back_is after said le =
     let found = position-Some is_dot text end 0 (sym place) in
-    let next = only_head (sym behind ∙ back_is ∙ drop-cons text end 0 found.0) in
+    let next = only_head (sym after ∙ back_is ∙ drop-cons text end 0 found.0) in
     let dot_is : dot ≡ 46 = next.0 ∙ eqb-true (get_or text end 0) 46 found.1 in
     let whole = sym (take-append-drop end text) in
-    (whole ∙ ap (λ f. f ++ drop end text) (sym front_is ∙ said) ∙ ap (λ b. decimal n ++ b) (sym back_is ∙ behind ∙ ap (λ k. k ∷ rest) dot_is), le)
+    (whole ∙ ap (λ f. f ++ drop end text) (sym front_is ∙ said) ∙ ap (λ b. decimal n ++ b) (sym back_is ∙ after ∙ ap (λ k. k ∷ rest) dot_is), le)
 
 -- a text begins with one number and a dot
 pub one_octet : (text : Octets) (m n : ℕ) (rest others : Octets) → OctetThen text m rest → OctetThen text n others → (m ≡ n) × (rest ≡ others)
@@ -74,43 +75,36 @@ pub record Ipv4Parts (text d : Octets) : Type 0 where
   pub second : ℕ
   pub third : ℕ
   pub fourth : ℕ
-  pub behind_first : Octets
-  pub behind_second : Octets
-  pub behind_third : Octets
+  pub after_first : Octets
+  pub after_second : Octets
+  pub after_third : Octets
   pub is : d ≡ first ∷ second ∷ third ∷ fourth ∷ []
-  pub reads_first : OctetThen text first behind_first
-  pub reads_second : OctetThen behind_first second behind_second
-  pub reads_third : OctetThen behind_second third behind_third
-  pub reads_fourth : (behind_third ≡ decimal fourth) × (fourth ≤ 255)
+  pub reads_first : OctetThen text first after_first
+  pub reads_second : OctetThen after_first second after_second
+  pub reads_third : OctetThen after_second third after_third
+  pub reads_fourth : (after_third ≡ decimal fourth) × (fourth ≤ 255)
 
 pub ipv4_parts : (text d : Octets) → SaysIpv4 text d → Ipv4Parts text d
-ipv4_parts text [] h = absurd (omega (arith, h.four))
-ipv4_parts text (a ∷ []) h = absurd (omega (arith, h.four))
-ipv4_parts text (a ∷ b ∷ []) h = absurd (omega (arith, h.four))
-ipv4_parts text (a ∷ b ∷ c ∷ []) h = absurd (omega (arith, h.four))
-ipv4_parts text (a ∷ b ∷ c ∷ e ∷ []) h =
-    let all = and_parts (nat_lt a 256) _ h.octets in
-    let all' = and_parts (nat_lt b 256) _ all.1 in
-    let all'' = and_parts (nat_lt c 256) _ all'.1 in
-    let last = and_parts (nat_lt e 256) _ all''.1 in
+ipv4_parts text d h =
+    let p = four_numbers text d h in
+    let third : p.third < 256 = p.third_small in
+    let fourth : p.fourth < 256 = p.fourth_small in
+    let first : p.first < 256 = p.first_small in
+    let second : p.second < 256 = p.second_small in
     record {
-      first = a;
-      second = b;
-      third = c;
-      fourth = e;
-      behind_first = decimal b ++ (46 ∷ (decimal c ++ (46 ∷ decimal e)));
-      behind_second = decimal c ++ (46 ∷ decimal e);
-      behind_third = decimal e;
-      is = refl;
-      reads_first = (h.spelled, octet_le a all.0);
-      reads_second = (refl, octet_le b all'.0);
-      reads_third = (refl, octet_le c all''.0);
-      reads_fourth = (refl, octet_le e last.0);
+      first = p.first;
+      second = p.second;
+      third = p.third;
+      fourth = p.fourth;
+      after_first = decimal p.second ++ (46 ∷ (decimal p.third ++ (46 ∷ decimal p.fourth)));
+      after_second = decimal p.third ++ (46 ∷ decimal p.fourth);
+      after_third = decimal p.fourth;
+      is = p.is;
+      reads_first = (p.spelled, omega (arith, first));
+      reads_second = (refl, omega (arith, second));
+      reads_third = (refl, omega (arith, third));
+      reads_fourth = (refl, omega (arith, fourth));
     }
-  where
-    octet_le : (k : ℕ) → nat_lt k 256 ≡ true → k ≤ 255
-    octet_le k t = let below = ltb-true k 256 t in omega arith
-ipv4_parts text (a ∷ b ∷ c ∷ e ∷ f ∷ d) h = absurd (omega (arith, h.four))
 
 pub says_ipv4 : (text d : Octets) → Ipv4Parts text d → SaysIpv4 text d
 says_ipv4 text d p =
@@ -145,33 +139,33 @@ Ipv4Iff-some text d r some parts alone = λ e. (
     only g = cc
 
 -- what is read agrees with what the text says, number by number
-second_of : (text d : Octets) (a : ℕ) (r : Octets) → OctetThen text a r → (p : Ipv4Parts text d) → (a ≡ p.first) × OctetThen r p.second p.behind_second
+second_of : (text d : Octets) (a : ℕ) (r : Octets) → OctetThen text a r → (p : Ipv4Parts text d) → (a ≡ p.first) × OctetThen r p.second p.after_second
 second_of text d a r h p =
-    let one = one_octet text a p.first r p.behind_first h p.reads_first in
-    let P : Octets → Type 0 = λ t. OctetThen t p.second p.behind_second in
+    let one = one_octet text a p.first r p.after_first h p.reads_first in
+    let P : Octets → Type 0 = λ t. OctetThen t p.second p.after_second in
     (one.0, subst P (sym one.1) p.reads_second)
 
-third_of : (text d : Octets) (a b : ℕ) (r s : Octets) → OctetThen text a r → OctetThen r b s → (p : Ipv4Parts text d) → (a ≡ p.first) × (b ≡ p.second) × OctetThen s p.third p.behind_third
+third_of : (text d : Octets) (a b : ℕ) (r s : Octets) → OctetThen text a r → OctetThen r b s → (p : Ipv4Parts text d) → (a ≡ p.first) × (b ≡ p.second) × OctetThen s p.third p.after_third
 third_of text d a b r s h k p =
     let second = second_of text d a r h p in
-    let one = one_octet r b p.second s p.behind_second k second.1 in
-    let P : Octets → Type 0 = λ t. OctetThen t p.third p.behind_third in
+    let one = one_octet r b p.second s p.after_second k second.1 in
+    let P : Octets → Type 0 = λ t. OctetThen t p.third p.after_third in
     (second.0, one.0, subst P (sym one.1) p.reads_third)
 
 fourth_of : (text d : Octets) (a b c : ℕ) (r s t : Octets) → OctetThen text a r → OctetThen r b s → OctetThen s c t → (p : Ipv4Parts text d) → (a ≡ p.first) × (b ≡ p.second) × (c ≡ p.third) × (t ≡ decimal p.fourth)
 fourth_of text d a b c r s t h k l p =
     let third = third_of text d a b r s h k p in
-    let one = one_octet s c p.third t p.behind_third l third.2 in
+    let one = one_octet s c p.third t p.after_third l third.2 in
     (third.0, third.1, one.0, one.1 ∙ p.reads_fourth.0)
 
 pub no_first : (text : Octets) → ((n : ℕ) (rest : Octets) → OctetThen text n rest → ⊥) → (d : Octets) → Ipv4Parts text d → ⊥
-no_first text none d p = none p.first p.behind_first p.reads_first
+no_first text none d p = none p.first p.after_first p.reads_first
 
 pub no_second : (text : Octets) (a : ℕ) (r : Octets) → OctetThen text a r → ((n : ℕ) (rest : Octets) → OctetThen r n rest → ⊥) → (d : Octets) → Ipv4Parts text d → ⊥
-no_second text a r h none d p = none p.second p.behind_second (second_of text d a r h p).1
+no_second text a r h none d p = none p.second p.after_second (second_of text d a r h p).1
 
 pub no_third : (text : Octets) (a b : ℕ) (r s : Octets) → OctetThen text a r → OctetThen r b s → ((n : ℕ) (rest : Octets) → OctetThen s n rest → ⊥) → (d : Octets) → Ipv4Parts text d → ⊥
-no_third text a b r s h k none d p = none p.third p.behind_third (third_of text d a b r s h k p).2
+no_third text a b r s h k none d p = none p.third p.after_third (third_of text d a b r s h k p).2
 
 pub no_fourth : (text : Octets) (a b c : ℕ) (r s t : Octets) → OctetThen text a r → OctetThen r b s → OctetThen s c t → ((n : ℕ) → (t ≡ decimal n) × (n ≤ 255) → ⊥) → (d : Octets) → Ipv4Parts text d → ⊥
 no_fourth text a b c r s t h k l none d p = none p.fourth ((fourth_of text d a b c r s t h k l p).3, p.reads_fourth.1)
@@ -184,9 +178,9 @@ all_four text a b c e r s t h k l m =
       second = b;
       third = c;
       fourth = e;
-      behind_first = r;
-      behind_second = s;
-      behind_third = t;
+      after_first = r;
+      after_second = s;
+      after_third = t;
       is = refl;
       reads_first = h;
       reads_second = k;

@@ -185,7 +185,7 @@ abbrev one_or_more : Octets → Option (List ℕ)
 one_or_more text = group_values (slice_split is_colon text)
 
 abbrev group_then : Octets → Option (List ℕ) → Option (List ℕ)
-group_then text behind = if is_group text then option_map (λ gs. digits_value 16 text ∷ gs) behind else None
+group_then text after = if is_group text then option_map (λ gs. digits_value 16 text ∷ gs) after else None
 
 one_or_more-said : (text : Octets) → (length text ≡ 0 → ⊥) → groups_said text ≡ one_or_more text
 one_or_more-said [] more = absurd (more refl)
@@ -213,10 +213,10 @@ one_part p [] h = refl
 one_part p (x ∷ text) h = by_cases (one_part p text) (cases_Bool (p x))
   where
     by_cases : (length text ≤ position_or_len p text → slice_split p text ≡ text ∷ []) → (p x ≡ true) ⊎ (p x ≡ false) → slice_split p (x ∷ text) ≡ (x ∷ text) ∷ []
-    by_cases behind (inl passes) = let g : length (x ∷ text) ≤ 0 = rw passes at h in absurd (omega (arith, g))
-    by_cases behind (inr other) =
+    by_cases after (inl passes) = let g : length (x ∷ text) ≤ 0 = rw passes at h in absurd (omega (arith, g))
+    by_cases after (inr other) =
         let g : length (x ∷ text) ≤ 1 + position_or_len p text = rw other at h in
-        rw other (ap (onto_first x) (behind (omega (arith, g))))
+        rw other (ap (onto_first x) (after (omega (arith, g))))
 
 no_colon : (text : Octets) → None ≡ position is_colon text → slice_split is_colon text ≡ text ∷ []
 no_colon text e = by_cases (cases_Bool (nat_lt (position_or_len is_colon text) (length text)))
@@ -228,7 +228,7 @@ no_colon text e = by_cases (cases_Bool (nat_lt (position_or_len is_colon text) (
 last_group : (text : Octets) → None ≡ position is_colon text → one_or_more text ≡ group_then text (Some [])
 last_group text e = ap group_values (no_colon text e)
 
--- the groups read so far, and the text behind them
+-- the groups read so far, and the text after them
 pub record GroupsSoFar (text : Octets) (groups : List ℕ) (rest : Octets) : Type 0 where
   pub whole : one_or_more text ≡ option_map (λ gs. groups ++ gs) (one_or_more rest)
   pub few : length groups ≤ 8
@@ -256,17 +256,17 @@ pub GroupsSoFar-push : (text rest first : Octets) (old new : List ℕ) (end : �
 GroupsSoFar-push text rest first old new end so_far e first_is pushes =
     let pushed = pushed_group first old new pushes in
     let is_one : is_group (take end rest) ≡ true = ap is_group (sym first_is) ∙ pushed.0 in
-    let behind = one_or_more (drop (end + 1) rest) in
-    let read : one_or_more rest ≡ option_map (λ gs. digits_value 16 first ∷ gs) behind = first_group rest end e ∙ rw (sym first_is, pushed.0) refl in
-    let P : List ℕ → Type 0 = λ n. one_or_more text ≡ option_map (λ gs. n ++ gs) behind in
+    let after = one_or_more (drop (end + 1) rest) in
+    let read : one_or_more rest ≡ option_map (λ gs. digits_value 16 first ∷ gs) after = first_group rest end e ∙ rw (sym first_is, pushed.0) refl in
+    let P : List ℕ → Type 0 = λ n. one_or_more text ≡ option_map (λ gs. n ++ gs) after in
     record {
-      whole = subst P (sym pushed.2) (so_far.whole ∙ ap (option_map (λ gs. old ++ gs)) read ∙ joined_groups old [] (digits_value 16 first) behind);
+      whole = subst P (sym pushed.2) (so_far.whole ∙ ap (option_map (λ gs. old ++ gs)) read ∙ joined_groups old [] (digits_value 16 first) after);
       few = omega (arith, ap length pushed.2, length-append old (digits_value 16 first ∷ []), pushed.1);
     }
 
 -- no group stands next, or there are too many
-refused_groups : (text : Octets) (old : List ℕ) (first : Octets) (behind : Option (List ℕ)) → one_or_more text ≡ option_map (λ gs. old ++ gs) (group_then first behind) → false ≡ (is_group first && nat_lt (length old) 8) → None ≡ option_and_then few_groups (one_or_more text)
-refused_groups text old first behind whole refused = sym (ap (option_and_then few_groups) whole ∙ by_cases (cases_Bool (is_group first)) behind)
+refused_groups : (text : Octets) (old : List ℕ) (first : Octets) (after : Option (List ℕ)) → one_or_more text ≡ option_map (λ gs. old ++ gs) (group_then first after) → false ≡ (is_group first && nat_lt (length old) 8) → None ≡ option_and_then few_groups (one_or_more text)
+refused_groups text old first after whole refused = sym (ap (option_and_then few_groups) whole ∙ by_cases (cases_Bool (is_group first)) after)
   where
     too_many : (gs : List ℕ) → 8 ≤ length old → 0 < length gs → few_groups (old ++ gs) ≡ None
     too_many gs full some_group =
@@ -277,8 +277,8 @@ refused_groups text old first behind whole refused = sym (ap (option_and_then fe
     full : is_group first ≡ true → 8 ≤ length old
     full group = ltb-false _ _ (sym (let f : false ≡ nat_lt (length old) 8 = rw group at refused in f))
 
-    by_cases : (is_group first ≡ true) ⊎ (is_group first ≡ false) → (behind : Option (List ℕ)) → option_and_then few_groups (option_map (λ gs. old ++ gs) (group_then first behind)) ≡ None
-    by_cases (inr none) behind = rw none refl
+    by_cases : (is_group first ≡ true) ⊎ (is_group first ≡ false) → (after : Option (List ℕ)) → option_and_then few_groups (option_map (λ gs. old ++ gs) (group_then first after)) ≡ None
+    by_cases (inr none) after = rw none refl
     by_cases (inl group) None = rw group refl
     by_cases (inl group) (Some gs) = rw group (too_many (digits_value 16 first ∷ gs) (full group) (omega arith))
 
@@ -306,7 +306,7 @@ all_groups text rest old new so_far more e pushes =
 pub to_end : (text : Octets) (from : ℕ) → take (length text - from) (drop from text) ≡ drop from text
 to_end text from = take_all (length text - from) (drop from text) (omega (arith, length-drop from text))
 
--- zero groups behind those in front, as far as there is room for those behind
+-- zero groups after those in front, as far as there is room for those after
 pub record FilledSoFar (old groups back : List ℕ) : Type 0 where
   pub zeros : groups ≡ old ++ replicate (length groups - length old) 0
   pub grown : length old ≤ length groups

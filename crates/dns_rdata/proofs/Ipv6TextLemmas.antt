@@ -8,8 +8,8 @@ use Rattle.std.proofs.lemmas.Bool.{ne_eqb, eq-eqb, cases_Bool, cases_lt}
 use Rattle.std.proofs.Math.Numerals.{suc-eq-add-one}
 use Rattle.dns_spec.specs.Names.{Octets}
 use Rattle.dns_spec.specs.AddressText.{groups_text, zero_runs, longest_run, longest_place}
-use Rattle.dns_spec.proofs.GroupDigits.{one_digit, two_digits, three_of, four_of}
-use Rattle.dns_spec.proofs.ZeroRuns.{is_zero, length-zero_runs, run_at}
+use Rattle.dns_spec.proofs.DataWords.GroupDigits.{one_digit, two_digits, three_of, four_of}
+use Rattle.dns_spec.proofs.DataWords.ZeroRuns.{is_zero, length-zero_runs, run_at}
 
 -- the digits of two octets are those of each
 pub split_digits : (n : ℕ) → 256 ≤ n → n < 65536 → digits 16 false n ≡ digits 16 false (n / 256) ++ digit_char (n % 256 / 16) ∷ digit_char (n % 256 % 16) ∷ []

@@ -1,4 +1,4 @@
--- Data is lowered in place, one piece behind the other.
+-- Data is lowered in place, one piece after the other.
 use Rattle.std.proofs.Common.{◌≡◌, ℕ, ◌+◌, ◌<◌, ◌≤◌, Option, Some, None, List, [], ◌∷◌, ◌++◌, map, length, take, drop, slice_index_or, refl, sym, ap, ◌∙◌, subst, arith, add-one, append_assoc, append-nil, length-append, length-drop, take-append-drop, true, ◌-◌}
 use Rattle.std.proofs.Math.Seq.{drop-cons}
 use Rattle.std.proofs.lemmas.List.{take_at, drop_at, length-take-le, nil_from_length, take_all, drop_all}
@@ -10,7 +10,7 @@ use Rattle.std.specs.Char.{to_ascii_lowercase}
 use Rattle.dns_spec.specs.Names.{Octets, wire, folded}
 use Rattle.dns_spec.specs.Data.{part_octets, part_folded, joined, cut, piece_front}
 use Rattle.dns_spec.specs.Data as Data
-use Rattle.dns_spec.proofs.LoweredData.{length-part_folded, piece_whole}
+use Rattle.dns_spec.proofs.DataWords.LoweredData.{length-part_folded, piece_whole}
 use Rattle.dns_name.specs.WireForm.{labels_of, IsWireForm}
 use Rattle.dns_name.proofs.WireLemmas.{map-lowercase-octets}
 use Rattle.dns_rdata.specs.declared.table.Piece.{Piece}
@@ -34,12 +34,12 @@ name_lowered p octets rest new x w cuts e is =
     let form : IsWireForm w.now = subst IsLent e cuts.1 in
     let whole = name_begins p octets rest x w cuts e in
     let taken : take (length w.now) octets ≡ w.now = ap (take (length w.now)) whole ∙ take_at w.now rest (length w.now) refl in
-    let behind : drop (length w.now) octets ≡ rest = ap (drop (length w.now)) whole ∙ drop_at w.now rest (length w.now) refl in
+    let rest_is : drop (length w.now) octets ≡ rest = ap (drop (length w.now)) whole ∙ drop_at w.now rest (length w.now) refl in
     let lower : new ≡ wire (folded (labels_of w.now)) = is ∙ ap (map to_ascii_lowercase) taken ∙ map-lowercase-octets w.now (labels_of w.now) form refl in
     subst (λ y. LowersFront y (new ++ drop (length w.now) octets) (length w.now)) (sym (cuts.0 ∙ ap (λ y. Some (part_for y, rest)) e))
-    (ap (λ xs. xs ++ drop (length w.now) octets) lower ∙ ap (λ xs. wire (folded (labels_of w.now)) ++ xs) behind, ap length (sym form.wire_is))
+    (ap (λ xs. xs ++ drop (length w.now) octets) lower ∙ ap (λ xs. wire (folded (labels_of w.now)) ++ xs) rest_is, ap length (sym form.wire_is))
 
--- the pieces up to a place are lowered, and those to come stand behind it as they were
+-- the pieces up to a place are lowered, and those to come stand after it as they were
 pub record LoweredSoFar (pieces : List Piece) (before : Octets) (left : List Piece) (octets : Octets) (start : ℕ) : Type 0 where
   pub inside : start ≤ length octets
   pub are_cut : AreCut left (drop start octets)
@@ -63,16 +63,16 @@ module _ (pieces : List Piece) (before : Octets) (p : Piece) (others : List Piec
           in
           let shape : after ≡ done ++ rest = is ∙ ap (λ xs. take start octets ++ xs) h.0 ∙ sym (append_assoc (take start octets) front rest) in
           let taken : take (start + n) after ≡ done = ap (take (start + n)) shape ∙ take_at done rest (start + n) long in
-          let behind : drop (start + n) after ≡ rest = ap (drop (start + n)) shape ∙ drop_at done rest (start + n) long in
+          let rest_is : drop (start + n) after ≡ rest = ap (drop (start + n)) shape ∙ drop_at done rest (start + n) long in
           let lowered = joined (map part_folded (parts_left others rest)) in
           record {
             inside = omega (arith, long, ap length shape, length-append done rest);
             are_cut =
-                ap (λ xs. is_some (cut (pieces_in others) xs)) behind
+                ap (λ xs. is_some (cut (pieces_in others) xs)) rest_is
                 ∙ sym (more_are_cut (piece_of p) (pieces_in others) (drop start octets) part rest e) ∙ so.are_cut;
             whole =
                 ap (λ xs. xs ++ joined (map part_folded (parts_left others (drop (start + n) after)))) taken
-                ∙ ap (λ xs. done ++ joined (map part_folded (parts_left others xs))) behind
+                ∙ ap (λ xs. done ++ joined (map part_folded (parts_left others xs))) rest_is
                 ∙ append_assoc (take start octets) front lowered
                 ∙ ap (λ xs. take start octets ++ xs) (sym (flat_map-cons part_octets (part_folded part) (map part_folded (parts_left others rest))))
                 ∙ ap (λ xs. take start octets ++ joined (map part_folded xs)) (sym (parts_left-cons p others (drop start octets) part rest e so.are_cut))
@@ -101,8 +101,8 @@ LoweredSoFar-next pieces before i d octets new after start n inside so lowers is
 whole_slice : (octets : Octets) (start : ℕ) → take (length octets - start) (drop start octets) ≡ drop start octets
 whole_slice octets start = take_all (length octets - start) (drop start octets) (omega (arith, length-drop start octets))
 
-nothing_behind : (octets : Octets) (start : ℕ) → drop (length octets - start) (drop start octets) ≡ []
-nothing_behind octets start = drop_all (length octets - start) (drop start octets) (omega (arith, length-drop start octets))
+nothing_after : (octets : Octets) (start : ℕ) → drop (length octets - start) (drop start octets) ≡ []
+nothing_after octets start = drop_all (length octets - start) (drop start octets) (omega (arith, length-drop start octets))
 
 module _ (pieces : List Piece) (before : Octets) (i : ℕ) (d : Piece) (octets : Octets) (start : ℕ) (inside : i < length pieces) (so : LoweredSoFar pieces before (drop i pieces) octets start) where
   pub piece_in_slice : is_some (piece_front (piece_of (slice_index_or pieces i d)) (take (length octets - start) (drop start octets))) ≡ true
@@ -115,7 +115,7 @@ module _ (pieces : List Piece) (before : Octets) (i : ℕ) (d : Piece) (octets :
   LoweredSoFar-slice new n lowers =
       LoweredSoFar-next pieces before i d octets new (take start octets ++ (new ++ drop (length octets - start) (drop start octets))) start n inside so
       (subst (λ xs. LowersFront (piece_front (piece_of (slice_index_or pieces i d)) xs) new n) (whole_slice octets start) lowers)
-      (ap (λ xs. take start octets ++ (new ++ xs)) (nothing_behind octets start) ∙ ap (λ xs. take start octets ++ xs) (append-nil new))
+      (ap (λ xs. take start octets ++ (new ++ xs)) (nothing_after octets start) ∙ ap (λ xs. take start octets ++ xs) (append-nil new))
 
 pub LoweredSoFar-end : (pieces : List Piece) (before octets : Octets) (i start : ℕ) → LoweredSoFar pieces before (drop i pieces) octets start → length pieces ≤ i
     → octets ≡ joined (map part_folded (parts_left pieces before))

@@ -1,17 +1,17 @@
--- Octets that begin with labels: what is behind a label decides of them.
+-- Octets that begin with labels: what is after a label decides of them.
 use Rattle.std.proofs.Common.{◌≡◌, ℕ, zero, suc, ◌-◌, ◌<◌, ◌≤◌, true, false, Option, None, Some, [], ◌∷◌, ◌++◌, length, take, drop, get_or, refl, sym, ap, ◌∙◌, arith, append_assoc, length-append, take-append-drop}
-use Rattle.std.proofs.lemmas.Bool.{and_parts, and_from, false_from_ne_true}
+use Rattle.std.proofs.lemmas.Bool.{and_parts, and_from}
 use Rattle.std.proofs.lemmas.List.{take_at, drop_at, length-take-le}
 use Rattle.std.proofs.lemmas.Option.{none-some, some_pair_parts}
-use Rattle.std.specs.Option.{option_map, option_and_then}
+use Rattle.std.specs.Option.{option_map}
 use Rattle.std.specs.List.{list_all}
 use Rattle.dns_spec.specs.Names.{Octets, DomainName, wire, is_label, is_name, name_of}
 use Rattle.dns_spec.specs.Data.{Part, octets as run, name, domain, piece_front, are_strings}
-use Rattle.dns_spec.proofs.NameLaws.{IsName-is_name, IsLabel-is_label, is_label-IsLabel, is_name-IsName}
-use Rattle.dns_spec.proofs.WireNames.{name_read, name_of-wire, wire_fronts_agree}
+use Rattle.dns_spec.proofs.DomainNames.NameLaws.{IsName-is_name, IsLabel-is_label, is_label-IsLabel, is_name-IsName}
+use Rattle.dns_spec.proofs.DomainNames.WireNames.{name_read, name_of-wire, wire_fronts_agree}
 use Rattle.dns_name.specs.WireForm.{labels_of, IsWireForm}
 use Rattle.dns_name.proofs.WireLemmas.{labels_of_spelled, IsWireForm-wire}
-use Rattle.dns_rdata.specs.NameFront.{IsBehindLabels, HasNoLabels}
+use Rattle.dns_rdata.specs.NameFront.{StandsAfterLabels, HasNoLabels}
 
 positive : (n : ℕ) → (n ≡ 0 → ⊥) → 0 < n
 positive zero some = absurd (some refl)
@@ -19,45 +19,45 @@ positive (suc n) some = omega arith
 
 -- the rest has the same labels to come as the whole
 pub record Alike (octets rest : Octets) : Type 0 where
-  pub found : (behind : Octets) → IsBehindLabels rest behind → IsBehindLabels octets behind
+  pub found : (after : Octets) → StandsAfterLabels rest after → StandsAfterLabels octets after
   pub none : HasNoLabels rest → HasNoLabels octets
 
 pub Alike-whole : (octets : Octets) → Alike octets octets
-Alike-whole octets = record { found = λ behind h. h; none = λ h. h }
+Alike-whole octets = record { found = λ after h. h; none = λ h. h }
 
 -- the root's length ends the labels
-pub root_found : (rest others : Octets) (k : ℕ) → rest ≡ k ∷ others → k ≡ 0 → IsBehindLabels rest others
+pub root_found : (rest others : Octets) (k : ℕ) → rest ≡ k ∷ others → k ≡ 0 → StandsAfterLabels rest others
 root_found rest others k e zero_length = record { labels = []; are_labels = refl; whole = e ∙ ap (λ x. x ∷ others) zero_length }
 
 -- what begins with labels begins with the length of a label or of the root
 pub nothing_begins : (rest : Octets) → length rest ≡ 0 → HasNoLabels rest
-nothing_begins rest none behind h = by_cases h.labels (ap length (sym h.whole) ∙ none)
+nothing_begins rest none after h = by_cases h.labels (ap length (sym h.whole) ∙ none)
   where
-    by_cases : (n : DomainName) → length (wire n ++ behind) ≡ 0 → ⊥
+    by_cases : (n : DomainName) → length (wire n ++ after) ≡ 0 → ⊥
     by_cases [] e = absurd (omega arith)
     by_cases (l ∷ n) e = absurd (omega arith)
 
 -- a label's length that is too long, or past the end
 pub no_label_there : (rest others : Octets) (k : ℕ) → rest ≡ k ∷ others → (k ≡ 0 → ⊥) → (k ≤ 63 → k ≤ length others → ⊥) → HasNoLabels rest
-no_label_there rest others k e some bad behind h = by_cases h.labels h.are_labels (sym h.whole ∙ e)
+no_label_there rest others k e some bad after h = by_cases h.labels h.are_labels (sym h.whole ∙ e)
   where
-    by_cases : (n : DomainName) → list_all is_label n ≡ true → wire n ++ behind ≡ k ∷ others → ⊥
+    by_cases : (n : DomainName) → list_all is_label n ≡ true → wire n ++ after ≡ k ∷ others → ⊥
     by_cases [] ok f = some (sym (ap (λ (xs : Octets). get_or xs 0 0) f))
     by_cases (l ∷ n) ok f =
         let label = IsLabel-is_label l (and_parts (is_label l) (list_all is_label n) ok).0 in
         let first : length l ≡ k = ap (λ (xs : Octets). get_or xs 0 0) f in
-        let long : length ((l ++ wire n) ++ behind) ≡ length others = ap (λ (xs : Octets). length (drop 1 xs)) f in
-        bad (omega (arith, label.fits)) (omega (arith, length-append (l ++ wire n) behind, length-append l (wire n)))
+        let long : length ((l ++ wire n) ++ after) ≡ length others = ap (λ (xs : Octets). length (drop 1 xs)) f in
+        bad (omega (arith, label.fits)) (omega (arith, length-append (l ++ wire n) after, length-append l (wire n)))
 
--- a label: behind it stands the rest
+-- a label: after it stands the rest
 pub label_passed : (octets rest others : Octets) (k : ℕ) → Alike octets rest → rest ≡ k ∷ others → (k ≡ 0 → ⊥) → k ≤ 63 → k ≤ length others → Alike octets (drop k others)
 label_passed octets rest others k alike e some fits there = record {
-  found = λ behind h. alike.found behind (longer behind h);
-  none = λ h. alike.none (λ behind b. shorter behind h b.labels b.are_labels (sym b.whole ∙ e));
+  found = λ after h. alike.found after (longer after h);
+  none = λ h. alike.none (λ after b. shorter after h b.labels b.are_labels (sym b.whole ∙ e));
 }
   where
-    longer : (behind : Octets) → IsBehindLabels (drop k others) behind → IsBehindLabels rest behind
-    longer behind h =
+    longer : (after : Octets) → StandsAfterLabels (drop k others) after → StandsAfterLabels rest after
+    longer after h =
         let l = take k others in
         let long : length l ≡ k = length-take-le k others there in
         let label : is_label l ≡ true = is_label-IsLabel l (positive (length l) (λ z. some (sym long ∙ z))) (omega arith) in
@@ -66,18 +66,18 @@ label_passed octets rest others k alike e some fits there = record {
           are_labels = and_from (is_label l) (list_all is_label h.labels) label h.are_labels;
           whole =
               e ∙ ap (λ x. x ∷ others) (sym long)
-              ∙ ap (λ xs. length l ∷ xs) (sym (take-append-drop k others) ∙ ap (λ xs. l ++ xs) h.whole ∙ sym (append_assoc l (wire h.labels) behind));
+              ∙ ap (λ xs. length l ∷ xs) (sym (take-append-drop k others) ∙ ap (λ xs. l ++ xs) h.whole ∙ sym (append_assoc l (wire h.labels) after));
         }
 
-    shorter : (behind : Octets) → HasNoLabels (drop k others) → (n : DomainName) → list_all is_label n ≡ true → wire n ++ behind ≡ k ∷ others → ⊥
-    shorter behind none [] ok f = some (sym (ap (λ (xs : Octets). get_or xs 0 0) f))
-    shorter behind none (l ∷ n) ok f =
+    shorter : (after : Octets) → HasNoLabels (drop k others) → (n : DomainName) → list_all is_label n ≡ true → wire n ++ after ≡ k ∷ others → ⊥
+    shorter after none [] ok f = some (sym (ap (λ (xs : Octets). get_or xs 0 0) f))
+    shorter after none (l ∷ n) ok f =
         let first : length l ≡ k = ap (λ (xs : Octets). get_or xs 0 0) f in
-        let others_are : l ++ (wire n ++ behind) ≡ others = sym (append_assoc l (wire n) behind) ∙ ap (drop 1) f in
-        none behind (record {
+        let others_are : l ++ (wire n ++ after) ≡ others = sym (append_assoc l (wire n) after) ∙ ap (drop 1) f in
+        none after (record {
           labels = n;
           are_labels = (and_parts (is_label l) (list_all is_label n) ok).1;
-          whole = ap (drop k) (sym others_are) ∙ drop_at l (wire n ++ behind) k first;
+          whole = ap (drop k) (sym others_are) ∙ drop_at l (wire n ++ after) k first;
         })
 
 pub no_front_name : (octets : Octets) → HasNoLabels octets → name_of octets ≡ None
@@ -89,38 +89,38 @@ no_front_name octets none = go (name_of octets) refl
         let r = name_read octets n rest e in
         absurd (none rest (record { labels = n; are_labels = (IsName-is_name n r.0).labels; whole = r.1 }))
 
--- the octets before those behind labels
-wire_taken : (octets behind : Octets) (n : DomainName) (k : ℕ) → octets ≡ wire n ++ behind → k ≡ length octets - length behind
-    → (take k octets ≡ wire n) × (drop k octets ≡ behind)
-wire_taken octets behind n k e f =
-    let long : length (wire n) ≡ k = omega (arith, ap length e, length-append (wire n) behind) in
-    (ap (take k) e ∙ take_at (wire n) behind k long, ap (drop k) e ∙ drop_at (wire n) behind k long)
+-- the octets before those after labels
+wire_taken : (octets after : Octets) (n : DomainName) (k : ℕ) → octets ≡ wire n ++ after → k ≡ length octets - length after
+    → (take k octets ≡ wire n) × (drop k octets ≡ after)
+wire_taken octets after n k e f =
+    let long : length (wire n) ≡ k = omega (arith, ap length e, length-append (wire n) after) in
+    (ap (take k) e ∙ take_at (wire n) after k long, ap (drop k) e ∙ drop_at (wire n) after k long)
 
 -- labels that are too long for a name
-pub long_name : (octets behind front : Octets) (k : ℕ) → IsBehindLabels octets behind → front ≡ take k octets → k ≡ length octets - length behind
+pub long_name : (octets after front : Octets) (k : ℕ) → StandsAfterLabels octets after → front ≡ take k octets → k ≡ length octets - length after
     → 255 < length front → name_of octets ≡ None
-long_name octets behind front k h e f long = go (name_of octets) refl
+long_name octets after front k h e f long = go (name_of octets) refl
   where
     go : (y : Option (DomainName × Octets)) → name_of octets ≡ y → y ≡ None
     go None _ = refl
     go (Some (n, rest)) g =
         let r = name_read octets n rest g in
         let name = IsName-is_name n r.0 in
-        let same : n ≡ h.labels = (wire_fronts_agree n h.labels rest behind name.labels h.are_labels (sym r.1 ∙ h.whole)).0 in
-        let long_wire : front ≡ wire h.labels = e ∙ (wire_taken octets behind h.labels k h.whole f).0 in
+        let same : n ≡ h.labels = (wire_fronts_agree n h.labels rest after name.labels h.are_labels (sym r.1 ∙ h.whole)).0 in
+        let long_wire : front ≡ wire h.labels = e ∙ (wire_taken octets after h.labels k h.whole f).0 in
         absurd (omega (arith, name.fits, ap length long_wire, ap (λ m. length (wire m)) same))
 
 -- labels that are a name
-pub short_name : (octets behind front rest : Octets) (k : ℕ) → IsBehindLabels octets behind → front ≡ take k octets → rest ≡ drop k octets
-    → k ≡ length octets - length behind → length front ≤ 255
+pub short_name : (octets after front rest : Octets) (k : ℕ) → StandsAfterLabels octets after → front ≡ take k octets → rest ≡ drop k octets
+    → k ≡ length octets - length after → length front ≤ 255
     → (piece_front domain octets ≡ Some (name (labels_of front), rest)) × IsWireForm front
-short_name octets behind front rest k h e g f short =
-    let taken = wire_taken octets behind h.labels k h.whole f in
+short_name octets after front rest k h e g f short =
+    let taken = wire_taken octets after h.labels k h.whole f in
     let same : front ≡ wire h.labels = e ∙ taken.0 in
     let ok : is_name h.labels ≡ true = is_name-IsName h.labels h.are_labels (omega (arith, ap length same)) in
-    let found : name_of octets ≡ Some (h.labels, behind) = ap name_of h.whole ∙ name_of-wire h.labels behind ok in (
+    let found : name_of octets ≡ Some (h.labels, after) = ap name_of h.whole ∙ name_of-wire h.labels after ok in (
       ap (option_map (λ (r : DomainName × Octets). (name r.0, r.1))) found
-          ∙ ap (λ x. Some (name x, behind)) (sym (labels_of_spelled front h.labels same ok))
+          ∙ ap (λ x. Some (name x, after)) (sym (labels_of_spelled front h.labels same ok))
           ∙ ap (λ x. Some (name (labels_of front), x)) (sym (g ∙ taken.1)),
       IsWireForm-wire front h.labels same ok,
     )
@@ -138,10 +138,10 @@ name_cut octets n rest e = go (name_of octets) e
     go (Some (m, tail)) f = let p = some_pair_parts (name m) (name n) tail rest f in ap (λ x. Some (names_in x, tail)) p.0 ∙ ap (λ x. Some (n, x)) p.1
 
 -- k octets of a string are passed over
-pub strings_behind : (k : ℕ) (os : Octets) → k ≤ length os → are_strings k os ≡ are_strings 0 (drop k os)
-strings_behind zero os h = refl
-strings_behind (suc k) [] h = absurd (omega arith)
-strings_behind (suc k) (o ∷ os) h = strings_behind k os (omega arith)
+pub strings_after : (k : ℕ) (os : Octets) → k ≤ length os → are_strings k os ≡ are_strings 0 (drop k os)
+strings_after zero os h = refl
+strings_after (suc k) [] h = absurd (omega arith)
+strings_after (suc k) (o ∷ os) h = strings_after k os (omega arith)
 
 pub strings_cut : (k : ℕ) (os : Octets) → length os < k → are_strings k os ≡ false
 strings_cut zero os h = absurd (omega arith)

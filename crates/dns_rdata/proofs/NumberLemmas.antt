@@ -124,17 +124,17 @@ decimal-short n small = length-decimal-le 10 n (omega arith) (omega arith) (omeg
 pub decimal-octet : (n : ℕ) → n < 256 → length (decimal n) ≤ 3
 decimal-octet n small = length-decimal-le 3 n (omega arith) (omega arith) (omega arith)
 
--- room for the last digit, behind the others and alone
-pub room_behind : (old new : Octets) (n : ℕ) → 10 ≤ n → n < 2 ^ 32 → length old + length (decimal n) ≤ 10 → new ≡ old ++ decimal (n / 10) → length new < 10
-room_behind old new n large small room e =
+-- room for the last digit, after the others and alone
+pub room_after : (old new : Octets) (n : ℕ) → 10 ≤ n → n < 2 ^ 32 → length old + length (decimal n) ≤ 10 → new ≡ old ++ decimal (n / 10) → length new < 10
+room_after old new n large small room e =
     omega (arith, (decimal-parts n large small).1, room, ap length e, length-append old (decimal (n / 10)))
 
 pub room_alone : (old : Octets) (n : ℕ) → n < 10 → length old + length (decimal n) ≤ 10 → length old < 10
 room_alone old n small room = omega (arith, decimal_nonempty n (omega arith), room)
 
--- the last digit, behind the others and alone
-pub written_behind : (old new whole : Octets) (n : ℕ) → 10 ≤ n → n < 2 ^ 32 → new ≡ old ++ decimal (n / 10) → whole ≡ new ++ (48 + n % 10) ∷ [] → whole ≡ old ++ decimal n
-written_behind old new whole n large small e f =
+-- the last digit, after the others and alone
+pub written_after : (old new whole : Octets) (n : ℕ) → 10 ≤ n → n < 2 ^ 32 → new ≡ old ++ decimal (n / 10) → whole ≡ new ++ (48 + n % 10) ∷ [] → whole ≡ old ++ decimal n
+written_after old new whole n large small e f =
     f ∙ ap (λ t. t ++ (48 + n % 10) ∷ []) e ∙ append_assoc old (decimal (n / 10)) ((48 + n % 10) ∷ [])
     ∙ ap (λ t. old ++ t) (sym (decimal-parts n large small).0)
 

@@ -10,15 +10,15 @@ use Rattle.std.specs.Option.{is_some, unwrap_or, option_map}
 use Rattle.dns_spec.specs.Names.{Octets}
 use Rattle.dns_spec.specs.Data.{width, fixed, domain, string, strings, anything, octets, name, part_octets, part_folded, joined, cut, piece_front, valid, lower_case, pieces_of, type_table, other_type}
 use Rattle.dns_spec.specs.Data as Data
-use Rattle.dns_spec.proofs.WrittenData.{cut_into, name_part, octets_part, all_strings}
-use Rattle.dns_spec.proofs.LoweredData.{cut_data, lowered_data}
+use Rattle.dns_spec.proofs.DataWords.WrittenData.{cut_into, name_part, octets_part, all_strings}
+use Rattle.dns_spec.proofs.DataWords.LoweredData.{cut_data, lowered_data}
 use Rattle.dns_rdata.specs.declared.table.Piece.{Piece}
 use Rattle.dns_rdata.specs.declared.parts.Part.{Part}
 use Rattle.dns_rdata.specs.declared.parts.Part.TheVariants.{Octets as Run, Name}
 use Rattle.dns_rdata.specs.TypeRows.{piece_of, pieces_in}
 use Rattle.dns_rdata.specs.Parts.{part_for, part_lends, shown_part, with_octets, parts_left, AreCut, IsLent, HasName}
 
--- what is cut behind the first part
+-- what is cut after the first part
 pub cut_more : (p : Data.Piece) (ps : List Data.Piece) (os : Octets) (part : Data.Part) (rest : Octets) → piece_front p os ≡ Some (part, rest)
     → cut (p ∷ ps) os ≡ option_map (λ xs. part ∷ xs) (cut ps rest)
 unfolding cut
@@ -54,7 +54,7 @@ nothing_left (o ∷ os) = refl
 pub no_parts_left : (ps : List Piece) (os : Octets) → length ps ≡ 0 → parts_left ps os ≡ []
 no_parts_left ps os e = ap (λ qs. parts_left qs os) (nil_from_length ps e) ∙ nothing_left os
 
--- the first part, and those behind it
+-- the first part, and those after it
 pub parts_left-cons : (p : Piece) (ps : List Piece) (os : Octets) (part : Data.Part) (rest : Octets) → piece_front (piece_of p) os ≡ Some (part, rest)
     → AreCut (p ∷ ps) os → parts_left (p ∷ ps) os ≡ part ∷ parts_left ps rest
 parts_left-cons p ps os part rest e are =

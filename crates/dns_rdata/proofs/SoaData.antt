@@ -5,7 +5,7 @@ use Rattle.std.specs.Prelude.{nat_le}
 use Rattle.std.specs.Option.{is_some}
 use Rattle.dns_spec.specs.Names.{Octets, wire}
 use Rattle.dns_spec.specs.Data.{Part, numbers, domain, fixed, type_soa, pieces_of, cut, valid}
-use Rattle.dns_spec.proofs.WrittenData.{cut_into, name_part, front_taken}
+use Rattle.dns_spec.proofs.DataWords.WrittenData.{cut_into, name_part, front_taken}
 
 soa_pieces : (d : Octets) (x : Option (List Part)) → cut (domain ∷ domain ∷ fixed (numbers 5 4) ∷ []) d ≡ x → is_some x ≡ true → 20 ≤ length d
 soa_pieces d None e some = absurd (false≢true some)

@@ -9,9 +9,9 @@ use Rattle.dns_spec.specs.Names.{Octets, DomainName, name_of}
 use Rattle.dns_spec.specs.Data.{Piece, fixed, numbers, ipv4, ipv6, domain, string, strings, anything, Part, octets, name, octets_front, string_front, are_strings, piece_front}
 use Rattle.dns_spec.specs.DataText.{Word, WordForm, number_word, string_word, forms_in}
 use Rattle.dns_spec.specs.WrittenText.{word_text, word_front, name_front, form_words, string_count}
-use Rattle.dns_spec.proofs.WrittenData.{all_strings}
+use Rattle.dns_spec.proofs.DataWords.WrittenData.{all_strings}
 use Rattle.dns_rdata.specs.WrittenForm.{spaced, form_rest, piece_forms, piece_words, piece_rest, pieces_words, has_words}
-use Rattle.dns_rdata.proofs.NameFronts.{strings_behind}
+use Rattle.dns_rdata.proofs.NameFronts.{strings_after}
 
 abbrev pub space : Octets
 space = 32 ∷ []
@@ -22,20 +22,20 @@ joined_words [] = refl
 joined_words (w ∷ []) = sym (append-nil (word_text w))
 joined_words (w ∷ v ∷ ws) = ap (λ xs. word_text w ++ 32 ∷ xs) (joined_words (v ∷ ws))
 
-spaced-behind : (ws vs : List Word) → spaced space (ws ++ vs) ≡ spaced space ws ++ spaced space vs
-spaced-behind [] vs = refl
-spaced-behind (w ∷ ws) vs =
-    ap (λ xs. space ++ (word_text w ++ xs)) (spaced-behind ws vs)
+spaced-after : (ws vs : List Word) → spaced space (ws ++ vs) ≡ spaced space ws ++ spaced space vs
+spaced-after [] vs = refl
+spaced-after (w ∷ ws) vs =
+    ap (λ xs. space ++ (word_text w ++ xs)) (spaced-after ws vs)
     ∙ ap (λ xs. space ++ xs) (sym (append_assoc (word_text w) (spaced space ws) (spaced space vs)))
 
--- where there is a word, a space stands behind it
+-- where there is a word, a space stands after it
 pub spaced-append : (before : Octets) (w : Word) (ws vs : List Word) → spaced before ((w ∷ ws) ++ vs) ≡ spaced before (w ∷ ws) ++ spaced space vs
 spaced-append before w ws vs =
-    ap (λ xs. before ++ (word_text w ++ xs)) (spaced-behind ws vs)
+    ap (λ xs. before ++ (word_text w ++ xs)) (spaced-after ws vs)
     ∙ ap (λ xs. before ++ xs) (sym (append_assoc (word_text w) (spaced space ws) (spaced space vs)))
     ∙ sym (append_assoc before (word_text w ++ spaced space ws) (spaced space vs))
 
--- the words of forms, one form behind the other
+-- the words of forms, one form after the other
 pub form_words-append : (fs gs : List WordForm) (d : Octets) → form_words (fs ++ gs) d ≡ form_words fs d ++ form_words gs (form_rest fs d)
 form_words-append [] gs d = refl
 form_words-append (f ∷ fs) gs d = ap (λ xs. (word_front f d).0 ∷ xs) (form_words-append fs gs (word_front f d).1)
@@ -59,33 +59,33 @@ one_less n = omega arith
 times_more : (m k : ℕ) → suc m * k ≡ k + m * k
 times_more m k = grind arith
 
--- numbers, one behind the other
-pub behind_numbers : (m k : ℕ) (d : Octets) → form_rest (replicate m (number_word k)) d ≡ drop (m * k) d
-behind_numbers zero k d = ap (λ n. drop n d) {x = 0} {y = 0 * k} (omega arith)
-behind_numbers (suc m) k d = behind_numbers m k (drop k d) ∙ drop-drop (m * k) k d ∙ ap (λ n. drop n d) (sym (times_more m k))
+-- numbers, one after the other
+pub after_numbers : (m k : ℕ) (d : Octets) → form_rest (replicate m (number_word k)) d ≡ drop (m * k) d
+after_numbers zero k d = ap (λ n. drop n d) {x = 0} {y = 0 * k} (omega arith)
+after_numbers (suc m) k d = after_numbers m k (drop k d) ∙ drop-drop (m * k) k d ∙ ap (λ n. drop n d) (sym (times_more m k))
 
--- strings, one behind the other
-pub count_behind : (k : ℕ) (d : Octets) → k ≤ length d → string_count k d ≡ string_count 0 (drop k d)
-count_behind zero d h = refl
-count_behind (suc k) [] h = absurd (omega arith)
-count_behind (suc k) (o ∷ d) h = count_behind k d (omega (arith, h))
+-- strings, one after the other
+pub count_after : (k : ℕ) (d : Octets) → k ≤ length d → string_count k d ≡ string_count 0 (drop k d)
+count_after zero d h = refl
+count_after (suc k) [] h = absurd (omega arith)
+count_after (suc k) (o ∷ d) h = count_after k d (omega (arith, h))
 
-behind_strings_at : (k : ℕ) (d : Octets) → are_strings k d ≡ true → form_rest (replicate (string_count k d) string_word) (drop k d) ≡ []
-behind_strings_at zero [] h = refl
-behind_strings_at (suc k) [] h = absurd (false≢true h)
-behind_strings_at zero (o ∷ d) h =
-    ap (λ n. form_rest (replicate n string_word) (o ∷ d)) (one_more (string_count o d)) ∙ behind_strings_at o d h
-behind_strings_at (suc k) (o ∷ d) h = behind_strings_at k d h
+after_strings_at : (k : ℕ) (d : Octets) → are_strings k d ≡ true → form_rest (replicate (string_count k d) string_word) (drop k d) ≡ []
+after_strings_at zero [] h = refl
+after_strings_at (suc k) [] h = absurd (false≢true h)
+after_strings_at zero (o ∷ d) h =
+    ap (λ n. form_rest (replicate n string_word) (o ∷ d)) (one_more (string_count o d)) ∙ after_strings_at o d h
+after_strings_at (suc k) (o ∷ d) h = after_strings_at k d h
 
-pub behind_strings : (d : Octets) → are_strings 0 d ≡ true → form_rest (replicate (string_count 0 d) string_word) d ≡ []
-behind_strings d h = behind_strings_at 0 d h
+pub after_strings : (d : Octets) → are_strings 0 d ≡ true → form_rest (replicate (string_count 0 d) string_word) d ≡ []
+after_strings d h = after_strings_at 0 d h
 
 pub string_there : (k : ℕ) (d : Octets) → are_strings k d ≡ true → k ≤ length d
 string_there zero d h = omega arith
 string_there (suc k) [] h = absurd (false≢true h)
 string_there (suc k) (o ∷ d) h = let fits = string_there k d h in omega (arith, fits)
 
--- the first of strings, and those behind it
+-- the first of strings, and those after it
 pub string_begins : (d : Octets) → are_strings 0 d ≡ true → (length d ≡ 0 → ⊥) → is_some (string_front d) ≡ true
 string_begins [] h some = absurd (some refl)
 string_begins (k ∷ d) h some =
@@ -94,7 +94,7 @@ string_begins (k ∷ d) h some =
 
 pub more_strings : (d : Octets) → are_strings 0 d ≡ true → (length d ≡ 0 → ⊥) → are_strings 0 (word_front string_word d).1 ≡ true
 more_strings [] h some = absurd (some refl)
-more_strings (k ∷ d) h some = sym (strings_behind k d (string_there k d h)) ∙ h
+more_strings (k ∷ d) h some = sym (strings_after k d (string_there k d h)) ∙ h
 
 pub shorter_strings : (d : Octets) → are_strings 0 d ≡ true → (length d ≡ 0 → ⊥) → length (word_front string_word d).1 < length d
 shorter_strings [] h some = absurd (some refl)
@@ -109,7 +109,7 @@ spaced-strings before (k ∷ d) h some =
     ap (λ n. spaced before (form_words (replicate n string_word) (k ∷ d))) (one_more (string_count k d))
     ∙ spaced-next before string_word (replicate (string_count k d) string_word) (k ∷ d)
     ∙ ap (λ n. spaced before (form_words (string_word ∷ []) (k ∷ d)) ++ spaced space (form_words (replicate n string_word) (drop k d)))
-    (count_behind k d (string_there k d h))
+    (count_after k d (string_there k d h))
 
 -- one number more
 pub spaced-numbers : (before d : Octets) (m k : ℕ) → 0 < m
@@ -120,9 +120,9 @@ spaced-numbers before d (suc m) k h =
     spaced-next before (number_word k) (replicate m (number_word k)) d
     ∙ ap (λ n. spaced before (form_words (number_word k ∷ []) d) ++ spaced space (form_words (replicate n (number_word k)) (drop k d))) (sym (one_less m))
 
-pub behind_number : (d : Octets) (m k : ℕ) → 0 < m → form_rest (replicate (m - 1) (number_word k)) (drop k d) ≡ form_rest (replicate m (number_word k)) d
-behind_number d zero k h = absurd (omega (arith, h))
-behind_number d (suc m) k h = ap (λ n. form_rest (replicate n (number_word k)) (drop k d)) (one_less m)
+pub after_number : (d : Octets) (m k : ℕ) → 0 < m → form_rest (replicate (m - 1) (number_word k)) (drop k d) ≡ form_rest (replicate m (number_word k)) d
+after_number d zero k h = absurd (omega (arith, h))
+after_number d (suc m) k h = ap (λ n. form_rest (replicate n (number_word k)) (drop k d)) (one_less m)
 
 pub numbers_left : (d : Octets) (m k : ℕ) → 0 < m → m * k ≤ length d → (m - 1) * k ≤ length (drop k d)
 numbers_left d zero k h fits = absurd (omega (arith, h))
@@ -134,26 +134,26 @@ pub some_strings : (d : Octets) → 0 < length d → max 1 (string_count 0 d) �
 some_strings [] h = absurd (omega (arith, h))
 some_strings (o ∷ d) h = omega arith
 
--- what stands behind a piece is behind its words
-pub behind_piece : (p : Piece) (d : Octets) (part : Part) (rest : Octets) → has_words p ≡ true → piece_front p d ≡ Some (part, rest) → piece_rest p d ≡ rest
-behind_piece (fixed (numbers m k)) d part rest h e = behind_numbers m k d ∙ front_rest (m * k) d part rest e
+-- what stands after a piece is after its words
+pub after_piece : (p : Piece) (d : Octets) (part : Part) (rest : Octets) → has_words p ≡ true → piece_front p d ≡ Some (part, rest) → piece_rest p d ≡ rest
+after_piece (fixed (numbers m k)) d part rest h e = after_numbers m k d ∙ front_rest (m * k) d part rest e
   where
     front_rest : (k : ℕ) (d : Octets) (part : Part) (rest : Octets) → octets_front k d ≡ Some (part, rest) → drop k d ≡ rest
     front_rest k d part rest e = ap (λ z. z.1) (cond_some (nat_le k (length d)) (octets (take k d), drop k d) (part, rest) e).1
-behind_piece (fixed ipv4) d part rest h e = ap (λ z. z.1) (cond_some (nat_le 4 (length d)) (octets (take 4 d), drop 4 d) (part, rest) e).1
-behind_piece (fixed ipv6) d part rest h e = ap (λ z. z.1) (cond_some (nat_le 16 (length d)) (octets (take 16 d), drop 16 d) (part, rest) e).1
-behind_piece domain d part rest h e = go (name_of d) e
+after_piece (fixed ipv4) d part rest h e = ap (λ z. z.1) (cond_some (nat_le 4 (length d)) (octets (take 4 d), drop 4 d) (part, rest) e).1
+after_piece (fixed ipv6) d part rest h e = ap (λ z. z.1) (cond_some (nat_le 16 (length d)) (octets (take 16 d), drop 16 d) (part, rest) e).1
+after_piece domain d part rest h e = go (name_of d) e
   where
     go : (y : Option (DomainName × Octets)) → option_map {T = DomainName × Octets} {U = Part × Octets} (λ r. (name r.0, r.1)) y ≡ Some (part, rest) → (name_front y).1 ≡ rest
     go None f = absurd (none-some (part, rest) f)
     go (Some (n, tail)) f = ap (λ z. z.1) (same_Some (name n, tail) (part, rest) f)
-behind_piece string [] part rest h e = absurd (none-some (part, rest) e)
-behind_piece string (k ∷ d) part rest h e =
+after_piece string [] part rest h e = absurd (none-some (part, rest) e)
+after_piece string (k ∷ d) part rest h e =
     ap (λ z. z.1) (cond_some (nat_le (suc k) (length (k ∷ d))) (octets (take (suc k) (k ∷ d)), drop (suc k) (k ∷ d)) (part, rest) e).1
-behind_piece strings d part rest h e =
+after_piece strings d part rest h e =
     let all = all_strings d rest part e in
-    ap (λ n. form_rest (replicate n string_word) d) (some_strings d all.0) ∙ behind_strings d all.1 ∙ sym all.3
-behind_piece anything d part rest h e = absurd (false≢true h)
+    ap (λ n. form_rest (replicate n string_word) d) (some_strings d all.0) ∙ after_strings d all.1 ∙ sym all.3
+after_piece anything d part rest h e = absurd (false≢true h)
 
 -- a piece that has words has them in any data
 pub some_forms : (k : ℕ) (p : Piece) → has_words p ≡ true → 0 < length (forms_in k p)

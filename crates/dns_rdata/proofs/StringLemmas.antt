@@ -38,7 +38,7 @@ read_spelled (a ∷ rest) x others e =
           (spelled.0, spelled.1, inl spelled.2)
     ]
 
--- the octets of a string that were read, and the text behind them, where the text spells what they and the rest spell
+-- the octets of a string that were read, and the text after them, where the text spells what they and the rest spell
 pub record StringSoFar (text read rest : Octets) : Type 0 where
   pub all : (s : Octets) → SpellsString rest s → SpellsString text (read ++ s)
   pub only : (s : Octets) → SpellsString text s → (t : Octets) × (s ≡ read ++ t) × SpellsString rest t
@@ -59,9 +59,9 @@ StringSoFar-push text read rest x others so_far e = record { all = all; only = o
         let P : Octets → Type 0 = SpellsString text in
         subst P (sym (append_assoc read (x ∷ []) s)) (so_far.all (x ∷ s) (next.0, others, next.1, next.2, h))
 
-    behind : (t : Octets) → SpellsString rest t → (u : Octets) × (t ≡ x ∷ u) × SpellsString others u
-    behind [] empty = absurd (none_is_some (x, others) (ap octet_at (sym empty) ∙ e))
-    behind (y ∷ u) (first, more, f, spelled, h) =
+    after : (t : Octets) → SpellsString rest t → (u : Octets) × (t ≡ x ∷ u) × SpellsString others u
+    after [] empty = absurd (none_is_some (x, others) (ap octet_at (sym empty) ∙ e))
+    after (y ∷ u) (first, more, f, spelled, h) =
         let one = some_parts (y, more) (x, others) (sym (spelled_read rest y more (first, f, spelled)) ∙ e) in
         let P : Octets → Type 0 = λ r. SpellsString r u in
         (u, ap (λ k. k ∷ u) one.0, subst P one.1 h)
@@ -69,7 +69,7 @@ StringSoFar-push text read rest x others so_far e = record { all = all; only = o
     only : (s : Octets) → SpellsString text s → (t : Octets) × (s ≡ (read ++ x ∷ []) ++ t) × SpellsString others t
     only s h =
         let rest_of = so_far.only s h in
-        let next = behind rest_of.0 rest_of.2 in
+        let next = after rest_of.0 rest_of.2 in
         (next.0, rest_of.1 ∙ ap (λ t. read ++ t) next.1 ∙ sym (append_assoc read (x ∷ []) next.0), next.2)
 
 pub none_left : (text : Octets) → length text ≡ 0 → text ≡ []
@@ -86,8 +86,8 @@ StringSoFar-end text read rest so_far empty =
 pub StringSoFar-only : (text read rest : Octets) → StringSoFar text read rest → rest ≡ [] → (s : Octets) → SpellsString text s → s ≡ read
 unfolding octet_at
 StringSoFar-only text read rest so_far empty s h =
-    let behind = so_far.only s h in
-    behind.1 ∙ ap (λ t. read ++ t) (by_cases behind.0 behind.2) ∙ append-nil read
+    let after = so_far.only s h in
+    after.1 ∙ ap (λ t. read ++ t) (by_cases after.0 after.2) ∙ append-nil read
   where
     by_cases : (t : Octets) → SpellsString rest t → t ≡ []
     by_cases [] spelled = refl
@@ -103,8 +103,8 @@ StringSoFar-iff text read rest so_far empty s = (
 -- nothing is spelled where the text does not go on
 pub no_string : (text read rest : Octets) → StringSoFar text read rest → (rest ≡ [] → ⊥) → octet_at rest ≡ None → (s : Octets) → SpellsString text s → ⊥
 no_string text read rest so_far more none s h =
-    let behind = so_far.only s h in
-    by_cases behind.0 behind.2
+    let after = so_far.only s h in
+    by_cases after.0 after.2
   where
     by_cases : (t : Octets) → SpellsString rest t → ⊥
     by_cases [] empty = more empty
@@ -114,8 +114,8 @@ no_string text read rest so_far more none s h =
 -- a string of 255 octets has no more
 pub string_is_long : (text read rest : Octets) → StringSoFar text read rest → (rest ≡ [] → ⊥) → length read ≡ 255 → (s : Octets) → SpellsString text s → length s ≤ 255 → ⊥
 string_is_long text read rest so_far more full s h short =
-    let behind = so_far.only s h in
-    by_cases behind.0 behind.2 (omega (arith, ap length behind.1, length-append read behind.0))
+    let after = so_far.only s h in
+    by_cases after.0 after.2 (omega (arith, ap length after.1, length-append read after.0))
   where
     by_cases : (t : Octets) → SpellsString rest t → length t ≡ 0 → ⊥
     by_cases [] empty none = more empty

@@ -1,4 +1,4 @@
--- Digits are read behind `TYPE` in any case.
+-- Digits are read after `TYPE` in any case.
 use Rattle.std.proofs.Common.{◌≡◌, ℕ, ◌+◌, ◌<◌, ◌≤◌, Bool, true, false, nat_lt, cond, [], ◌∷◌, map, drop, get_or, refl, sym, ap, ◌∙◌, arith}
 use Rattle.std.proofs.lemmas.Bool.{lt-ltb, false≢true}
 use Rattle.std.proofs.lemmas.List.{drop-map}
@@ -9,7 +9,7 @@ use Rattle.std.specs.Char.{to_ascii_lowercase}
 use Rattle.std.specs.Str.Parse.{AllDigits}
 use Rattle.dns_spec.specs.Names.{Octets}
 use Rattle.dns_spec.specs.TypeText.{text_in_lower_case, numbered_type}
-use Rattle.dns_spec.proofs.TypeWords.{decimal-lowered}
+use Rattle.dns_spec.proofs.DataWords.TypeWords.{decimal-lowered}
 
 -- only digits are digits in lower case
 digit_unlowered : (c d : ℕ) → to_ascii_lowercase c ≡ d → 48 ≤ d → d ≤ 57 → c ≡ d
@@ -29,7 +29,7 @@ digits_unlowered (c ∷ cs) (d ∷ ds) e h =
     ap (λ x. x ∷ cs) (digit_unlowered c d (ap (λ (xs : Octets). get_or xs 0 0) e) (omega (arith, range)) (omega (arith, range)))
     ∙ ap (λ x. d ∷ x) (digits_unlowered cs ds (ap (drop 1) e) h.1)
 
--- digits behind `TYPE` are those of its number
+-- digits after `TYPE` are those of its number
 pub type_digits : (word digits : Octets) (t : ℕ) → drop 4 word ≡ digits → t < 65536 → text_in_lower_case word ≡ text_in_lower_case (numbered_type t) → digits ≡ decimal t
 type_digits word digits t e small h =
     let digits_of : drop 4 (text_in_lower_case (numbered_type t)) ≡ decimal t = decimal-lowered t (omega arith) in

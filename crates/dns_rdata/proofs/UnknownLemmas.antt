@@ -14,7 +14,7 @@ use Rattle.dns_rdata.specs.HexForm.{AppendsHex}
 use Rattle.dns_rdata.specs.UnknownForm.{SaysHexWord, AppendsWord}
 use Rattle.dns_rdata.proofs.HexLemmas.{joined_octets, hex_octets-append, even_digits}
 
--- the digits of words, one behind the other
+-- the digits of words, one after the other
 abbrev pub digits_in : List Word → Octets
 digits_in ws = flat_map (λ (w : Word). w.raw) ws
 
@@ -55,7 +55,7 @@ pub WordsSoFar-end : (ws : List Word) (octets : Octets) → WordsSoFar ws [] oct
 unfolding hex_octets
 WordsSoFar-end ws octets so_far = (so_far.hex, so_far.whole ∙ ap (λ d. Some d) (append-nil octets))
 
--- what the rest says stands behind the octets so far
+-- what the rest says stands after the octets so far
 pub rest_says : (ws rest : List Word) (octets d : Octets) → WordsSoFar ws rest octets → SaysHex ws d → (e : Octets) × SaysHex rest e × (d ≡ octets ++ e)
 rest_says ws rest octets d so_far (all, says) = by_cases (hex_octets (digits_in rest)) refl
   where
@@ -118,7 +118,7 @@ pub at_word : (ws : List Word) (i : ℕ) (w : Word) (octets : Octets) → i < le
 at_word ws i w octets inside is so_far =
     subst (λ rest. WordsSoFar ws rest octets) (drop_more ws i w inside ∙ ap (λ v. v ∷ drop (i + 1) ws) (sym is)) so_far
 
--- behind the last word there is none
+-- after the last word there is none
 pub at_end : (ws : List Word) (i : ℕ) (octets : Octets) → length ws ≤ i → WordsSoFar ws (drop i ws) octets → WordsSoFar ws [] octets
 at_end ws i octets end so_far = subst (λ rest. WordsSoFar ws rest octets) (drop_all i ws end) so_far
 

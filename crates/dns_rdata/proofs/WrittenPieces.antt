@@ -1,4 +1,4 @@
--- Pieces that are written one behind the other, and the rows of the types that have them.
+-- Pieces that are written one after the other, and the rows of the types that have them.
 use Rattle.std.proofs.Common.{◌≡◌, ℕ, ◌+◌, ◌<◌, Bool, true, false, ◌&&◌, ◌==◌, cond, List, [], ◌∷◌, ◌++◌, length, drop, slice_index_or, Option, Some, None, refl, sym, ap, ◌∙◌, arith, add-one}
 use Rattle.std.proofs.Math.Seq.{drop-cons}
 use Rattle.std.proofs.lemmas.Bool.{and_parts, false≢true}
@@ -15,7 +15,7 @@ use Rattle.dns_rdata.specs.TypeRows.{piece_of, pieces_in}
 use Rattle.dns_rdata.specs.Parts.{AreCut}
 use Rattle.dns_rdata.specs.WrittenForm.{spaced, piece_forms, piece_words, piece_rest, pieces_words, has_words, have_words}
 use Rattle.dns_rdata.proofs.PartLemmas.{cut_none, more_are_cut}
-use Rattle.dns_rdata.proofs.SpacedWords.{space, joined_words, spaced-forms, some_forms, behind_piece, is_single, words_of_pieces}
+use Rattle.dns_rdata.proofs.SpacedWords.{space, joined_words, spaced-forms, some_forms, after_piece, is_single, words_of_pieces}
 
 module _ (p : Piece) (ps : List Piece) (d : Octets) (are_cut : is_some (cut (p ∷ ps) d) ≡ true) where
   piece_there : is_some (piece_front p d) ≡ true
@@ -31,14 +31,14 @@ module _ (p : Piece) (ps : List Piece) (d : Octets) (are_cut : is_some (cut (p �
       go : (y : Option (Part × Octets)) → piece_front p d ≡ y → is_some (cut ps (piece_rest p d)) ≡ true
       go None e = absurd (false≢true (sym (ap is_some (cut_none p ps d e)) ∙ are_cut))
       go (Some (part, rest)) e =
-          ap (λ r. is_some (cut ps r)) (behind_piece p d part rest words e) ∙ sym (more_are_cut p ps d part rest e) ∙ are_cut
+          ap (λ r. is_some (cut ps r)) (after_piece p d part rest words e) ∙ sym (more_are_cut p ps d part rest e) ∙ are_cut
 
 spaced-pieces : (before : Octets) (p : Piece) (ps : List Piece) (d : Octets) → has_words p ≡ true
     → spaced before (pieces_words (p ∷ ps) d) ≡ spaced before (piece_words p d) ++ spaced space (pieces_words ps (piece_rest p d))
 spaced-pieces before p ps d words =
     spaced-forms before (piece_forms p d) d (pieces_words ps (piece_rest p d)) (some_forms (string_count 0 d) p words)
 
--- pieces from place i on: the one there, and those behind it
+-- pieces from place i on: the one there, and those after it
 module _ (pieces : List code.Piece) (i : ℕ) (d : code.Piece) (inside : i < length pieces) (octets : Octets) where
   split : pieces_in (drop i pieces) ≡ piece_of (slice_index_or pieces i d) ∷ pieces_in (drop (i + 1) pieces)
   split = ap pieces_in (drop-cons pieces i d inside ∙ ap (λ k. slice_index_or pieces i d ∷ drop k pieces) (sym (add-one i)))
@@ -63,9 +63,9 @@ module _ (pieces : List code.Piece) (i : ℕ) (d : code.Piece) (inside : i < len
       ap (λ ps. spaced before (pieces_words ps octets)) split
       ∙ spaced-pieces before (piece_of (slice_index_or pieces i d)) (pieces_in (drop (i + 1) pieces)) octets (words_there words).0
 
-pub words-behind : (pieces : List code.Piece) (i : ℕ) → i < length pieces → have_words (pieces_in (drop i pieces)) ≡ true → have_words (pieces_in (drop (i + 1) pieces)) ≡ true
-words-behind [] i inside h = absurd (omega (arith, inside))
-words-behind (p ∷ ps) i inside h = (words_there (p ∷ ps) i p inside [] h).1
+pub words-after : (pieces : List code.Piece) (i : ℕ) → i < length pieces → have_words (pieces_in (drop i pieces)) ≡ true → have_words (pieces_in (drop (i + 1) pieces)) ≡ true
+words-after [] i inside h = absurd (omega (arith, inside))
+words-after (p ∷ ps) i inside h = (words_there (p ∷ ps) i p inside [] h).1
 
 -- the pieces of each type have words, and strings stand alone
 is_written : Data.TypeRow → Bool

@@ -1,13 +1,14 @@
--- What a reader learns here: how the text of an address is read from left to right, by the cases of the code.
+-- What a reader learns here: how the text of an address is read from left to right, by the cases of
+-- the code.
 use Rattle.std.specs.Prelude.{◌≡◌, ℕ, ◌≤◌, List, ◌∷◌, ◌++◌, decimal, length, nat_le, if◌then◌else◌, Option, Some, None}
 use Rattle.std.specs.Borrow.{Bor}
 use Rattle.dns_spec.specs.Names.{Octets}
 
--- a number 0 to 255, a dot, and what stands behind it
+-- a number 0 to 255, a dot, and what stands after it
 abbrev pub OctetThen : Octets → ℕ → Octets → Type 0
 OctetThen text n rest = (text ≡ decimal n ++ 46 ∷ rest) × (n ≤ 255)
 
--- what a function returned, two texts behind references, is what reading gives
+-- what a function returned, two texts that are lent, is what reading gives
 abbrev pub GivesPair : Option (Bor Octets × Bor Octets) → Option (Octets × Octets) → Type 0
 GivesPair None read = read ≡ None
 GivesPair (Some x) read = read ≡ Some (x.0.now, x.1.now)

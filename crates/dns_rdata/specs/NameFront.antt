@@ -3,12 +3,12 @@ use Rattle.std.specs.Prelude.{◌≡◌, true, ◌++◌}
 use Rattle.std.specs.List.{list_all}
 use Rattle.dns_spec.specs.Names.{Octets, DomainName, wire, is_label}
 
--- the octets are labels, the root's length, and these octets behind them
-pub record IsBehindLabels (octets behind : Octets) : Type 0 where
+-- the octets are labels, the root's length, and these octets after them
+pub record StandsAfterLabels (octets after : Octets) : Type 0 where
   pub labels : DomainName
   pub are_labels : list_all is_label labels ≡ true
-  pub whole : octets ≡ wire labels ++ behind
+  pub whole : octets ≡ wire labels ++ after
 
 -- the octets do not begin with labels and the root's length
 abbrev pub HasNoLabels : Octets → Type 0
-HasNoLabels octets = (behind : Octets) → IsBehindLabels octets behind → ⊥
+HasNoLabels octets = (after : Octets) → StandsAfterLabels octets after → ⊥

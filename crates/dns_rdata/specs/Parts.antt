@@ -26,7 +26,7 @@ abbrev pub IsLent : Part → Type 0
 IsLent (Run o) = ⊤
 IsLent (Name o) = IsWireForm o.now
 
--- what a function returned, a part and the octets behind it, is what the octets are cut into
+-- what a function returned, a part and the octets after it, is what the octets are cut into
 abbrev pub Cuts : Option (Part × Bor Octets) → Option (Data.Part × Octets) → Type 0
 Cuts None read = read ≡ None
 Cuts (Some x) read = (read ≡ Some (part_for x.0, x.1.now)) × IsLent x.0
@@ -48,10 +48,12 @@ AreCut ps os = IsTrue (is_some (cut (pieces_in ps) os))
 abbrev pub PartList : Type 0
 PartList = List Data.Part
 
--- of octets that begin with a part, the part was lowered if it is a name, and n is how many octets it has
+-- of octets that begin with a part, the part was lowered if it is a name, and n is how many octets
+-- it has
 abbrev pub LowersFront : Option (Data.Part × Octets) → Octets → ℕ → Type 0
 LowersFront None after n = ⊥
-LowersFront (Some x) after n = (after ≡ part_octets (part_folded x.0) ++ x.1) × (n ≡ length (part_octets x.0))
+LowersFront (Some x) after n =
+    (after ≡ part_octets (part_folded x.0) ++ x.1) × (n ≡ length (part_octets x.0))
 
 -- a part that is a name is one of at most 255 octets
 abbrev pub HasName : Data.Part → Type 0

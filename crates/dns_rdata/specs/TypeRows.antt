@@ -32,7 +32,13 @@ abbrev pub pieces_in : List Piece → List Data.Piece
 pieces_in = map piece_of
 
 abbrev pub row_for : TypeRow → Data.TypeRow
-row_for r = record { number = r.number; mnemonic = r.mnemonic.now; pieces = pieces_in r.pieces.now; compresses = r.compresses }
+row_for r =
+    record {
+      number = r.number;
+      mnemonic = r.mnemonic.now;
+      pieces = pieces_in r.pieces.now;
+      compresses = r.compresses;
+    }
 
 abbrev pub has_number : ℕ → TypeRow → Bool
 has_number t r = r.number == t

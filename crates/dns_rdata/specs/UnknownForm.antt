@@ -1,4 +1,5 @@
--- What a reader learns here: what a word of octets in hex digits says, and adds to those of the words before it.
+-- What a reader learns here: what a word of octets in hex digits says, and adds to those of the
+-- words before it.
 use Rattle.std.specs.Prelude.{◌≡◌, ◌++◌, Some, IsTrue}
 use Rattle.dns_spec.specs.Names.{Octets}
 use Rattle.dns_spec.specs.DataText.{Word, is_hex_word, hex_octets}

@@ -1,5 +1,5 @@
--- What a reader learns here: what the code's forms of words are in the words of the definitions, and what is appended for
--- a word.
+-- What a reader learns here: what the code's forms of words are in the words of the definitions,
+-- and what is appended for a word.
 use Rattle.std.specs.Prelude.{◌≡◌, ◌++◌}
 use Rattle.dns_spec.specs.Names.{Octets}
 use Rattle.dns_spec.specs.DataText as text

@@ -1,4 +1,5 @@
--- What a reader learns here: how the words of data are written from left to right, by the cases of the code.
+-- What a reader learns here: how the words of data are written from left to right, by the cases of
+-- the code.
 use Rattle.std.specs.Prelude.{Bool, List, [], ◌∷◌, ◌++◌, length, nat_lt}
 use Rattle.std.specs.List.{list_all}
 use Rattle.dns_spec.specs.Names.{Octets}
@@ -6,12 +7,12 @@ use Rattle.dns_spec.specs.Data.{Piece}
 use Rattle.dns_spec.specs.DataText.{Word, WordForm, forms_in}
 use Rattle.dns_spec.specs.WrittenText.{word_text, word_front, form_words, string_count}
 
--- words, the first behind `before` and each other behind a space
+-- words, the first after `before` and each other after a space
 abbrev pub spaced : Octets → List Word → Octets
 spaced before [] = []
 spaced before (w ∷ ws) = before ++ (word_text w ++ spaced (32 ∷ []) ws)
 
--- the data behind the words of forms
+-- the data after the words of forms
 abbrev pub form_rest : List WordForm → Octets → Octets
 form_rest [] d = d
 form_rest (f ∷ fs) d = form_rest fs (word_front f d).1
@@ -26,7 +27,7 @@ piece_words p d = form_words (piece_forms p d) d
 abbrev pub piece_rest : Piece → Octets → Octets
 piece_rest p d = form_rest (piece_forms p d) d
 
--- the words of pieces, one piece behind the other
+-- the words of pieces, one piece after the other
 abbrev pub pieces_words : List Piece → Octets → List Word
 pieces_words [] d = []
 pieces_words (p ∷ ps) d = piece_words p d ++ pieces_words ps (piece_rest p d)

@@ -6,10 +6,11 @@ ghost use Rattle.dns_rdata.specs.HexForm.{hex_front, digit_of, AppendsHex};
 
 use std::alloc::AllocError;
 
-/// Appends to `octets` those that a text says in hex digits of either case, two an octet, and tells whether it does.
+/// Appends to `octets` those that a text says in hex digits of either case, two an octet, and
+/// answers whether it does.
 ///
-/// False where the text has another octet or an odd number of digits; `octets` has then grown by some of them. The error
-/// comes where no memory was found.
+/// False where the text has another octet or an odd number of digits; `octets` has then grown by
+/// some of them. The error comes where no memory was found.
 pub(crate) fn append_hex(text: &[u8], octets: &mut Vec<u8>) -> Result<bool, AllocError>
     ensures { IfOk result (λ said. AppendsHex text.now said octets.old.items octets.new.items) }
 {
@@ -41,7 +42,7 @@ pub(crate) fn hex_digit(value: u8) -> u8
     b'a' + (value - 10)
 }
 
-// The octet of a text's first two digits, and the text behind them.
+// The octet of a text's first two digits, and the text after them.
 #[tactic(auto, unfolding(crate::specs::HexForm::hex_front))]
 fn first_pair(text: &[u8]) -> Option<(u8, &[u8])>
     ensures { Gives result (hex_front text.now) }

@@ -53,7 +53,7 @@ fn push_octet(text: &mut ArrayVec<u8, MOST_IPV4_OCTETS>, octet: u8)
     }
 }
 
-// The number up to the first dot, and the text behind the dot.
+// The number up to the first dot, and the text after the dot.
 fn octet_and_dot(text: &[u8]) -> Option<(u8, &[u8])>
     ensures some { IfSome result (λ x. OctetThen text.now x.0 x.1.now) }
     ensures none { IsNone result → (n : ℕ) (rest : Octets) → OctetThen text.now n rest → ⊥ }

@@ -15,8 +15,8 @@ use arrayvec::ArrayVec;
 // The groups of an address (RFC 4291 2.2).
 const GROUPS: usize = 8;
 
-/// The IPv6 address that a word says: eight groups of 1 to 4 hex digits of either case with colons between, or fewer
-/// with `::` once for one or more zero groups (RFC 4291 2.2).
+/// The IPv6 address that a word says: eight groups of 1 to 4 hex digits of either case with colons
+/// between, or fewer with `::` once for one or more zero groups (RFC 4291 2.2).
 ///
 /// `None` where the word is anything else, as `::1.2.3.4`.
 pub(crate) fn read_ipv6(word: &[u8]) -> Option<[u8; 16]>
@@ -34,7 +34,7 @@ pub(crate) fn read_ipv6(word: &[u8]) -> Option<[u8; 16]>
     octets_of_groups(groups.as_slice())
 }
 
-// What stands before the first `::`, and behind it.
+// What stands before the first `::`, and after it.
 fn split_at_gap(text: &[u8]) -> Option<(&[u8], &[u8])>
     ensures { GivesPair result (around_gap text.now) }
 {
@@ -51,7 +51,8 @@ fn split_at_gap(text: &[u8]) -> Option<(&[u8], &[u8])>
 
 // Groups with colons between, perhaps none.
 fn read_groups(text: &[u8]) -> Option<ArrayVec<u16, GROUPS>>
-    ensures { option_map (λ groups. groups.items) result ≡ option_and_then few_groups (groups_said text.now) }
+    ensures { option_map (λ groups. groups.items) result ≡ option_and_then few_groups
+        (groups_said text.now) }
 {
     let mut groups = ArrayVec::new();
     if text.is_empty() {
@@ -73,7 +74,8 @@ fn read_groups(text: &[u8]) -> Option<ArrayVec<u16, GROUPS>>
 // Adds the group that a text says, where it says one and there is room.
 fn push_group(groups: &mut ArrayVec<u16, GROUPS>, text: &[u8]) -> bool
     ensures pushed { result ≡ is_group text.now && nat_lt (length groups.old.items) 8 }
-    ensures value { OnTrue result (groups.new.items ≡ groups.old.items ++ digits_value 16 text.now ∷ []) }
+    ensures value { OnTrue result (groups.new.items ≡ groups.old.items
+        ++ digits_value 16 text.now ∷ []) }
 {
     let Some(group) = group_value(text) else {
         return false;
@@ -99,9 +101,10 @@ fn group_value(text: &[u8]) -> Option<u16>
     Some(value)
 }
 
-// Adds zero groups, one at least, and the groups behind them, where there is room.
+// Adds zero groups, one at least, and the groups after them, where there is room.
 fn fill(groups: &mut ArrayVec<u16, GROUPS>, back: &[u16]) -> bool
-    ensures { MatchOption (filled_groups groups.old.items back.now) (IsFalse result) (λ filled. IsTrue result × (groups.new.items ≡ filled)) }
+    ensures { MatchOption (filled_groups groups.old.items back.now) (IsFalse result)
+        (λ filled. IsTrue result × (groups.new.items ≡ filled)) }
 {
     if groups.len() + back.len() >= GROUPS {
         return false;

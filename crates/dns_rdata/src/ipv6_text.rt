@@ -7,11 +7,13 @@ ghost use Rattle.dns_spec.specs.AddressText.{groups_of, groups_text, longest_run
 use crate::hex::hex_digit;
 use arrayvec::ArrayVec;
 
-/// The text of an IPv6 address has at most 39 octets: eight groups of four digits, and seven colons.
+/// The text of an IPv6 address has at most 39 octets: eight groups of four digits, and seven
+/// colons.
 pub(crate) const MOST_IPV6_OCTETS: usize = 39;
 
-/// The text of an IPv6 address, as in `2001:db8::1:0:0:1`: groups in lower case without zeros in front, and `::` for the
-/// longest run of two zero groups or more, the first of equals (RFC 5952 4).
+/// The text of an IPv6 address, as in `2001:db8::1:0:0:1`: groups in lower case without zeros in
+/// front, and `::` for the longest run of two zero groups or more, the first of equals (RFC 5952
+/// 4).
 pub(crate) fn text_of_ipv6(address: &[u8; 16]) -> ArrayVec<u8, MOST_IPV6_OCTETS>
     ensures { result.items ≡ ipv6_text address.now }
 {

@@ -2,7 +2,8 @@
 ghost use Rattle.std.specs.Prelude.{◌≡◌, ◌↔◌, ℕ, ◌<◌, ◌≤◌, ◌^◌, Some, decimal, SomeIff};
 ghost use Rattle.std.specs.Str.Parse.{AllDigits, digits_value};
 
-/// The number, of at most `most`, that a word says in decimal: `0`, or digits that begin with 1 to 9.
+/// The number, of at most `most`, that a word says in decimal: `0`, or digits that begin with 1 to
+/// 9.
 ///
 /// `None` where the word is anything else, as `010`, or says a greater number.
 pub fn read_number(word: &[u8], most: u32) -> Option<u32>
@@ -21,7 +22,8 @@ pub fn read_number(word: &[u8], most: u32) -> Option<u32>
 
 // The number that digits say, zeros in front or not.
 fn number_of_digits(digits: &[u8]) -> Option<u32>
-    ensures { SomeIff result (AllDigits 10 digits.now × (digits_value 10 digits.now < 2 ^ 32)) (digits_value 10 digits.now) }
+    ensures { SomeIff result (AllDigits 10 digits.now × (digits_value 10 digits.now < 2 ^ 32))
+        (digits_value 10 digits.now) }
 {
     let mut number: u32 = 0;
     'digits: for digit in digits {

@@ -4,7 +4,7 @@ ghost use Rattle.std.specs.Option.{is_some};
 ghost use Rattle.std.specs.Iterator.{YieldsFirstBy, item_count};
 ghost use Rattle.dns_spec.specs.Data.{Valid, parts, cut, piece_front, octets_front, domain, strings_front, are_strings};
 ghost use Rattle.dns_rdata.specs.TypeRows.{piece_of, pieces_in};
-ghost use Rattle.dns_rdata.specs.NameFront.{IsBehindLabels, HasNoLabels};
+ghost use Rattle.dns_rdata.specs.NameFront.{StandsAfterLabels, HasNoLabels};
 ghost use Rattle.dns_rdata.specs.Parts.{Cuts, shown_part, with_octets, HasName};
 
 use crate::rtype::RType;
@@ -80,11 +80,11 @@ pub(crate) fn are_cut(pieces: &[Piece], octets: &[u8]) -> bool
     let mut pieces = pieces;
     let mut rest = octets;
     'pieces: while let Some((piece, others)) = pieces.split_first() {
-        let Some((_, behind)) = first_part(*piece, rest) else {
+        let Some((_, after)) = first_part(*piece, rest) else {
             return false;
         };
         pieces = others;
-        rest = behind;
+        rest = after;
     }
     rest.is_empty()
 }
@@ -113,17 +113,17 @@ fn first_run(octets: &[u8], count: usize) -> Option<(Part<'_>, &[u8])>
 pub(crate) fn first_name(octets: &[u8]) -> Option<(Part<'_>, &[u8])>
     ensures { Cuts result (piece_front domain octets.now) }
 {
-    let behind = behind_labels(octets)?;
-    let (name, rest) = octets.split_at(octets.len() - behind.len());
+    let after = after_labels(octets)?;
+    let (name, rest) = octets.split_at(octets.len() - after.len());
     if name.len() > MAX_NAME {
         return None;
     }
     Some((Part::Name(name), rest))
 }
 
-// The octets behind labels of 1 to 63 octets and the root's length 0. Pointers are no labels.
-fn behind_labels(octets: &[u8]) -> Option<&[u8]>
-    ensures some { IfSome result (λ behind. IsBehindLabels octets.now behind.now) }
+// The octets after labels of 1 to 63 octets and the root's length 0. Pointers are no labels.
+fn after_labels(octets: &[u8]) -> Option<&[u8]>
+    ensures some { IfSome result (λ after. StandsAfterLabels octets.now after.now) }
     ensures none { IsNone result → HasNoLabels octets.now }
 {
     let mut rest = octets;
@@ -135,8 +135,8 @@ fn behind_labels(octets: &[u8]) -> Option<&[u8]>
         if *length > MAX_LABEL {
             return None;
         }
-        let (_, behind) = others.split_at_checked(usize::from(*length))?;
-        rest = behind;
+        let (_, after) = others.split_at_checked(usize::from(*length))?;
+        rest = after;
     }
 }
 
@@ -150,16 +150,16 @@ fn all_strings(octets: &[u8]) -> Option<(Part<'_>, &[u8])>
     Some((Part::Octets(octets), &[]))
 }
 
-// Whether octets are character-strings, one behind the other (RFC 1035 3.3).
+// Whether octets are character-strings, one after the other (RFC 1035 3.3).
 fn are_strings(octets: &[u8]) -> bool
     ensures { result ≡ are_strings 0 octets.now }
 {
     let mut rest = octets;
     'strings: while let Some((length, others)) = rest.split_first() {
-        let Some((_, behind)) = others.split_at_checked(usize::from(*length)) else {
+        let Some((_, after)) = others.split_at_checked(usize::from(*length)) else {
             return false;
         };
-        rest = behind;
+        rest = after;
     }
     true
 }

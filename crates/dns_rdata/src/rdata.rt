@@ -38,13 +38,16 @@ impl Model for Rdata {
 impl Rdata {
     /// The data that octets are, with the ASCII letters of its names in lower case.
     ///
-    /// `NotOfType` where the octets are no data of the type: where they do not fill its pieces exactly, hold a
-    /// compressed or a long name, or are more than 65,535. Data of a type without a name is any octets (RFC 3597 3).
-    /// `NoMemory` only where a growth of memory was refused: there is at most one.
+    /// `NotOfType` where the octets are no data of the type: where they do not fill its pieces
+    /// exactly, hold a compressed or a long name, or are more than 65,535. Data of a type without a
+    /// name is any octets (RFC 3597 3). `NoMemory` only where a growth of memory was refused: there
+    /// is at most one.
     pub fn from_wire(alloc: Global, rtype: RType, octets: &[u8]) -> Result<Rdata, RdataFault>
         ensures valid { IfOk result (λ d. Valid rtype.0 d) }
-        ensures value { MatchResult result (λ d. Valid rtype.0 octets.now × (d ≡ lower_case rtype.0 octets.now))
-            (λ fault. fault ≡ (if valid rtype.0 octets.now then RdataFault.NoMemory else RdataFault.NotOfType)) }
+        ensures value { MatchResult result (λ d. Valid rtype.0 octets.now
+            × (d ≡ lower_case rtype.0 octets.now))
+            (λ fault. fault ≡
+            (if valid rtype.0 octets.now then RdataFault.NoMemory else RdataFault.NotOfType)) }
     {
         if !is_valid(rtype, octets) {
             return Err(RdataFault::NotOfType);
@@ -53,10 +56,12 @@ impl Rdata {
         Ok(data_of(rtype, octets))
     }
 
-    /// The data that octets are, in the memory that they have: `NotOfType` where `from_wire` tells it.
+    /// The data that octets are, in the memory that they have: `NotOfType` where `from_wire` says
+    /// it.
     pub(crate) fn from_octets(rtype: RType, octets: Vec<u8>) -> Result<Rdata, RdataFault>
         ensures valid { IfOk result (λ d. Valid rtype.0 d) }
-        ensures value { MatchResult result (λ d. Valid rtype.0 octets.items × (d ≡ lower_case rtype.0 octets.items))
+        ensures value { MatchResult result (λ d. Valid rtype.0 octets.items
+            × (d ≡ lower_case rtype.0 octets.items))
             (λ fault. (valid rtype.0 octets.items ≡ false) × (fault ≡ RdataFault.NotOfType)) }
     {
         if is_valid(rtype, octets.as_slice()) {
@@ -74,8 +79,9 @@ impl Rdata {
         self.octets.as_slice()
     }
 
-    /// The runs of octets and the names of valid data, in order, lent from where they stand. Letters may have either
-    /// case. Data of a type without a name is one run. There are at most three parts.
+    /// The runs of octets and the names of valid data, in order, lent from where they stand.
+    /// Letters may have either case. Data of a type without a name is one run. There are at most
+    /// three parts.
     pub fn parts(rtype: RType, octets: &[u8]) -> Parts<'_>
         requires { Valid rtype.0 octets.now }
         ensures parts { result ≡ parts rtype.0 octets.now }
@@ -85,8 +91,8 @@ impl Rdata {
         Parts::new(rtype, octets)
     }
 
-    /// The first name in valid data: of NS the server, of CNAME the alias's own name, of MX the exchange
-    /// (RFC 1035 3.3.1, 3.3.9, 3.3.11).
+    /// The first name in valid data: of NS the server, of CNAME the alias's own name, of MX the
+    /// exchange (RFC 1035 3.3.1, 3.3.9, 3.3.11).
     pub fn target(rtype: RType, octets: &[u8]) -> Option<Name>
         requires { Valid rtype.0 octets.now }
         ensures { result ≡ target rtype.0 octets.now }

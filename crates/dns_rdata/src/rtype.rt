@@ -39,7 +39,8 @@ impl RType {
 }
 
 impl RType {
-    /// Whether names in data of the type take part in compression: only those of types of RFC 1035 (RFC 3597 4).
+    /// Whether names in data of the type take part in compression: only those of types of RFC 1035
+    /// (RFC 3597 4).
     pub fn compresses(self) -> bool
         ensures { result ≡ compresses self.0 }
     {
@@ -49,10 +50,11 @@ impl RType {
 
 /// Types in the text of zone files (RFC 1035 5.1, RFC 3597 5).
 impl RType {
-    /// The type that a word names: `MX`, or `TYPE15`, in any case. A number begins with 1 to 9, or is `0`, and is at
-    /// most 65535. `None` where the word names no type.
+    /// The type that a word names: `MX`, or `TYPE15`, in any case. A number begins with 1 to 9, or
+    /// is `0`, and is at most 65535. `None` where the word names no type.
     pub fn read_text(word: &[u8]) -> Option<RType>
-        ensures { MatchOption result ((t : ℕ) → NamesType word.now t → ⊥) (λ r. NamesType word.now r.0) }
+        ensures { MatchOption result ((t : ℕ) → NamesType word.now t → ⊥)
+            (λ r. NamesType word.now r.0) }
     {
         match row_of_mnemonic(word) {
             Some(row) => Some(RType(row.number)),
@@ -60,7 +62,8 @@ impl RType {
         }
     }
 
-    /// Writes the type by its name, or as `TYPE` and its number where it has none. It takes no memory.
+    /// Writes the type by its name, or as `TYPE` and its number where it has none. It takes no
+    /// memory.
     ///
     /// Where the device fails, a beginning of that was written.
     pub fn write_text<W: Write>(self, sink: &mut Tally<W>) -> Result<(), SinkFailed>
@@ -76,7 +79,8 @@ impl RType {
 
 // The type that `TYPE` and a number name.
 fn read_numbered(word: &[u8]) -> Option<RType>
-    ensures { MatchOption result ((t : ℕ) → t < 65536 → text_in_lower_case word.now ≢ text_in_lower_case (numbered_type t))
+    ensures { MatchOption result ((t : ℕ) → t < 65536
+        → text_in_lower_case word.now ≢ text_in_lower_case (numbered_type t))
         (λ r. text_in_lower_case word.now ≡ text_in_lower_case (numbered_type r.0)) }
 {
     let (prefix, digits) = word.split_at_checked(4)?;

@@ -4,7 +4,8 @@ ghost use Rattle.dns_spec.specs.Data.{Valid};
 
 use crate::rtype::RType;
 
-/// One record set, lent: the type, the TTL and the data of its records, without their owner (RFC 2181 5).
+/// One record set, lent: the type, the TTL and the data of its records, without their owner (RFC
+/// 2181 5).
 ///
 /// Whatever implements it keeps that the data is valid for the type.
 pub trait SetView {
@@ -26,7 +27,8 @@ pub trait SetView {
         ensures value { result ≡ length (set self.now).rdata }
         ensures valid { HasValidData (set self.now) };
 
-    /// The data of the record at `i`, the first at 0: octets without compression. Condition: `i` is below `len`.
+    /// The data of the record at `i`, the first at 0: octets without compression. Condition: `i` is
+    /// below `len`.
     fn rdata(&self, i: usize) -> &[u8]
         requires { i < length (set self.now).rdata }
         ensures value { result.now ≡ get_or (set self.now).rdata i [] }

@@ -14,8 +14,8 @@ impl Rdata {
         BigEndian::read_u32(&octets[octets.len() - 20..])
     }
 
-    /// MINIMUM of an SOA's data, in seconds: the last of the five numbers that end it. It bounds the time that a
-    /// negative answer is kept (RFC 2308 4).
+    /// MINIMUM of an SOA's data, in seconds: the last of the five numbers that end it. It bounds
+    /// the time that a negative answer is kept (RFC 2308 4).
     pub fn soa_minimum(octets: &[u8]) -> u32
         requires { Valid type_soa octets.now }
         ensures { result ≡ soa_minimum octets.now }

@@ -10,15 +10,17 @@ use dns_name::first_octet;
 /// A character-string has at most 255 octets (RFC 1035 3.3).
 pub(crate) const MOST_STRING_OCTETS: usize = 255;
 
-/// The text of a character-string has at most 1,022 octets: four for each of its own, and the quotation marks.
+/// The text of a character-string has at most 1,022 octets: four for each of its own, and the
+/// quotation marks.
 pub(crate) const MOST_STRING_TEXT: usize = 1022;
 
-/// The octets of the character-string that a word spells, quoted or not: `word` is the spelling without quotation
-/// marks, and its escapes are undone.
+/// The octets of the character-string that a word spells, quoted or not: `word` is the spelling
+/// without quotation marks, and its escapes are undone.
 ///
 /// `None` where an escape is bad, or the string has more than 255 octets (RFC 1035 3.3).
 pub(crate) fn read_string(word: &[u8]) -> Option<ArrayVec<u8, MOST_STRING_OCTETS>>
-    ensures some { IfSome result (λ read. (s : Octets) → SpellsString word.now s ↔ (s ≡ read.items)) }
+    ensures some { IfSome result (λ read. (s : Octets) → SpellsString word.now s
+        ↔ (s ≡ read.items)) }
     ensures short { IfSome result (λ read. length read.items ≤ 255) }
     ensures none { IsNone result → (s : Octets) → SpellsString word.now s → length s ≤ 255 → ⊥ }
 {
@@ -35,8 +37,8 @@ pub(crate) fn read_string(word: &[u8]) -> Option<ArrayVec<u8, MOST_STRING_OCTETS
     Some(octets)
 }
 
-/// The text of a character-string in quotation marks: `"` and `\` with a backslash before, octets that are not printable
-/// as `\DDD` (RFC 1035 5.1).
+/// The text of a character-string in quotation marks: `"` and `\` with a backslash before, octets
+/// that are not printable as `\DDD` (RFC 1035 5.1).
 pub(crate) fn text_of_string(string: &[u8]) -> ArrayVec<u8, MOST_STRING_TEXT>
     requires { length string.now ≤ 255 }
     ensures { result.items ≡ string_text string.now }

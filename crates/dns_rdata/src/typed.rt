@@ -18,7 +18,8 @@ use crate::word::Word;
 use dns_name::Name;
 use std::alloc::{AllocError, Global};
 
-// Most data has no more octets, so that its memory never grows. An allocator hands out little less for fewer.
+// Most data has no more octets, so that its memory never grows. An allocator hands out little less
+// for fewer.
 const USUAL_OCTETS: usize = 24;
 
 /// What a word of a record's data is.
@@ -33,8 +34,8 @@ pub(crate) enum WordForm {
 
 /// The octets that words say in the form of the type.
 ///
-/// `BadHex` where the type has no such form, `WordCount` where it has another number of words; else the fault of the first
-/// word from the left that is none of its form.
+/// `BadHex` where the type has no such form, `WordCount` where it has another number of words; else
+/// the fault of the first word from the left that is none of its form.
 pub(crate) fn typed_octets(
     alloc: Global,
     rtype: RType,
@@ -42,8 +43,10 @@ pub(crate) fn typed_octets(
     origin: &Name,
 ) -> Result<Vec<u8>, RdataFault>
     ensures ok { IfOk result (λ octets. SaysTyped rtype.0 origin.now words.now octets.items) }
-    ensures only { IfOk result (λ octets. (d : Octets) → SaysTyped rtype.0 origin.now words.now d → d ≡ octets.items) }
-    ensures fault { IfErr result (λ fault. fault ≢ RdataFault.NoMemory → (d : Octets) → SaysTyped rtype.0 origin.now words.now d → ⊥) }
+    ensures only { IfOk result (λ octets. (d : Octets) → SaysTyped rtype.0 origin.now words.now d
+        → d ≡ octets.items) }
+    ensures fault { IfErr result (λ fault. fault ≢ RdataFault.NoMemory → (d : Octets)
+        → SaysTyped rtype.0 origin.now words.now d → ⊥) }
 {
     let row = row_of_type(rtype).ok_or(RdataFault::BadHex)?;
     let forms = forms_of(alloc, row.pieces, words.len())?;
@@ -57,7 +60,8 @@ pub(crate) fn typed_octets(
 
 // The forms of so many words for these pieces.
 fn forms_of(alloc: Global, pieces: &[Piece], count: usize) -> Result<Vec<WordForm>, AllocError>
-    ensures { IfOk result (λ forms. map form_of forms.items ≡ flat_map (forms_in count) (pieces_in pieces.now)) }
+    ensures { IfOk result (λ forms. map form_of forms.items ≡ flat_map (forms_in count)
+        (pieces_in pieces.now)) }
 {
     let mut forms = Vec::new(alloc);
     'pieces: for piece in pieces {
@@ -68,7 +72,8 @@ fn forms_of(alloc: Global, pieces: &[Piece], count: usize) -> Result<Vec<WordFor
 
 // RFC 1035 3.3.14: strings, which stand alone, take all words, and one at least.
 fn push_forms(forms: &mut Vec<WordForm>, piece: Piece, count: usize) -> Result<(), AllocError>
-    ensures { OnOk result (map form_of forms.new.items ≡ map form_of forms.old.items ++ forms_in count (piece_of piece)) }
+    ensures { OnOk result (map form_of forms.new.items ≡ map form_of forms.old.items
+        ++ forms_in count (piece_of piece)) }
 {
     match piece {
         Piece::Fixed(Fixed::Numbers { count, size }) => {
@@ -84,7 +89,8 @@ fn push_forms(forms: &mut Vec<WordForm>, piece: Piece, count: usize) -> Result<(
 }
 
 fn push_times(forms: &mut Vec<WordForm>, form: WordForm, times: usize) -> Result<(), AllocError>
-    ensures { OnOk result (map form_of forms.new.items ≡ map form_of forms.old.items ++ replicate times (form_of form)) }
+    ensures { OnOk result (map form_of forms.new.items ≡ map form_of forms.old.items
+        ++ replicate times (form_of form)) }
 {
     let mut left = times;
     'times: while left > 0 {
@@ -102,8 +108,10 @@ fn append_words(
     octets: &mut Vec<u8>,
 ) -> Result<(), RdataFault>
     requires { length forms.now ≡ length words.now }
-    ensures ok { OnOk result (AppendsOnly (SaysForms (map form_of forms.now) origin.now words.now) octets.old.items octets.new.items) }
-    ensures fault { IfErr result (λ fault. fault ≢ RdataFault.NoMemory → (d : Octets) → SaysForms (map form_of forms.now) origin.now words.now d → ⊥) }
+    ensures ok { OnOk result (AppendsOnly (SaysForms (map form_of forms.now) origin.now words.now)
+        octets.old.items octets.new.items) }
+    ensures fault { IfErr result (λ fault. fault ≢ RdataFault.NoMemory → (d : Octets)
+        → SaysForms (map form_of forms.now) origin.now words.now d → ⊥) }
 {
     let mut forms = forms;
     'words: for word in words {
@@ -123,8 +131,10 @@ fn append_word(
     origin: &Name,
     octets: &mut Vec<u8>,
 ) -> Result<(), RdataFault>
-    ensures ok { OnOk result (AppendsOnly (SaysWord (form_of form) origin.now word.now) octets.old.items octets.new.items) }
-    ensures fault { IfErr result (λ fault. fault ≢ RdataFault.NoMemory → (d : Octets) → SaysWord (form_of form) origin.now word.now d → ⊥) }
+    ensures ok { OnOk result (AppendsOnly (SaysWord (form_of form) origin.now word.now)
+        octets.old.items octets.new.items) }
+    ensures fault { IfErr result (λ fault. fault ≢ RdataFault.NoMemory → (d : Octets)
+        → SaysWord (form_of form) origin.now word.now d → ⊥) }
 {
     if word.quoted && !matches!(form, WordForm::String) {
         return Err(fault_of(form));
@@ -132,7 +142,7 @@ fn append_word(
     append_form(form, word.raw, origin, octets)
 }
 
-// What a word of this form is told by that is none.
+// The fault of a word that is none of this form.
 fn fault_of(form: WordForm) -> RdataFault {
     match form {
         WordForm::Number(_) => RdataFault::BadNumber,
@@ -148,8 +158,10 @@ fn append_form(
     origin: &Name,
     octets: &mut Vec<u8>,
 ) -> Result<(), RdataFault>
-    ensures ok { OnOk result (AppendsOnly (SaysForm (form_of form) origin.now text.now) octets.old.items octets.new.items) }
-    ensures fault { IfErr result (λ fault. fault ≢ RdataFault.NoMemory → (d : Octets) → SaysForm (form_of form) origin.now text.now d → ⊥) }
+    ensures ok { OnOk result (AppendsOnly (SaysForm (form_of form) origin.now text.now)
+        octets.old.items octets.new.items) }
+    ensures fault { IfErr result (λ fault. fault ≢ RdataFault.NoMemory → (d : Octets)
+        → SaysForm (form_of form) origin.now text.now d → ⊥) }
 {
     match form {
         WordForm::Number(size) => append_number(size, text, octets),
@@ -162,8 +174,10 @@ fn append_form(
 
 // A number of 16 or of 32 bits, the most significant octet first (RFC 1035 2.3.2).
 fn append_number(size: NumberSize, text: &[u8], octets: &mut Vec<u8>) -> Result<(), RdataFault>
-    ensures ok { OnOk result (AppendsOnly (SaysNumber (size_of size) text.now) octets.old.items octets.new.items) }
-    ensures fault { IfErr result (λ fault. fault ≢ RdataFault.NoMemory → (d : Octets) → SaysNumber (size_of size) text.now d → ⊥) }
+    ensures ok { OnOk result (AppendsOnly (SaysNumber (size_of size) text.now)
+        octets.old.items octets.new.items) }
+    ensures fault { IfErr result (λ fault. fault ≢ RdataFault.NoMemory → (d : Octets)
+        → SaysNumber (size_of size) text.now d → ⊥) }
 {
     match size {
         NumberSize::Two => append_u16(text, octets),
@@ -172,16 +186,20 @@ fn append_number(size: NumberSize, text: &[u8], octets: &mut Vec<u8>) -> Result<
 }
 
 fn append_u16(text: &[u8], octets: &mut Vec<u8>) -> Result<(), RdataFault>
-    ensures ok { OnOk result (AppendsOnly (SaysNumber 2 text.now) octets.old.items octets.new.items) }
-    ensures fault { IfErr result (λ fault. fault ≢ RdataFault.NoMemory → (d : Octets) → SaysNumber 2 text.now d → ⊥) }
+    ensures ok { OnOk result (AppendsOnly (SaysNumber 2 text.now)
+        octets.old.items octets.new.items) }
+    ensures fault { IfErr result (λ fault. fault ≢ RdataFault.NoMemory → (d : Octets)
+        → SaysNumber 2 text.now d → ⊥) }
 {
     let number = read_number(text, u32::from(u16::MAX)).ok_or(RdataFault::BadNumber)?;
     append(octets, &(number as u16).to_be_bytes())
 }
 
 fn append_u32(text: &[u8], octets: &mut Vec<u8>) -> Result<(), RdataFault>
-    ensures ok { OnOk result (AppendsOnly (SaysNumber 4 text.now) octets.old.items octets.new.items) }
-    ensures fault { IfErr result (λ fault. fault ≢ RdataFault.NoMemory → (d : Octets) → SaysNumber 4 text.now d → ⊥) }
+    ensures ok { OnOk result (AppendsOnly (SaysNumber 4 text.now)
+        octets.old.items octets.new.items) }
+    ensures fault { IfErr result (λ fault. fault ≢ RdataFault.NoMemory → (d : Octets)
+        → SaysNumber 4 text.now d → ⊥) }
 {
     let number = read_number(text, u32::MAX).ok_or(RdataFault::BadNumber)?;
     append(octets, &number.to_be_bytes())
@@ -189,7 +207,8 @@ fn append_u32(text: &[u8], octets: &mut Vec<u8>) -> Result<(), RdataFault>
 
 fn append_ipv4(text: &[u8], octets: &mut Vec<u8>) -> Result<(), RdataFault>
     ensures ok { OnOk result (AppendsOnly (SaysIpv4 text.now) octets.old.items octets.new.items) }
-    ensures fault { IfErr result (λ fault. fault ≢ RdataFault.NoMemory → (d : Octets) → SaysIpv4 text.now d → ⊥) }
+    ensures fault { IfErr result (λ fault. fault ≢ RdataFault.NoMemory → (d : Octets)
+        → SaysIpv4 text.now d → ⊥) }
 {
     let address = read_ipv4(text).ok_or(RdataFault::BadAddress)?;
     append(octets, &address)
@@ -197,24 +216,28 @@ fn append_ipv4(text: &[u8], octets: &mut Vec<u8>) -> Result<(), RdataFault>
 
 fn append_ipv6(text: &[u8], octets: &mut Vec<u8>) -> Result<(), RdataFault>
     ensures ok { OnOk result (AppendsOnly (SaysIpv6 text.now) octets.old.items octets.new.items) }
-    ensures fault { IfErr result (λ fault. fault ≢ RdataFault.NoMemory → (d : Octets) → SaysIpv6 text.now d → ⊥) }
+    ensures fault { IfErr result (λ fault. fault ≢ RdataFault.NoMemory → (d : Octets)
+        → SaysIpv6 text.now d → ⊥) }
 {
     let address = read_ipv6(text).ok_or(RdataFault::BadAddress)?;
     append(octets, &address)
 }
 
 fn append_name(text: &[u8], origin: &Name, octets: &mut Vec<u8>) -> Result<(), RdataFault>
-    ensures ok { OnOk result (AppendsOnly (SaysName origin.now text.now) octets.old.items octets.new.items) }
-    ensures fault { IfErr result (λ fault. fault ≢ RdataFault.NoMemory → (d : Octets) → SaysName origin.now text.now d → ⊥) }
+    ensures ok { OnOk result (AppendsOnly (SaysName origin.now text.now)
+        octets.old.items octets.new.items) }
+    ensures fault { IfErr result (λ fault. fault ≢ RdataFault.NoMemory → (d : Octets)
+        → SaysName origin.now text.now d → ⊥) }
 {
     let name = Name::read_text(text, origin)?;
     append(octets, name.octets())
 }
 
-// A string behind its length (RFC 1035 3.3).
+// A string after its length (RFC 1035 3.3).
 fn append_string(text: &[u8], octets: &mut Vec<u8>) -> Result<(), RdataFault>
     ensures ok { OnOk result (AppendsOnly (SaysString text.now) octets.old.items octets.new.items) }
-    ensures fault { IfErr result (λ fault. fault ≢ RdataFault.NoMemory → (d : Octets) → SaysString text.now d → ⊥) }
+    ensures fault { IfErr result (λ fault. fault ≢ RdataFault.NoMemory → (d : Octets)
+        → SaysString text.now d → ⊥) }
 {
     let string = read_string(text).ok_or(RdataFault::BadString)?;
     append(octets, &[string.len() as u8])?;

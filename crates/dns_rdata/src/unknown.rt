@@ -20,13 +20,15 @@ pub(crate) fn is_unknown_mark(word: &Word<'_>) -> bool
     !word.quoted && word.raw == b"\\#".as_slice()
 }
 
-/// The octets that the words behind `\#` say: their number, and then words of whole octets.
+/// The octets that the words after `\#` say: their number, and then words of whole octets.
 ///
 /// The error is `NoMemory` only where no memory was found, and else `BadHex`.
 pub(crate) fn unknown_octets(alloc: Global, words: &[Word<'_>]) -> Result<Vec<u8>, RdataFault>
     ensures ok { IfOk result (λ octets. SaysUnknown words.now octets.items) }
-    ensures only { IfOk result (λ octets. (d : Octets) → SaysUnknown words.now d → d ≡ octets.items) }
-    ensures fault { IfErr result (λ fault. fault ≢ RdataFault.NoMemory → (d : Octets) → SaysUnknown words.now d → length d ≤ 65535 → ⊥) }
+    ensures only { IfOk result (λ octets. (d : Octets) → SaysUnknown words.now d
+        → d ≡ octets.items) }
+    ensures fault { IfErr result (λ fault. fault ≢ RdataFault.NoMemory → (d : Octets)
+        → SaysUnknown words.now d → length d ≤ 65535 → ⊥) }
     ensures kind { IfErr result (λ fault. fault ≢ RdataFault.NoMemory → fault ≡ RdataFault.BadHex) }
 {
     let Some((first, others)) = words.split_first() else {
@@ -48,7 +50,8 @@ pub(crate) fn unknown_octets(alloc: Global, words: &[Word<'_>]) -> Result<Vec<u8
 
 // The number of octets that an unquoted word says.
 fn octet_count(word: &Word<'_>) -> Option<u32>
-    ensures { (n : ℕ) → (result ≡ Some n) ↔ (IsTrue (not word.now.is_quoted) × (word.now.raw ≡ decimal n) × (n ≤ 65535)) }
+    ensures { (n : ℕ) → (result ≡ Some n) ↔ (IsTrue (not word.now.is_quoted)
+        × (word.now.raw ≡ decimal n) × (n ≤ 65535)) }
 {
     if word.quoted {
         return None;
@@ -59,7 +62,8 @@ fn octet_count(word: &Word<'_>) -> Option<u32>
 // Appends the octets that an unquoted word of whole octets says, one at least.
 fn append_word(word: &Word<'_>, octets: &mut Vec<u8>) -> Result<(), RdataFault>
     ensures ok { IfOk result (λ _. AppendsWord word.now octets.old.items octets.new.items) }
-    ensures fault { IfErr result (λ fault. fault ≢ RdataFault.NoMemory → (d : Octets) → SaysHexWord word.now d → ⊥) }
+    ensures fault { IfErr result (λ fault. fault ≢ RdataFault.NoMemory → (d : Octets)
+        → SaysHexWord word.now d → ⊥) }
     ensures kind { IfErr result (λ fault. fault ≢ RdataFault.NoMemory → fault ≡ RdataFault.BadHex) }
 {
     if word.quoted || word.raw.is_empty() {

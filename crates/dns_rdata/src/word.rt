@@ -1,8 +1,8 @@
 //! Words of a zone file.
 use std::marker::Model;
 
-/// A word of a record's data as it is spelled in a zone file: without the quotation marks where it stands in them, and
-/// with its escapes (RFC 1035 5.1).
+/// A word of a record's data as it is spelled in a zone file: without the quotation marks where it
+/// stands in them, and with its escapes (RFC 1035 5.1).
 #[derive(Debug, Default, Drop)]
 pub struct Word<'a> {
     /// Its octets.

@@ -34,11 +34,12 @@ const CHUNK: usize = 128;
 const CHUNK_DIGITS: usize = 256;
 
 impl Rdata {
-    /// Writes valid data as text: its words with one space between (RFC 1035 5.1), or for a type without a mnemonic `\#`,
-    /// the length and the octets in hex digits (RFC 3597 5). Names may have either case. It takes no memory, and time in
-    /// proportion to the length.
+    /// Writes valid data as text: its words with one space between (RFC 1035 5.1), or for a type
+    /// without a mnemonic `\#`, the length and the octets in hex digits (RFC 3597 5). Names may
+    /// have either case. It takes no memory, and time in proportion to the length.
     ///
-    /// Strings stand in quotation marks. Where the device fails, a beginning of the text was written.
+    /// Strings stand in quotation marks. Where the device fails, a beginning of the text was
+    /// written.
     pub fn write_text<W: Write>(
         rtype: RType,
         octets: &[u8],
@@ -76,8 +77,8 @@ fn write_pieces<W: Write>(
     Ok(())
 }
 
-// Writes the words of the piece that octets begin with, the first of them behind `before`, and answers the octets
-// behind the piece.
+// Writes the words of the piece that octets begin with, the first of them after `before`, and
+// answers the octets after the piece.
 fn write_piece<'a, W: Write>(
     piece: Piece,
     before: &[u8],
@@ -115,7 +116,8 @@ fn write_numbers<'a, W: Write>(
     requires few_failures { sink.old.failures < 2 ^ 64 - 1 }
     ensures writes { Writes W.contents sink.old sink.new result
         (spaced before.now (form_words (replicate count (number_word (size_of size))) octets.now)) }
-    ensures rest { IfOk result (λ rest. rest.now ≡ form_rest (replicate count (number_word (size_of size))) octets.now) }
+    ensures rest { IfOk result
+        (λ rest. rest.now ≡ form_rest (replicate count (number_word (size_of size))) octets.now) }
 {
     let mut left = count;
     let mut before = before;
@@ -139,7 +141,8 @@ fn write_number<'a, W: Write>(
     requires few_failures { sink.old.failures < 2 ^ 64 - 1 }
     ensures writes { Writes W.contents sink.old sink.new result
         (spaced before.now (form_words (number_word (size_of size) ∷ []) octets.now)) }
-    ensures rest { IfOk result (λ rest. rest.now ≡ (word_front (number_word (size_of size)) octets.now).1) }
+    ensures rest { IfOk result
+        (λ rest. rest.now ≡ (word_front (number_word (size_of size)) octets.now).1) }
 {
     let (number, rest) = octets.split_at(size.octets());
     let mut digits = Buffer::new();
@@ -248,8 +251,11 @@ fn write_strings<'a, W: Write>(
     requires strings { IsTrue (are_strings 0 octets.now) }
     requires few_failures { sink.old.failures < 2 ^ 64 - 1 }
     ensures writes { Writes W.contents sink.old sink.new result
-        (spaced before.now (form_words (replicate (string_count 0 octets.now) string_word) octets.now)) }
-    ensures rest { IfOk result (λ rest. rest.now ≡ form_rest (replicate (string_count 0 octets.now) string_word) octets.now) }
+        (spaced before.now
+        (form_words (replicate (string_count 0 octets.now) string_word) octets.now)) }
+    ensures rest { IfOk result
+        (λ rest. rest.now
+        ≡ form_rest (replicate (string_count 0 octets.now) string_word) octets.now) }
 {
     let mut before = before;
     let mut rest = octets;
@@ -272,7 +278,7 @@ fn write_unknown<W: Write>(octets: &[u8], sink: &mut Tally<W>) -> Result<(), Sin
     write_hex_word(octets, sink)
 }
 
-// The word of all octets behind a space, if there are any.
+// The word of all octets after a space, if there are any.
 fn write_hex_word<W: Write>(octets: &[u8], sink: &mut Tally<W>) -> Result<(), SinkFailed>
     requires { sink.old.failures < 2 ^ 64 - 1 }
     ensures { Writes W.contents sink.old sink.new result (spaced (32 ∷ []) (hex_words octets.now)) }

@@ -1,13 +1,14 @@
--- What a reader learns here: which RRsets answer a question: the names sought one after the other, the five cases of
--- the last of them, the additional addresses, and which of all these a reply may not leave out.
-use Rattle.std.specs.Prelude.{ℕ, zero, suc, min, Bool, true, false, ◌&&◌, ◌||◌, not, List, [], ◌∷◌, ◌++◌, map, length, ◌==◌, if◌then◌else◌}
+-- What a reader learns here: which RRsets answer a question: the names sought one after the other,
+-- the five cases of the last of them, the additional addresses, and which of all these a reply may
+-- not leave out.
+use Rattle.std.specs.Prelude.{ℕ, zero, suc, ◌+◌, ◌-◌, ◌*◌, min, sum, Bool, true, false, ◌&&◌, ◌||◌, not, List, [], ◌∷◌, ◌++◌, map, length, ◌==◌, if◌then◌else◌}
 use Rattle.std.specs.Prelude.{Option, None, Some}
 use Rattle.std.specs.Option.{option_map, option_and_then, is_some, unwrap_or, option_to_list}
 use Rattle.std.specs.List.{list_any, filter, filter_map, flat_map}
 use Rattle.dns_spec.specs.Names.{DomainName, same, at_or_below}
 use Rattle.dns_spec.specs.Data.{type_a, type_ns, type_cname, type_soa, type_mx, type_aaaa, type_srv, qtype_any, target, soa_minimum}
 use Rattle.dns_spec.specs.Records.{ResourceRecord, ZoneContents, rrset, of_type, with_owner}
-use Rattle.dns_spec.specs.Sets.{rising_types}
+use Rattle.dns_spec.specs.Sets.{of_lowest_type}
 use Rattle.dns_spec.specs.Tree.{cut_of, found}
 use Rattle.dns_spec.specs.Reading.{no_error, name_error}
 use Rattle.dns_spec.specs.Layout.{Section, answer, authority, additional, Item, records_of}
@@ -31,8 +32,8 @@ abbrev pub first_target : List ResourceRecord → Option DomainName
 first_target [] = None
 first_target (r ∷ rs) = target r.rtype r.rdata
 
--- RFC 1034 4.3.2 step 3a: what is sought after s, where `sought` has the names so far: the target of its alias, where
--- that is at or below the origin and was not sought yet
+-- RFC 1034 4.3.2 step 3a: what is sought after s, where `sought` has the names so far: the target
+-- of its alias, where that is at or below the origin and was not sought yet
 abbrev pub next_sought : ZoneContents → List DomainName → DomainName → Option DomainName
 next_sought z sought s =
     option_and_then
@@ -76,13 +77,10 @@ negative_soa z =
     (map (λ (r : ResourceRecord). record r { ttl = min r.ttl (soa_minimum r.rdata) })
     (rrset z z.origin type_soa))
 
--- all RRsets of the records, by rising type
-abbrev pub all_sets : List ResourceRecord → List Item
-all_sets rs = flat_map (λ t. item answer (of_type t rs)) (rising_types rs)
-
--- the sets that the records hold of what was asked for
-abbrev pub asked_sets : ℕ → List ResourceRecord → List Item
-asked_sets t rs = if t == qtype_any then all_sets rs else item answer (of_type t rs)
+-- The records of what was asked for. RFC 8482 4.1: where all types are asked for, one RRset is the
+-- answer, in this product that of the lowest type number found.
+abbrev pub asked_records : ℕ → List ResourceRecord → List ResourceRecord
+asked_records t rs = if t == qtype_any then of_lowest_type rs else of_type t rs
 
 -- a referral: the cut that refers the asker elsewhere, with its NS set (RFC 1034 4.3.2 step 3b)
 abbrev pub referral_to : ZoneContents → DomainName → Outcome
@@ -106,22 +104,23 @@ abbrev pub has_any : {X : Type 0} → List X → Bool
 has_any [] = false
 has_any (x ∷ xs) = true
 
--- RFC 1034 4.3.2 step 3, by the cut at or above a name and the records found for it. The first of five cases that holds:
--- a cut; nothing found; the alias ends here; the sets asked for; nothing of the type.
+-- RFC 1034 4.3.2 step 3, by the cut at or above a name and the records found for it. The first of
+-- five cases that holds: a cut; nothing found; the alias ends here; the set asked for; nothing of
+-- the type.
 abbrev pub outcome_by : ZoneContents → ℕ → Option DomainName → Option (List ResourceRecord)
     → Outcome
 outcome_by z t (Some c) found = referral_to z c
 outcome_by z t None None = negative z name_error
 outcome_by z t None (Some rs) =
     if follows_alias t && has_any (of_type type_cname rs) then positive []
-    else if has_any (asked_sets t rs) then positive (asked_sets t rs)
+    else if has_any (asked_records t rs) then positive (item answer (asked_records t rs))
     else negative z no_error
 
 unfoldable pub outcome_at : ZoneContents → ℕ → DomainName → Outcome
 outcome_at z t s = outcome_by z t (cut_of z s) (found z s)
 
--- The outcome: that of the last name sought, with its RCODE (RFC 2308 section 2.1), and the aliases in front of its
--- answer.
+-- The outcome: that of the last name sought, with its RCODE (RFC 2308 section 2.1), and the aliases
+-- in front of its answer.
 unfoldable pub outcome : ZoneContents → DomainName → ℕ → Outcome
 outcome z q t =
     let o = outcome_at z t (last_sought z q t) in
@@ -151,8 +150,8 @@ targets_outside o =
     flat_map (λ c. filter (λ m. not (at_or_below m c)) (targets_of o.authorities))
     (option_to_list o.referral)
 
--- The targets, in order. Of a referral those at or below the cut come first: without their addresses the asker gets
--- no further (RFC 1034 4.3.2 step 3b).
+-- The targets, in order. Of a referral those at or below the cut come first: without their
+-- addresses the asker gets no further (RFC 1034 4.3.2 step 3b).
 abbrev pub targets : Outcome → List DomainName
 targets o = targets_of o.answers ++ targets_inside o ++ targets_outside o
 
@@ -168,7 +167,8 @@ address_set z earlier n t = if stands n t earlier then [] else item additional (
 abbrev pub address_sets : ZoneContents → List Item → DomainName → List Item
 address_sets z earlier n = address_set z earlier n type_a ++ address_set z earlier n type_aaaa
 
--- RFC 1034 4.3.2 step 6: the additional sets of the targets, by exact owner, also below a cut, never by a wildcard
+-- RFC 1034 4.3.2 step 6: the additional sets of the targets, by exact owner, also below a cut,
+-- never by a wildcard
 unfoldable pub extra : ZoneContents → List Item → List DomainName → List Item
 extra z earlier [] = []
 extra z earlier (m ∷ ms) =
@@ -185,9 +185,35 @@ items z q t =
     let o = outcome z q t in
     main_items o ++ extra z (main_items o) (targets o)
 
--- The sets that a reply may not leave out: answer, authority, and the glue of a referral. All sets begin with them, since
--- the aliases before a referral have no targets.
+-- The sets that a reply may not leave out: answer, authority, and the glue of a referral. All sets
+-- begin with them, since the aliases before a referral have no targets.
 unfoldable pub required_items : ZoneContents → DomainName → ℕ → List Item
 required_items z q t =
     let o = outcome z q t in
     main_items o ++ extra z (main_items o) (targets_inside o)
+
+-- the nodes on the way to a name: that of the origin, and one for each label below it
+abbrev pub nodes_to : ZoneContents → DomainName → ℕ
+nodes_to z n = 1 + (length n - length z.origin)
+
+-- the targets whose addresses a zone may have
+abbrev pub targets_in_zone : ZoneContents → List DomainName → List DomainName
+targets_in_zone z ms = filter (λ m. at_or_below m z.origin) ms
+
+-- The most nodes that an answer visits: those on the way to the names of the chain and to the
+-- targets at or below the origin.
+abbrev pub most_visits : ZoneContents → DomainName → ℕ → ℕ
+most_visits z q t =
+    sum (map (nodes_to z) (chain z q t))
+    + sum (map (nodes_to z) (targets_in_zone z (targets (outcome z q t))))
+
+-- The most names that it looks up: those of the chain, and the targets.
+abbrev pub names_looked_up : ZoneContents → DomainName → ℕ → ℕ
+names_looked_up z q t = length (chain z q t) + length (targets (outcome z q t))
+
+-- The most labels that it compares with a label asked for, where it visits so many nodes: 17 for
+-- each child that it finds, for each that it does not, at most two for a name of the chain and one
+-- for a target. A node has at most 100,000 children.
+abbrev pub most_comparisons : ZoneContents → DomainName → ℕ → ℕ → ℕ
+most_comparisons z q t visits =
+    17 * (visits + 2 * length (chain z q t) + length (targets (outcome z q t)))

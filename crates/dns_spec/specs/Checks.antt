@@ -1,5 +1,6 @@
--- What a reader learns here: the fifteen faults that keep a zone from being served. Each is a condition of its own
--- over the whole list of records, so one record may give several. Which conditions are faults is this project's choice.
+-- What a reader learns here: the fifteen faults that keep a zone from being served. Each is a
+-- condition of its own over the whole list of records, so one record may give several. Which
+-- conditions are faults is this project's choice.
 use Rattle.std.specs.Prelude.{◌≡◌, ℕ, Bool, false, ◌&&◌, ◌||◌, not, List, [], ◌∷◌, map, length, nat_lt, ◌==◌}
 use Rattle.std.specs.Option.{option_map_or}
 use Rattle.std.specs.List.{list_any, filter, flat_map}
@@ -33,7 +34,8 @@ owns_such z n test = list_any (λ (r : ResourceRecord). test r.rtype) (at z n)
 -- a record of the name, of such a type, has a target at or below the origin that passes the test
 abbrev pub has_target : ZoneContents → DomainName → (ℕ → Bool) → (DomainName → Bool) → Bool
 has_target z n type test =
-    list_any (λ (r : ResourceRecord). type r.rtype && option_map_or (λ m. at_or_below m z.origin && test m) (target r.rtype r.rdata) false) (at z n)
+    list_any (λ (r : ResourceRecord). type r.rtype
+    && option_map_or (λ m. at_or_below m z.origin && test m) (target r.rtype r.rdata) false) (at z n)
 
 -- RFC 1034 4.2: what stands at or below a cut is not the zone's own
 abbrev pub at_or_below_cut : Check
@@ -77,16 +79,18 @@ many_cname z n = nat_lt 1 (count z n type_cname)
 -- RFC 2181 5.2: the records of an RRset have one TTL
 abbrev pub ttls_differ : Check
 ttls_differ z n =
-    list_any (λ (r : ResourceRecord). list_any (λ (s : ResourceRecord). r.rtype == s.rtype && not (r.ttl == s.ttl)) (at z n)) (at z n)
+    list_any (λ (r : ResourceRecord). list_any (λ (s : ResourceRecord). r.rtype == s.rtype
+    && not (r.ttl == s.ttl)) (at z n)) (at z n)
 
 -- RFC 2181 10.3: the target of NS is no alias
 abbrev pub ns_target_alias : Check
 ns_target_alias z n = has_target z n (λ t. t == type_ns) (λ m. owns z m type_cname)
 
--- RFC 1034 4.2.1: a server of the zone has an address in it, and a server below the cut that it serves has glue. A
--- server below another cut has its address there.
+-- RFC 1034 4.2.1: a server of the zone has an address in it, and a server below the cut that it
+-- serves has glue. A server below another cut has its address there.
 abbrev pub lacks_address : ZoneContents → DomainName → DomainName → Bool
-lacks_address z n m = not (has_address z m) && (not (at_or_below_cut z m) || is_cut z n && at_or_below m n)
+lacks_address z n m =
+    not (has_address z m) && (not (at_or_below_cut z m) || is_cut z n && at_or_below m n)
 
 abbrev pub ns_target_lost : Check
 ns_target_lost z n = has_target z n (λ t. t == type_ns) (lacks_address z n)
@@ -120,8 +124,9 @@ many_sets z n = nat_lt 32 (length (types_of (at z n)))
 abbrev pub checks : List (ℕ × Check)
 checks =
     (1, no_soa) ∷ (2, many_soa) ∷ (3, soa_elsewhere) ∷ (4, no_ns) ∷ (5, outside)
-    ∷ (6, cname_and_other) ∷ (7, many_cname) ∷ (8, ttls_differ) ∷ (9, ns_target_alias) ∷ (10, ns_target_lost)
-    ∷ (11, mx_target_alias) ∷ (12, data_at_cut) ∷ (13, wildcard_ns) ∷ (14, large_set) ∷ (15, many_sets) ∷ []
+    ∷ (6, cname_and_other) ∷ (7, many_cname) ∷ (8, ttls_differ) ∷ (9, ns_target_alias)
+    ∷ (10, ns_target_lost) ∷ (11, mx_target_alias) ∷ (12, data_at_cut) ∷ (13, wildcard_ns)
+    ∷ (14, large_set) ∷ (15, many_sets) ∷ []
 
 -- the name fails the check of this code
 abbrev pub fails : ZoneContents → DomainName → ℕ → Bool
@@ -138,7 +143,8 @@ faults_at z n = map (λ c. record { owner = n; code = c.0 }) (filter (λ c. c.1 
 -- the names that are checked: the origin and all owners, in canonical order
 abbrev pub checked_names : ZoneContents → List DomainName
 checked_names z =
-    sort_by name_order (distinct same (folded z.origin ∷ map (λ (r : ResourceRecord). folded r.owner) z.records))
+    sort_by name_order
+    (distinct same (folded z.origin ∷ map (λ (r : ResourceRecord). folded r.owner) z.records))
 
 -- each fault once, by the order of owners, then by code
 unfoldable pub faults : ZoneContents → List Fault

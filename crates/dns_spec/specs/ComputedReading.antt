@@ -1,5 +1,6 @@
--- What a reader learns here: how the name at a place of a message, and the message that octets spell, are computed. A reader
--- may skip this: Reading says what they are, and laws say that these are the same.
+-- What a reader learns here: how the name at a place of a message, and the message that octets
+-- spell, are computed. A reader may skip this: Reading says what they are, and laws say that these
+-- are the same.
 use Rattle.std.specs.Prelude.{ℕ, zero, suc, ◌+◌, ◌-◌, ◌&&◌, true, false, List, [], ◌∷◌, ◌++◌, length, take, drop, nat_lt, nat_le, ◌==◌, slice_get, if◌then◌else◌}
 use Rattle.std.specs.Prelude.{Option, None, Some}
 use Rattle.std.specs.Option.{option_map, option_and_then}
@@ -7,8 +8,8 @@ use Rattle.dns_spec.specs.Names.{Octets, DomainName, wire, is_name}
 use Rattle.dns_spec.specs.Data.{class_in, width, Piece, fixed, domain, string, strings, anything, pieces_of, are_strings, number_of}
 use Rattle.dns_spec.specs.Reading.{pointer_place, MessageQuestion, MessageRecord, DnsMessage}
 
--- RFC 1035 4.1.4: how a run of labels goes on at a place: it ends, a label of k octets follows, a pointer to place p
--- follows, or nothing lawful does.
+-- RFC 1035 4.1.4: how a run of labels goes on at a place: it ends, a label of k octets follows, a
+-- pointer to place p follows, or nothing lawful does.
 pub data RunStep : Type 0 where
   run_end : RunStep
   run_label : ℕ → RunStep
@@ -34,7 +35,8 @@ Placed = DomainName × ℕ
 abbrev pub with_label : Octets → Placed → Placed
 with_label l (n, e) = (l ∷ n, e)
 
--- A pointer is lawful to a place after the header and before its run. `earlier` has what the runs begun before that spell.
+-- A pointer is lawful to a place after the header and before its run. `earlier` has what the runs
+-- begun before that spell.
 abbrev pub jump : (ℕ → Option Placed) → ℕ → ℕ → ℕ → Option Placed
 jump earlier s i p =
     elim (nat_le 12 p && nat_lt p s) [
@@ -42,8 +44,8 @@ jump earlier s i p =
       | false ↦ None
     ]
 
--- What a run begun at place s spells from place i on. It has no more steps than there are octets, since each takes one
--- or more.
+-- What a run begun at place s spells from place i on. It has no more steps than there are octets,
+-- since each takes one or more.
 unfoldable pub run : (ℕ → Option Placed) → Octets → ℕ → ℕ → ℕ → Option Placed
 run earlier b s zero i = None
 run earlier b s (suc r) i =
@@ -76,7 +78,8 @@ abbrev pub octets_upto : Octets → ℕ → ℕ → Option (Octets × ℕ)
 octets_upto b i e =
     if nat_le i e && nat_le e (length b) then Some (take (e - i) (drop i b), e) else None
 
--- one piece at place i of data that ends before place e: its octets, not compressed, and the place after it
+-- one piece at place i of data that ends before place e: its octets, not compressed, and the place
+-- after it
 abbrev pub strings_only : Octets × ℕ → Option (Octets × ℕ)
 strings_only (o, e) = if nat_lt 0 (length o) && are_strings 0 o then Some (o, e) else None
 

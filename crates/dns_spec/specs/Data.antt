@@ -1,5 +1,5 @@
--- What a reader learns here: of which pieces the data of each type is made, and with that which octets are data of a
--- type, how they read in lower case, and which names stand in them.
+-- What a reader learns here: of which pieces the data of each type is made, and with that which
+-- octets are data of a type, how they read in lower case, and which names stand in them.
 use Rattle.std.specs.Prelude.{ℕ, ◌+◌, ◌-◌, ◌*◌, ◌^◌, Bool, true, false, ◌&&◌, not, List, [], ◌∷◌, map, length, take, drop, nat_le, ◌==◌, IsTrue, if◌then◌else◌, zero, suc, codes}
 use Rattle.std.specs.Prelude.{Option, None, Some}
 use Rattle.std.specs.Option.{option_map, unwrap_or, is_some}
@@ -55,8 +55,8 @@ width (numbers m k) = m * k
 width ipv4 = 4
 width ipv6 = 16
 
--- A piece of data: numbers or an address, a domain name, a character-string, one character-string or more, or any
--- octets.
+-- A piece of data: numbers or an address, a domain name, a character-string, one character-string
+-- or more, or any octets.
 pub data Piece : Type 0 where
   fixed : Fixed → Piece
   domain : Piece
@@ -64,22 +64,28 @@ pub data Piece : Type 0 where
   strings : Piece
   anything : Piece
 
--- A type that has a name: its number and name, of which pieces its data is made, and whether names in it take part in
--- compression.
+-- A type that has a name: its number and name, of which pieces its data is made, and whether names
+-- in it take part in compression.
 pub record TypeRow : Type 0 where
   pub number : ℕ
   pub mnemonic : Octets
   pub pieces : List Piece
   pub compresses : Bool
 
--- RFC 1035 3.3 and 3.4, RFC 3596 2.2, RFC 2782: the data of each type. RFC 3597 section 4: only names in data of the
--- types of RFC 1035 are compressed, and RFC 2782 forbids it for the target of SRV.
+-- RFC 1035 3.3 and 3.4, RFC 3596 2.2, RFC 2782: the data of each type. RFC 3597 section 4: only
+-- names in data of the types of RFC 1035 are compressed, and RFC 2782 forbids it for the target of
+-- SRV.
 abbrev pub type_table : List TypeRow
 type_table =
     record { number = type_a; mnemonic = codes "A"; pieces = fixed ipv4 ∷ []; compresses = false }
     ∷ record { number = type_ns; mnemonic = codes "NS"; pieces = domain ∷ []; compresses = true }
     ∷ record { number = type_cname; mnemonic = codes "CNAME"; pieces = domain ∷ []; compresses = true }
-    ∷ record { number = type_soa; mnemonic = codes "SOA"; pieces = domain ∷ domain ∷ fixed (numbers 5 4) ∷ []; compresses = true }
+    ∷ record {
+      number = type_soa;
+      mnemonic = codes "SOA";
+      pieces = domain ∷ domain ∷ fixed (numbers 5 4) ∷ [];
+      compresses = true;
+    }
     ∷ record { number = type_ptr; mnemonic = codes "PTR"; pieces = domain ∷ []; compresses = true }
     ∷ record { number = type_hinfo; mnemonic = codes "HINFO"; pieces = string ∷ string ∷ []; compresses = false }
     ∷ record { number = type_mx; mnemonic = codes "MX"; pieces = fixed (numbers 1 2) ∷ domain ∷ []; compresses = true }
@@ -116,15 +122,15 @@ part_octets (name n) = wire n
 abbrev pub joined : List Part → Octets
 joined = flat_map part_octets
 
--- RFC 1035 3.3: character-strings one behind the other, each behind its length in one octet; k octets of the string at
--- hand are still to come
+-- RFC 1035 3.3: character-strings one after the other, each after its length in one octet; k octets
+-- of the string at hand are still to come
 abbrev pub are_strings : ℕ → Octets → Bool
 are_strings zero [] = true
 are_strings (suc k) [] = false
 are_strings zero (o ∷ os) = are_strings o os
 are_strings (suc k) (o ∷ os) = are_strings k os
 
--- the first k octets, and those behind them
+-- the first k octets, and those after them
 abbrev pub octets_front : ℕ → Octets → Option (Part × Octets)
 octets_front k os = if nat_le k (length os) then Some (octets (take k os), drop k os) else None
 
@@ -135,7 +141,7 @@ string_front (k ∷ os) = octets_front (suc k) (k ∷ os)
 abbrev pub strings_front : Octets → Option (Part × Octets)
 strings_front os = if not (length os == 0) && are_strings 0 os then Some (octets os, []) else None
 
--- the piece that the octets begin with, and the octets behind it
+-- the piece that the octets begin with, and the octets after it
 abbrev pub piece_front : Piece → Octets → Option (Part × Octets)
 piece_front (fixed f) os = octets_front (width f) os
 piece_front domain os = option_map (λ r. (name r.0, r.1)) (name_of os)
@@ -147,9 +153,11 @@ piece_front anything os = Some (octets os, [])
 unfoldable pub cut : List Piece → Octets → Option (List Part)
 cut [] [] = Some []
 cut [] (o ∷ os) = None
-cut (p ∷ ps) os = elim (piece_front p os) [ None ↦ None | Some r ↦ option_map (λ xs. r.0 ∷ xs) (cut ps r.1) ]
+cut (p ∷ ps) os =
+    elim (piece_front p os) [ None ↦ None | Some r ↦ option_map (λ xs. r.0 ∷ xs) (cut ps r.1) ]
 
--- The octets are data of the type, names in any case. RFC 1035 3.2.1: data has at most 65,535 octets.
+-- The octets are data of the type, names in any case. RFC 1035 3.2.1: data has at most 65,535
+-- octets.
 abbrev pub valid : ℕ → Octets → Bool
 valid t d = nat_le (length d) 65535 && is_some (cut (pieces_of t) d)
 

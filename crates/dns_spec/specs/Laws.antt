@@ -43,21 +43,25 @@ pub record IsAskable (q : MessageQuestion) : Type 0 where
   pub qtype : q.qtype < 2 ^ 16
   pub qclass : q.qclass < 2 ^ 16
 
--- RFC 1035 4.1: header and question fit the fields of a message, and the sets stand in the order of its sections
+-- RFC 1035 4.1: header and question fit the fields of a message, and the sets stand in the order of
+-- its sections
 pub record HasRoom (h : Header) (q : Option MessageQuestion) (items : List Item) : Type 0 where
   pub id : h.id < 2 ^ 16
   pub flags : h.flags < 2 ^ 16
   pub question : IfSome q IsAskable
   pub in_order : IsTrue (sections_in_order items)
 
--- RFC 1035 4.1.1: so do the counts of the records. Those of a message of at most 65,535 octets always do.
+-- RFC 1035 4.1.1: so do the counts of the records. Those of a message of at most 65,535 octets
+-- always do.
 pub record HasCounts (items : List Item) : Type 0 where
   pub answers : length (in_section answer items) < 2 ^ 16
   pub authorities : length (in_section authority items) < 2 ^ 16
   pub additionals : length (in_section additional items) < 2 ^ 16
 
--- `keep` keeps a beginning of the sets of each question, of which a message has room for the plain layout
+-- `keep` keeps a beginning of the sets of each question, of which a message has room for the plain
+-- layout
 abbrev pub KeepsBeginning : ZoneContents → (MessageQuestion → List Item) → Type 0
 KeepsBeginning z keep =
     (q : MessageQuestion) → IsTrue (is_name q.qname)
-    → (k : ℕ) × (keep q ≡ take k (items z q.qname q.qtype)) × (plain_size (Some q) (keep q) < 2 ^ 16)
+    → (k : ℕ) × (keep q ≡ take k (items z q.qname q.qtype))
+    × (plain_size (Some q) (keep q) < 2 ^ 16)

@@ -1,5 +1,5 @@
--- What a reader learns here: how a reply is laid out in octets, which suffix of a name is shared with an earlier name
--- and by which place, and the size of a layout, added up without writing it.
+-- What a reader learns here: how a reply is laid out in octets, which suffix of a name is shared
+-- with an earlier name and by which place, and the size of a layout, added up without writing it.
 use Rattle.std.specs.Prelude.{ℕ, zero, suc, ◌+◌, ◌-◌, ◌*◌, Bool, true, false, ◌&&◌, List, [], ◌∷◌, ◌++◌, map, length, nat_le, if◌then◌else◌}
 use Rattle.std.specs.Prelude.{Option, None, Some}
 use Rattle.std.specs.Option.{option_to_list}
@@ -57,8 +57,8 @@ has_suffix n s = nat_le (length s) (length n) && names_equal (last_labels (lengt
 abbrev pub suffix_place : Placed → DomainName → ℕ
 suffix_place m s = m.1 + (length (wire m.0) - length (wire s))
 
--- The place of s in the first earlier name that has it as a suffix. No name before that one has it, so it is written
--- out there.
+-- The place of s in the first earlier name that has it as a suffix. No name before that one has it,
+-- so it is written out there.
 abbrev pub place_of : List Placed → DomainName → Option ℕ
 place_of [] s = None
 place_of (m ∷ ms) s = if has_suffix m.0 s then Some (suffix_place m s) else place_of ms s
@@ -75,12 +75,16 @@ reached (Some p) = if nat_le p last_place then Some p else None
 abbrev pub shared_place : List Placed → DomainName → Option ℕ
 shared_place ms s = reached (place_of ms s)
 
--- RFC 1035 4.1.4: a name is written as its labels before the longest suffix that an earlier name has at a place which a
--- pointer reaches, and a pointer to it; without such a suffix it is written whole. The root is never shared.
+-- RFC 1035 4.1.4: a name is written as its labels before the longest suffix that an earlier name
+-- has at a place which a pointer reaches, and a pointer to it; without such a suffix it is written
+-- whole. The root is never shared.
 unfoldable pub shared_octets : List Placed → DomainName → Octets
 shared_octets ms [] = 0 ∷ []
 shared_octets ms (l ∷ n) =
-    elim (shared_place ms (l ∷ n)) [ None ↦ length l ∷ (l ++ shared_octets ms n) | Some p ↦ pointer p ]
+    elim (shared_place ms (l ∷ n)) [
+      | None ↦ length l ∷ (l ++ shared_octets ms n)
+      | Some p ↦ pointer p
+    ]
 
 -- its length: the octets of the labels before that suffix and 2, or all of them
 unfoldable pub cost : List Placed → DomainName → ℕ
@@ -141,7 +145,8 @@ abbrev pub asked_placed : Option MessageQuestion → List Placed
 asked_placed None = []
 asked_placed (Some q) = (q.qname, 12) ∷ []
 
--- RFC 1035 4.1.1: ID and flags, and how many questions, answers, authority and additional records there are
+-- RFC 1035 4.1.1: ID and flags, and how many questions, answers, authority and additional records
+-- there are
 abbrev pub header_octets : Header → ℕ → ℕ → ℕ → ℕ → Octets
 header_octets h qd an ns ar =
     octets16 h.id ++ octets16 h.flags ++ octets16 qd ++ octets16 an ++ octets16 ns ++ octets16 ar
@@ -152,8 +157,8 @@ reply_header h q items =
     header_octets h (length (option_to_list q)) (length (in_section answer items))
     (length (in_section authority items)) (length (in_section additional items))
 
--- The layout: header, question and records. The question's name is the first of the earlier names. Without a question
--- the records begin at place 12, and no name is earlier than theirs.
+-- The layout: header, question and records. The question's name is the first of the earlier names.
+-- Without a question the records begin at place 12, and no name is earlier than theirs.
 unfoldable pub layout : Header → Option MessageQuestion → List Item → Octets
 layout h q items =
     reply_header h q items ++ asked_octets q
@@ -194,8 +199,8 @@ size q items =
     let from = 12 + length (asked_octets q) in
     from + records_size (asked_placed q) from (records_of items)
 
--- The plain layout: an owner that is spelled as the question's name is a pointer to it, unless it is the root. All other
--- names are written whole.
+-- The plain layout: an owner that is spelled as the question's name is a pointer to it, unless it
+-- is the root. All other names are written whole.
 abbrev pub plain_owner : DomainName → DomainName → Octets
 plain_owner asked [] = wire []
 plain_owner asked (l ∷ n) = if names_equal (l ∷ n) asked then pointer 12 else wire (l ∷ n)

@@ -1,7 +1,8 @@
--- What a reader learns here: what a domain name is, its octets on the wire, when two names are the same,
--- when one is at or below another, and which of two comes first.
+-- What a reader learns here: what a domain name is, its octets on the wire, when two names are the
+-- same, when one is at or below another, and which of two comes first.
 --
--- An octet is a number below 256. The lists of octets here are those of a program, so this is said nowhere again.
+-- An octet is a number below 256. The lists of octets here are those of a program, so this is said
+-- nowhere again.
 use Rattle.std.specs.Prelude.{ℕ, zero, suc, ◌-◌, Bool, true, false, ◌&&◌, List, [], ◌∷◌, ◌++◌, map, reverse, length, take, drop, nat_lt, nat_le, ◌==◌, if◌then◌else◌, Option, None, Some}
 use Rattle.std.specs.Option.{option_map, option_and_then}
 use Rattle.std.specs.List.{list_all}
@@ -13,11 +14,12 @@ use Rattle.std.specs.Char.{to_ascii_lowercase}
 abbrev pub Octets : Type 0
 Octets = List ℕ
 
--- RFC 1034 3.1: a domain name is the list of its labels, the nearest to the root last. The root is the empty list.
+-- RFC 1034 3.1: a domain name is the list of its labels, the nearest to the root last. The root is
+-- the empty list.
 abbrev pub DomainName : Type 0
 DomainName = List Octets
 
--- RFC 1035 3.1: each label behind its length, then the length 0 of the root
+-- RFC 1035 3.1: each label after its length, then the length 0 of the root
 abbrev pub wire : DomainName → Octets
 wire [] = 0 ∷ []
 wire (l ∷ n) = length l ∷ (l ++ wire n)
@@ -61,15 +63,16 @@ abbrev pub suffixes : DomainName → List DomainName
 suffixes [] = [] ∷ []
 suffixes (l ∷ n) = (l ∷ n) ∷ suffixes n
 
--- RFC 4034 6.1: labels are compared from the right, each as octets in lower case. A label comes before one that it
--- begins, and a name before all names below it.
+-- RFC 4034 6.1: labels are compared from the right, each as octets in lower case. A label comes
+-- before one that it begins, and a name before all names below it.
 abbrev pub label_order : Octets → Octets → Ordering
 label_order = slice_cmp nat_cmp
 
 abbrev pub name_order : DomainName → DomainName → Ordering
 name_order n m = slice_cmp label_order (reverse (folded n)) (reverse (folded m))
 
--- RFC 1035 3.1: the labels that octets begin with, of which there are fewer than k, and the octets after the root's 0
+-- RFC 1035 3.1: the labels that octets begin with, of which there are fewer than k, and the octets
+-- after the root's 0
 abbrev pub with_label : Octets → DomainName × Octets → DomainName × Octets
 with_label l (n, rest) = (l ∷ n, rest)
 
@@ -83,7 +86,7 @@ labels_from (suc k) (suc i ∷ os) =
       | false ↦ None
     ]
 
--- The name whose wire form the octets begin with, and the octets after it. A name has at most 127 labels, since each takes
--- two octets or more.
+-- The name whose wire form the octets begin with, and the octets after it. A name has at most 127
+-- labels, since each takes two octets or more.
 abbrev pub name_of : Octets → Option (DomainName × Octets)
 name_of os = option_and_then (λ r. if is_name r.0 then Some r else None) (labels_from 128 os)

@@ -1,5 +1,5 @@
--- What a reader learns here: what a datagram is as a query, before any zone is asked: no query, a query that is
--- refused with a header alone, or a header and a question.
+-- What a reader learns here: what a datagram is as a query, before any zone is asked: no query, a
+-- query that is refused with a header alone, or a header and a question.
 use Rattle.std.specs.Prelude.{ℕ, ◌+◌, ◌*◌, ◌/◌, ◌%◌, ◌^◌, Bool, false, ◌&&◌, ◌||◌, not, length, take, drop, nat_lt, nat_le, ◌==◌, if◌then◌else◌}
 use Rattle.std.specs.Prelude.{Option, None, Some}
 use Rattle.dns_spec.specs.Names.{Octets, DomainName}
@@ -28,7 +28,8 @@ bit b = if b then 1 else 0
 abbrev pub head_of : Octets → Header
 head_of d = record { id = field16 d 0; flags = field16 d 2 }
 
--- The header of a reply to a query with header h: its ID, opcode and RD, QR set, RA and the three zero bits 0.
+-- The header of a reply to a query with header h: its ID, opcode and RD, QR set, RA and the three
+-- zero bits 0.
 abbrev pub reply_head : Header → Bool → Bool → ℕ → Header
 reply_head h aa tc rcode = record {
   id = h.id;
@@ -59,8 +60,9 @@ counts_are_one_question d =
 abbrev pub is_ignored : Octets → Bool
 is_ignored d = nat_lt (length d) 12 || is_response (field16 d 2)
 
--- A datagram as a query. One that is no query gets no reply; a query of another opcode, or without just one question,
--- gets the header of a reply alone; else there is its header as it came, and its question.
+-- A datagram as a query. One that is no query gets no reply; a query of another opcode, or without
+-- just one question, gets the header of a reply alone; else there is its header as it came, and its
+-- question.
 pub data QueryRead : Type 0 where
   absent : QueryRead
   refused_with : Header → QueryRead

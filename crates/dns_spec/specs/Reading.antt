@@ -1,4 +1,5 @@
--- What a reader learns here: which name a place of a message spells, and which message octets spell.
+-- What a reader learns here: which name a place of a message spells, and which message octets
+-- spell.
 use Rattle.std.specs.Prelude.{◌≡◌, ℕ, ◌+◌, ◌-◌, ◌*◌, ◌<◌, ◌≤◌, List, [], ◌∷◌, ◌++◌, length, take, drop, ◌==◌, IsTrue, slice_get, if◌then◌else◌}
 use Rattle.std.specs.Prelude.{Some}
 use Rattle.dns_spec.specs.Names.{Octets, DomainName, wire, is_name}
@@ -8,10 +9,11 @@ use Rattle.dns_spec.specs.Data.{class_in, width, Piece, fixed, domain, string, s
 abbrev pub pointer_place : ℕ → ℕ → ℕ
 pointer_place o o' = (o - 192) * 256 + o'
 
--- RFC 1035 4.1.4: in the octets b a run of labels began at place s. From place i on it spells n, and the octets of this
--- spelling end before place e. An octet 0 ends the run. An octet 1 to 63 has a label of so many octets after it. An
--- octet from 192 on gives, with the one after it, the place where a run begins that spells the rest; this place is
--- after the header, and before the place where the run at hand began. Nothing else spells a name.
+-- RFC 1035 4.1.4: in the octets b a run of labels began at place s. From place i on it spells n,
+-- and the octets of this spelling end before place e. An octet 0 ends the run. An octet 1 to 63 has
+-- a label of so many octets after it. An octet from 192 on gives, with the one after it, the place
+-- where a run begins that spells the rest; this place is after the header, and before the place
+-- where the run at hand began. Nothing else spells a name.
 pub data RunAt (b : Octets) : ℕ → ℕ → DomainName → ℕ → Type 0 where
   ends : {s : ℕ} (i : ℕ) → slice_get b i ≡ Some 0 → RunAt b s i [] (i + 1)
   goes_on : {s : ℕ} (i k : ℕ) (l : Octets) (n : DomainName) (e : ℕ)
@@ -22,12 +24,13 @@ pub data RunAt (b : Octets) : ℕ → ℕ → DomainName → ℕ → Type 0 wher
       → 12 ≤ p → p < s
       → RunAt b p p n e → RunAt b s i n (i + 2)
 
--- The name n is spelled at place i, by octets that end before place e. RFC 1035 2.3.4: it has at most 255 octets,
--- whatever part of it stands where a pointer points.
+-- The name n is spelled at place i, by octets that end before place e. RFC 1035 2.3.4: it has at
+-- most 255 octets, whatever part of it stands where a pointer points.
 abbrev pub NameAt : Octets → ℕ → DomainName → ℕ → Type 0
 NameAt b i n e = RunAt b i i n e × IsTrue (is_name n)
 
--- RFC 1035 4.1.1: ID, and QR, opcode, AA, TC, RD, RA, three zero bits and RCODE as one number of 16 bits
+-- RFC 1035 4.1.1: ID, and QR, opcode, AA, TC, RD, RA, three zero bits and RCODE as one number of 16
+-- bits
 pub record Header : Type 0 where
   pub id : ℕ
   pub flags : ℕ
@@ -81,8 +84,8 @@ pub record NumberAt (b : Octets) (i k v : ℕ) : Type 0 where
   pub within : i + k ≤ length b
   pub spelled : v ≡ number_of (take k (drop i b))
 
--- From place i up to place e stands data of these pieces that reads d where it is not compressed. A name in it may
--- go on elsewhere, but its own octets are in the data.
+-- From place i up to place e stands data of these pieces that reads d where it is not compressed. A
+-- name in it may go on elsewhere, but its own octets are in the data.
 abbrev pub PiecesAt : Octets → List Piece → ℕ → ℕ → Octets → Type 0
 PiecesAt b [] i e d = (i ≡ e) × (d ≡ [])
 PiecesAt b (fixed f ∷ ps) i e d =

@@ -1,4 +1,5 @@
--- What a reader learns here: what a zone is, which records are at a name, and which of them make an RRset.
+-- What a reader learns here: what a zone is, which records are at a name, and which of them make an
+-- RRset.
 use Rattle.std.specs.Prelude.{ℕ, Bool, ◌&&◌, not, All, List, [], ◌∷◌, map, ◌==◌, if◌then◌else◌}
 use Rattle.std.specs.List.{Contains, list_any, filter}
 use Rattle.std.specs.Ordering.{nat_cmp, is_gt, ordering_then}
@@ -16,7 +17,8 @@ pub record ResourceRecord : Type 0 where
 
 -- equal in owner, type, data (RFC 2181 section 5) and, in this product, TTL
 abbrev pub records_equal : ResourceRecord → ResourceRecord → Bool
-records_equal r s = same r.owner s.owner && r.rtype == s.rtype && octets_equal r.rdata s.rdata && r.ttl == s.ttl
+records_equal r s =
+    same r.owner s.owner && r.rtype == s.rtype && octets_equal r.rdata s.rdata && r.ttl == s.ttl
 
 -- each record of one list stands in the other, in whatever order and however often
 abbrev pub HoldSameRecords : List ResourceRecord → List ResourceRecord → Type 0
@@ -36,7 +38,8 @@ distinct eq (x ∷ xs) = x ∷ filter (λ y. not (eq x y)) (distinct eq xs)
 abbrev pub zone_of : DomainName → List ResourceRecord → ZoneContents
 zone_of o rs = record { origin = folded o; records = distinct records_equal rs }
 
--- a sort by insertion: an element goes before the first that is not before it, so that equal ones keep their order
+-- a sort by insertion: an element goes before the first that is not before it, so that equal ones
+-- keep their order
 abbrev pub insert_by : {X : Type 0} → (X → X → Ordering) → X → List X → List X
 insert_by cmp x [] = x ∷ []
 insert_by cmp x (y ∷ ys) = if is_gt (cmp x y) then y ∷ insert_by cmp x ys else x ∷ y ∷ ys
@@ -49,7 +52,8 @@ sort_by cmp (x ∷ xs) = insert_by cmp x (sort_by cmp xs)
 abbrev pub data_order : ResourceRecord → ResourceRecord → Ordering
 data_order r s = slice_cmp nat_cmp r.rdata s.rdata
 
--- By owner, RFC 4034 6.1; then, in this product, by type; then by data, RFC 4034 6.3; and records that agree in all these by TTL.
+-- By owner, RFC 4034 6.1; then, in this product, by type; then by data, RFC 4034 6.3; and records
+-- that agree in all these by TTL.
 abbrev pub record_order : ResourceRecord → ResourceRecord → Ordering
 record_order r s =
     ordering_then (name_order r.owner s.owner)
@@ -57,7 +61,8 @@ record_order r s =
 
 -- the zone of an origin and of records as they were read, these in canonical order
 abbrev pub ordered_zone : DomainName → List ResourceRecord → ZoneContents
-ordered_zone o rs = record { origin = folded o; records = sort_by record_order (distinct records_equal rs) }
+ordered_zone o rs =
+    record { origin = folded o; records = sort_by record_order (distinct records_equal rs) }
 
 -- the records at a name
 abbrev pub at : ZoneContents → DomainName → List ResourceRecord

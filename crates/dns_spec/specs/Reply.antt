@@ -1,5 +1,5 @@
--- What a reader learns here: what is made of a datagram, step by step, and the reply: its header, its question, and the
--- longest beginning of RRsets that fits.
+-- What a reader learns here: what is made of a datagram, step by step, and the reply: its header,
+-- its question, and the longest beginning of RRsets that fits.
 use Rattle.std.specs.Prelude.{ℕ, Bool, ◌&&◌, ◌||◌, not, List, [], ◌∷◌, ◌++◌, length, take, nat_lt, nat_le, ◌==◌, if◌then◌else◌}
 use Rattle.std.specs.Prelude.{Option, None, Some}
 use Rattle.std.specs.Option.{option_map}
@@ -16,7 +16,8 @@ abbrev pub kept : (List Item → ℕ) → ℕ → List Item → List Item
 kept size_of limit sets =
     take (greatest (λ k. nat_le (size_of (take k sets)) limit) (length sets)) sets
 
--- The same by putting set after set after a front: it stops at the first set with which the size is past the limit.
+-- The same by putting set after set after a front: it stops at the first set with which the size is
+-- past the limit.
 abbrev pub fitting : (List Item → ℕ) → ℕ → List Item → List Item → List Item
 fitting size_of limit front [] = front
 fitting size_of limit front (i ∷ is) =
@@ -27,8 +28,8 @@ fitting size_of limit front (i ∷ is) =
 abbrev pub truncated : ZoneContents → MessageQuestion → List Item → Bool
 truncated z q sets = nat_lt (length sets) (length (required_items z q.qname q.qtype))
 
--- What is made of a datagram: nothing is sent, the header of a reply alone, the header of a reply and the question, or
--- an answer to the header and the question of a query.
+-- What is made of a datagram: nothing is sent, the header of a reply alone, the header of a reply
+-- and the question, or an answer to the header and the question of a query.
 pub data Decision : Type 0 where
   silence : Decision
   header_alone : Header → Decision
@@ -39,8 +40,8 @@ pub data Decision : Type 0 where
 abbrev pub is_meta_type : ℕ → Bool
 is_meta_type t = t == 0 || t == 41 || nat_le 128 t && nat_le t 254
 
--- A question is judged by its class, then its type, then its name: the RCODE with which it is refused, if any. The order
--- is this project's.
+-- A question is judged by its class, then its type, then its name: the RCODE with which it is
+-- refused, if any. The order is this project's.
 abbrev pub refusal : ZoneContents → MessageQuestion → Option ℕ
 refusal z q =
     if not (q.qclass == class_in) then Some refused
@@ -76,7 +77,8 @@ answer_with z h q sets =
       sets = sets;
     }
 
--- The reply that a decision makes, where `keep` says which beginning of the sets of a question is kept.
+-- The reply that a decision makes, where `keep` says which beginning of the sets of a question is
+-- kept.
 abbrev pub reply_of : (MessageQuestion → List Item) → ZoneContents → Decision → Option Reply
 reply_of keep z silence = None
 reply_of keep z (header_alone h) = Some (record { header = h; question = None; sets = [] })

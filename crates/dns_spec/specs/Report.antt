@@ -1,4 +1,5 @@
--- What a reader learns here: what the checker of zone files reports of a file, and whether its zone passes.
+-- What a reader learns here: what the checker of zone files reports of a file, and whether its zone
+-- passes.
 use Rattle.std.specs.Prelude.{◌≡◌, ℕ, ◌+◌, ◌/◌, ◌%◌, Bool, true, false, ◌&&◌, not, List, [], ◌∷◌, ◌++◌, map, if◌then◌else◌, codes, decimal}
 use Rattle.std.specs.List.{flat_map, join_with_byte}
 use Rattle.dns_spec.specs.Names.{Octets, DomainName, folded}
@@ -27,7 +28,8 @@ two_digits n = (48 + n / 10) ∷ (48 + n % 10) ∷ []
 
 -- a fault of the file, on the line where its entry begins
 abbrev pub line_report : FileFault → ℕ → Octets
-line_report fault line = codes "line " ++ decimal line ++ codes ": R" ++ two_digits (fault_code fault) ++ codes "\n"
+line_report fault line =
+    codes "line " ++ decimal line ++ codes ": R" ++ two_digits (fault_code fault) ++ codes "\n"
 
 -- a fault of the zone
 abbrev pub fault_report : Fault → Octets
@@ -40,22 +42,32 @@ bare_name_text (l ∷ n) = join_with_byte 46 (map label_text (l ∷ n))
 
 -- what named-checkzone says of a zone that it loaded
 abbrev pub loaded_report : ZoneContents → Octets
-loaded_report z = codes "zone " ++ bare_name_text z.origin ++ codes "/IN: loaded serial " ++ decimal (zone_serial z) ++ codes "\nOK\n"
+loaded_report z =
+    codes "zone " ++ bare_name_text z.origin ++ codes "/IN: loaded serial "
+    ++ decimal (zone_serial z) ++ codes "\nOK\n"
 
--- with `is_quiet` and without `is_printing` no fault is told
+-- with `is_quiet` and without `is_printing` no fault is reported
 abbrev pub failing : Options → Octets → Report
-failing options told = record { output = if options.is_quiet && not options.is_printing then [] else told; passes = false }
+failing options lines =
+    record {
+      output = if options.is_quiet && not options.is_printing then [] else lines;
+      passes = false;
+    }
 
--- a zone that passes is printed where that is asked for; else it is told that it was loaded, or with `is_quiet` nothing
+-- a zone that passes is printed where that is asked for; else it is reported as loaded, or with
+-- `is_quiet` nothing
 abbrev pub passing : Options → ZoneContents → Report
 passing options z =
-    record { output = if options.is_printing then zone_text z else if options.is_quiet then [] else loaded_report z; passes = true }
+    record {
+      output = if options.is_printing then zone_text z else if options.is_quiet then [] else loaded_report z;
+      passes = true;
+    }
 
 abbrev pub report_of_faults : Options → ZoneContents → List Fault → Report
 report_of_faults options z [] = passing options z
 report_of_faults options z (f ∷ fs) = failing options (flat_map fault_report (f ∷ fs))
 
--- all faults of the zone, one on a line; where it has none, what is told of a zone that passes
+-- all faults of the zone, one on a line; where it has none, what is reported of a zone that passes
 abbrev pub zone_report : Options → ZoneContents → Report
 zone_report options z = report_of_faults options z (faults z)
 
@@ -65,4 +77,5 @@ report_of_meaning options o (fault_at fault line) = failing options (line_report
 
 -- What is reported of a text as the file of a zone with this origin.
 abbrev pub Reports : DomainName → Octets → Options → Report → Type 0
-Reports o text options report = (m : Meaning) × Means (folded o) text m × (report ≡ report_of_meaning options o m)
+Reports o text options report =
+    (m : Meaning) × Means (folded o) text m × (report ≡ report_of_meaning options o m)

@@ -1,5 +1,5 @@
--- What a reader learns here: of which types records are, what a record set is without its owner, and which records it
--- stands for at an owner.
+-- What a reader learns here: of which types records are, what a record set is without its owner,
+-- and which records it stands for at an owner.
 use Rattle.std.specs.Prelude.{ℕ, List, [], ◌∷◌, map, All, ◌==◌}
 use Rattle.std.specs.Prelude.{Option, None, Some}
 use Rattle.std.specs.Ordering.{nat_cmp}

@@ -1,6 +1,6 @@
--- What a reader learns here: the sizes that a reply may have by RFC 1035 4.1.4, where each name is written whole or
--- shares any of its suffixes. The layout has the least of them, up to 16,384 octets: of longer ones some places are past
--- the reach of a pointer.
+-- What a reader learns here: the sizes that a reply may have by RFC 1035 4.1.4, where each name is
+-- written whole or shares any of its suffixes. The layout has the least of them, up to 16,384
+-- octets: of longer ones some places are past the reach of a pointer.
 use Rattle.std.specs.Prelude.{◌≡◌, ℕ, ◌+◌, List, [], ◌∷◌, ◌++◌, length, IsTrue}
 use Rattle.std.specs.Prelude.{Option, None, Some}
 use Rattle.std.specs.List.{list_any}
@@ -30,8 +30,8 @@ abbrev pub labels_size : DomainName → ℕ
 labels_size [] = 0
 labels_size (l ∷ n) = 1 + length l + labels_size n
 
--- A size of a name after earlier names: all its octets, or those of the labels before a suffix, not the root, that an
--- earlier name has octet by octet, and 2 octets of a pointer.
+-- A size of a name after earlier names: all its octets, or those of the labels before a suffix, not
+-- the root, that an earlier name has octet by octet, and 2 octets of a pointer.
 pub data NameSize (ms : List DomainName) : DomainName → ℕ → Type 0 where
   whole : (n : DomainName) → NameSize ms n (length (wire n))
   shared : (front : DomainName) (l : Octets) (n : DomainName)

@@ -1,4 +1,5 @@
--- What a reader learns here: which messages a stream holds, each after its length, and what is written in reply to them.
+-- What a reader learns here: which messages a stream holds, each after its length, and what is
+-- written in reply to them.
 use Rattle.std.specs.Prelude.{◌≡◌, ℕ, zero, suc, ◌+◌, ◌^◌, ◌<◌, Bool, List, [], ◌∷◌, ◌++◌, length, take, drop, nat_le, if◌then◌else◌}
 use Rattle.std.specs.Prelude.{Option, None, Some}
 use Rattle.std.specs.List.{flat_map}
@@ -20,7 +21,8 @@ first_frame x =
     let n = field16 x 0 in
     if has_frame x then Some (take n (drop 2 x), drop n (drop 2 x)) else None
 
--- the messages of the frames that the octets begin with, at most so many, and the octets after these frames
+-- the messages of the frames that the octets begin with, at most so many, and the octets after
+-- these frames
 unfoldable pub frames : ℕ → Octets → List Octets
 frames zero x = []
 frames (suc k) x = elim (first_frame x) [ None ↦ [] | Some r ↦ r.0 ∷ frames k r.1 ]
@@ -29,7 +31,8 @@ unfoldable pub after_frames : ℕ → Octets → Octets
 after_frames zero x = x
 after_frames (suc k) x = elim (first_frame x) [ None ↦ x | Some r ↦ after_frames k r.1 ]
 
--- The octets are a beginning of a frame, not empty and not whole: a stream that ends with them was cut.
+-- The octets are a beginning of a frame, not empty and not whole: a stream that ends with them was
+-- cut.
 pub record IsCutFrame (x : Octets) : Type 0 where
   pub message : Octets
   pub short : length message < 2 ^ 16

@@ -1,5 +1,5 @@
--- What a reader learns here: which names exist, where a zone is cut, which name encloses a missing one, and which
--- records are found for a name, by a wildcard too.
+-- What a reader learns here: which names exist, where a zone is cut, which name encloses a missing
+-- one, and which records are found for a name, by a wildcard too.
 use Rattle.std.specs.Prelude.{Bool, ◌&&◌, List, [], ◌∷◌, reverse, if◌then◌else◌}
 use Rattle.std.specs.Prelude.{Option, None, Some}
 use Rattle.std.specs.Option.{option_map, option_and_then}
@@ -42,8 +42,8 @@ source_of_synthesis z q =
     option_and_then (λ e. if exists z (asterisk ∷ e) then Some (asterisk ∷ e) else None)
     (closest_encloser z q)
 
--- RFC 1034 4.3.2 step 3: the records found for a name, shown with it as owner: its own where it exists, which may be
--- none, else those of the wildcard. `None` is a name error.
+-- RFC 1034 4.3.2 step 3: the records found for a name, shown with it as owner: its own where it
+-- exists, which may be none, else those of the wildcard. `None` is a name error.
 abbrev pub found : ZoneContents → DomainName → Option (List ResourceRecord)
 found z q =
     if exists z q then Some (with_owner q (at z q))

@@ -1,5 +1,6 @@
--- What a reader learns here: the layout as it would be if a pointer reached every place. A reader may skip it: a law says
--- that up to 16,384 octets it is the layout, and with that the layout has the least size there.
+-- What a reader learns here: the layout as it would be if a pointer reached every place. A reader
+-- may skip it: a law says that up to 16,384 octets it is the layout, and with that the layout has
+-- the least size there.
 use Rattle.std.specs.Prelude.{ℕ, ◌+◌, true, false, List, [], ◌∷◌, ◌++◌, length}
 use Rattle.std.specs.Prelude.{Option, None, Some}
 use Rattle.std.specs.List.{list_any}
@@ -10,11 +11,15 @@ use Rattle.dns_spec.specs.Reading.{Header, MessageQuestion}
 use Rattle.dns_spec.specs.Layout.{Item, records_of, pointer, Placed, has_suffix, place_of, Laid, laid_front, parts_of, record_tail, asked_octets, asked_placed, reply_header}
 use Rattle.dns_spec.specs.Sharing.{asked_names, names_of}
 
--- a name is written as its labels before the longest suffix that an earlier name has, and a pointer to it
+-- a name is written as its labels before the longest suffix that an earlier name has, and a pointer
+-- to it
 unfoldable pub unbounded_octets : List Placed → DomainName → Octets
 unbounded_octets ms [] = 0 ∷ []
 unbounded_octets ms (l ∷ n) =
-    elim (place_of ms (l ∷ n)) [ None ↦ length l ∷ (l ++ unbounded_octets ms n) | Some p ↦ pointer p ]
+    elim (place_of ms (l ∷ n)) [
+      | None ↦ length l ∷ (l ++ unbounded_octets ms n)
+      | Some p ↦ pointer p
+    ]
 
 -- data, a record and records laid out from place p on
 unfoldable pub unbounded_data : List Placed → ℕ → List Part → Laid
@@ -45,7 +50,10 @@ unbounded_layout h q items =
 unfoldable pub unbounded_cost : List DomainName → DomainName → ℕ
 unbounded_cost ms [] = 1
 unbounded_cost ms (l ∷ n) =
-    elim (list_any (λ m. has_suffix m (l ∷ n)) ms) [ true ↦ 2 | false ↦ 1 + length l + unbounded_cost ms n ]
+    elim (list_any (λ m. has_suffix m (l ∷ n)) ms) [
+      | true ↦ 2
+      | false ↦ 1 + length l + unbounded_cost ms n
+    ]
 
 unfoldable pub unbounded_data_size : List DomainName → List Part → ℕ
 unbounded_data_size ms [] = 0

@@ -9,7 +9,8 @@ use Rattle.dns_spec.specs.WrittenText.{data_text}
 use Rattle.dns_spec.specs.Records.{record_order, ResourceRecord, ZoneContents, sort_by}
 use Rattle.dns_spec.specs.Meaning.{most_ttl, is_zone_type}
 
--- what every record keeps that was read: its owner and the names in its data are in lower case, and its data is of its type
+-- what every record keeps that was read: its owner and the names in its data are in lower case, and
+-- its data is of its type
 pub record IsReadRecord (r : ResourceRecord) : Type 0 where
   pub owner_octets : All (All (λ o. o < 256)) r.owner
   pub owner : IsTrue (is_name r.owner)
@@ -27,7 +28,8 @@ HasZoneType r = IsTrue (is_zone_type r.rtype)
 -- RFC 1035 5.1: a record on a line of its own, with nothing left out
 abbrev pub record_line : ResourceRecord → Octets
 record_line r =
-    name_text r.owner ++ codes " " ++ decimal r.ttl ++ codes " IN " ++ type_text r.rtype ++ codes " " ++ data_text r.rtype r.rdata ++ codes "\n"
+    name_text r.owner ++ codes " " ++ decimal r.ttl ++ codes " IN " ++ type_text r.rtype
+    ++ codes " " ++ data_text r.rtype r.rdata ++ codes "\n"
 
 -- (in this product) the lines of SOA records go before all others
 abbrev pub is_soa : ResourceRecord → Bool

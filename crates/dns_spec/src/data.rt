@@ -1,5 +1,5 @@
-//! Laws of types and of their data: a type is read as it is written, the parts of data are the data, and data in lower
-//! case is data. What is written for data is read as that data again.
+//! Laws of types and of their data: a type is read as it is written, the parts of data are the
+//! data, and data in lower case is data. What is written for data is read as that data again.
 
 ghost use Rattle.std.specs.Prelude.{◌≡◌, ℕ, ◌<◌, List, All, IsTrue};
 ghost use Rattle.std.specs.List.{list_all};
@@ -34,20 +34,23 @@ pub fn lowering_twice_is_lowering_once()
     ensures { (t : ℕ) (d : Octets) → Valid t d → lower_case t (lower_case t d) ≡ lower_case t d }
 {}
 
-/// The words that are written for valid data say that data again, with its names in lower case, whatever the origin
-/// (RFC 1035 5.1, RFC 3597 5).
+/// The words that are written for valid data say that data again, with its names in lower case,
+/// whatever the origin (RFC 1035 5.1, RFC 3597 5).
 pub fn written_data_is_said_again()
     ensures { (t : ℕ) (origin : DomainName) (d : Octets) → All (λ o. o < 256) d → Valid t d
         → Says t (written_words t d) origin (lower_case t d) }
 {}
 
-/// Nothing in a word that is written for valid data ends the word (RFC 1035 5.1): its octets are printable, a word out of
-/// quotation marks has one octet or more, and each octet that would end the word has a backslash before it.
+/// Nothing in a word that is written for valid data ends the word (RFC 1035 5.1): its octets are
+/// printable, a word out of quotation marks has one octet or more, and each octet that would end
+/// the word has a backslash before it.
 pub fn written_words_stand_alone()
-    ensures { (t : ℕ) (d : Octets) → All (λ o. o < 256) d → Valid t d → IsTrue (list_all stands_alone (written_words t d)) }
+    ensures { (t : ℕ) (d : Octets) → All (λ o. o < 256) d → Valid t d
+        → IsTrue (list_all stands_alone (written_words t d)) }
 {}
 
 /// Words say at most one piece of data of a type, relative to an origin.
 pub fn words_say_one_data()
-    ensures { (t : ℕ) (ws : List Word) (origin : DomainName) (d e : Octets) → Says t ws origin d → Says t ws origin e → d ≡ e }
+    ensures { (t : ℕ) (ws : List Word) (origin : DomainName) (d e : Octets) → Says t ws origin d
+        → Says t ws origin e → d ≡ e }
 {}

@@ -27,19 +27,21 @@ pub fn layout_has_its_size()
         → length (layout h q items) ≡ size q items }
 {}
 
-/// The layout, in which names share suffixes, spells its message, with a question or without, as long as it has at most 65,535 octets
-/// (RFC 1035 4.1.4).
+/// The layout, in which names share suffixes, spells its message, with a question or without, as
+/// long as it has at most 65,535 octets (RFC 1035 4.1.4).
 pub fn layout_is_spelled()
     ensures { (h : Header) (q : Option MessageQuestion) (items : List Item) → HasRoom h q items
         → All IsWritable (records_of items) → size q items ≤ 65535
         → Spells (layout h q items) (message_of h q items) }
 {}
 
-/// Where the layout has at most 16,384 octets, or the one without bound has, they are the same. Else both are longer.
+/// Where the layout has at most 16,384 octets, or the one without bound has, they are the same.
+/// Else both are longer.
 pub fn layout_is_without_bound_up_to_16384_octets()
     ensures { (h : Header) (q : Option MessageQuestion) (items : List Item)
         → (size q items ≤ 16384) ⊎ (unbounded_size q items ≤ 16384)
-        → (layout h q items ≡ unbounded_layout h q items) × (size q items ≡ unbounded_size q items) }
+        → (layout h q items ≡ unbounded_layout h q items)
+        × (size q items ≡ unbounded_size q items) }
 {}
 
 /// The layout without bound is as long as its size, which is added up without writing it.
@@ -53,14 +55,17 @@ pub fn size_is_possible()
     ensures { (q : Option MessageQuestion) (items : List Item) → Sharing q items (size q items) }
 {}
 
-/// Sharing of suffixes allows no smaller size than that of the layout, up to 16,384 octets (RFC 1035 4.1.4). Among longer layouts
-/// one may be shorter that is not lawful: its pointers have places that no pointer reaches.
+/// Sharing of suffixes allows no smaller size than that of the layout, up to 16,384 octets (RFC
+/// 1035 4.1.4). Among longer layouts one may be shorter that is not lawful: its pointers have
+/// places that no pointer reaches.
 pub fn size_is_the_least()
-    ensures { (q : Option MessageQuestion) (items : List Item) (z : ℕ) → Sharing q items z → z ≤ 16384
+    ensures { (q : Option MessageQuestion) (items : List Item) (z : ℕ)
+        → Sharing q items z → z ≤ 16384
         → size q items ≤ z }
 {}
 
-/// So the layout is past a limit of at most 16,384 octets exactly where every size that sharing allows is.
+/// So the layout is past a limit of at most 16,384 octets exactly where every size that sharing
+/// allows is.
 pub fn layout_is_past_a_limit_where_all_sizes_are()
     ensures { (q : Option MessageQuestion) (items : List Item) (limit : ℕ) → limit ≤ 16384
         → (limit < size q items) ↔ ((z : ℕ) → Sharing q items z → limit < z) }

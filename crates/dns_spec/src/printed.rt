@@ -10,67 +10,86 @@ ghost use Rattle.dns_spec.specs.Meaning.{records, Means, most_records};
 ghost use Rattle.dns_spec.specs.Report.{Options, Report, Reports, zone_report};
 ghost use Rattle.dns_spec.specs.ZonePrinted.{IsReadRecord, HasZoneType, record_line, printed_records, zone_text};
 
-/// The text that is printed for records means these records, in the order in which they stand, whatever the origin
-/// (RFC 1035 section 5).
+/// The text that is printed for records means these records, in the order in which they stand,
+/// whatever the origin (RFC 1035 section 5).
 pub fn printed_records_are_read_back()
-    ensures { (o : DomainName) (rs : List ResourceRecord) → All IsReadRecord rs → All HasZoneType rs → length rs ≤ most_records
-        → length (flat_map record_line rs) ≤ most_octets → Means o (flat_map record_line rs) (records rs) }
+    ensures { (o : DomainName) (rs : List ResourceRecord) → All IsReadRecord rs
+        → All HasZoneType rs → length rs ≤ most_records
+        → length (flat_map record_line rs) ≤ most_octets
+        → Means o (flat_map record_line rs) (records rs) }
 {}
 
 /// The canonical text of a zone means the zone's records, up to their order.
 pub fn zone_text_means_the_zone()
-    ensures { (z : ZoneContents) (o : DomainName) → All IsReadRecord z.records → All HasZoneType z.records → length z.records ≤ most_records
+    ensures { (z : ZoneContents) (o : DomainName) → All IsReadRecord z.records
+        → All HasZoneType z.records → length z.records ≤ most_records
         → length (zone_text z) ≤ most_octets
-        → Means o (zone_text z) (records (printed_records z)) × IsPermutation z.records (printed_records z) }
+        → Means o (zone_text z) (records (printed_records z))
+        × IsPermutation z.records (printed_records z) }
 {}
 
 /// What is reported of a zone is the same for its records in canonical order.
 pub fn order_of_records_changes_no_report()
-    ensures { (options : Options) (o : DomainName) (rs : List ResourceRecord) → zone_report options (ordered_zone o rs) ≡ zone_report options (zone_of o rs) }
+    ensures { (options : Options) (o : DomainName) (rs : List ResourceRecord)
+        → zone_report options (ordered_zone o rs) ≡ zone_report options (zone_of o rs) }
 {}
 
-/// Lists that hold the same records, in another order and with doubles or without, make one zone: in canonical order they
-/// are one list, with one canonical text and one report (RFC 2181 section 5, RFC 4034 section 6). The records are such as
-/// are read, in lower case; it is enough that those of one list are.
+/// Lists that hold the same records, in another order and with duplicates or without, make one
+/// zone: in canonical order they are one list, with one canonical text and one report (RFC 2181
+/// section 5, RFC 4034 section 6). The records are such as are read, in lower case; it is enough
+/// that those of one list are.
 pub fn one_zone_has_one_text()
-    ensures { (options : Options) (o : DomainName) (rs ss : List ResourceRecord) → All IsReadRecord rs → HoldSameRecords rs ss
-        → (ordered_zone o rs ≡ ordered_zone o ss) × (zone_text (zone_of o rs) ≡ zone_text (zone_of o ss))
+    ensures { (options : Options) (o : DomainName) (rs ss : List ResourceRecord)
+        → All IsReadRecord rs → HoldSameRecords rs ss
+        → (ordered_zone o rs ≡ ordered_zone o ss)
+        × (zone_text (zone_of o rs) ≡ zone_text (zone_of o ss))
         × (zone_report options (zone_of o rs) ≡ zone_report options (zone_of o ss)) }
 {}
 
-/// Two files of one zone that mean the same records, in another order and with doubles or without, have one report: the
-/// faults, the lines of a zone that passes, and where it is asked for the canonical text.
+/// Two files of one zone that mean the same records, in another order and with duplicates or
+/// without, have one report: the faults, the lines of a zone that passes, and where it is asked for
+/// the canonical text.
 pub fn files_of_one_zone_have_one_report()
-    ensures { (o : DomainName) (t u : Octets) (rs ss : List ResourceRecord) → Means (folded o) t (records rs) → Means (folded o) u (records ss)
-        → HoldSameRecords rs ss → (options : Options) (report : Report) → Reports o t options report ↔ Reports o u options report }
+    ensures { (o : DomainName) (t u : Octets) (rs ss : List ResourceRecord)
+        → Means (folded o) t (records rs) → Means (folded o) u (records ss)
+        → HoldSameRecords rs ss → (options : Options) (report : Report)
+        → Reports o t options report ↔ Reports o u options report }
 {}
 
-/// The records that a text means are such as the other laws here speak of: as they are read, of types that zones have, and at
-/// most 100,000. The octets of the origin are below 256, as in every name of a program.
+/// The records that a text means are such as the other laws here speak of: as they are read, of
+/// types that zones have, and at most 100,000. The octets of the origin are below 256, as in every
+/// name of a program.
 pub fn records_of_a_text_are_as_read()
-    ensures { (o : DomainName) (t : Octets) (rs : List ResourceRecord) → All (All (λ x. x < 256)) o → Means o t (records rs)
+    ensures { (o : DomainName) (t : Octets) (rs : List ResourceRecord) → All (All (λ x. x < 256)) o
+        → Means o t (records rs)
         → All IsReadRecord rs × All HasZoneType rs × (length rs ≤ most_records) }
 {}
 
-/// The canonical text of the zone that a file means is itself a file of that zone: it has the file's report, whatever is asked
-/// for. So it has the same faults, or it passes as that zone.
+/// The canonical text of the zone that a file means is itself a file of that zone: it has the
+/// file's report, whatever is asked for. So it has the same faults, or it passes as that zone.
 pub fn canonical_text_has_the_report_of_its_file()
-    ensures { (o : DomainName) (t : Octets) (rs : List ResourceRecord) → All (All (λ x. x < 256)) o → Means (folded o) t (records rs)
+    ensures { (o : DomainName) (t : Octets) (rs : List ResourceRecord) → All (All (λ x. x < 256)) o
+        → Means (folded o) t (records rs)
         → length (zone_text (zone_of o rs)) ≤ most_octets → (options : Options) (report : Report)
         → Reports o (zone_text (zone_of o rs)) options report ↔ Reports o t options report }
 {}
 
-/// Printing twice is printing once: what is printed of a file whose zone passes is a file that passes, of which that same text
-/// is printed.
+/// Printing twice is printing once: what is printed of a file whose zone passes is a file that
+/// passes, of which that same text is printed.
 pub fn printing_twice_is_printing_once()
-    ensures { (o : DomainName) (t : Octets) (options : Options) (report : Report) → All (All (λ x. x < 256)) o → Reports o t options report
-        → IsTrue options.is_printing → IsTrue report.passes → length report.output ≤ most_octets → Reports o report.output options report }
+    ensures { (o : DomainName) (t : Octets) (options : Options) (report : Report)
+        → All (All (λ x. x < 256)) o → Reports o t options report
+        → IsTrue options.is_printing → IsTrue report.passes → length report.output ≤ most_octets
+        → Reports o report.output options report }
 {}
 
-/// Zones with one canonical text hold the same records, each equally often. Their records are such as are read, of types that
-/// zones have, and few and short enough to be read again. The text names no origin, so it doesn't tell that.
+/// Zones with one canonical text hold the same records, each equally often. Their records are such
+/// as are read, of types that zones have, and few and short enough to be read again. The text names
+/// no origin, so it doesn't give that.
 pub fn zones_with_one_text_hold_the_same_records()
-    ensures { (y z : ZoneContents) → All IsReadRecord y.records → All HasZoneType y.records → length y.records ≤ most_records
+    ensures { (y z : ZoneContents) → All IsReadRecord y.records → All HasZoneType y.records
+        → length y.records ≤ most_records
         → All IsReadRecord z.records → All HasZoneType z.records → length z.records ≤ most_records
-        → length (zone_text y) ≤ most_octets → zone_text y ≡ zone_text z → IsPermutation y.records z.records }
+        → length (zone_text y) ≤ most_octets → zone_text y ≡ zone_text z
+        → IsPermutation y.records z.records }
 {}

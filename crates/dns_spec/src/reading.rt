@@ -1,5 +1,5 @@
-//! Laws of reading: what `name_at` and `message_at` compute, and that a place spells at most one name, and octets one
-//! message.
+//! Laws of reading: what `name_at` and `message_at` compute, and that a place spells at most one
+//! name, and octets one message.
 
 ghost use Rattle.std.specs.Prelude.{◌≡◌, ℕ, ◌≤◌, Some, ◌↔◌, length};
 ghost use Rattle.dns_spec.specs.Names.{Octets, DomainName};
@@ -7,7 +7,8 @@ ghost use Rattle.dns_spec.specs.Reading.{MessageQuestion, DnsMessage, NameAt, Sp
 ghost use Rattle.dns_spec.specs.ComputedReading.{name_at, message_at};
 ghost use Rattle.dns_spec.specs.Query.{question_at};
 
-/// The computed reader of names gives a name and the place behind it exactly where they are spelled (RFC 1035 4.1.4).
+/// The computed reader of names gives a name and the place after it exactly where they are spelled
+/// (RFC 1035 4.1.4).
 pub fn name_at_computes_the_relation()
     ensures { (b : Octets) (i : ℕ) (n : DomainName) (e : ℕ)
         → (name_at b i ≡ Some (n, e)) ↔ NameAt b i n e }
@@ -19,8 +20,8 @@ pub fn place_spells_one_name()
         → (n ≡ m) × (e ≡ f) }
 {}
 
-/// A question ends at most 271 octets from the beginning of its message: 12 of the header, 255 of its name, 4 of its
-/// type and class (RFC 1035 4.1.2).
+/// A question ends at most 271 octets from the beginning of its message: 12 of the header, 255 of
+/// its name, 4 of its type and class (RFC 1035 4.1.2).
 pub fn question_ends_by_octet_271()
     ensures { (d : Octets) (q : MessageQuestion) → question_at d ≡ Some q → length d ≤ 271 }
 {}
@@ -30,7 +31,8 @@ pub fn octets_spell_one_message()
     ensures { (b : Octets) (m n : DnsMessage) → Spells b m → Spells b n → m ≡ n }
 {}
 
-/// The computed message is the one that the octets spell, and there is one exactly where they spell one (RFC 1035 4.1).
+/// The computed message is the one that the octets spell, and there is one exactly where they spell
+/// one (RFC 1035 4.1).
 pub fn message_at_computes_the_relation()
     ensures { (b : Octets) (m : DnsMessage) → (message_at b ≡ Some m) ↔ Spells b m }
 {}

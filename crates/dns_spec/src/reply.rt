@@ -1,18 +1,20 @@
-//! Laws of replies: their octets are the message that they are, and what is kept is the longest beginning that fits.
+//! Laws of replies: their octets are the message that they are, and what is kept is the longest
+//! beginning that fits.
 
-ghost use Rattle.std.specs.Prelude.{◌≡◌, ℕ, List, [], ◌++◌, ◌<◌, ◌≤◌, All, Option, Some, length, take};
-ghost use Rattle.dns_spec.specs.Names.{Octets, DomainName, folded};
+ghost use Rattle.std.specs.Prelude.{◌≡◌, ℕ, List, [], ◌++◌, ◌*◌, ◌<◌, ◌≤◌, All, IsTrue, Option, Some, length, take};
+ghost use Rattle.dns_spec.specs.Names.{Octets, DomainName, folded, is_name};
 ghost use Rattle.dns_spec.specs.Records.{ResourceRecord, ZoneContents};
 ghost use Rattle.dns_spec.specs.Checks.{Passes};
 ghost use Rattle.dns_spec.specs.Reading.{MessageQuestion, Spells};
-ghost use Rattle.dns_spec.specs.Answer.{items, required_items};
+ghost use Rattle.dns_spec.specs.Answer.{chain, outcome, targets, items, required_items, most_visits, names_looked_up};
 ghost use Rattle.dns_spec.specs.Layout.{Item, layout, size, plain_layout, plain_size};
-ghost use Rattle.dns_spec.specs.Reply.{Reply, kept, fitting, reply, reply_with, octets_by, reply_message};
+ghost use Rattle.dns_spec.specs.Reply.{Reply, kept, fitting, reply, reply_with, octets_by, octets_of, reply_message};
 ghost use Rattle.dns_spec.specs.Query.{query_read};
 ghost use Rattle.dns_spec.specs.Laws.{IsWritable, IsSetAt, KeepsBeginning};
 
-/// The octets of a reply in the plain layout spell the message that the reply is, over every zone whose records fit a
-/// message, for every datagram, whatever beginning of the sets is kept (RFC 1035 4.1).
+/// The octets of a reply in the plain layout spell the message that the reply is, over every zone
+/// whose records fit a message, for every datagram, whatever beginning of the sets is kept (RFC
+/// 1035 4.1).
 pub fn plain_reply_is_spelled()
     ensures { (z : ZoneContents) (d : Octets) (keep : MessageQuestion → List Item) (r : Reply)
         → All IsWritable z.records
@@ -20,8 +22,8 @@ pub fn plain_reply_is_spelled()
         → reply_with keep z d ≡ Some r → Spells (octets_by plain_layout r) (reply_message r) }
 {}
 
-/// The octets of a reply spell the message that the reply is, over every zone whose records fit a message, for every
-/// datagram and every limit from 271 to 65,535 octets (RFC 1035 4.1).
+/// The octets of a reply spell the message that the reply is, over every zone whose records fit a
+/// message, for every datagram and every limit from 271 to 65,535 octets (RFC 1035 4.1).
 pub fn reply_is_spelled()
     ensures { (z : ZoneContents) (d : Octets) (limit : ℕ) (r : Reply) → All IsWritable z.records
         → All (λ o. o < 256) d
@@ -35,18 +37,47 @@ pub fn reply_is_within_its_limit()
         → reply z d limit ≡ Some r → length (octets_by layout r) ≤ limit }
 {}
 
+/// The names sought for a question are at most 17: its own, and the targets of 16 aliases (a limit
+/// of this project).
+pub fn chains_have_at_most_17_names()
+    ensures { (z : ZoneContents) (q : DomainName) (t : ℕ) → length (chain z q t) ≤ 17 }
+{}
+
 /// The sets of a reply begin with those that it may not leave out (RFC 1035 4.1.1).
 pub fn items_begin_with_the_required()
     ensures { (z : ZoneContents) (q : DomainName) (t : ℕ)
         → take (length (required_items z q t)) (items z q t) ≡ required_items z q t }
 {}
 
-/// Each set of a reply is the records of a set at an owner, with one TTL, over every zone that passes and whose names are
-/// in lower case, as those that are read (RFC 2181 section 5).
+/// Each set of a reply is the records of a set at an owner, with one TTL, over every zone that
+/// passes and whose names are in lower case, as those that are read (RFC 2181 section 5).
 pub fn items_are_record_sets()
     ensures { (z : ZoneContents) → folded z.origin ≡ z.origin
         → All (λ (r : ResourceRecord). folded r.owner ≡ r.owner) z.records → Passes z
         → (q : DomainName) (t : ℕ) → All (λ (i : Item). IsSetAt i.records) (items z q t) }
+{}
+
+/// An answer has at most 64 targets, over every zone that passes and whose names are in lower case:
+/// they are those of one set, and a set has at most 64 records (a limit of this project).
+pub fn answers_have_at_most_64_targets()
+    ensures { (z : ZoneContents) → folded z.origin ≡ z.origin
+        → All (λ (r : ResourceRecord). folded r.owner ≡ r.owner) z.records → Passes z
+        → (q : DomainName) (t : ℕ) → length (targets (outcome z q t)) ≤ 64 }
+{}
+
+/// So an answer has at most 146 sets: those of 17 aliases, the one that ends it, and two for each
+/// target.
+pub fn answers_have_at_most_146_sets()
+    ensures { (z : ZoneContents) → folded z.origin ≡ z.origin
+        → All (λ (r : ResourceRecord). folded r.owner ≡ r.owner) z.records → Passes z
+        → (q : DomainName) (t : ℕ) → length (items z q t) ≤ 146 }
+{}
+
+/// An answer visits at most 128 nodes for each name that it looks up: a name has at most 127 labels
+/// (RFC 1035 2.3.4).
+pub fn answers_visit_at_most_128_nodes_a_name()
+    ensures { (z : ZoneContents) (q : DomainName) (t : ℕ) → IsTrue (is_name q)
+        → most_visits z q t ≤ 128 * names_looked_up z q t }
 {}
 
 /// What is kept of a list of sets fits, if a reply without any set does.
@@ -74,7 +105,8 @@ pub fn plain_size_grows_with_each_set()
         → plain_size q front ≤ plain_size q (front ++ more) }
 {}
 
-/// So the longest beginning of sets that fits is reached by stopping at the first set that does not fit.
+/// So the longest beginning of sets that fits is reached by stopping at the first set that does not
+/// fit.
 pub fn kept_sets_stop_at_the_first_that_does_not_fit()
     ensures { (q : Option MessageQuestion) (limit : ℕ) (sets : List Item)
         → kept (size q) limit sets ≡ fitting (size q) limit [] sets }
@@ -86,7 +118,8 @@ pub fn plain_kept_sets_stop_at_the_first_that_does_not_fit()
         → kept (plain_size q) limit sets ≡ fitting (plain_size q) limit [] sets }
 {}
 
-/// What a datagram is as a query depends on its first 512 octets alone: a question ends by octet 271.
+/// What a datagram is as a query depends on its first 512 octets alone: a question ends by octet
+/// 271.
 pub fn first_512_octets_are_read()
     ensures { (d : Octets) → query_read d ≡ query_read (take 512 d) }
 {}
@@ -95,4 +128,10 @@ pub fn first_512_octets_are_read()
 pub fn first_512_octets_decide()
     ensures { (z : ZoneContents) (keep : MessageQuestion → List Item) (d : Octets)
         → reply_with keep z d ≡ reply_with keep z (take 512 d) }
+{}
+
+/// And so do its octets, whatever their limit.
+pub fn first_512_octets_give_the_octets()
+    ensures { (z : ZoneContents) (d : Octets) (limit : ℕ)
+        → octets_of z d limit ≡ octets_of z (take 512 d) limit }
 {}

@@ -11,13 +11,15 @@ pub fn stream_is_its_frames_and_the_rest()
         → flat_map frame (frames k x) ++ after_frames k x ≡ x }
 {}
 
-/// Where a stream has fewer messages than are asked for, what is left of it is empty, or a frame that was cut.
+/// Where a stream has fewer messages than are asked for, what is left of it is empty, or a frame
+/// that was cut.
 pub fn rest_is_empty_or_cut()
     ensures { (k : ℕ) (x : Octets) → All (λ o. o < 256) x → length (frames k x) < k
         → (after_frames k x ≡ []) ⊎ IsCutFrame (after_frames k x) }
 {}
 
-/// Frames of messages in front of a stream are read as these messages, each of at most 65,535 octets.
+/// Frames of messages in front of a stream are read as these messages, each of at most 65,535
+/// octets.
 pub fn frames_are_read_as_their_messages()
     ensures { (k : ℕ) (ms : List Octets) (x : Octets) → All (λ m. length m < 2 ^ 16) ms
         → frames (length ms + k) (flat_map frame ms ++ x) ≡ ms ++ frames k x }

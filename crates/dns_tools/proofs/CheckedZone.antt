@@ -7,11 +7,11 @@ use Rattle.dns_spec.specs.Checks.{Fault, faults}
 use Rattle.dns_spec.specs.FileFaults.{FileFault}
 use Rattle.dns_spec.specs.Meaning.{Meaning, records, fault_at}
 use Rattle.dns_spec.specs.Report.{Options, Report, failing, passing, line_report, fault_report, report_of_faults, zone_report, report_of_meaning}
-use Rattle.dns_spec.proofs.FaultOrder.{folded_folded}
-use Rattle.dns_spec.proofs.OrderedReport.{ordered_passing}
+use Rattle.dns_spec.proofs.ZoneChecks.FaultOrder.{folded_folded}
+use Rattle.dns_spec.proofs.PrintedZones.OrderedReport.{ordered_passing}
 use Rattle.dns_master.specs.SourceForm.{GivesMeaning}
 use Rattle.dns_zone.specs.declared.fault.BuildFault.{BuildFault}
-use Rattle.dns_zone.specs.ZoneForm.{TellsFaults}
+use Rattle.dns_zone.specs.ZoneForm.{ReportsFaults}
 use Rattle.dns_tools.specs.declared.fault.Stop.{Stop}
 use Rattle.dns_tools.specs.declared.fault.Stop.TheVariants.{Memory, Source, Sink}
 use Rattle.dns_tools.specs.Checked.{ReportsOn, WrittenAs, CheckedAs}
@@ -73,6 +73,6 @@ faults_checked known o p options rs fs result old new e means are some written =
     checked known o options (failing options (flat_map fault_report fs)) result old new
     (reports known o options (records rs) (failing options (flat_map fault_report fs)) low whole) written
 
--- what is told where a zone can't be built
-pub told_as : {A : Type 0} (result : Result A BuildFault) (fault : BuildFault) (z : ZoneContents) → result ≡ Err fault → IfErr result (λ f. TellsFaults f z) → TellsFaults fault z
-told_as {A} result fault z e h = subst (λ (r : Result A BuildFault). IfErr r (λ f. TellsFaults f z)) e h
+-- what is reported where a zone can't be built
+pub reported_as : {A : Type 0} (result : Result A BuildFault) (fault : BuildFault) (z : ZoneContents) → result ≡ Err fault → IfErr result (λ f. ReportsFaults f z) → ReportsFaults fault z
+reported_as {A} result fault z e h = subst (λ (r : Result A BuildFault). IfErr r (λ f. ReportsFaults f z)) e h

@@ -16,7 +16,7 @@ options_of flags = record { is_quiet = flags.quiet; is_printing = flags.print }
 abbrev pub ReportsOn : Option Octets → DomainName → Options → Report → Type 0
 ReportsOn known o options report = MatchOption known ⊤ (λ x. Reports o x options report)
 
--- what was written of a report behind what the sink had, and what was answered
+-- what was written of a report after what the sink had, and what was answered
 abbrev pub WrittenAs : Report → Result Bool Stop → Option Octets → Option Octets → Type 0
 WrittenAs report (Ok passes) old new = (report.passes ≡ passes) × Appends old new report.output
 WrittenAs report (Err Sink) old new = AppendsBeginning old new report.output

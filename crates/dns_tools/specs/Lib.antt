@@ -1,9 +1,7 @@
 -- What the contracts of the programs' functions cite.
-pub mod ListZone
-pub mod Decided
-pub mod Body
 pub mod Load
 pub mod Status
 pub mod Stops
 pub mod Words
 pub mod Checked
+pub mod Sockets

@@ -1,52 +1,55 @@
--- What a reader learns here: which zone a file gives, what is said where none was loaded, and which refusal of the loader is
--- owed to its source.
-use Rattle.std.specs.Prelude.{⊤, ◌≡◌, ◌≢◌, ℕ, Bool, true, false, ◌||◌, List, length, nat_lt, Option, Result, Ok, Err}
+-- What a reader learns here: which zone a file gives, what is written of a file that gives none, and which refusal of the
+-- loader is owed to its source.
+use Rattle.std.specs.Prelude.{⊤, ◌≡◌, ◌≢◌, ℕ, ◌+◌, List, [], Option, Result, Ok, Err}
+use Rattle.std.specs.List.{flat_map}
 use Rattle.dns_spec.specs.Names.{Octets, DomainName, folded}
-use Rattle.dns_spec.specs.Records.{ResourceRecord, ZoneContents}
+use Rattle.dns_spec.specs.Records.{ResourceRecord, ZoneContents, zone_of, ordered_zone}
+use Rattle.dns_spec.specs.Checks.{faults}
 use Rattle.dns_spec.specs.Meaning.{records, fault_at}
+use Rattle.dns_spec.specs.Report.{line_report, fault_report}
 use Rattle.dns_master.specs.SourceForm.{GivesMeaning}
 use Rattle.dns_master.specs.declared.fault.ReadCode.{ReadCode}
-use Rattle.dns_master.specs.declared.fault.ReadCode.TheVariants.{SourceFailed as FileFailed, NoMemory as NoMemoryForFile}
+use Rattle.dns_master.specs.declared.fault.ReadCode.TheVariants.{SourceFailed, NoMemory}
 use Rattle.dns_master.specs.declared.fault.ReadFault.{ReadFault}
-use Rattle.dns_master.specs.Codes.{code_number, fault_of, failures_after_read}
+use Rattle.dns_master.specs.Codes.{fault_of}
+use Rattle.dns_tools.specs.declared.fault.Stop.{Stop}
+use Rattle.dns_tools.specs.declared.fault.Stop.TheVariants.{Memory, Source, Sink}
+use Rattle.dns_tools.specs.declared.load.Refusal.{Refusal}
+use Rattle.dns_tools.specs.declared.load.Refusal.TheVariants.{File, Zone}
 use Rattle.dns_tools.specs.declared.load.LoadFault.{LoadFault}
-use Rattle.dns_tools.specs.declared.load.LoadFault.TheVariants.{Read, Refused, NoMemory as NoMemoryForZone}
-use Rattle.dns_tools.specs.declared.fault.FaultWord.{FaultWord}
-use Rattle.dns_tools.specs.declared.fault.FaultWord.TheVariants.{NoMemory, SourceFailed, ZoneRefused, FaultyEntry}
-use Rattle.dns_tools.specs.ListZone.{listed_zone, is_refused}
+use Rattle.dns_tools.specs.declared.load.LoadFault.TheVariants.{Refused, Stopped}
 
--- more than 1,000 records, doubles counted, or none of a zone that is served
-abbrev pub is_unserved : DomainName → List ResourceRecord → Bool
-is_unserved o rs = nat_lt 1000 (length rs) || is_refused (listed_zone o rs)
-
--- What was loaded for an origin from a file, where its octets are known: the zone of the records that they mean, where these
--- are served; else that they are not served, or the fault that they mean. Nothing is said of memory and of a failing source.
+-- What was loaded for an origin from a file, where its octets are known: the zone of the records that they mean, which has no
+-- fault; else the faults of that zone, one at least, or the fault that the octets mean. Nothing is said of memory and of a
+-- failing source.
 abbrev pub LoadedAs : Option Octets → DomainName → Result ZoneContents LoadFault → Type 0
 LoadedAs known o (Ok zone) =
-    (rs : List ResourceRecord) × GivesMeaning known (folded o) (records rs) × (is_unserved o rs ≡ false) × (zone ≡ listed_zone o rs)
-LoadedAs known o (Err Refused) = (rs : List ResourceRecord) × GivesMeaning known (folded o) (records rs) × (is_unserved o rs ≡ true)
-LoadedAs known o (Err (Read fault)) =
-    fault.code ≢ FileFailed → fault.code ≢ NoMemoryForFile → GivesMeaning known (folded o) (fault_at (fault_of fault.code) fault.line)
-LoadedAs known o (Err NoMemoryForZone) = ⊤
+    (rs : List ResourceRecord) × GivesMeaning known (folded o) (records rs) × (faults (zone_of (folded o) rs) ≡ [])
+    × (zone ≡ ordered_zone (folded o) rs)
+LoadedAs known o (Err (Refused (Zone found))) =
+    (rs : List ResourceRecord) × GivesMeaning known (folded o) (records rs) × (found.items ≡ faults (zone_of (folded o) rs))
+    × (faults (zone_of (folded o) rs) ≢ [])
+LoadedAs known o (Err (Refused (File fault))) = GivesMeaning known (folded o) (fault_at (fault_of fault.code) fault.line)
+LoadedAs known o (Err (Stopped stop)) = ⊤
 
--- what is said of a fault of the file on a line, by its code
-abbrev pub word_on_line : ℕ → ReadCode → FaultWord
-word_on_line line FileFailed = SourceFailed
-word_on_line line NoMemoryForFile = NoMemory
-word_on_line line code = FaultyEntry line (code_number code)
+-- what a fault of a file is to a loader, by its code
+abbrev pub fault_by_code : ReadFault → ReadCode → LoadFault
+fault_by_code fault SourceFailed = Stopped Source
+fault_by_code fault NoMemory = Stopped Memory
+fault_by_code fault code = Refused (File fault)
 
-abbrev pub word_of_read : ReadFault → FaultWord
-word_of_read fault = word_on_line fault.line fault.code
+abbrev pub fault_of_read : ReadFault → LoadFault
+fault_of_read fault = fault_by_code fault fault.code
 
--- what is said where no zone was loaded
-abbrev pub word_of_load : LoadFault → FaultWord
-word_of_load (Read fault) = word_of_read fault
-word_of_load Refused = ZoneRefused
-word_of_load NoMemoryForZone = NoMemory
+-- what is written of a file that gives no zone
+abbrev pub refusal_report : Refusal → Octets
+refusal_report (File fault) = line_report (fault_of fault.code) fault.line
+refusal_report (Zone found) = flat_map fault_report found.items
 
--- the failures of the source behind a load: one more exactly where the file was not read since its source failed
+-- the failures of the source after a load: one more exactly where that stopped since its source failed
 abbrev pub failures_after_load : {A : Type 0} → ℕ → Result A LoadFault → ℕ
 failures_after_load count (Ok zone) = count
-failures_after_load {A} count (Err (Read fault)) = failures_after_read {A = A} count (Err fault)
-failures_after_load count (Err Refused) = count
-failures_after_load count (Err NoMemoryForZone) = count
+failures_after_load count (Err (Refused refusal)) = count
+failures_after_load count (Err (Stopped Memory)) = count
+failures_after_load count (Err (Stopped Source)) = count + 1
+failures_after_load count (Err (Stopped Sink)) = count

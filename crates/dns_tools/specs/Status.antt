@@ -2,8 +2,14 @@
 use Rattle.std.specs.Prelude.{ℕ, Bool, true, false, Result, Ok, Err}
 use Rattle.dns_tools.specs.declared.fault.Stop.{Stop}
 use Rattle.dns_tools.specs.declared.fault.Stop.TheVariants.{Memory, Source, Sink}
+use Rattle.dns_serve.specs.declared.fault.TurnFault.{TurnFault}
+use Rattle.dns_serve.specs.declared.fault.TurnFault.TheVariants.{ReceiveFailed, SendFailed}
+use Rattle.dns_serve.specs.declared.fault.StreamFault.{StreamFault}
+use Rattle.dns_serve.specs.declared.fault.StreamFault.TheVariants.{SourceFailed, SinkFailed, Cut}
+use Rattle.dns_tools.specs.declared.fault.TurnWord.{TurnWord}
+use Rattle.dns_tools.specs.declared.fault.TurnWord.TheVariants.{NoDatagram, NotSent, StreamNotRead, StreamNotWritten, StreamCut}
 use Rattle.dns_tools.specs.declared.fault.FaultWord.{FaultWord}
-use Rattle.dns_tools.specs.declared.fault.FaultWord.TheVariants.{Usage, BadOrigin, NoMemory, SourceFailed, SinkFailed, ZoneRefused, FaultyEntry}
+use Rattle.dns_tools.specs.declared.fault.FaultWord.TheVariants.{NoMemory, SourceFailed as FileFailed, SinkFailed as NotWritten}
 
 -- 0 where all was as it should be, 1 where the input was at fault, 2 where the program could not finish
 abbrev pub status_of : {E : Type 0} → Result Bool E → ℕ
@@ -14,15 +20,16 @@ status_of (Err e) = 2
 -- what is said where an engine gave up
 abbrev pub word_of : Stop → FaultWord
 word_of Memory = NoMemory
-word_of Source = SourceFailed
-word_of Sink = SinkFailed
+word_of Source = FileFailed
+word_of Sink = NotWritten
 
--- 1 where the zone file is at fault, 2 for the words, for memory and for devices
-abbrev pub fault_status : FaultWord → ℕ
-fault_status Usage = 2
-fault_status BadOrigin = 2
-fault_status NoMemory = 2
-fault_status SourceFailed = 2
-fault_status SinkFailed = 2
-fault_status ZoneRefused = 1
-fault_status (FaultyEntry line code) = 1
+-- what is said of a turn over UDP that failed
+abbrev pub word_of_turn : TurnFault → TurnWord
+word_of_turn ReceiveFailed = NoDatagram
+word_of_turn SendFailed = NotSent
+
+-- and of a session over a stream
+abbrev pub word_of_stream : StreamFault → TurnWord
+word_of_stream SourceFailed = StreamNotRead
+word_of_stream SinkFailed = StreamNotWritten
+word_of_stream Cut = StreamCut

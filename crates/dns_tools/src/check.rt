@@ -26,8 +26,8 @@ pub struct Flags {
 /// Checks the zone of an origin in the file that the source gives (RFC 1035 section 5), and writes the report: whether the
 /// zone passes is the answer.
 ///
-/// A fault of the file is told by its line and code, each fault of the zone by its owner and code on a line of its own, by
-/// owner, then by code. A zone that passes is told by its name and serial, or printed in its canonical text. With `quiet`
+/// A fault of the file is reported by its line and code, each fault of the zone by its owner and code on a line of its own, by
+/// owner, then by code. A zone that passes is reported by its name and serial, or printed in its canonical text. With `quiet`
 /// alone nothing is written.
 ///
 /// `Memory` and `Source` come with nothing written, `Sink` with a beginning of the report.
@@ -108,7 +108,7 @@ fn report_zone<W: Write>(flags: Flags, zone: &Zone, sink: &mut Tally<W>) -> Resu
     Ok(true)
 }
 
-// Whether no fault is told.
+// Whether no fault is reported.
 fn is_silent(flags: Flags) -> bool
     ensures { result ≡ (flags.quiet && not flags.print) }
 {

@@ -2,11 +2,12 @@
 ghost use Rattle.std.specs.Prelude.{◌≡◌, IsTrue};
 ghost use Rattle.dns_tools.specs.declared.fault.Stop.TheVariants.{Memory, Source, Sink};
 ghost use Rattle.dns_tools.specs.declared.fault.FaultWord.TheVariants.{BadOrigin, NoMemory};
-ghost use Rattle.dns_tools.specs.Status.{status_of, fault_status, word_of};
+ghost use Rattle.dns_tools.specs.Status.{status_of, word_of, word_of_turn, word_of_stream};
 ghost use Rattle.dns_tools.specs.Words.{is_word_fault};
 
 use clap::error::ErrorKind;
 use dns_name::{NameFault, SinkFailed, SourceFailed};
+use dns_serve::{StreamFault, TurnFault};
 use dns_zone::PrintFault;
 use std::alloc::AllocError;
 use thiserror::Error;
@@ -83,25 +84,13 @@ pub enum FaultWord {
     /// Standard output can't be written.
     #[error("P1")]
     SinkFailed,
-    /// The records of the file are no zone that is served.
-    #[error("zone refused")]
-    ZoneRefused,
-    /// The line on which the first faulty entry of the file begins, counted from 1, and the number of its fault.
-    #[error("line {line}: R{code:02}")]
-    FaultyEntry { line: u32, code: u8 },
+    /// The address can't be had.
+    #[error("bind")]
+    NotBound,
 }
 
-impl FaultWord {
-    /// The status that the program ends with: 1 where the zone file is at fault, 2 for all else.
-    pub fn status(&self) -> u8
-        ensures { result ≡ fault_status self.now }
-    {
-        match self {
-            FaultWord::ZoneRefused | FaultWord::FaultyEntry { .. } => 1,
-            _ => 2,
-        }
-    }
-}
+/// The status of a program that says such a word.
+pub const FAULT_STATUS: u8 = 2;
 
 impl From<Stop> for FaultWord {
     ghost from_gives = { λ stop word. word ≡ word_of stop };
@@ -140,6 +129,52 @@ impl From<clap::Error> for FaultWord {
         match error.kind() {
             ErrorKind::OutOfMemory => FaultWord::NoMemory,
             _ => FaultWord::Usage,
+        }
+    }
+}
+
+/// What a server says on standard error of a turn that ended before its time. The texts are what it prints.
+#[derive(Clone, Copy, Debug, PartialEq, Eq, Error)]
+pub enum TurnWord {
+    /// No datagram was received.
+    #[error("U1")]
+    NoDatagram,
+    /// A reply could not be sent.
+    #[error("U2")]
+    NotSent,
+    /// No connection was accepted.
+    #[error("accept")]
+    NotAccepted,
+    /// A stream could not be read.
+    #[error("S1")]
+    StreamNotRead,
+    /// A stream could not be written.
+    #[error("S2")]
+    StreamNotWritten,
+    /// A stream ended inside a message.
+    #[error("S3")]
+    StreamCut,
+}
+
+impl From<TurnFault> for TurnWord {
+    ghost from_gives = { λ fault word. word ≡ word_of_turn fault };
+
+    fn from(fault: TurnFault) -> TurnWord {
+        match fault {
+            TurnFault::ReceiveFailed => TurnWord::NoDatagram,
+            TurnFault::SendFailed => TurnWord::NotSent,
+        }
+    }
+}
+
+impl From<StreamFault> for TurnWord {
+    ghost from_gives = { λ fault word. word ≡ word_of_stream fault };
+
+    fn from(fault: StreamFault) -> TurnWord {
+        match fault {
+            StreamFault::SourceFailed => TurnWord::StreamNotRead,
+            StreamFault::SinkFailed => TurnWord::StreamNotWritten,
+            StreamFault::Cut => TurnWord::StreamCut,
         }
     }
 }

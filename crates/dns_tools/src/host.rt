@@ -1,8 +1,7 @@
 //! What the programs' mains do alike: their words, their zone file, and what they say where they stop.
 ghost use Rattle.std.specs.Prelude.{◌≡◌, ◌⊎◌, Ok, Err, IfOk, IfErr};
-ghost use Rattle.dns_tools.specs.Status.{fault_status};
 
-use crate::fault::{FaultWord, Stop};
+use crate::fault::{FAULT_STATUS, FaultWord, Stop};
 use std::alloc::Global;
 use std::env::FillError;
 use std::io::{BufWriter, Error, ErrorKind, Write};
@@ -75,14 +74,12 @@ pub fn finish<W: Write + Drop>(
     }
 }
 
-/// Tells a fault on standard error, and gives the status for it: 2 also where standard error can't be written.
-pub fn told(rt: &impl Eprint, word: FaultWord) -> u8
-    ensures { (result ≡ fault_status word) ⊎ (result ≡ 2) }
+/// Says on standard error why a program stops, and gives the status for it, 2, also where that can't be written.
+pub fn say(rt: &impl Eprint, word: FaultWord) -> u8
+    ensures { result ≡ 2 }
 {
-    match rt.eprintln(word) {
-        Ok(()) => word.status(),
-        Err(_) => 2,
-    }
+    let _written = rt.eprintln(word);
+    FAULT_STATUS
 }
 
 fn word_or_no_memory(error: &Error, word: FaultWord) -> FaultWord

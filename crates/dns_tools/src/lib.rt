@@ -1,32 +1,26 @@
-//! What the programs do, behind their `main`s: their words, how a zone is loaded, and how queries are answered.
+//! What the programs do, after their `main`s: their words, how a zone is loaded, and how queries are answered.
 #![tactic(auto)]
 
 mod check;
-mod checks;
 mod fault;
 mod host;
-mod layout;
-mod list;
+mod listen;
 mod load;
-mod lookup;
 mod message;
 mod once;
-mod query;
-mod record;
-mod reply;
 mod report;
+mod socket;
 mod words;
 
 pub use check::{Flags, check_zone};
-pub use fault::{FaultWord, Stop, exit_status};
-pub use host::{finish, given_words, open_file, told};
-pub use list::{BuildFault, Zone};
-pub use load::{LoadFault, load as load_zone};
+pub use fault::{FAULT_STATUS, FaultWord, Stop, TurnWord, exit_status};
+pub use host::{finish, given_words, open_file, say};
+pub use listen::{serve_connections, serve_datagrams};
+pub use load::{LoadFault, Refusal, load as load_zone, write_refusal};
 pub use message::run_message;
 pub use once::run_once;
-pub use record::Record;
-pub use reply::{Limit, Steps, respond};
-pub use words::{CheckWords, ServeWords, check_words, serve_words};
+pub use socket::Socket;
+pub use words::{CheckWords, ServeWords, Service, check_words, serve_words};
 
 #[cfg(test)]
 mod tests;

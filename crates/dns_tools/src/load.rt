@@ -1,115 +1,71 @@
 //! A zone from its file.
-ghost use Rattle.std.specs.Prelude.{◌≡◌, ◌-◌, ◌^◌, ◌<◌, true, false, Err, IfOk};
-ghost use Rattle.dns_tools.specs.ListZone.{listed_zone};
-ghost use Rattle.dns_tools.specs.Load.{LoadedAs, failures_after_load, is_unserved, word_of_load, word_of_read};
+ghost use Rattle.std.specs.Prelude.{◌≡◌, ◌-◌, ◌^◌, ◌<◌, IfOk};
+ghost use Rattle.dns_name.specs.Counted.{Writes};
+ghost use Rattle.dns_tools.specs.Load.{LoadedAs, failures_after_load, fault_of_read, refusal_report};
 
-use crate::fault::FaultWord;
-use crate::list::{BuildFault, Zone};
-use crate::record::Record;
+use crate::fault::Stop;
+use crate::report::{write_check_faults, write_read_fault};
 use dns_master::{ReadCode, ReadFault, read_zone};
-use dns_name::{Name, Tally};
-use std::alloc::{AllocError, Global};
-use std::io::Read;
+use dns_name::{Name, SinkFailed, Tally};
+use dns_zone::{BuildFault, CheckFault, Zone};
+use std::alloc::Global;
+use std::io::{Read, Write};
 
-// How many records are served.
-const MOST_SERVED: usize = 1_000;
+/// Why a file gives no zone that is served.
+#[derive(Drop)]
+pub enum Refusal {
+    /// The fault of its first faulty entry, and the line on which that begins.
+    File(ReadFault),
+    /// The faults of the zone, by the order of owners, then by code.
+    Zone(Vec<CheckFault>),
+}
 
 /// Why no zone was loaded.
-#[derive(Clone, Copy, Debug, PartialEq, Eq)]
+#[derive(Drop)]
 pub enum LoadFault {
-    /// The file gives no records.
-    Read(ReadFault),
-    /// The records are no zone that is served.
-    Refused,
-    /// No memory was found for the zone.
-    NoMemory,
+    /// The file or its zone is at fault.
+    Refused(Refusal),
+    /// The source failed, or no memory was found.
+    Stopped(Stop),
 }
 
 impl From<ReadFault> for LoadFault {
-    ghost use Rattle.dns_tools.specs.declared.load.LoadFault.{LoadFault};
-
-    ghost from_gives = { λ fault refusal. refusal ≡ LoadFault.Read fault };
+    ghost from_gives = { λ fault refusal. refusal ≡ fault_of_read fault };
 
     fn from(fault: ReadFault) -> LoadFault {
-        LoadFault::Read(fault)
+        match fault.code {
+            ReadCode::SourceFailed => LoadFault::Stopped(Stop::Source),
+            ReadCode::NoMemory => LoadFault::Stopped(Stop::Memory),
+            _ => LoadFault::Refused(Refusal::File(fault)),
+        }
     }
 }
 
-/// Loads the zone of the origin from the source of its file (RFC 1035 section 5).
+/// Loads the zone of the origin from the source of its file (RFC 1035 section 5), by the checks of the checker.
 ///
-/// The file is read relative to the origin in lower case. Its first faulty entry decides; else the records are refused
-/// where they are more than 1,000, duplicates counted, or are no zone that is served. Nothing is read again after a failure.
+/// The file is read relative to the origin in lower case. Its first faulty entry decides; else all faults of the zone are
+/// its refusal. Nothing is read again after a failure.
 pub fn load<R: Read>(alloc: Global, origin: &Name, source: &mut Tally<R>) -> Result<Zone, LoadFault>
     requires { source.old.failures < 2 ^ 64 - 1 }
     ensures counted { source.new.failures ≡ failures_after_load source.old.failures result }
     ensures meaning { LoadedAs (R.remaining source.old.device) origin.now result }
 {
-    let records = read_zone(alloc, &origin.fold(), source)?;
-    match zone_of(alloc, origin, records) {
+    let origin = origin.fold();
+    let records = read_zone(alloc, &origin, source)?;
+    match Zone::build(alloc, &origin, records) {
         Ok(zone) => Ok(zone),
-        Err(BuildFault::Refused) => Err(LoadFault::Refused),
-        Err(BuildFault::NoMemory) => Err(LoadFault::NoMemory),
+        Err(BuildFault::Faults(faults)) => Err(LoadFault::Refused(Refusal::Zone(faults))),
+        Err(BuildFault::NoMemory) => Err(LoadFault::Stopped(Stop::Memory)),
     }
 }
 
-// The zone of the records of a file.
-fn zone_of(
-    alloc: Global,
-    origin: &Name,
-    records: Vec<dns_master::Record>,
-) -> Result<Zone, BuildFault>
-    ensures ok { IfOk result (λ zone. zone ≡ listed_zone origin.now records.items) }
-    ensures served { IfOk result (λ zone. is_unserved origin.now records.items ≡ false) }
-    ensures refused { result ≡ Err BuildFault.Refused → is_unserved origin.now records.items ≡ true }
+/// Writes why a file gives no zone, in the lines of the checker's report.
+pub fn write_refusal<W: Write>(refusal: &Refusal, sink: &mut Tally<W>) -> Result<(), SinkFailed>
+    requires { sink.old.failures < 2 ^ 64 - 1 }
+    ensures { Writes W.contents sink.old sink.new result (refusal_report refusal.now) }
 {
-    if records.len() > MOST_SERVED {
-        return Err(BuildFault::Refused);
-    }
-    let Ok(records) = listed(alloc, records) else {
-        return Err(BuildFault::NoMemory);
-    };
-    Zone::build(alloc, origin, records)
-}
-
-// The records as those of a list.
-fn listed(alloc: Global, records: Vec<dns_master::Record>) -> Result<Vec<Record>, AllocError>
-    ensures { IfOk result (λ all. all.items ≡ records.items) }
-{
-    let mut all = Vec::with_capacity(alloc, records.len())?;
-    'records: for read in records {
-        let dns_master::Record {
-            owner,
-            ttl,
-            rtype,
-            rdata,
-        } = read;
-        all.push(Record::new(owner, ttl, rtype, rdata))?;
-    }
-    Ok(all)
-}
-
-impl From<LoadFault> for FaultWord {
-    ghost from_gives = { λ fault word. word ≡ word_of_load fault };
-
-    fn from(fault: LoadFault) -> FaultWord {
-        match fault {
-            LoadFault::Read(fault) => word_of_read(fault),
-            LoadFault::Refused => FaultWord::ZoneRefused,
-            LoadFault::NoMemory => FaultWord::NoMemory,
-        }
-    }
-}
-
-// What is said of a file that gives no records.
-fn word_of_read(fault: ReadFault) -> FaultWord
-    ensures { result ≡ word_of_read fault }
-{
-    match fault.code {
-        ReadCode::SourceFailed => FaultWord::SourceFailed,
-        ReadCode::NoMemory => FaultWord::NoMemory,
-        code => FaultWord::FaultyEntry {
-            line: fault.line,
-            code: code.number(),
-        },
+    match refusal {
+        Refusal::File(fault) => write_read_fault(fault, sink),
+        Refusal::Zone(faults) => write_check_faults(faults.as_slice(), sink),
     }
 }

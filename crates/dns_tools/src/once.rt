@@ -4,12 +4,13 @@ ghost use Rattle.hex.specs.Hex.{decode_of};
 ghost use Rattle.std.specs.Bool.{OnFalse};
 ghost use Rattle.dns_name.specs.Counted.{failures_after};
 ghost use Rattle.dns_tools.specs.Stops.{source_failures_after, sink_failures_after};
-ghost use Rattle.dns_tools.specs.declared.once.TheConstants.{MOST_DIGITS, MOST_OCTETS, MOST_ANSWER, MOST_REPLY, ANSWERS};
+ghost use Rattle.dns_answer.specs.Limits.{limit_of};
+ghost use Rattle.dns_tools.specs.declared.once.TheConstants.{MOST_DIGITS, MOST_OCTETS, MOST_ANSWER, ANSWERS, DIGITS};
 
 use crate::fault::Stop;
-use crate::list::Zone;
-use crate::reply::{Limit, Steps, respond};
+use dns_answer::{Limit, respond};
 use dns_name::{SinkFailed, Tally};
+use dns_zone::{Steps, Zone};
 use std::alloc::{AllocError, Global};
 use std::io::{Read, Write};
 
@@ -18,19 +19,20 @@ pub(crate) const MOST_OCTETS: usize = 65_535;
 
 pub(crate) const MOST_DIGITS: usize = 131_070;
 
-// The octets of the greatest reply, and the length of the line that tells it.
-const MOST_REPLY: usize = 512;
-
-const MOST_ANSWER: usize = 1_025;
+// The digits of the greatest reply, and the end of their line.
+const MOST_ANSWER: usize = 131_071;
 
 // How many octets of answers are gathered before they are written, and how many are read at once.
-const ANSWERS: usize = 65_536;
+const ANSWERS: usize = 262_144;
 
 pub(crate) const PIECE: usize = 65_536;
 
+// How many digits are spelled at once.
+const DIGITS: usize = 128;
+
 /// Answers each line of the source by one line of the sink, and tells whether each line was a message.
 ///
-/// A line is a message in hexadecimal digits of either case, at most 131,070 of them; behind the last LF there is a
+/// A line is a message in hexadecimal digits of either case, at most 131,070 of them; after the last LF there is a
 /// line only where octets follow. Its answer is the reply in lower case digits, or `none` where there is no reply. A
 /// line that is no such message is answered by `bad hex`. At most 18,446,744,073,709,551,615 octets are read, and the
 /// source counts as ended there. All answers that are due are written before the source is asked for more.
@@ -68,11 +70,13 @@ struct Exchange<'z> {
     is_overlong: bool,
     // Where a line is spelled as octets.
     datagram: Vec<u8>,
+    reply: Vec<u8>,
     answers: Vec<u8>,
     are_all_messages: bool,
     ghost line_fits: { vec_len line ≤ MOST_DIGITS },
     ghost line_room: { MOST_DIGITS ≤ vec_capacity line },
     ghost datagram_room: { vec_len datagram ≡ MOST_OCTETS },
+    ghost reply_room: { vec_len reply ≡ limit_of limit },
     ghost answers_fit: { vec_len answers ≤ ANSWERS },
     ghost answers_room: { ANSWERS ≤ vec_capacity answers },
 }
@@ -85,6 +89,7 @@ impl<'z> Exchange<'z> {
             line: Vec::with_capacity(alloc, MOST_DIGITS)?,
             is_overlong: false,
             datagram: vec![in alloc; 0; MOST_OCTETS]?,
+            reply: vec![in alloc; 0; limit.octets()]?,
             answers: Vec::with_capacity(alloc, ANSWERS)?,
             are_all_messages: true,
         })
@@ -155,7 +160,9 @@ impl<'z> Exchange<'z> {
         }
         let line = self.line.as_slice();
         let datagram = self.datagram.as_mut_slice();
-        if self.is_overlong || !answer(self.zone, self.limit, line, datagram, &mut self.answers) {
+        let reply = self.reply.as_mut_slice();
+        let answers = &mut self.answers;
+        if self.is_overlong || !answer(self.zone, self.limit, line, datagram, reply, answers) {
             self.refuse_line();
         }
         self.line.clear();
@@ -183,15 +190,18 @@ impl<'z> Exchange<'z> {
     }
 }
 
-// Answers a line that is a message. False, with nothing answered, where it is none.
+// Answers a line that is a message, with room for its octets and for those of the reply. False, with nothing answered,
+// where it is none.
 fn answer(
     zone: &Zone,
     limit: Limit,
     line: &[u8],
     datagram: &mut [u8],
+    reply: &mut [u8],
     answers: &mut Vec<u8>,
 ) -> bool
     requires line { length line.now ≤ 2 * length datagram.old + 1 }
+    requires reply { length reply.old ≡ limit_of limit }
     requires room { vec_len answers.old + MOST_ANSWER ≤ vec_capacity answers.old }
     ensures len { vec_len answers.new ≤ vec_len answers.old + MOST_ANSWER }
     ensures capacity { vec_capacity answers.old ≤ vec_capacity answers.new }
@@ -200,8 +210,7 @@ fn answer(
     let Some(len) = octets_of(line, datagram) else {
         return false;
     };
-    let mut reply = [0; MOST_REPLY];
-    match respond(&mut Steps::new(zone), &datagram[..len], limit, &mut reply) {
+    match respond(&mut Steps::new(zone), &datagram[..len], limit, reply) {
         Some(len) => put_reply(answers, &reply[..len]),
         None => put(answers, b"none\n"),
     }
@@ -222,17 +231,32 @@ pub(crate) fn octets_of(line: &[u8], datagram: &mut [u8]) -> Option<usize>
 
 // Adds a line with the digits of a reply.
 fn put_reply(answers: &mut Vec<u8>, reply: &[u8])
-    requires reply { length reply.now ≤ MOST_REPLY }
-    requires room { vec_len answers.old + 2 * length reply.now + 1 ≤ vec_capacity answers.old }
+    requires { vec_len answers.old + 2 * length reply.now + 1 ≤ vec_capacity answers.old }
     ensures len { vec_len answers.new ≡ vec_len answers.old + 2 * length reply.now + 1 }
     ensures capacity { vec_capacity answers.old ≤ vec_capacity answers.new }
 {
-    let mut line = [b'\n'; MOST_ANSWER];
-    let end = 2 * reply.len();
-    if hex::encode_to_slice(reply, &mut line[..end]).is_err() {
+    let mut rest = reply;
+    'pieces: while !rest.is_empty() {
+        let (piece, others) = rest.split_at(rest.len().min(DIGITS / 2));
+        put_digits(answers, piece);
+        rest = others;
+    }
+    put(answers, b"\n");
+}
+
+// Adds the digits of a few octets.
+fn put_digits(answers: &mut Vec<u8>, octets: &[u8])
+    requires few { 2 * length octets.now ≤ DIGITS }
+    requires room { vec_len answers.old + 2 * length octets.now ≤ vec_capacity answers.old }
+    ensures len { vec_len answers.new ≡ vec_len answers.old + 2 * length octets.now }
+    ensures capacity { vec_capacity answers.old ≤ vec_capacity answers.new }
+{
+    let mut digits = [0; DIGITS];
+    let end = 2 * octets.len();
+    if hex::encode_to_slice(octets, &mut digits[..end]).is_err() {
         unreachable!();
     }
-    put(answers, &line[..end + 1]);
+    put(answers, &digits[..end]);
 }
 
 // Adds a text that there is room for.

@@ -1,5 +1,6 @@
 -- The chains stay whole where an entry comes at the end, or the last one goes.
-use Rattle.std.proofs.Common.{◌≡◌, ◌≢◌, ℕ, zero, suc, ◌<◌, ◌≤◌, ◌==◌, Bool, true, false, cond, nat_le, List, [], ◌∷◌, ◌++◌, map, length, take, replicate, get_or, slice_get, slice_set, Option, Some, None, option_map, refl, sym, ap, ◌∙◌, subst, arith}
+use Rattle.std.proofs.Common.{◌≡◌, ap₂, ◌-◌, ◌≢◌, ℕ, zero, suc, ◌<◌, ◌≤◌, ◌==◌, Bool, true, false, cond, nat_le, List, [], ◌∷◌, ◌++◌, map, length, take, replicate, get_or, slice_get, slice_set, Option, Some, None, option_map, refl, sym, ap, ◌∙◌, subst, arith}
+use Rattle.std.proofs.lemmas.Option.{get_or_from_slice_get}
 use Rattle.std.proofs.lemmas.Bool.{false≢true, eqb-true, eq-eqb, leb-true, leb-false}
 use Rattle.std.proofs.lemmas.Option.{none-some, same_Some, slice_get_within, slice_get-map}
 use Rattle.std.proofs.lemmas.List.{get_or-set_same, get_or-set_other, get_or-replicate, length-set, length-replicate, take-append-le, length-take-le}
@@ -181,6 +182,26 @@ pub record Chain (P : ℕ → Type 0) (h : ℕ) (es : List Entry) (number : ℕ)
   pub inside : number ≤ length es
   pub here : (k : ℕ) → number ≡ suc k → LastEntry h es k
   pub after : (k : ℕ) (e : Entry) → slice_get es k ≡ Some e → number ≤ k → e.head ≡ h → P e.place → ⊥
+
+-- the entry that is read at a number counted from 1 is the chain's own
+pub record EntryRead (h : ℕ) (es : List Entry) (number : ℕ) (read : Entry) : Type 0 where
+  pub k : ℕ
+  pub is : number ≡ suc k
+  pub last : LastEntry h es k
+  pub own : read ≡ last.entry
+
+pub read_entry : {P : ℕ → Type 0} {h : ℕ} {es xs : List Entry} {number i : ℕ} (blank : Entry) → Chain P h es number → 0 < number → xs ≡ es → i ≡ number
+    → EntryRead h es number (get_or xs (i - 1) blank)
+read_entry {P} {h} {es} {xs} {number} {i} blank chain positive same at =
+    let k : ℕ = number - 1 in
+    let is : number ≡ suc k = omega (arith, positive) in
+    let last = chain.here k is in
+    record {
+      k = k;
+      is = is;
+      last = last;
+      own = ap₂ (λ ys j. get_or ys j blank) same (ap (λ n. n - 1) at) ∙ get_or_from_slice_get es k last.entry blank last.there;
+    }
 
 chain_at : (P : ℕ → Type 0) (h : ℕ) (es : List Entry) (m : ℕ) → m ≤ length es
     → ((k : ℕ) (e : Entry) → slice_get es k ≡ Some e → m ≤ k → e.head ≡ h → P e.place → ⊥) → Chain P h es (last_with h (take m es))

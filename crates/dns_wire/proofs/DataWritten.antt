@@ -5,7 +5,7 @@ use Rattle.std.specs.Bool.{OnTrue, OnFalse}
 use Rattle.dns_spec.specs.Names.{Octets, DomainName}
 use Rattle.dns_spec.specs.Data.{class_in, Part, octets, name, laid_parts}
 use Rattle.dns_spec.specs.Layout.{Placed, Laid, laid_front, octets16, octets32, shared_octets, cost, data_laid, record_laid, record_tail}
-use Rattle.dns_spec.proofs.LayoutSize.{length-shared_octets, length-record_tail}
+use Rattle.dns_spec.proofs.Layouts.LayoutSize.{length-shared_octets, length-record_tail}
 use Rattle.dns_rdata.specs.Parts.{with_octets}
 use Rattle.dns_wire.specs.Kept.{Kept}
 use Rattle.dns_wire.specs.Writing.{Holds, IsWritten, Extends, shown, tail_laid}
@@ -72,19 +72,24 @@ parts_name head ps₀ ps b₀ b b' ks₀ ks ks' n go octets_of holds_of ms₀ ho
       names = g.names ∙ ap (λ (l : Laid). g.ms ++ l.names) laid ∙ sym (append_assoc g.ms ((n, length b) ∷ []) (data_laid more (length b') ps).names);
     }
 
--- all parts are written
-pub parts_written : (head : Octets → ℕ) (limit : ℕ) (ps₀ : List Part) (b₀ b : Octets) (ks₀ ks : List Kept) → length b ≤ limit → PartsGo head ps₀ b₀ ks₀ [] b ks
-    → (ms : List Placed) → Holds head ms b₀ ks₀ → IsWritten head limit ms b₀ (data_laid ms (length b₀) ps₀) true b ks
-parts_written head limit ps₀ b₀ b ks₀ ks within go ms₀ holds₀ =
-    let g = go ms₀ holds₀ in
-    let none = data-none g.ms (length b) in
+-- nothing is to come
+pub all_written : {head : Octets → ℕ} {limit : ℕ} {ms₀ : List Placed} {b₀ b : Octets} {ks : List Kept} {all : Laid}
+    {rest : List Placed → ℕ → Laid} → length b ≤ limit → ((ms : List Placed) → rest ms (length b) ≡ record { written = []; names = [] })
+    → Goes head all ms₀ b₀ rest b ks → IsWritten head limit ms₀ b₀ all true b ks
+all_written {head} {limit} {ms₀} {b₀} {b} {ks} within empty g =
+    let none = empty g.ms in
     let whole = g.written ∙ ap (λ (l : Laid). b ++ l.written) none ∙ append-nil b in
-    let all = g.names ∙ ap (λ (l : Laid). g.ms ++ l.names) none ∙ append-nil g.ms in
+    let names = g.names ∙ ap (λ (l : Laid). g.ms ++ l.names) none ∙ append-nil g.ms in
     record {
       exactly = (λ yes. omega (arith, ap length whole, within), λ fits. refl);
       written = sym whole;
-      holds = subst (λ x. Holds head x b ks) (sym all) g.holds;
+      holds = subst (λ x. Holds head x b ks) (sym names) g.holds;
     }
+
+-- all parts are written
+pub parts_written : (head : Octets → ℕ) (limit : ℕ) (ps₀ : List Part) (b₀ b : Octets) (ks₀ ks : List Kept) → length b ≤ limit → PartsGo head ps₀ b₀ ks₀ [] b ks
+    → (ms : List Placed) → Holds head ms b₀ ks₀ → IsWritten head limit ms b₀ (data_laid ms (length b₀) ps₀) true b ks
+parts_written head limit ps₀ b₀ b ks₀ ks within go ms₀ holds₀ = all_written within (λ ms. data-none ms (length b)) (go ms₀ holds₀)
 
 -- a part does not fit, and so the whole
 pub parts_past : (head : Octets → ℕ) (limit : ℕ) (ps₀ ps : List Part) (b₀ b b' : Octets) (ks₀ ks ks' : List Kept) → PartsGo head ps₀ b₀ ks₀ ps b ks

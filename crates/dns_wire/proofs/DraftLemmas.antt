@@ -13,10 +13,11 @@ use Rattle.dns_spec.specs.Layout as Layout
 use Rattle.dns_spec.specs.Layout.{Item, Placed, Laid, laid_front, record_laid, records_octets, records_of, in_section, is_section, asked_octets, asked_placed, answer, authority, additional, size, records_size, layout, header_octets, reply_header, message_of}
 use Rattle.dns_spec.specs.Sharing.{Sharing}
 use Rattle.dns_spec.specs.Laws.{IsWritable, IsAskable, sections_in_order}
-use Rattle.dns_spec.proofs.SharedLayout.{layout_spells}
-use Rattle.dns_spec.proofs.LeastSize.{past_limit}
-use Rattle.dns_spec.proofs.LayoutSize.{length-records_octets, length-layout}
+use Rattle.dns_spec.proofs.Layouts.SharedLayout.{layout_spells}
+use Rattle.dns_spec.proofs.Layouts.LeastSize.{past_limit}
+use Rattle.dns_spec.proofs.Layouts.LayoutSize.{length-records_octets, length-layout}
 use Rattle.dns_wire.specs.declared.page.Section.{Section}
+use Rattle.dns_wire.specs.Kept.{Kept}
 use Rattle.dns_wire.specs.Writing.{Holds, IsWritten, records_laid, shown}
 use Rattle.dns_wire.specs.Draft.{Draft, IsDraft, section_of, item_of, names_so_far}
 use Rattle.dns_wire.proofs.RecordsWritten.{octets_of_records, records-more, records-none}
@@ -121,6 +122,34 @@ module _ (head : Octets → ℕ) (q : Option MessageQuestion) (items : List Item
         additionals = additionals ∙ ap (λ k. k + count additional section (length set.rdata)) draft.additionals ∙ sym (section_counted additional items section owner ttl set);
         askable = draft.askable;
       }
+
+-- A set was put exactly where the layout with it is within the limit.
+pub put_fits : {head : Octets → ℕ} {t u : Bool} {b : Octets} {ks : List Kept} {d now : Draft} (q : Option MessageQuestion) (items : List Item) (section : Section)
+    (owner : DomainName) (ttl : ℕ) (set : RecordSet) → d ≡ now → IsDraft head q items now
+    → ((ms : List Placed) → Holds head ms d.octets d.kept → IsWritten head d.limit ms d.octets (records_laid ms (length d.octets) (records_at owner ttl set)) t b ks)
+    → t ≡ u → (u ≡ true) ↔ (size q (items ++ item_of section owner ttl set ∷ []) ≤ now.limit)
+put_fits {head} {t} {u} {b} {ks} {d} {now} q items section owner ttl set view draft written is =
+    let here = subst (IsDraft head q items) (sym view) draft in
+    let done = written (names_so_far q items) here.holds in
+    let size_is = draft_size head q items d here (item_of section owner ttl set) in
+    let limit = ap (λ (x : Draft). x.limit) view in (
+      λ so. let room = done.exactly.0 (is ∙ so) in omega (arith, room, size_is, limit),
+      λ fits. sym is ∙ done.exactly.1 (omega (arith, fits, size_is, limit)),
+    )
+
+-- a set that was put, in the section that was asked for
+pub put_in : {head : Octets → ℕ} {limit : ℕ} {t : Bool} {d now d' : Draft} {asked : Section} (q : Option MessageQuestion) (items : List Item) (section : Section)
+    (owner : DomainName) (ttl : ℕ) (set : RecordSet) → asked ≡ section → d ≡ now → IsDraft head q items now
+    → ((ms : List Placed) → Holds head ms d.octets d.kept → IsWritten head limit ms d.octets (records_laid ms (length d.octets) (records_at owner ttl set)) t d'.octets d'.kept)
+    → t ≡ true → d'.questions ≡ d.questions → d'.answers ≡ d.answers + count answer section (length set.rdata)
+    → d'.authorities ≡ d.authorities + count authority section (length set.rdata) → d'.additionals ≡ d.additionals + count additional section (length set.rdata)
+    → IsDraft head q (items ++ item_of asked owner ttl set ∷ []) d'
+put_in {head} {limit} {t} {d} {now} {d'} {asked} q items section owner ttl set is view draft written put questions answers authorities additionals =
+    let here = subst (IsDraft head q items) (sym view) draft in
+    let ms = names_so_far q items in
+    let done = subst (λ u. IsWritten head limit ms d.octets (records_laid ms (length d.octets) (records_at owner ttl set)) u d'.octets d'.kept) put (written ms here.holds) in
+    subst (λ (s : Section). IsDraft head q (items ++ item_of s owner ttl set ∷ []) d') (sym is)
+    (draft_put head q items d here limit section owner ttl set d' done questions answers authorities additionals)
 
 -- a draft without sets
 pub draft_begins : (head : Octets → ℕ) (q : Option MessageQuestion) (d : Draft) → d.octets ≡ replicate 12 0 ++ asked_octets q → Holds head (asked_placed q) d.octets d.kept

@@ -3,6 +3,7 @@ mod PieceLemmas
 mod ReadLemmas
 mod ValidData
 mod Anyway
+mod NameLoop
 mod ChainLemmas
 mod SpelledLemmas
 mod Suffixes
@@ -10,4 +11,3 @@ mod NameWritten
 mod DataWritten
 mod RecordsWritten
 mod DraftLemmas
-mod NameLoop

@@ -8,8 +8,8 @@ use Rattle.std.proofs.Common.{inl, inr}
 use Rattle.std.specs.Option.{option_map, option_and_then}
 use Rattle.dns_spec.specs.Names.{Octets, DomainName, wire, is_name, is_label}
 use Rattle.dns_spec.specs.ComputedReading.{name_at, name_if_short, with_label}
-use Rattle.dns_spec.proofs.NameLaws.{IsName-is_name, IsLabel-is_label, is_label-IsLabel}
-use Rattle.dns_spec.proofs.NameReading.{run12, run12_missing, run12_root, run12_label, run12_label_past, run12_high, name_at_12}
+use Rattle.dns_spec.proofs.DomainNames.NameLaws.{IsName-is_name, IsLabel-is_label, is_label-IsLabel}
+use Rattle.dns_spec.proofs.Messages.NameReading.{run12, run12_missing, run12_root, run12_label, run12_label_past, run12_high, name_at_12}
 
 -- labels in front of what was read
 abbrev pub in_front : DomainName → DomainName × ℕ → DomainName × ℕ
@@ -90,7 +90,7 @@ pub read_on-long : (d : Octets) (n : DomainName) (i : ℕ) → 255 < length (wir
 unfolding read_on
 read_on-long d n i long = none_long n long (run12 d i)
 
--- One step of the loop: the octet k at place i is not 0, and the label l behind it is inside the octets.
+-- One step of the loop: the octet k at place i is not 0, and the label l after it is inside the octets.
 module _ (d : Octets) (n : DomainName) (i k : ℕ) (l : Octets) (h : i < length d) (z : get_or d i 0 ≡ k) (pos : k ≡ 0 → ⊥) (inside : i + 1 + k ≤ length d) (e : l ≡ take (i + 1 + k - (i + 1)) (drop (i + 1) d)) where
   label_is : l ≡ take k (drop (i + 1) d)
   label_is = let same : i + 1 + k - (i + 1) ≡ k = omega arith in e ∙ ap (λ m. take m (drop (i + 1) d)) same

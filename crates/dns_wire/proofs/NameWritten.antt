@@ -9,11 +9,11 @@ use Rattle.dns_spec.specs.Names.{Octets, DomainName, wire, is_name, is_label}
 use Rattle.dns_spec.specs.Reading.{RunAt}
 use Rattle.dns_spec.specs.Reading.RunAt.{ends, goes_on, jumps}
 use Rattle.dns_spec.specs.Layout.{Placed, has_suffix, suffix_place, place_of, last_place, shared_place, shared_octets, cost}
-use Rattle.dns_spec.proofs.NameLaws.{is_name-tail}
-use Rattle.dns_spec.proofs.Places.{Stands}
-use Rattle.dns_spec.proofs.LayoutSize.{length-shared_octets}
-use Rattle.dns_spec.proofs.SameLayout.{begins_inside}
-use Rattle.dns_spec.proofs.SharedNames.{suffix_from, suffix_to, place_again, place_pushed, shared_is, shared_to, shared_none, shared_whole, shared_pointed, shared_root, shared_alone, Known, known_more}
+use Rattle.dns_spec.proofs.DomainNames.NameLaws.{is_name-tail}
+use Rattle.dns_spec.proofs.Messages.Places.{Stands}
+use Rattle.dns_spec.proofs.Layouts.LayoutSize.{length-shared_octets}
+use Rattle.dns_spec.proofs.Layouts.SameLayout.{begins_inside}
+use Rattle.dns_spec.proofs.Layouts.SharedNames.{suffix_from, suffix_to, place_again, place_pushed, shared_is, shared_to, shared_none, shared_whole, shared_pointed, shared_root, shared_alone, Known, known_more}
 use Rattle.dns_wire.specs.Kept.{Kept, IsKept}
 use Rattle.dns_wire.specs.Writing.{front_size, pointed_place, end_octets, new_places, Answers, Holds}
 use Rattle.dns_wire.proofs.Suffixes.{front-none, front-some, front-root, pointed-none, pointed-some, pointed-root, kept-none, kept-more, kept-some, kept-root}
@@ -230,7 +230,7 @@ module _ (head : Octets → ℕ) (ms : List Placed) (b : Octets) (ks : List Kept
           record { header = s.0; earlier = s.1; end = s.2; spelled = run_more (shared_octets ms n) s.3 }
 
       stands : Stands (b ++ shared_octets ms n) (length b) (shared_octets ms n)
-      stands = record { before = b; behind = []; whole = ap (λ z. b ++ z) (sym (append-nil (shared_octets ms n))); place = refl }
+      stands = record { before = b; after = []; whole = ap (λ z. b ++ z) (sym (append-nil (shared_octets ms n))); place = refl }
 
       spelled : (l : Octets) (t : DomainName) (p : ℕ) → shared_place (ms ++ (n, length b) ∷ []) (l ∷ t) ≡ Some p
           → (12 ≤ p) × (p < length (b ++ shared_octets ms n)) × (e : ℕ) × RunAt (b ++ shared_octets ms n) p p (l ∷ t) e

@@ -7,7 +7,7 @@ use Rattle.dns_spec.specs.Names.{Octets, DomainName, wire}
 use Rattle.dns_spec.specs.Data.{width, Piece, fixed, domain, string, strings, anything, Part, octets, part_octets, are_strings, octets_front, string_front, piece_front}
 use Rattle.dns_spec.specs.Reading.{RunAt, NameAt, OctetsAt, PiecesAt}
 use Rattle.dns_spec.specs.Reading.RunAt.{ends, goes_on, jumps}
-use Rattle.dns_spec.proofs.OneMessage.{same_octets, same_names}
+use Rattle.dns_spec.proofs.Messages.OneMessage.{same_octets, same_names}
 use Rattle.dns_wire.specs.Labels.{NoNameAt}
 use Rattle.dns_wire.specs.Pieces.{PieceAt, IsPieceRead, NoPieceAt, NoPiecesAt, ArePiecesRead}
 

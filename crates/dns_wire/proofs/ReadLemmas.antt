@@ -2,7 +2,7 @@
 use Rattle.std.proofs.Common.{◌≡◌, ℕ, ◌+◌, ◌<◌, ◌≤◌, List, [], ◌∷◌, ◌++◌, length, refl, sym, ap, ap₂, ◌∙◌, subst, arith, append_assoc, append-nil, length-append}
 use Rattle.dns_spec.specs.Names.{Octets, DomainName}
 use Rattle.dns_spec.specs.Reading.{Header, MessageQuestion, MessageRecord, DnsMessage, NameAt, NumberAt, DataAt, QuestionsAt, RecordsAt, Spells}
-use Rattle.dns_spec.proofs.OneMessage.{one_number, same_names, same_record, same_questions, same_records}
+use Rattle.dns_spec.proofs.Messages.OneMessage.{one_number, same_names, same_record, same_questions, same_records}
 use Rattle.dns_wire.specs.Pieces.{NoDataAt}
 use Rattle.dns_wire.specs.declared.reader.Counts.{Counts}
 use Rattle.dns_wire.specs.Read.{HeaderAt, AreQuestions, AreRecords, NoMessage, QuestionAt, WholeRecordAt, NoQuestion, NoRecord, NoQuestions, NoRecords, QuestionsRead, RecordsRead}
@@ -149,8 +149,8 @@ module _ (b : Octets) (head : Header) (counts : Counts) (there : HeaderAt b head
 
   section_ends_at : (rs ws : List MessageRecord) (i j e f count k : ℕ) → i ≡ j → RecordsAt b i ws e → AreRecords b j count rs f
       → NumberAt b k 2 (length ws) → NumberAt b k 2 count → e ≡ f
-  section_ends_at rs ws i j e f count k begin at are told counted =
-      (same_records b ws rs i j e f (one_number refl told counted ∙ sym are.as_many) begin at are.there).1
+  section_ends_at rs ws i j e f count k begin at are stated counted =
+      (same_records b ws rs i j e f (one_number refl stated counted ∙ sym are.as_many) begin at are.there).1
 
   module _ (qs : List MessageQuestion) (e : ℕ) (asked : AreQuestions b 12 counts.questions qs e) where
     pub no_answers : NoRecords b e counts.answers → NoMessage b

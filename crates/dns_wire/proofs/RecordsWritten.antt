@@ -1,12 +1,13 @@
 -- Records are written one after the other: those that are written and those that are to come are all.
-use Rattle.std.proofs.Common.{◌≡◌, ℕ, zero, suc, ◌+◌, ◌<◌, ◌≤◌, true, false, List, [], ◌∷◌, ◌++◌, map, length, drop, get_or, refl, sym, ap, ◌∙◌, subst, arith, append_assoc, append-nil, length-append, lt_of_not-le}
+use Rattle.std.proofs.Common.{◌≡◌, ℕ, zero, suc, ◌+◌, ◌<◌, ◌≤◌, true, false, List, [], ◌∷◌, ◌++◌, map, length, drop, get_or, refl, sym, ap, ◌∙◌, subst, subst₂, Bool, arith, append_assoc, length-append, lt_of_not-le}
 use Rattle.std.proofs.lemmas.Bool.{false≢true}
 use Rattle.dns_spec.specs.Names.{Octets, DomainName}
 use Rattle.dns_spec.specs.Records.{ResourceRecord}
+use Rattle.dns_spec.specs.Sets.{RecordSet, records_at}
 use Rattle.dns_spec.specs.Layout.{Placed, Laid, laid_front, record_laid, records_octets}
 use Rattle.dns_wire.specs.Kept.{Kept}
 use Rattle.dns_wire.specs.Writing.{Holds, IsWritten, shown, records_laid}
-use Rattle.dns_wire.proofs.DataWritten.{Goes, not_written}
+use Rattle.dns_wire.proofs.DataWritten.{Goes, all_written, not_written}
 
 pub records-more : (ms : List Placed) (p : ℕ) (r : ResourceRecord) (rs : List ResourceRecord)
     → records_laid ms p (r ∷ rs) ≡ laid_front (record_laid ms p r).written (record_laid ms p r).names (records_laid (ms ++ (record_laid ms p r).names) (p + length (record_laid ms p r).written) rs)
@@ -50,16 +51,7 @@ records_step head limit rs₀ rs r b₀ b b' ks₀ ks ks' go done ms₀ holds₀
 
 pub records_written : (head : Octets → ℕ) (limit : ℕ) (rs₀ : List ResourceRecord) (b₀ b : Octets) (ks₀ ks : List Kept) → length b ≤ limit → RecordsGo head rs₀ b₀ ks₀ [] b ks
     → (ms : List Placed) → Holds head ms b₀ ks₀ → IsWritten head limit ms b₀ (records_laid ms (length b₀) rs₀) true b ks
-records_written head limit rs₀ b₀ b ks₀ ks within go ms₀ holds₀ =
-    let g = go ms₀ holds₀ in
-    let none = records-none g.ms (length b) in
-    let whole = g.written ∙ ap (λ (l : Laid). b ++ l.written) none ∙ append-nil b in
-    let all = g.names ∙ ap (λ (l : Laid). g.ms ++ l.names) none ∙ append-nil g.ms in
-    record {
-      exactly = (λ yes. omega (arith, ap length whole, within), λ fits. refl);
-      written = sym whole;
-      holds = subst (λ x. Holds head x b ks) (sym all) g.holds;
-    }
+records_written head limit rs₀ b₀ b ks₀ ks within go ms₀ holds₀ = all_written within (λ ms. records-none ms (length b)) (go ms₀ holds₀)
 
 pub records_past : (head : Octets → ℕ) (limit : ℕ) (rs₀ rs : List ResourceRecord) (r : ResourceRecord) (b₀ b b' b'' : Octets) (ks₀ ks ks' ks'' : List Kept) → RecordsGo head rs₀ b₀ ks₀ (r ∷ rs) b ks
     → ((ms : List Placed) → Holds head ms b ks → IsWritten head limit ms b (record_laid ms (length b) r) false b' ks')
@@ -84,3 +76,19 @@ no_records_left owner ttl t [] zero h = refl
 no_records_left owner ttl t [] (suc i) h = refl
 no_records_left owner ttl t (d ∷ ds) zero h = absurd (omega arith)
 no_records_left owner ttl t (d ∷ ds) (suc i) h = no_records_left owner ttl t ds i (omega arith)
+
+-- from the record at hand on
+pub records_at_hand : {head : Octets → ℕ} {b₀ b : Octets} {ks₀ ks : List Kept} (owner : DomainName) (ttl : ℕ) (set : RecordSet) (i : ℕ) → i < length set.rdata
+    → RecordsGo head (records_at owner ttl set) b₀ ks₀ (drop i (records_at owner ttl set)) b ks
+    → RecordsGo head (records_at owner ttl set) b₀ ks₀ (shown owner set.rtype ttl (get_or set.rdata i []) ∷ drop (suc i) (records_at owner ttl set)) b ks
+records_at_hand {head} {b₀} {b} {ks₀} {ks} owner ttl set i inside =
+    subst (λ x. RecordsGo head (records_at owner ttl set) b₀ ks₀ x b ks) (record_at owner ttl set.rtype set.rdata i inside)
+
+-- What the call for the record at hand has done, in the words of the loop.
+pub record_done : {head called : Octets → ℕ} {limit at : ℕ} {r given : ResourceRecord} {t u : Bool} {b b' : Octets} {ks ks' : List Kept}
+    → called ≡ head → at ≡ limit → given ≡ r → t ≡ u
+    → ((ms : List Placed) → Holds called ms b ks → IsWritten called at ms b (record_laid ms (length b) given) t b' ks')
+    → (ms : List Placed) → Holds head ms b ks → IsWritten head limit ms b (record_laid ms (length b) r) u b' ks'
+record_done {head} {called} {limit} {at} {r} {given} {t} {u} {b} {b'} {ks} {ks'} same limit_is record_is result_is done ms holds =
+    subst₂ (λ h x. IsWritten h limit ms b (record_laid ms (length b) x) u b' ks') same record_is
+    (subst₂ (λ l v. IsWritten called l ms b (record_laid ms (length b) given) v b' ks') limit_is result_is (done ms (subst (λ h. Holds h ms b ks) (sym same) holds)))

@@ -6,7 +6,7 @@ use Rattle.std.proofs.lemmas.List.{length-take-le, length-drop}
 use Rattle.dns_spec.specs.Names.{Octets, DomainName, wire, is_name}
 use Rattle.dns_spec.specs.Reading.{pointer_place, RunAt, NameAt}
 use Rattle.dns_spec.specs.Reading.RunAt.{ends, goes_on, jumps}
-use Rattle.dns_spec.proofs.NameLaws.{IsName-is_name}
+use Rattle.dns_spec.proofs.DomainNames.NameLaws.{IsName-is_name}
 use Rattle.dns_wire.specs.Labels.{LabelAt, PointerAt, NoRunAt, NoNameAt, IsReading, end_or}
 
 -- how a run goes on from place i: it ends, has a label, or a pointer

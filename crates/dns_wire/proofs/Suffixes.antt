@@ -6,8 +6,8 @@ use Rattle.dns_spec.specs.Names.{Octets, DomainName, wire, is_name}
 use Rattle.dns_spec.specs.Reading.{RunAt}
 use Rattle.dns_spec.specs.Layout.{Placed, last_place, shared_place}
 use Rattle.std.proofs.lemmas.List.{length-drop}
-use Rattle.dns_spec.proofs.Places.{label_parts}
-use Rattle.dns_spec.proofs.NameLaws.{is_name-tail, is_label-head, wire-injective}
+use Rattle.dns_spec.proofs.Messages.Places.{label_parts}
+use Rattle.dns_spec.proofs.DomainNames.NameLaws.{is_name-tail, is_label-head, wire-injective}
 use Rattle.dns_spec.specs.Reading.{pointer_place}
 use Rattle.dns_spec.specs.Reading.RunAt.{ends, goes_on, jumps}
 use Rattle.dns_wire.proofs.Runs.{GoesOn, at_end, at_label, at_pointer, goes_on_at}
@@ -106,13 +106,13 @@ pub record FirstLabel (rest others : Octets) (k : ℕ) (n : DomainName) : Type 0
   pub labels : DomainName
   pub whole : n ≡ label ∷ labels
   pub long : k ≡ length label
-  pub behind : others ≡ label ++ wire labels
+  pub others_are : others ≡ label ++ wire labels
 
 pub first_label : (rest others : Octets) (k : ℕ) (n : DomainName) → rest ≡ wire n → rest ≡ k ∷ others → (k ≡ 0 → ⊥) → FirstLabel rest others k n
 first_label rest others k [] e f some = absurd (some (ap (λ x. get_or x 0 0) (sym f ∙ e)))
 first_label rest others k (l ∷ n) e f some =
     let same : k ∷ others ≡ length l ∷ (l ++ wire n) = sym f ∙ e in
-    record { label = l; labels = n; whole = refl; long = ap (λ x. get_or x 0 0) same; behind = ap (drop 1) same }
+    record { label = l; labels = n; whole = refl; long = ap (λ x. get_or x 0 0) same; others_are = ap (drop 1) same }
 
 pub left_label : {head : Octets → ℕ} {b : Octets} {ks : List Kept} {name rest others after : Octets} (k : ℕ) → Left head b ks name rest → rest ≡ k ∷ others → (k ≡ 0 → ⊥)
     → k ≤ length others → after ≡ drop k others → NoneSpelled ks (head rest) b rest → Left head b ks name after
@@ -130,7 +130,7 @@ left_label {head} {b} {ks} {name} {rest} {others} {after} k left first some fits
         let ok' : is_name (l ∷ m) ≡ true = subst (λ x. is_name x ≡ true) f.whole a.is_name in
         let w : rest ≡ wire (l ∷ m) = a.spelled ∙ ap wire f.whole in
         let out = not_found l m holds (subst (λ x. NoneSpelled ks (head x) b x) w none) in
-        let rest_is : after ≡ wire m = cut ∙ ap (drop k) f.behind ∙ drop_at l (wire m) k (sym f.long) in
+        let rest_is : after ≡ wire m = cut ∙ ap (drop k) f.others_are ∙ drop_at l (wire m) k (sym f.long) in
         let size = front-none ms l m out in
         let front = a.front in
         record {
@@ -259,7 +259,7 @@ keep_label {head} {old} {ks} {name} {rest} {others} {after} {front} {at} {place}
             let fit = a.fits in
             record {
               left = m;
-              spelled = cut ∙ ap (drop k) g.behind ∙ drop_at l (wire m) k (sym g.long);
+              spelled = cut ∙ ap (drop k) g.others_are ∙ drop_at l (wire m) k (sym g.long);
               is_name = is_name-tail l m (subst (λ x. is_name x ≡ true) g.whole a.is_name);
               kept = a.kept ∙ ap (λ x. ks ++ new_places head ms x place) g.whole ∙ ap (λ x. ks ++ x) more ∙ sym (append_assoc ks (one ∷ []) (new_places head ms m (place + 1 + k)));
               fits = omega (arith, fit, ap (front_size ms) g.whole, front-none ms l m q, g.long);

@@ -7,8 +7,8 @@ use Rattle.std.specs.List.{find}
 use Rattle.dns_spec.specs.Names.{Octets, DomainName, wire}
 use Rattle.dns_spec.specs.Data.{class_in, width, Piece, fixed, domain, string, strings, anything, TypeRow, type_table, other_type, pieces_of, Part, octets, name, octets_front, string_front, strings_front, piece_front, are_strings, cut, valid}
 use Rattle.dns_spec.specs.Reading.{OctetsAt, PiecesAt, DataAt}
-use Rattle.dns_spec.proofs.NameLaws.{IsName-is_name}
-use Rattle.dns_spec.proofs.WireNames.{name_of-wire}
+use Rattle.dns_spec.proofs.DomainNames.NameLaws.{IsName-is_name}
+use Rattle.dns_spec.proofs.DomainNames.WireNames.{name_of-wire}
 use Rattle.dns_wire.proofs.PieceLemmas.{all_forward, run_past}
 
 -- the octets between two places are as many as there are places

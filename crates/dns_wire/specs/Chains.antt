@@ -1,5 +1,5 @@
--- What a reader learns here: how the places that are kept hang together, so that those with one number are found without
--- the others.
+-- What a reader learns here: how the places that are kept hang together, so that those with one
+-- number are found without the others.
 use Rattle.std.specs.Prelude.{◌≡◌, ℕ, zero, suc, ◌<◌, List, [], ◌∷◌, length, take, get_or, slice_get, Some, ◌==◌, if◌then◌else◌}
 use Rattle.dns_wire.specs.declared.places.Entry.{Entry}
 use Rattle.dns_wire.specs.Kept.{Kept}
@@ -16,7 +16,8 @@ abbrev pub last_with : ℕ → List Entry → ℕ
 last_with h [] = 0
 last_with h (e ∷ es) = with_first e h (last_with h es)
 
--- Each number leads to its last entry, and each entry to the one with its number before it. A pointer reaches each place.
+-- Each number leads to its last entry, and each entry to the one with its number before it. A
+-- pointer reaches each place.
 pub record AreChains (heads : List ℕ) (es : List Entry) : Type 0 where
   pub all : length heads ≡ 1024
   pub newest : (h : ℕ) → h < 1024 → get_or heads h 0 ≡ last_with h es

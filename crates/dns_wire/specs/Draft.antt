@@ -19,14 +19,15 @@ section_of Additional = additional
 
 -- the records of a set, in a section of a message
 abbrev pub item_of : Section → DomainName → ℕ → RecordSet → Item
-item_of section owner ttl set = record { section = section_of section; records = records_at owner ttl set }
+item_of section owner ttl set =
+    record { section = section_of section; records = records_at owner ttl set }
 
 -- the sets so far, and such a set after them
 abbrev pub with_set : List Item → Section → DomainName → ℕ → RecordSet → List Item
 with_set items section owner ttl set = items ++ item_of section owner ttl set ∷ []
 
--- a message that is being written: its limit, its octets after room for a header, the places kept, and how many questions
--- and records it has
+-- a message that is being written: its limit, its octets after room for a header, the places kept,
+-- and how many questions and records it has
 pub record Draft : Type 0 where
   pub limit : ℕ
   pub octets : Octets
@@ -39,10 +40,12 @@ pub record Draft : Type 0 where
 -- the names of the records so far, with their places
 abbrev pub names_so_far : Option MessageQuestion → List Item → List Placed
 names_so_far q items =
-    asked_placed q ++ (records_laid (asked_placed q) (12 + length (asked_octets q)) (records_of items)).names
+    asked_placed q
+    ++ (records_laid (asked_placed q) (12 + length (asked_octets q)) (records_of items)).names
 
 -- The draft has this question, and these sets, laid out, and the question fits its fields.
-pub record IsDraft (head : Octets → ℕ) (q : Option MessageQuestion) (items : List Item) (d : Draft) : Type 0 where
+pub record IsDraft (head : Octets → ℕ) (q : Option MessageQuestion) (items : List Item)
+    (d : Draft) : Type 0 where
   pub written : d.octets
       ≡ replicate 12 0 ++ asked_octets q
       ++ (records_laid (asked_placed q) (12 + length (asked_octets q)) (records_of items)).written

@@ -1,4 +1,5 @@
--- What a reader learns here: which places a writer keeps for the suffixes of names, and what it means that one is found.
+-- What a reader learns here: which places a writer keeps for the suffixes of names, and what it
+-- means that one is found.
 use Rattle.std.specs.Prelude.{◌≡◌, ℕ, List, slice_get, Some}
 use Rattle.dns_spec.specs.Names.{Octets, DomainName, wire}
 use Rattle.dns_spec.specs.Reading.{RunAt}
@@ -12,7 +13,8 @@ pub record Kept : Type 0 where
 abbrev pub IsKept : List Kept → ℕ → ℕ → Type 0
 IsKept ks p h = (k : ℕ) × (slice_get ks k ≡ Some (record { place = p; head = h }))
 
--- from place i of a message on, in a run that began at place s, stands a name with this wire form; and at a place
+-- from place i of a message on, in a run that began at place s, stands a name with this wire form;
+-- and at a place
 abbrev pub SpelledFrom : Octets → ℕ → ℕ → Octets → Type 0
 SpelledFrom b s i o = (n : DomainName) × (e : ℕ) × RunAt b s i n e × (wire n ≡ o)
 

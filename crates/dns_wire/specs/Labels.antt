@@ -42,9 +42,10 @@ NoNameAt b i = (n : DomainName) (e : ℕ) → NameAt b i n e → ⊥
 abbrev pub end_or : Option ℕ → ℕ → ℕ
 end_or end e = unwrap_or end e
 
--- What reading a name from place `at` keeps: with the labels so far in front, what the run at hand spells from place i on is
--- what place `at` spells, and nothing else is.
-pub record IsReading (b : Octets) (at : ℕ) (n : DomainName) (s i : ℕ) (end : Option ℕ) : Type 0 where
+-- What reading a name from place `at` keeps: with the labels so far in front, what the run at hand
+-- spells from place i on is what place `at` spells, and nothing else is.
+pub record IsReading (b : Octets) (at : ℕ) (n : DomainName) (s i : ℕ)
+    (end : Option ℕ) : Type 0 where
   pub is_name : IsTrue (is_name n)
   pub within : i ≤ length b
   pub end_within : IfSome end (λ e. e ≤ length b)

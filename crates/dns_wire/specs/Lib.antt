@@ -2,9 +2,10 @@ pub mod WireFault
 pub mod Labels
 pub mod Pieces
 pub mod Read
+pub mod QueryForm
 pub mod Kept
 pub mod Chains
 pub mod Writing
 pub mod Rooms
 pub mod Draft
-pub mod QueryForm
+pub mod QuickNumbers

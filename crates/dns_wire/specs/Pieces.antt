@@ -4,11 +4,13 @@ use Rattle.dns_spec.specs.Names.{Octets, DomainName, wire}
 use Rattle.dns_spec.specs.Data.{width, Piece, fixed, domain, string, strings, anything, are_strings}
 use Rattle.dns_spec.specs.Reading.{NameAt, OctetsAt, PiecesAt, DataAt}
 
--- From place i to place j stands this piece, which reads o without compression; the data ends at place e.
+-- From place i to place j stands this piece, which reads o without compression; the data ends at
+-- place e.
 abbrev pub PieceAt : Octets → Piece → ℕ → ℕ → ℕ → Octets → Type 0
 PieceAt b (fixed f) i e j o = OctetsAt b i (i + width f) o × (j ≡ i + width f)
 PieceAt b domain i e j o = (n : DomainName) × NameAt b i n j × (o ≡ wire n)
-PieceAt b string i e j o = (k : ℕ) × (slice_get b i ≡ Some k) × OctetsAt b i (i + 1 + k) o × (j ≡ i + 1 + k)
+PieceAt b string i e j o =
+    (k : ℕ) × (slice_get b i ≡ Some k) × OctetsAt b i (i + 1 + k) o × (j ≡ i + 1 + k)
 PieceAt b strings i e j o = OctetsAt b i j o × (0 < length o) × IsTrue (are_strings 0 o) × (j ≡ e)
 PieceAt b anything i e j o = OctetsAt b i j o × (j ≡ e)
 
@@ -29,9 +31,11 @@ NoPiecesAt b ps i e = (d : Octets) → PiecesAt b ps i e d → ⊥
 abbrev pub NoDataAt : Octets → ℕ → ℕ → ℕ → ℕ → Type 0
 NoDataAt b t c i e = (d : Octets) → DataAt b t c i e d → ⊥
 
--- What reading pieces one after another keeps: with the octets so far in front, what the pieces that are left spell from place j
--- on is what all of them spell from place i on.
-pub record ArePiecesRead (b : Octets) (ps : List Piece) (i e : ℕ) (left : List Piece) (j : ℕ) (so_far : Octets) : Type 0 where
+-- What reading pieces one after another keeps: with the octets so far in front, what the pieces
+-- that are left spell from place j on is what all of them spell from place i on.
+pub record ArePiecesRead (b : Octets) (ps : List Piece) (i e : ℕ) (left : List Piece) (j : ℕ)
+    (so_far : Octets) : Type 0 where
   pub inside : j ≤ e
   pub forth : (rest : Octets) → PiecesAt b left j e rest → PiecesAt b ps i e (so_far ++ rest)
-  pub back : (d : Octets) → PiecesAt b ps i e d → (rest : Octets) × (d ≡ so_far ++ rest) × PiecesAt b left j e rest
+  pub back : (d : Octets) → PiecesAt b ps i e d → (rest : Octets) × (d ≡ so_far ++ rest)
+      × PiecesAt b left j e rest

@@ -1,4 +1,5 @@
--- What a reader learns here: what a query that was read, and an RCODE, are in the words of the definitions.
+-- What a reader learns here: what a query that was read, and an RCODE, are in the words of the
+-- definitions.
 use Rattle.std.specs.Prelude.{ℕ}
 use Rattle.dns_spec.specs.Query as spec
 use Rattle.dns_spec.specs.Reading as reading

@@ -1,11 +1,13 @@
--- What a reader learns here: which question, which record and which header stand at a place of a message.
+-- What a reader learns here: which question, which record and which header stand at a place of a
+-- message.
 use Rattle.std.specs.Prelude.{◌≡◌, ℕ, ◌+◌, ◌≤◌, List, ◌++◌, length, ◌==◌, if◌then◌else◌}
 use Rattle.dns_spec.specs.Data.{class_in, Valid}
 use Rattle.dns_spec.specs.Names.{Octets}
 use Rattle.dns_spec.specs.Reading.{Header, MessageQuestion, MessageRecord, DnsMessage, NameAt, NumberAt, QuestionsAt, RecordAt, RecordsAt, Spells}
 use Rattle.dns_wire.specs.declared.reader.Counts.{Counts}
 
--- The type whose form data has: in another class than IN none, as type 0, of which the data is any octets (RFC 3597 3).
+-- The type whose form data has: in another class than IN none, as type 0, of which the data is any
+-- octets (RFC 3597 3).
 abbrev pub data_type : ℕ → ℕ → ℕ
 data_type rtype rclass = if rclass == class_in then rtype else 0
 
@@ -37,7 +39,8 @@ pub record HeaderAt (b : Octets) (h : Header) (counts : Counts) : Type 0 where
   pub additionals : NumberAt b 10 2 counts.additionals
 
 -- so many questions from place i to place e, inside the octets; and so many records
-pub record AreQuestions (b : Octets) (i count : ℕ) (qs : List MessageQuestion) (e : ℕ) : Type 0 where
+pub record AreQuestions (b : Octets) (i count : ℕ) (qs : List MessageQuestion)
+    (e : ℕ) : Type 0 where
   pub there : QuestionsAt b i qs e
   pub as_many : length qs ≡ count
   pub within : e ≤ length b
@@ -54,7 +57,8 @@ abbrev pub NoRecord : Octets → ℕ → Type 0
 NoRecord b i = (r : MessageRecord) (e : ℕ) → WholeRecordAt b i r e → ⊥
 
 abbrev pub NoQuestions : Octets → ℕ → ℕ → Type 0
-NoQuestions b i count = (qs : List MessageQuestion) (e : ℕ) → QuestionsAt b i qs e → length qs ≡ count → ⊥
+NoQuestions b i count =
+    (qs : List MessageQuestion) (e : ℕ) → QuestionsAt b i qs e → length qs ≡ count → ⊥
 
 abbrev pub NoRecords : Octets → ℕ → ℕ → Type 0
 NoRecords b i count = (rs : List MessageRecord) (e : ℕ) → RecordsAt b i rs e → length rs ≡ count → ⊥
@@ -62,15 +66,18 @@ NoRecords b i count = (rs : List MessageRecord) (e : ℕ) → RecordsAt b i rs e
 abbrev pub NoMessage : Octets → Type 0
 NoMessage b = (m : DnsMessage) → Spells b m → ⊥
 
--- What reading one after another keeps: those so far stand from place i to place j, and what follows them, all of them are.
+-- What reading one after another keeps: those so far stand from place i to place j, and what
+-- follows them, all of them are.
 pub record QuestionsRead (b : Octets) (i : ℕ) (so_far : List MessageQuestion) (j : ℕ) : Type 0 where
   pub within : j ≤ length b
-  pub forth : (qs : List MessageQuestion) (e : ℕ) → QuestionsAt b j qs e → QuestionsAt b i (so_far ++ qs) e
+  pub forth : (qs : List MessageQuestion) (e : ℕ) → QuestionsAt b j qs e
+      → QuestionsAt b i (so_far ++ qs) e
   pub back : (ws : List MessageQuestion) (e : ℕ) → QuestionsAt b i ws e → length so_far ≤ length ws
       → (qs : List MessageQuestion) × (ws ≡ so_far ++ qs) × QuestionsAt b j qs e
 
 pub record RecordsRead (b : Octets) (i : ℕ) (so_far : List MessageRecord) (j : ℕ) : Type 0 where
   pub within : j ≤ length b
-  pub forth : (rs : List MessageRecord) (e : ℕ) → RecordsAt b j rs e → RecordsAt b i (so_far ++ rs) e
+  pub forth : (rs : List MessageRecord) (e : ℕ) → RecordsAt b j rs e
+      → RecordsAt b i (so_far ++ rs) e
   pub back : (ws : List MessageRecord) (e : ℕ) → RecordsAt b i ws e → length so_far ≤ length ws
       → (rs : List MessageRecord) × (ws ≡ so_far ++ rs) × RecordsAt b j rs e

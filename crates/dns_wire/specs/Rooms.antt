@@ -19,6 +19,7 @@ module _ {N size : ℕ} where
   HasGrown old new = Extends old.octets.items old.places new.octets.items new.places
 
   -- what is laid out was written exactly where it fits the limit
-  abbrev pub HasWritten : Room N size → Room N size → (Octets → ℕ) → List Placed → Laid → Bool → Type 0
+  abbrev pub HasWritten : Room N size → Room N size → (Octets → ℕ) → List Placed → Laid
+      → Bool → Type 0
   HasWritten old new head ms laid fits =
       IsWritten head old.limit ms old.octets.items laid fits new.octets.items new.places

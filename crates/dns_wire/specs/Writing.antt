@@ -1,5 +1,6 @@
--- What a reader learns here: how a writer lays a name out, which places it keeps for later names, and what must hold of
--- the places kept, and of the octets written so far, that later names share rightly.
+-- What a reader learns here: how a writer lays a name out, which places it keeps for later names,
+-- and what must hold of the places kept, and of the octets written so far, that later names share
+-- rightly.
 use Rattle.std.specs.Prelude.{◌≡◌, ◌↔◌, ℕ, ◌+◌, ◌*◌, ◌<◌, ◌≤◌, ◌^◌, Bool, List, [], ◌∷◌, ◌++◌, length, drop, min, nat_le, IsTrue, if◌then◌else◌}
 use Rattle.std.specs.Prelude.{Option, None, Some}
 use Rattle.std.specs.Bool.{OnTrue}
@@ -35,13 +36,14 @@ abbrev pub end_octets : Option ℕ → Octets
 end_octets None = 0 ∷ []
 end_octets (Some p) = pointer p
 
--- the places that are kept of a name that is laid out from place p on: those of the suffixes written out, as far as a
--- pointer reaches
+-- the places that are kept of a name that is laid out from place p on: those of the suffixes
+-- written out, as far as a pointer reaches
 unfoldable pub new_places : (Octets → ℕ) → List Placed → DomainName → ℕ → List Kept
 new_places head ms [] p = []
 new_places head ms (l ∷ n) p = elim (shared_place ms (l ∷ n)) [
   | None ↦ if nat_le p last_place
-      then record { place = p; head = head (wire (l ∷ n)) } ∷ new_places head ms n (p + 1 + length l)
+      then record { place = p; head = head (wire (l ∷ n)) }
+      ∷ new_places head ms n (p + 1 + length l)
       else []
   | Some q ↦ []
 ]
@@ -51,7 +53,8 @@ pub record Answers (head : Octets → ℕ) (ms : List Placed) (ks : List Kept) :
   pub complete : (l : Octets) (n : DomainName) (p : ℕ) → shared_place ms (l ∷ n) ≡ Some p
       → IsKept ks p (head (wire (l ∷ n)))
   pub sound : (p h : ℕ) → IsKept ks p h
-      → (l : Octets) × (n : DomainName) × (shared_place ms (l ∷ n) ≡ Some p) × IsTrue (is_name (l ∷ n))
+      → (l : Octets) × (n : DomainName) × (shared_place ms (l ∷ n) ≡ Some p)
+      × IsTrue (is_name (l ∷ n))
 
 -- The message spells each suffix that is shared, and all places are in it.
 pub record Holds (head : Octets → ℕ) (ms : List Placed) (b : Octets) (ks : List Kept) : Type 0 where
@@ -82,8 +85,10 @@ pub record Grows (ks ks' : List Kept) : Type 0 where
   pub more : List Kept
   pub places : ks' ≡ ks ++ more
 
--- What was laid out after these octets is written exactly where it fits the limit, and its names are earlier names then.
-pub record IsWritten (head : Octets → ℕ) (limit : ℕ) (ms : List Placed) (b : Octets) (laid : Laid) (fits : Bool) (b' : Octets) (ks' : List Kept) : Type 0 where
+-- What was laid out after these octets is written exactly where it fits the limit, and its names
+-- are earlier names then.
+pub record IsWritten (head : Octets → ℕ) (limit : ℕ) (ms : List Placed) (b : Octets) (laid : Laid)
+    (fits : Bool) (b' : Octets) (ks' : List Kept) : Type 0 where
   pub exactly : IsTrue fits ↔ (length (b ++ laid.written) ≤ limit)
   pub written : OnTrue fits (b' ≡ b ++ laid.written)
   pub holds : OnTrue fits (Holds head (ms ++ laid.names) b' ks')

@@ -16,8 +16,8 @@ use std::alloc::Global;
 
 /// The data of a record that stands from one place up to another, without compression.
 ///
-/// Data of another class than IN is octets. `BadData` where the octets do not fill the pieces of the type exactly; a name is judged
-/// over the whole message first.
+/// Data of another class than IN is octets. `BadData` where the octets do not fill the pieces of
+/// the type exactly; a name is judged over the whole message first.
 pub(crate) fn read_data(
     alloc: Global,
     message: &[u8],
@@ -31,14 +31,16 @@ pub(crate) fn read_data(
     requires short { end ≤ at + 65535 }
     ensures ok { IfOk result (λ read. DataAt message.now rtype.0 rclass at end read.items) }
     ensures valid { IfOk result (λ read. IsWireData rtype.0 rclass read.items) }
-    ensures err { IfErr result (λ fault. UnlessNoMemory fault (NoDataAt message.now rtype.0 rclass at end)) }
+    ensures err { IfErr result
+        (λ fault. UnlessNoMemory fault (NoDataAt message.now rtype.0 rclass at end)) }
 {
     read_pieces(alloc, message, pieces_of_data(rtype, rclass), at, end)
 }
 
 // The types have their forms in class IN alone.
 fn pieces_of_data(rtype: RType, rclass: u16) -> &'static [Piece]
-    ensures { pieces_in result.now ≡ (if rclass == class_in then pieces_of rtype.0 else anything ∷ []) }
+    ensures { pieces_in result.now
+        ≡ (if rclass == class_in then pieces_of rtype.0 else anything ∷ []) }
 {
     if rclass == CLASS_IN {
         pieces_of_type(rtype)
@@ -56,8 +58,10 @@ fn read_pieces(
 ) -> Result<Vec<u8>, WireFault>
     requires ordered { at ≤ end }
     requires within { end ≤ length message.now }
-    ensures ok { IfOk result (λ read. PiecesAt message.now (pieces_in pieces.now) at end read.items) }
-    ensures err { IfErr result (λ fault. UnlessNoMemory fault (NoPiecesAt message.now (pieces_in pieces.now) at end)) }
+    ensures ok { IfOk result
+        (λ read. PiecesAt message.now (pieces_in pieces.now) at end read.items) }
+    ensures err { IfErr result
+        (λ fault. UnlessNoMemory fault (NoPiecesAt message.now (pieces_in pieces.now) at end)) }
 {
     let mut data = Vec::new(alloc);
     let mut place = at;
@@ -72,7 +76,8 @@ fn read_pieces(
     Ok(data)
 }
 
-// Appends the piece at a place, and answers the place after it, which is not past the end of the data.
+// Appends the piece at a place, and answers the place after it, which is not past the end of the
+// data.
 fn read_piece(
     message: &[u8],
     piece: Piece,
@@ -82,8 +87,11 @@ fn read_piece(
 ) -> Result<usize, WireFault>
     requires ordered { at ≤ end }
     requires within { end ≤ length message.now }
-    ensures ok { IfOk result (λ place. IsPieceRead message.now (piece_of piece) at end written.old.items written.new.items place) }
-    ensures err { IfErr result (λ fault. UnlessNoMemory fault (NoPieceAt message.now (piece_of piece) at end)) }
+    ensures ok { IfOk result
+        (λ place. IsPieceRead message.now (piece_of piece) at end
+        written.old.items written.new.items place) }
+    ensures err { IfErr result
+        (λ fault. UnlessNoMemory fault (NoPieceAt message.now (piece_of piece) at end)) }
 {
     match piece {
         Piece::Domain => read_domain(message, at, end, written),
@@ -100,8 +108,10 @@ fn read_domain(
 ) -> Result<usize, WireFault>
     requires ordered { at ≤ end }
     requires within { end ≤ length message.now }
-    ensures ok { IfOk result (λ place. IsPieceRead message.now domain at end written.old.items written.new.items place) }
-    ensures err { IfErr result (λ fault. UnlessNoMemory fault (NoPieceAt message.now domain at end)) }
+    ensures ok { IfOk result
+        (λ place. IsPieceRead message.now domain at end written.old.items written.new.items place) }
+    ensures err { IfErr result
+        (λ fault. UnlessNoMemory fault (NoPieceAt message.now domain at end)) }
 {
     let (name, place) = read_name(message, at)?;
     if place > end {
@@ -122,8 +132,11 @@ fn read_run(
     requires ordered { at ≤ end }
     requires within { end ≤ length message.now }
     requires no_name { piece_of piece ≢ domain }
-    ensures ok { IfOk result (λ place. IsPieceRead message.now (piece_of piece) at end written.old.items written.new.items place) }
-    ensures err { IfErr result (λ fault. UnlessNoMemory fault (NoPieceAt message.now (piece_of piece) at end)) }
+    ensures ok { IfOk result
+        (λ place. IsPieceRead message.now (piece_of piece) at end
+        written.old.items written.new.items place) }
+    ensures err { IfErr result
+        (λ fault. UnlessNoMemory fault (NoPieceAt message.now (piece_of piece) at end)) }
 {
     let (_, rest) = message.split_at(at);
     let (own, _) = rest.split_at(end - at);

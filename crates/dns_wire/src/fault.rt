@@ -11,7 +11,8 @@ pub enum WireFault {
     Short = 1,
     /// A label begins with the bits 01 or 10, which are reserved (RFC 1035 4.1.4).
     ReservedLabel = 2,
-    /// A pointer goes into the header, or not before the place where the labels at hand began (RFC 1035 4.1.4).
+    /// A pointer goes into the header, or not before the place where the labels at hand began (RFC
+    /// 1035 4.1.4).
     BadPointer = 3,
     /// A name has more than 255 octets (RFC 1035 2.3.4).
     LongName = 4,

@@ -10,6 +10,9 @@ use std::marker::Model;
 /// The class of the Internet (RFC 1035 3.2.4).
 pub const CLASS_IN: u16 = 1;
 
+/// The octets of a header (RFC 1035 4.1.1), in which no name stands.
+pub(crate) const HEADER_OCTETS: usize = 12;
+
 /// ID, and QR, opcode, AA, TC, RD, RA, three zero bits and RCODE as 16 bits (RFC 1035 4.1.1).
 #[derive(Drop)]
 pub struct Head {
@@ -27,7 +30,8 @@ impl Model for Head {
     ghost view = { λ h. record { id = h.id; flags = h.flags } };
 }
 
-/// A question: the name as it is spelled, and the numbers of the type and the class asked for (RFC 1035 4.1.2).
+/// A question: the name as it is spelled, and the numbers of the type and the class asked for (RFC
+/// 1035 4.1.2).
 #[derive(Drop)]
 pub struct Question {
     /// The name asked for.
@@ -67,14 +71,20 @@ impl Model for WireRecord {
 
     ghost Value = { MessageRecord };
 
-    ghost view = { λ r. record { owner = r.owner; rtype = r.rtype.0; rclass = r.rclass; ttl = r.ttl; rdata = r.rdata.items } };
+    ghost view = { λ r. record {
+      owner = r.owner;
+      rtype = r.rtype.0;
+      rclass = r.rclass;
+      ttl = r.ttl;
+      rdata = r.rdata.items;
+    } };
 
     ghost invariant = { λ r. IsWireData r.rtype.0 r.rclass r.rdata.items };
 }
 
 impl WireRecord {
-    /// The type whose form the data has, for which it is valid: in another class than IN none, as type 0, of which the data is any
-    /// octets (RFC 3597 3).
+    /// The type whose form the data has, for which it is valid: in another class than IN none, as
+    /// type 0, of which the data is any octets (RFC 3597 3).
     pub fn data_type(&self) -> RType
         ensures value { result.0 ≡ data_type self.now.rtype self.now.rclass }
         ensures valid { Valid result.0 self.now.rdata }
@@ -107,5 +117,11 @@ impl Model for Message {
 
     ghost Value = { DnsMessage };
 
-    ghost view = { λ m. record { header = m.head; questions = m.questions.items; answers = m.answers.items; authorities = m.authorities.items; additionals = m.additionals.items } };
+    ghost view = { λ m. record {
+      header = m.head;
+      questions = m.questions.items;
+      answers = m.answers.items;
+      authorities = m.authorities.items;
+      additionals = m.additionals.items;
+    } };
 }

@@ -4,10 +4,8 @@ ghost use Rattle.dns_spec.specs.Reading.{NameAt};
 ghost use Rattle.dns_wire.specs.Labels.{StepAt, NoRunAt, NoNameAt};
 
 use crate::fault::WireFault;
+use crate::message::HEADER_OCTETS;
 use dns_name::{Label, Name};
-
-// The octets of a header (RFC 1035 4.1.1), which no name stands in.
-const HEADER_OCTETS: usize = 12;
 
 // What stands where a name goes on.
 #[derive(Drop)]
@@ -21,9 +19,10 @@ pub(crate) enum Step<'a> {
 
 /// The name at a place of a message, as it is spelled, and the place after its own octets.
 ///
-/// A pointer goes to a place after the header and before the place where the labels at hand began, so that reading ends.
-/// Faults are judged from the left: a missing octet, the reserved bits, a pointer's second octet and its place, a
-/// label's octets, and the length of the name with the label.
+/// A pointer goes to a place after the header and before the place where the labels at hand began,
+/// so that reading ends. Faults are judged from the left: a missing octet, the reserved bits, a
+/// pointer's second octet and its place, a label's octets, and the length of the name with the
+/// label.
 pub(crate) fn read_name(message: &[u8], at: usize) -> Result<(Name, usize), WireFault>
     requires { at ≤ length message.now }
     ensures name { IfOk result (λ read. NameAt message.now at read.0 read.1) }

@@ -1,4 +1,5 @@
-//! A message that is being written: a question, and sets in their sections, within a limit (RFC 1035 4.1).
+//! A message that is being written: a question, and sets in their sections, within a limit (RFC
+//! 1035 4.1).
 ghost use Rattle.std.specs.Prelude.{◌≡◌, ◌↔◌, ◌+◌, ◌<◌, ◌≤◌, ◌^◌, List, [], ◌∷◌, ◌++◌, ℕ, ◌*◌, length, take, drop, min, IsTrue, IsFalse, Option, All};
 ghost use Rattle.std.specs.Option.{option_copied};
 ghost use Rattle.dns_spec.specs.Names.{Octets};
@@ -9,7 +10,7 @@ ghost use Rattle.dns_spec.specs.Laws.{sections_in_order, IsWritable};
 ghost use Rattle.dns_spec.specs.Sharing.{Sharing};
 ghost use Rattle.dns_wire.specs.Writing.{IsSound};
 
-use crate::message::{Head, Question};
+use crate::message::{HEADER_OCTETS, Head, Question};
 use crate::places::SuffixHash;
 use crate::room::Room;
 use byteorder::{BigEndian, ByteOrder};
@@ -43,17 +44,35 @@ impl<const N: usize, const SIZE: usize> Model for Page<N, SIZE> {
 
     ghost Value = { Draft };
 
-    ghost view = { λ p. record { limit = p.room.limit; octets = p.room.octets.items; kept = p.room.places; questions = p.questions; answers = p.answers; authorities = p.authorities; additionals = p.additionals } };
+    ghost view = { λ p. record {
+      limit = p.room.limit;
+      octets = p.room.octets.items;
+      kept = p.room.places;
+      questions = p.questions;
+      answers = p.answers;
+      authorities = p.authorities;
+      additionals = p.additionals;
+    } };
 
-    ghost invariant = { λ p. IsWellKept N SIZE (record { limit = p.room.limit; octets = p.room.octets.items; kept = p.room.places; questions = p.questions; answers = p.answers; authorities = p.authorities; additionals = p.additionals }) };
+    ghost invariant = { λ p. IsWellKept N SIZE (record {
+      limit = p.room.limit;
+      octets = p.room.octets.items;
+      kept = p.room.places;
+      questions = p.questions;
+      answers = p.answers;
+      authorities = p.authorities;
+      additionals = p.additionals;
+    }) };
 }
 
 impl<const N: usize, const SIZE: usize> Page<N, SIZE> {
     ghost use Rattle.dns_wire.specs.Draft.{IsDraft, with_set};
 
-    /// An empty message of at most `limit` octets, 512 to 65,535, with the question that it repeats, if any.
+    /// An empty message of at most `limit` octets, 512 to 65,535, with the question that it
+    /// repeats, if any.
     ///
-    /// Condition: there are as many octets as the limit, and places for one in two of the octets that a pointer reaches.
+    /// Condition: there are as many octets as the limit, and places for one in two of the octets
+    /// that a pointer reaches.
     pub fn new<H: SuffixHash>(
         limit: usize,
         question: Option<&Question>,
@@ -100,8 +119,8 @@ impl<const N: usize, const SIZE: usize> Page<N, SIZE> {
         }
     }
 
-    /// Writes the records of a set at an owner, with a TTL in seconds, into a section: all of them, or none where with
-    /// them the message is past its limit.
+    /// Writes the records of a set at an owner, with a TTL in seconds, into a section: all of them,
+    /// or none where with them the message is past its limit.
     pub fn put_set<H: SuffixHash, S: SetView>(
         &mut self,
         hash: &mut H,
@@ -121,7 +140,8 @@ impl<const N: usize, const SIZE: usize> Page<N, SIZE> {
         ensures least { (q : Option MessageQuestion) (items : List Item)
             → IsDraft (H.numbers hash.old) q items self.old → self.old.limit ≤ 16384
             → IsFalse result ↔ ((z : ℕ)
-            → Sharing q (with_set items section owner.now ttl (S.set set.now)) z → self.old.limit < z) }
+            → Sharing q (with_set items section owner.now ttl (S.set set.now)) z
+            → self.old.limit < z) }
         ensures unchanged { OnFalse result (self.new ≡ self.old) }
         ensures limit { self.new.limit ≡ self.old.limit }
         ensures same { H.numbers hash.new ≡ H.numbers hash.old }
@@ -138,7 +158,8 @@ impl<const N: usize, const SIZE: usize> Page<N, SIZE> {
         true
     }
 
-    /// Puts the message at the front of `out`, with its header and counts, and answers its length in octets.
+    /// Puts the message at the front of `out`, with its header and counts, and answers its length
+    /// in octets.
     ///
     /// Condition: `out` is as long as the limit.
     pub fn finish(self, head: Head, out: &mut [u8]) -> usize
@@ -167,9 +188,6 @@ impl<const N: usize, const SIZE: usize> Page<N, SIZE> {
         length
     }
 }
-
-// The octets of a header (RFC 1035 4.1.1).
-const HEADER_OCTETS: usize = 12;
 
 fn put_body(out: &mut [u8], body: &[u8])
     requires { 12 + length body.now ≤ length out.old }

@@ -1,4 +1,5 @@
-//! The places of the suffixes that a message has so far, found by a hash of the suffix (RFC 1035 4.1.4).
+//! The places of the suffixes that a message has so far, found by a hash of the suffix (RFC 1035
+//! 4.1.4).
 ghost use Rattle.std.specs.Prelude.{◌≡◌, ◌-◌, ◌<◌, ◌≤◌, [], ◌∷◌, ◌++◌, length, take, replicate, get_or, IsTrue, IfSome, IsNone};
 ghost use Rattle.dns_wire.specs.Kept.{IsKept, SpelledAt, NoneSpelled};
 
@@ -9,7 +10,8 @@ use std::marker::Model;
 // Chains of places are found by so many numbers.
 const HEADS: usize = 1024;
 
-/// Chooses the chain in which a suffix is looked for: a number below 1,024, the same at every call for the same octets.
+/// Chooses the chain in which a suffix is looked for: a number below 1,024, the same at every call
+/// for the same octets.
 ///
 /// What a writer writes does not depend on which number that is.
 pub trait SuffixHash {
@@ -26,7 +28,8 @@ pub trait SuffixHash {
         ensures same { numbers self.new ≡ numbers self.old };
 }
 
-// A place, the number of its suffix, and which entry with this number was kept before it, counted from 1; 0 is none.
+// A place, the number of its suffix, and which entry with this number was kept before it, counted
+// from 1; 0 is none.
 #[derive(Clone, Copy, Default)]
 struct Entry {
     place: u16,
@@ -34,8 +37,8 @@ struct Entry {
     next: u16,
 }
 
-/// The places that are kept, each with the number of its suffix, in the order in which they came. What a suffix is called
-/// stands in the message alone.
+/// The places that are kept, each with the number of its suffix, in the order in which they came.
+/// What a suffix is called stands in the message alone.
 #[derive(Drop)]
 pub(crate) struct Places<const N: usize> {
     // Which entry with each number is the newest, counted from 1; 0 is none.
@@ -105,7 +108,8 @@ impl<const N: usize> Places<N> {
         }
     }
 
-    /// A place at which the message spells the suffix, among those that are kept with this number; the newest of them.
+    /// A place at which the message spells the suffix, among those that are kept with this number;
+    /// the newest of them.
     pub(crate) fn find(&self, head: u16, message: &[u8], suffix: &[u8]) -> Option<u16>
         requires { head < 1024 }
         ensures kept { IfSome result (λ place. IsKept self.now place head) }

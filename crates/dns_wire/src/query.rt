@@ -4,11 +4,9 @@ ghost use Rattle.dns_spec.specs.ComputedReading.{name_at};
 ghost use Rattle.dns_spec.specs.Query.{field16, head_of, reply_head, refusal_head, is_ignored, counts_are_one_question, question_at, query_read};
 ghost use Rattle.dns_wire.specs.QueryForm.{as_read, code_of};
 
-use crate::message::{Head, Question};
+use crate::message::{HEADER_OCTETS, Head, Question};
 use byteorder::{BigEndian, ByteOrder};
 use dns_name::{Label, Name};
-
-const HEADER_OCTETS: usize = 12;
 
 /// What a datagram is as a query.
 #[derive(Drop)]
@@ -46,8 +44,8 @@ impl Rcode {
 }
 
 impl Head {
-    /// The header of the reply to a query with this header (RFC 1035 4.1.1): its ID, opcode and RD, with QR set, and AA and TC
-    /// as they are given. RA and the three zero bits are 0.
+    /// The header of the reply to a query with this header (RFC 1035 4.1.1): its ID, opcode and RD,
+    /// with QR set, and AA and TC as they are given. RA and the three zero bits are 0.
     pub fn reply(&self, authoritative: bool, truncated: bool, rcode: Rcode) -> Head
         ensures { result ≡ reply_head self.now authoritative truncated (code_of rcode) }
     {
@@ -69,8 +67,9 @@ impl Head {
 
 /// Reads a datagram as a query, of any octets (RFC 1035 4.1).
 ///
-/// `Absent` for fewer than 12 octets and for replies. Refused are, in this order: an opcode that isn't 0, with RCODE 4, and,
-/// with RCODE 1, counts that aren't 1, 0, 0, 0, and what isn't exactly one question after the header.
+/// `Absent` for fewer than 12 octets and for replies. Refused are, in this order: an opcode that
+/// isn't 0, with RCODE 4, and, with RCODE 1, counts that aren't 1, 0, 0, 0, and what isn't exactly
+/// one question after the header.
 #[tactic(auto, unfolding(dns_spec::specs::Query::query_read))]
 pub fn read_query(datagram: &[u8]) -> QueryRead
     ensures { as_read result ≡ query_read datagram.now }
@@ -138,8 +137,8 @@ fn read_question(datagram: &[u8]) -> Option<Question>
     })
 }
 
-// The name at the first place after the header, and the place after it. No pointer is lawful there, since its place would
-// have to be before that one and after the header (RFC 1035 4.1.4).
+// The name at the first place after the header, and the place after it. No pointer is lawful there,
+// since its place would have to be before that one and after the header (RFC 1035 4.1.4).
 fn read_name(datagram: &[u8]) -> Option<(Name, usize)>
     ensures name { result ≡ name_at datagram.now 12 }
     ensures within { IfSome result (λ r. r.1 ≤ length datagram.now) }

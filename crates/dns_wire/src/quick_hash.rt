@@ -3,14 +3,15 @@ ghost use Rattle.std.specs.Prelude.{◌≡◌, ◌<◌, get_or};
 
 use crate::places::SuffixHash;
 
-/// Chooses chains by the length of a suffix and the first octets of its first label: a few instructions for each.
+/// Chooses chains by the length of a suffix and the first octets of its first label: a few
+/// instructions for each.
 #[derive(Clone, Copy, Default, Debug)]
 pub struct QuickHash;
 
 impl SuffixHash for QuickHash {
-    ghost use Rattle.std.specs.Prelude.{ℕ, ◌+◌, ◌*◌, ◌%◌, length, get_or};
+    ghost use Rattle.dns_wire.specs.QuickNumbers.{quick_number};
 
-    ghost numbers = { λ _ s. (get_or s 1 0 * 101 + get_or s 2 0 * 29 + get_or s 3 0 * 7 + length s % 1024) % 1024 };
+    ghost numbers = { λ _ s. quick_number s };
 
     fn head(&mut self, suffix: &[u8]) -> u16 {
         let length = (suffix.len() % 1024) as u16;

@@ -6,19 +6,16 @@ ghost use Rattle.dns_wire.specs.WireFault.{UnlessNoMemory};
 
 use crate::data::read_data;
 use crate::fault::WireFault;
-use crate::message::{Head, Message, Question, WireRecord};
+use crate::message::{HEADER_OCTETS, Head, Message, Question, WireRecord};
 use crate::name::read_name;
 use crate::number::{read_u16, read_u32};
 use dns_rdata::RType;
 use std::alloc::Global;
 
-// The octets of a header (RFC 1035 4.1.1).
-const HEADER_OCTETS: usize = 12;
-
 /// The message that octets are, to their end.
 ///
-/// A fault tells why they are none: the first from the left, by the header, the questions and the records. `NoMemory` comes only
-/// where a growth was refused.
+/// A fault says why they are none: the first from the left, by the header, the questions and the
+/// records. `NoMemory` comes only where a growth was refused.
 pub fn read_message(alloc: Global, octets: &[u8]) -> Result<Message, WireFault>
     ensures ok { IfOk result (λ message. Spells octets.now message) }
     ensures err { IfErr result (λ fault. UnlessNoMemory fault (NoMessage octets.now)) }
@@ -40,7 +37,7 @@ pub fn read_message(alloc: Global, octets: &[u8]) -> Result<Message, WireFault>
     })
 }
 
-// How many questions and records a header tells, by section.
+// How many questions and records a header states, by section.
 #[derive(Clone, Copy)]
 struct Counts {
     questions: u16,
@@ -50,7 +47,8 @@ struct Counts {
 }
 
 fn read_header(octets: &[u8]) -> Result<(Head, Counts), WireFault>
-    ensures ok { IfOk result (λ read. HeaderAt octets.now read.0 read.1 × (12 ≤ length octets.now)) }
+    ensures ok { IfOk result (λ read. HeaderAt octets.now read.0 read.1
+        × (12 ≤ length octets.now)) }
     ensures err { IfErr result (λ fault. length octets.now < 12) }
 {
     if octets.len() < HEADER_OCTETS {
@@ -92,7 +90,8 @@ fn read_questions(
 
 fn read_question(message: &[u8], at: usize) -> Result<(Question, usize), WireFault>
     requires { at ≤ length message.now }
-    ensures ok { IfOk result (λ read. QuestionAt message.now at read.0 read.1 × (read.1 ≤ length message.now)) }
+    ensures ok { IfOk result (λ read. QuestionAt message.now at read.0 read.1
+        × (read.1 ≤ length message.now)) }
     ensures err { IsErr result → NoQuestion message.now at }
 {
     let (name, at) = read_name(message, at)?;
@@ -129,7 +128,8 @@ fn read_records(
 
 fn read_record(alloc: Global, message: &[u8], at: usize) -> Result<(WireRecord, usize), WireFault>
     requires { at ≤ length message.now }
-    ensures ok { IfOk result (λ read. WholeRecordAt message.now at read.0 read.1 × (read.1 ≤ length message.now)) }
+    ensures ok { IfOk result (λ read. WholeRecordAt message.now at read.0 read.1
+        × (read.1 ≤ length message.now)) }
     ensures err { IfErr result (λ fault. UnlessNoMemory fault (NoRecord message.now at)) }
 {
     let (owner, at) = read_name(message, at)?;

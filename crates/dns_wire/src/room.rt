@@ -1,5 +1,5 @@
-//! The room of a writer: octets up to a limit, and the places of suffixes in them. Names are laid out here
-//! (RFC 1035 4.1.4).
+//! The room of a writer: octets up to a limit, and the places of suffixes in them. Names are laid
+//! out here (RFC 1035 4.1.4).
 ghost use Rattle.std.specs.Prelude.{◌≡◌, ◌↔◌, List, ◌+◌, ◌*◌, ◌≤◌, ◌<◌, ◌^◌, [], ◌∷◌, ◌++◌, length, take, replicate, min, All, IsTrue, IfSome, IsNone};
 ghost use Rattle.std.specs.Bool.{OnTrue, OnFalse};
 ghost use Rattle.dns_spec.specs.Names.{DomainName, wire, is_name};
@@ -21,7 +21,8 @@ use dns_rdata::{Part, Parts, RType, Rdata, SetView};
 // The last place that the 14 bits of a pointer reach.
 const LAST_PLACE: usize = 16383;
 
-/// A message that is being written: its octets so far, and the places in them that later names may point to.
+/// A message that is being written: its octets so far, and the places in them that later names may
+/// point to.
 #[derive(Drop)]
 pub(crate) struct Room<const N: usize, const SIZE: usize> {
     pub(crate) octets: ArrayVec<u8, SIZE>,
@@ -102,8 +103,9 @@ impl<const N: usize, const SIZE: usize> Room<N, SIZE> {
         }
     }
 
-    /// Writes a name, given in its wire form: its labels before the longest suffix that is shared, and a pointer to
-    /// that; or the whole name. False, with nothing written, where it does not fit the limit.
+    /// Writes a name, given in its wire form: its labels before the longest suffix that is shared,
+    /// and a pointer to that; or the whole name. False, with nothing written, where it does not fit
+    /// the limit.
     pub(crate) fn put_name<H: SuffixHash>(&mut self, hash: &mut H, name: &[u8]) -> bool
         requires { IsSoundRoom self.old }
         ensures fits { (ms : List Placed) (n : DomainName)
@@ -133,7 +135,8 @@ impl<const N: usize, const SIZE: usize> Room<N, SIZE> {
         true
     }
 
-    // Writes parts of data one after the other. False where they do not fit; then some of them may be written.
+    // Writes parts of data one after the other. False where they do not fit; then some of them may
+    // be written.
     fn put_parts<H: SuffixHash>(&mut self, hash: &mut H, parts: Parts<'_>) -> bool
         requires sound { IsSoundRoom self.old }
         requires names { All HasName parts }
@@ -189,8 +192,8 @@ impl<const N: usize, const SIZE: usize> Room<N, SIZE> {
         self.places.take_back(places);
     }
 
-    /// Writes the records of a set at an owner, with this TTL in seconds. False, with nothing written, where they do not
-    /// all fit.
+    /// Writes the records of a set at an owner, with this TTL in seconds. False, with nothing
+    /// written, where they do not all fit.
     pub(crate) fn put_set<H: SuffixHash, S: SetView>(
         &mut self,
         hash: &mut H,
@@ -274,7 +277,8 @@ impl<const N: usize, const SIZE: usize> Room<N, SIZE> {
         self.append(&numbers, &[]) && self.put_data(hash, rtype, rdata)
     }
 
-    // The length of data that is laid out 10 octets further on. `None` where it does not fit. Nothing is written.
+    // The length of data that is laid out 10 octets further on. `None` where it does not fit.
+    // Nothing is written.
     fn data_length<H: SuffixHash>(
         &mut self,
         hash: &mut H,
@@ -341,7 +345,8 @@ fn pointer_octets(place: u16) -> [u8; 2]
     octets
 }
 
-// How a name is laid out: the octets of its labels before the suffix that it shares, and the place of that suffix.
+// How a name is laid out: the octets of its labels before the suffix that it shares, and the place
+// of that suffix.
 #[derive(Clone, Copy)]
 struct Shared {
     front: usize,
@@ -382,7 +387,8 @@ fn shared_suffix<H: SuffixHash, const N: usize>(
     }
 }
 
-// Keeps the places of the suffixes that begin in the first `front` octets of a name laid out at a place.
+// Keeps the places of the suffixes that begin in the first `front` octets of a name laid out at a
+// place.
 fn keep_suffixes<H: SuffixHash, const N: usize>(
     places: &mut Places<N>,
     hash: &mut H,
@@ -415,7 +421,8 @@ fn keep_suffixes<H: SuffixHash, const N: usize>(
     }
 }
 
-// The length of the first label of a name in its wire form, and the octets after it. `None` of the root.
+// The length of the first label of a name in its wire form, and the octets after it. `None` of the
+// root.
 fn after_first_label(name: &[u8]) -> Option<(usize, &[u8])>
     ensures some { IfSome result (λ r. AfterLabel name.now r.0 r.1.now) }
     ensures root { IsNone result → (n : DomainName) → name.now ≡ wire n → IsTrue (is_name n)

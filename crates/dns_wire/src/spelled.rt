@@ -45,7 +45,8 @@ fn is_root(wire: &[u8]) -> bool
 // What follows the label, where the octets begin with it.
 fn after_label<'a>(wire: &'a [u8], label: &[u8]) -> Option<&'a [u8]>
     ensures some { IfSome result (λ rest. wire.now ≡ length label.now ∷ (label.now ++ rest.now)) }
-    ensures none { IsNone result → (rest : Octets) → wire.now ≡ length label.now ∷ (label.now ++ rest) → ⊥ }
+    ensures none { IsNone result → (rest : Octets)
+        → wire.now ≡ length label.now ∷ (label.now ++ rest) → ⊥ }
 {
     let (length, rest) = wire.split_first()?;
     if usize::from(*length) != label.len() {

@@ -1,4 +1,5 @@
-//! A message of up to 65,535 octets that is being written, with the hash that it is lent (RFC 1035 4.1).
+//! A message of up to 65,535 octets that is being written, with the hash that it is lent (RFC 1035
+//! 4.1).
 ghost use Rattle.std.specs.Prelude.{◌≡◌, ◌↔◌, ℕ, ◌<◌, ◌≤◌, List, [], ◌∷◌, ◌++◌, length, take, IsTrue, IsFalse, Option, All};
 ghost use Rattle.std.specs.Option.{option_copied};
 ghost use Rattle.std.specs.Bool.{OnTrue, OnFalse};
@@ -15,7 +16,8 @@ use crate::places::SuffixHash;
 use dns_name::Name;
 use dns_rdata::SetView;
 
-/// A message that is being written: a page of the greatest size, and the hash that its places are found by.
+/// A message that is being written: a page of the greatest size, and the hash that its places are
+/// found by.
 #[derive(Drop)]
 pub struct Writer<'h, H: SuffixHash> {
     hash: &'h mut H,
@@ -23,7 +25,8 @@ pub struct Writer<'h, H: SuffixHash> {
 }
 
 impl<'h, H: SuffixHash> Writer<'h, H> {
-    /// An empty message of at most `limit` octets, 512 to 65,535, with the question that it repeats, if any.
+    /// An empty message of at most `limit` octets, 512 to 65,535, with the question that it
+    /// repeats, if any.
     pub fn new(limit: usize, question: Option<&Question>, hash: &'h mut H) -> Writer<'h, H>
         requires from { 512 ≤ limit }
         requires upto { limit ≤ 65535 }
@@ -35,8 +38,8 @@ impl<'h, H: SuffixHash> Writer<'h, H> {
         Writer { hash, page }
     }
 
-    /// Writes the records of a set at an owner, with a TTL in seconds, into a section: all of them, or none where with
-    /// them the message is past its limit.
+    /// Writes the records of a set at an owner, with a TTL in seconds, into a section: all of them,
+    /// or none where with them the message is past its limit.
     pub fn put_set<S: SetView>(&mut self, section: Section, owner: &Name, ttl: u32, set: &S) -> bool
         ensures fits { (q : Option MessageQuestion) (items : List Item)
             → IsDraft (H.numbers self.old.hash.now) q items self.old.page
@@ -47,9 +50,11 @@ impl<'h, H: SuffixHash> Writer<'h, H> {
             → OnTrue result (IsDraft (H.numbers self.new.hash.now) q
             (with_set items section owner.now ttl (S.set set.now)) self.new.page) }
         ensures least { (q : Option MessageQuestion) (items : List Item)
-            → IsDraft (H.numbers self.old.hash.now) q items self.old.page → self.old.page.limit ≤ 16384
+            → IsDraft (H.numbers self.old.hash.now) q items self.old.page
+            → self.old.page.limit ≤ 16384
             → IsFalse result ↔ ((z : ℕ)
-            → Sharing q (with_set items section owner.now ttl (S.set set.now)) z → self.old.page.limit < z) }
+            → Sharing q (with_set items section owner.now ttl (S.set set.now)) z
+            → self.old.page.limit < z) }
         ensures unchanged { OnFalse result (self.new.page ≡ self.old.page) }
         ensures limit { self.new.page.limit ≡ self.old.page.limit }
         ensures same { H.numbers self.new.hash.now ≡ H.numbers self.old.hash.now }
@@ -57,7 +62,8 @@ impl<'h, H: SuffixHash> Writer<'h, H> {
         self.page.put_set(self.hash, section, owner, ttl, set)
     }
 
-    /// Puts the message at the front of `out`, with its header and counts, and answers its length in octets.
+    /// Puts the message at the front of `out`, with its header and counts, and answers its length
+    /// in octets.
     ///
     /// Condition: `out` is as long as the limit.
     pub fn finish(self, head: Head, out: &mut [u8]) -> usize

@@ -9,15 +9,15 @@ use Rattle.dns_spec.specs.Data.{type_ns}
 use Rattle.dns_spec.specs.Records.{ResourceRecord, ZoneContents, owns}
 use Rattle.dns_spec.specs.Tree.{is_cut}
 use Rattle.dns_spec.specs.Checks.{at_or_below_cut, below_cut}
-use Rattle.dns_spec.proofs.NameLaws.{same_tests, at_or_below-cons}
-use Rattle.dns_spec.proofs.SortedOnce.{Each, each_filter, filter_each}
-use Rattle.dns_zone.specs.CutForm.{behind, IsApart, AreApart, AreTopmost, last_passes}
+use Rattle.dns_spec.proofs.DomainNames.NameLaws.{same_tests, at_or_below-cons}
+use Rattle.dns_spec.proofs.Records.SortedOnce.{Each, each_filter, filter_each}
+use Rattle.dns_zone.specs.CutForm.{after, IsApart, AreApart, AreTopmost, last_passes}
 use Rattle.dns_zone.proofs.Pairs.{Pairs}
 use Rattle.dns_zone.proofs.NameOrder.{same-is, same-from}
 use Rattle.dns_zone.proofs.NameTree.{Under, under-is, same-below, below-cons, under-order, between}
 
--- an element behind which the last one is meant
-pub last_is : (q : ResourceRecord → Bool) (b : Bor ResourceRecord) (bs : List (Bor ResourceRecord)) → Some b ≡ slice_get bs (length bs - 1) → q b.now ≡ last_passes q (behind bs)
+-- an element after which the last one is meant
+pub last_is : (q : ResourceRecord → Bool) (b : Bor ResourceRecord) (bs : List (Bor ResourceRecord)) → Some b ≡ slice_get bs (length bs - 1) → q b.now ≡ last_passes q (after bs)
 last_is q b [] e = cc
 last_is q b (x ∷ []) e = let one : b ≡ x = cc in ap (λ y. q y.now) one
 last_is q b (x ∷ y ∷ ys) e =
@@ -27,7 +27,7 @@ last_is q b (x ∷ y ∷ ys) e =
     same_place : (k : ℕ) → k ≡ suc k - 1
     same_place k = omega arith
 
-pub last_none : (q : ResourceRecord → Bool) (bs : List (Bor ResourceRecord)) → None ≡ slice_get bs (length bs - 1) → false ≡ last_passes q (behind bs)
+pub last_none : (q : ResourceRecord → Bool) (bs : List (Bor ResourceRecord)) → None ≡ slice_get bs (length bs - 1) → false ≡ last_passes q (after bs)
 last_none q [] e = refl
 last_none q (x ∷ []) e = cc
 last_none q (x ∷ y ∷ ys) e =
@@ -79,7 +79,7 @@ less_not_greater Less h = refl
 less_not_greater Equal h = refl
 less_not_greater Greater h = absurd (false≢true h)
 
--- of the cuts that are not behind a name, the last one alone can be above it
+-- of the cuts that are not after a name, the last one alone can be above it
 module _ (m : DomainName) (q : ResourceRecord → Bool) (above : (c : ResourceRecord) → q c ≡ true → at_or_below m c.owner ≡ true) where
   abbrev reached : ResourceRecord → Bool
   reached c = not (is_gt (name_order c.owner m))

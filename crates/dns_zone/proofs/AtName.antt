@@ -7,12 +7,12 @@ use Rattle.std.specs.Ordering.{ordering_reverse, ordering_then}
 use Rattle.std.specs.List.Sorted.{IsPartitionedBy}
 use Rattle.dns_spec.specs.Names.{DomainName, same, name_order}
 use Rattle.dns_spec.specs.Records.{ResourceRecord, insert_by, sort_by, data_order, record_order}
-use Rattle.dns_spec.proofs.SortedOnce.{Each, each_weaker, filter_each}
+use Rattle.dns_spec.proofs.Records.SortedOnce.{Each, each_weaker, filter_each}
 use Rattle.dns_zone.specs.ZoneForm.{AreOrdered}
 use Rattle.dns_zone.proofs.Pairs.{Pairs, pairs_weaker, pairs_of, pairs_filter, parted, filter_within}
 use Rattle.dns_zone.proofs.NameOrder.{name_order_total, same-tied, tied-same, not_greater}
 
--- a sorted list is in order, each element with each behind it
+-- a sorted list is in order, each element with each after it
 module _ {X : Type 0} (cmp : X → X → Ordering) (total : IsTotalOrder cmp) where
   abbrev pub NotAfter : X → X → Type 0
   NotAfter x y = is_gt (cmp x y) ≡ false
@@ -113,7 +113,7 @@ module _ (n : DomainName) where
       let upper : is_gt (name_order r.owner n) ≡ false = upto name_order_total r.owner s.owner n e (ap is_gt tied) in
       tied-same r.owner n (not_greater (name_order r.owner n) upper (not-true _ p))
 
-  -- what stands at the name or behind it
+  -- what stands at the name or after it
   pub at_parted : (rs : List ResourceRecord) → AreOrdered rs → IsPartitionedBy is_at (filter (λ r. not (is_before r)) rs)
   at_parted rs h =
       let others = filter (λ r. not (is_before r)) rs in

@@ -6,17 +6,21 @@ use Rattle.dns_spec.specs.Records.{ResourceRecord, ZoneContents, zone_of, record
 use Rattle.dns_spec.specs.Checks.{Fault, faults}
 use Rattle.dns_spec.specs.Meaning.{most_records}
 use Rattle.dns_spec.specs.ZonePrinted.{IsReadRecord, is_soa}
-use Rattle.dns_spec.proofs.FaultOrder.{folded_folded}
-use Rattle.dns_spec.proofs.PassedChecks.{one_soa}
-use Rattle.dns_spec.proofs.RecordOrder.{ordered_faults}
+use Rattle.dns_spec.proofs.ZoneChecks.FaultOrder.{folded_folded}
+use Rattle.dns_spec.proofs.ZoneChecks.PassedChecks.{one_soa}
+use Rattle.dns_spec.proofs.Records.RecordOrder.{ordered_faults}
 use Rattle.dns_zone.specs.ZoneForm.{AreOrdered, IsBuilt}
 
 below : (a b c : ℕ) → a ≤ b → b ≤ c → a ≤ c
 below a b c h k = omega arith
 
 -- the folded origin and the canonical records of those that were read, and the faults found in them
-module _ (o n : DomainName) (rs xs : List ResourceRecord) (fs : List Fault) (low : n ≡ folded o) (canonical : xs ≡ sort_by record_order (distinct records_equal rs))
-    (found : fs ≡ faults (record { origin = n; records = xs })) where
+module _ (o n : DomainName) (rs xs ys : List ResourceRecord) (fs : List Fault) (low : n ≡ folded o) (canonical : xs ≡ sort_by record_order (distinct records_equal rs))
+    (lent : ys ≡ xs)
+    (faults_are : fs ≡ faults (record { origin = n; records = ys })) where
+  found : fs ≡ faults (record { origin = n; records = xs })
+  found = faults_are ∙ ap (λ (zs : List ResourceRecord). faults (record { origin = n; records = zs })) lent
+
   pub found_of_read : fs ≡ faults (zone_of o rs)
   found_of_read = found ∙ ap₂ (λ (m : DomainName) ys. faults (record { origin = m; records = ys })) low canonical ∙ ordered_faults o rs
 

@@ -7,7 +7,7 @@ use Rattle.std.specs.Cmp.Lexicographic.{slice_cmp}
 use Rattle.std.specs.Ordering.{ordering_then}
 use Rattle.std.specs.Char.{to_ascii_lowercase}
 use Rattle.dns_spec.specs.Names.{Octets, DomainName, wire, folded, same, last_labels, at_or_below, below, label_order, name_order}
-use Rattle.dns_spec.proofs.NameLaws.{at_or_below-short, same-length-wire}
+use Rattle.dns_spec.proofs.DomainNames.NameLaws.{at_or_below-short, same-length-wire}
 use Rattle.dns_name.specs.WireForm.{labels_of, IsWireForm}
 use Rattle.dns_zone.specs.TreeSteps.{IsChildOf}
 use Rattle.dns_zone.proofs.Spans.{drop_again}
@@ -41,9 +41,10 @@ first_suffix n owner w b low = record {
   above = itself-at (labels_of owner);
 }
 
-longer_below : (m n : DomainName) → at_or_below m n ≡ true → length (wire n) < length (wire m)
+-- a name at or below another, and not the same, is below it
+below_unless_same : (m n : DomainName) → at_or_below m n ≡ true → (same m n ≡ true → ⊥)
     → below m n ≡ true
-longer_below m n h l = and_from _ _ (go (cases_lt (length n) (length m))) h
+below_unless_same m n h other = and_from _ _ (go (cases_lt (length n) (length m))) h
   where
     parts : (nat_le (length n) (length m) ≡ true) × (same (last_labels (length n) m) n ≡ true)
     parts = and_parts (nat_le (length n) (length m)) (same (last_labels (length n) m) n) h
@@ -53,8 +54,12 @@ longer_below m n h l = and_from _ _ (go (cases_lt (length n) (length m))) h
     go (inr k) =
         let none : length m - length n ≡ 0 = omega arith in
         let whole : same m n ≡ true = ap (λ (i : ℕ). same (drop i m) n) (sym none) ∙ parts.1 in
-        let level = same-length-wire m n whole in
-        absurd (omega arith)
+        absurd (other whole)
+
+longer_below : (m n : DomainName) → at_or_below m n ≡ true → length (wire n) < length (wire m)
+    → below m n ≡ true
+longer_below m n h l =
+    below_unless_same m n h (λ whole. let level = same-length-wire m n whole in omega arith)
 
 -- one label less
 pub shorter_suffix : (n : DomainName) (owner s rest : Octets) (l : Octets) → IsSuffix n owner s
@@ -176,17 +181,7 @@ labels_in_order r s n k l low lowk lowl p q h =
 
 -- what is at or below a name and not that name is below it
 pub other_below : (m n : DomainName) → at_or_below m n ≡ true → same m n ≡ false → below m n ≡ true
-other_below m n h f = and_from _ _ (go (cases_lt (length n) (length m))) h
-  where
-    parts : (nat_le (length n) (length m) ≡ true) × (same (last_labels (length n) m) n ≡ true)
-    parts = and_parts (nat_le (length n) (length m)) (same (last_labels (length n) m) n) h
-
-    go : (length n < length m) ⊎ (length m ≤ length n) → nat_lt (length n) (length m) ≡ true
-    go (inl k) = lt-ltb _ _ k
-    go (inr k) =
-        let none : length m - length n ≡ 0 = omega arith in
-        let whole : same m n ≡ true = ap (λ (i : ℕ). same (drop i m) n) (sym none) ∙ parts.1 in
-        absurd (false≢true (sym f ∙ whole))
+other_below m n h f = below_unless_same m n h (λ whole. false≢true (sym f ∙ whole))
 
 pub under-longer : (r m : DomainName) → at_or_below r m ≡ true → length m ≤ length r
 under-longer r m h =

@@ -10,11 +10,11 @@ use Rattle.dns_spec.specs.Records.{ResourceRecord, ZoneContents, at, owns}
 use Rattle.dns_spec.specs.Checks.{is_owner}
 use Rattle.dns_spec.specs.Tree.{exists}
 use Rattle.dns_spec.specs.ZonePrinted.{IsReadRecord}
-use Rattle.dns_spec.proofs.NameLaws.{IsName-is_name, at_or_below-length-wire}
-use Rattle.dns_spec.proofs.SortedOnce.{Each, Among, each_weaker, filter_among}
-use Rattle.dns_spec.proofs.RecordOrder.{each_all}
-use Rattle.dns_spec.proofs.PassedChecks.{checks_of_origin, checks_at}
-use Rattle.dns_spec.proofs.ItemSets.{each_among}
+use Rattle.dns_spec.proofs.DomainNames.NameLaws.{IsName-is_name, at_or_below-length-wire}
+use Rattle.dns_spec.proofs.Records.SortedOnce.{Each, Among, each_weaker, filter_among}
+use Rattle.dns_spec.proofs.Records.RecordOrder.{each_all}
+use Rattle.dns_spec.proofs.ZoneChecks.PassedChecks.{checks_of_origin, checks_at}
+use Rattle.dns_spec.proofs.Replies.ItemSets.{each_among}
 use Rattle.dns_zone.specs.Nodes.{IsNode}
 use Rattle.dns_zone.specs.ZoneForm.{IsBuilt}
 use Rattle.dns_zone.proofs.NameOrder.{same-from, lower_twice}

@@ -6,8 +6,8 @@ use Rattle.std.proofs.lemmas.List.{get_or-map, length-map}
 use Rattle.std.specs.Ordering.{ordering_reverse}
 use Rattle.dns_spec.specs.Names.{Octets, label_order}
 use Rattle.dns_spec.specs.Records.{ResourceRecord}
-use Rattle.dns_spec.proofs.SortedOnce.{Among, Rises}
-use Rattle.dns_spec.proofs.RecordOrder.{among_contains}
+use Rattle.dns_spec.proofs.Records.SortedOnce.{Among, Rises}
+use Rattle.dns_spec.proofs.Records.RecordOrder.{among_contains}
 use Rattle.dns_zone.specs.TreeForm.{row_label, row_at, room_after}
 use Rattle.dns_zone.specs.declared.row.Row.{Row}
 use Rattle.dns_zone.proofs.Pairs.{each_get}
@@ -29,7 +29,7 @@ pub record Searching (rs : List ResourceRecord) (kids : List Row) (label : Octet
   pub inside : high ≤ length kids
   pub room : high ≤ low + room_after turn
   pub before : (k : ℕ) → k < low → label_order (row_label rs (row_at kids k)) label ≡ Less
-  pub behind : (k : ℕ) → high ≤ k → k < length kids
+  pub after : (k : ℕ) → high ≤ k → k < length kids
       → label_order (row_label rs (row_at kids k)) label ≡ Greater
 
 -- half of a room, rounded, is the room after one more comparison
@@ -45,7 +45,7 @@ module _ (rs : List ResourceRecord) (kids : List Row) (label : Octets) where
     inside = omega arith;
     room = omega arith;
     before = λ k l. absurd (omega arith);
-    behind = λ k l m. absurd (omega arith);
+    after = λ k l m. absurd (omega arith);
   }
 
   pub moved : {low high low' high' turn : ℕ} → low' ≡ low → high' ≡ high
@@ -79,7 +79,7 @@ module _ (rs : List ResourceRecord) (kids : List Row) (label : Octets) where
         inside = s.inside;
         room = room;
         before = λ k l. here k (cases_lt k middle) l;
-        behind = s.behind;
+        after = s.after;
       }
         where
           inside : middle < length kids
@@ -102,7 +102,7 @@ module _ (rs : List ResourceRecord) (kids : List Row) (label : Octets) where
         inside = let a = s.inside in omega arith;
         room = room;
         before = s.before;
-        behind = λ k l m. here k (cases_lt middle k) l m;
+        after = λ k l m. here k (cases_lt middle k) l m;
       }
         where
           here : (k : ℕ) → (middle < k) ⊎ (k ≤ middle) → middle ≤ k → k < length kids
@@ -140,4 +140,4 @@ module _ (rs : List ResourceRecord) (kids : List Row) (label : Octets) where
         go k h is (inr l) =
             false≢true
             (ap is_gt
-            (sym tied ∙ ap (λ (x : Octets). label_order x label) (sym is) ∙ s.behind k l h))
+            (sym tied ∙ ap (λ (x : Octets). label_order x label) (sym is) ∙ s.after k l h))

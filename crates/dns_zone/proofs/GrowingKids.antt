@@ -7,9 +7,9 @@ use Rattle.std.specs.List.{list_any}
 use Rattle.std.specs.Char.{to_ascii_lowercase}
 use Rattle.dns_spec.specs.Names.{Octets, DomainName, folded, same, names_equal, at_or_below, below, label_order}
 use Rattle.dns_spec.specs.Records.{ResourceRecord}
-use Rattle.dns_spec.proofs.NameLaws.{names_equal-decides, same-length}
-use Rattle.dns_spec.proofs.SortedOnce.{Each, Among, Rises, each_at, each_weaker, filter_each}
-use Rattle.dns_spec.proofs.ItemSets.{filter_test}
+use Rattle.dns_spec.proofs.DomainNames.NameLaws.{names_equal-decides, same-length}
+use Rattle.dns_spec.proofs.Records.SortedOnce.{Each, Among, Rises, each_at, each_weaker, filter_each}
+use Rattle.dns_spec.proofs.Replies.ItemSets.{filter_test}
 use Rattle.dns_name.proofs.WireLemmas.{labels_of_spelled}
 use Rattle.dns_zone.specs.ZoneForm.{IsCanonical}
 use Rattle.dns_zone.specs.TreeForm.{span, owners, under, first_of, row_octets, row_name, row_label, IsRow, IsKid, AreKids}
@@ -20,7 +20,7 @@ use Rattle.dns_zone.proofs.NameOrder.{lower_twice}
 use Rattle.dns_zone.proofs.NameTree.{label-tie, under-trans}
 use Rattle.dns_zone.proofs.AtName.{OwnerNotAfter, owners_in_order, is_at}
 use Rattle.dns_zone.proofs.Existing.{under-lower}
-use Rattle.dns_zone.proofs.Spans.{drop_again, drop_span, take_span, none_before, none_behind, in_span, nothing_each, each_nothing, nothing_there, nothing_further, some_passes, any_there, any_append, any_nothing, among_left, among_right, each_drop, each_push}
+use Rattle.dns_zone.proofs.Spans.{drop_again, drop_span, take_span, none_before, none_past, in_span, nothing_each, each_nothing, nothing_there, nothing_further, some_passes, any_there, any_append, any_nothing, among_left, among_right, each_drop, each_push}
 use Rattle.dns_zone.proofs.ChildNames.{cons_under, one_above, labels_in_order, other_below, under-longer}
 use Rattle.dns_zone.proofs.KidRows.{is_under, pairs_drop}
 
@@ -36,7 +36,7 @@ rises_push [] y r e = (tt, tt)
 rises_push (x ∷ xs) y r e =
     (each_push (λ z. label_order x z ≡ Less) xs y r.0 e.0, rises_push xs y r.1 e.1)
 
--- the children of the records before a place have their rows, behind the rows so far
+-- the children of the records before a place have their rows, after the rows so far
 pub record Adding (rs : List ResourceRecord) (n : DomainName) (own_end : ℕ) (old new : List Row)
     (next : ℕ) : Type 0 where
   pub kids : List Row
@@ -118,7 +118,7 @@ module _ (rs : List ResourceRecord) (canonical : IsCanonical rs) (n : DomainName
       in_span (is_under n) rs row.first row.end order is_row.below k blank (omega arith) h
       is_row.end_fits in
       let none : filter (is_at n) (drop row.own_end rs) ≡ [] =
-      none_behind (is_at n) rs row.first row.own_end is_row.first_own is_row.own in
+      none_past (is_at n) rs row.first row.own_end is_row.first_own is_row.own in
       let other =
       nothing_there (is_at n) rs k blank
       (nothing_further (is_at n) rs row.own_end k a.from none) inside in
@@ -147,7 +147,7 @@ module _ (rs : List ResourceRecord) (canonical : IsCanonical rs) (n : DomainName
     group = ap (λ (i : ℕ). span rs i kid.end) (sym h.first) ∙ is_kid.below
 
     none_after : under m (drop kid.end rs) ≡ []
-    none_after = none_behind (is_under m) rs k kid.end order group
+    none_after = none_past (is_under m) rs k kid.end order group
 
     label_is : row_label rs kid ≡ h.kid.label
     unfolding m
@@ -324,12 +324,12 @@ module _ (rs : List ResourceRecord) (canonical : IsCanonical rs) (n : DomainName
   pub done : (old new : List Row) (k : ℕ) → Adding rs n row.own_end old new k → row.end ≤ k
       → AddsKids rs n old new
   done old new k a h =
-      let behind : drop (length old) new ≡ a.kids =
+      let after : drop (length old) new ≡ a.kids =
       ap (drop (length old)) a.are ∙ drop_at old a.kids _ refl in
       record {
         longer = omega (arith, ap length a.are, length-append old a.kids);
         kept = ap (take (length old)) a.are ∙ take_at old a.kids _ refl;
-        kids = subst (AreKids rs n) (sym behind) (record {
+        kids = subst (AreKids rs n) (sym after) (record {
           each = a.each;
           rising = a.rising;
           all = λ l e. a.all l (found l e);
@@ -344,7 +344,7 @@ module _ (rs : List ResourceRecord) (canonical : IsCanonical rs) (n : DomainName
       none l =
           within (l ∷ n) (cons_under l n) (drop k rs)
           (nothing_further (is_under n) rs row.end k h
-          (none_behind (is_under n) rs row.first row.end order is_row.below))
+          (none_past (is_under n) rs row.first row.end order is_row.below))
 
       found : (l : Octets) → list_any (is_under (l ∷ n)) rs ≡ true
           → list_any (is_under (l ∷ n)) (take k rs) ≡ true

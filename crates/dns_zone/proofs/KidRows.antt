@@ -8,7 +8,7 @@ use Rattle.std.specs.List.Sorted.{IsPartitionedBy}
 use Rattle.std.specs.Ordering.{ordering_reverse}
 use Rattle.dns_spec.specs.Names.{Octets, DomainName, wire, is_name, folded, at_or_below, below, name_order}
 use Rattle.dns_spec.specs.Records.{ResourceRecord, record_order}
-use Rattle.dns_spec.proofs.SortedOnce.{Each, each_weaker}
+use Rattle.dns_spec.proofs.Records.SortedOnce.{Each, each_weaker}
 use Rattle.dns_name.specs.WireForm.{labels_of}
 use Rattle.dns_zone.specs.ZoneForm.{AreOrdered, IsCanonical}
 use Rattle.dns_zone.specs.TreeForm.{owners, under, row_octets}

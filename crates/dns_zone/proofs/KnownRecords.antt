@@ -2,10 +2,10 @@
 use Rattle.std.proofs.Common.{All, [], ◌∷◌, ◌++◌, length}
 use Rattle.std.proofs.lemmas.List.Elements.{All-nil, All-cons}
 use Rattle.dns_spec.specs.Names.{DomainName, wire}
-use Rattle.dns_spec.proofs.SmallOctets.{Small, small_tail, small_front, small_back}
+use Rattle.dns_spec.proofs.DomainNames.SmallOctets.{Small, small_tail, small_front, small_back}
 
 pub small_labels : (n : DomainName) → Small (wire n) → All Small n
 small_labels [] h = All-nil Small
 small_labels (l ∷ n) h =
-    let behind = small_tail (length l) (l ++ wire n) h in
-    All-cons Small l n (small_front l (wire n) behind) (small_labels n (small_back l (wire n) behind))
+    let after = small_tail (length l) (l ++ wire n) h in
+    All-cons Small l n (small_front l (wire n) after) (small_labels n (small_back l (wire n) after))

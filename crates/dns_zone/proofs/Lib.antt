@@ -10,7 +10,7 @@ pub mod NameTree
 pub mod AboveCuts
 pub mod TopmostLoop
 pub mod OwnRecords
-pub mod ToldNames
+pub mod ReportedNames
 pub mod OwnersWalk
 pub mod NodeSets
 pub mod Existing
@@ -22,3 +22,5 @@ pub mod OriginRow
 pub mod GrowingTree
 pub mod FoundKid
 pub mod NodeRows
+pub mod KeyOrder
+pub mod KeysLeft

@@ -1,6 +1,6 @@
 -- The canonical order of names.
-use Rattle.std.proofs.Common.{◌≡◌, ℕ, Bool, true, false, cond, eqb, nat_lt, [], ◌∷◌, map, reverse, refl, sym, ap, ap₂, ◌∙◌, is_eq, is_gt, is_lt, nat_cmp, Ordering, Less, Equal, Greater, arith}
-use Rattle.std.proofs.lemmas.Bool.{ne_eqb, ltb-true, false≢true}
+use Rattle.std.proofs.Common.{◌≡◌, true, false, [], ◌∷◌, map, reverse, refl, sym, ap, ap₂, ◌∙◌, is_eq, is_gt, is_lt, nat_cmp, Ordering, Less, Equal, Greater}
+use Rattle.std.proofs.lemmas.Bool.{false≢true}
 use Rattle.std.proofs.lemmas.List.{reverse-reverse}
 use Rattle.std.proofs.lemmas.Cmp.{nat_list_cmp_total, lists_total, on_total, tied_itself}
 use Rattle.std.proofs.lemmas.Str.Ascii.{lowercase-lowercase}
@@ -8,21 +8,11 @@ use Rattle.std.specs.Cmp.{IsTotalOrder}
 use Rattle.std.specs.Cmp.Lexicographic.{slice_cmp, lists_ties}
 use Rattle.std.specs.Char.{to_ascii_lowercase}
 use Rattle.dns_spec.specs.Names.{Octets, DomainName, folded, same, names_equal, label_order, name_order}
-use Rattle.dns_spec.proofs.NameLaws.{names_equal-decides}
+use Rattle.dns_spec.proofs.ZoneChecks.FaultOrder.{nat_ties}
+use Rattle.dns_spec.proofs.DomainNames.NameLaws.{names_equal-decides}
 
 pub name_order_total : IsTotalOrder name_order
 name_order_total = on_total (λ n. reverse (folded n)) (lists_total nat_list_cmp_total)
-
-pub nat_ties : (x y : ℕ) → eqb x y ≡ is_eq (nat_cmp x y)
-nat_ties x y = go (nat_lt x y) refl
-  where
-    level : (s : Bool) → s ≡ is_eq (cond s Equal Greater)
-    level true = refl
-    level false = refl
-
-    go : (t : Bool) → nat_lt x y ≡ t → eqb x y ≡ is_eq (cond t Less (cond (eqb x y) Equal Greater))
-    go true e = ne_eqb x y (λ h. let below = ltb-true x y e in omega arith)
-    go false e = level (eqb x y)
 
 pub same-is : (n m : DomainName) → same n m ≡ true → folded n ≡ folded m
 same-is n m h = (names_equal-decides (folded n) (folded m)).0 h

@@ -1,4 +1,4 @@
--- Names at or below a name stand side by side in canonical order, directly behind it.
+-- Names at or below a name stand side by side in canonical order, directly after it.
 use Rattle.std.proofs.Common.{◌≡◌, ℕ, suc, ◌+◌, ◌-◌, ◌<◌, ◌≤◌, Bool, true, false, ◌&&◌, nat_lt, nat_le, ◌⊎◌, inl, inr, List, [], ◌∷◌, ◌++◌, map, reverse, length, take, drop, refl, sym, ap, ap₂, ◌∙◌, arith, length-append, is_eq, is_gt, nat_cmp, Ordering, Less, Equal, Greater}
 use Rattle.std.proofs.lemmas.Bool.{false≢true, true≢false, and_parts, and_from, or_cases, or_right, le-leb, leb-true, lt-ltb, false_from_ne_true, ltb-true}
 use Rattle.std.proofs.lemmas.List.{reverse-reverse, reverse-append, take-append-drop, drop-map, length-map, append_assoc}
@@ -8,8 +8,9 @@ use Rattle.std.specs.Cmp.Lexicographic.{slice_cmp, lists_ties}
 use Rattle.std.specs.Ordering.{ordering_then, ordering_reverse}
 use Rattle.std.specs.Char.{to_ascii_lowercase}
 use Rattle.dns_spec.specs.Names.{Octets, DomainName, folded, same, last_labels, at_or_below, below, label_order, name_order}
-use Rattle.dns_spec.proofs.NameLaws.{octets_equal-decides, same_tests, same-length, at_or_below-cons}
-use Rattle.dns_zone.proofs.NameOrder.{same-is, same-from, nat_ties}
+use Rattle.dns_spec.proofs.DomainNames.NameLaws.{octets_equal-decides, same_tests, same-length, at_or_below-cons}
+use Rattle.dns_zone.proofs.NameOrder.{same-is, same-from}
+use Rattle.dns_spec.proofs.ZoneChecks.FaultOrder.{nat_ties}
 
 -- the labels of n end in those of a
 abbrev pub Under : DomainName → DomainName → Type 0

@@ -5,8 +5,8 @@ use Rattle.std.specs.List.{list_any}
 use Rattle.dns_spec.specs.Names.{Octets, DomainName, at_or_below}
 use Rattle.dns_spec.specs.Records.{ResourceRecord}
 use Rattle.dns_spec.specs.Tree.{exists}
-use Rattle.dns_spec.proofs.SortedOnce.{Each, each_weaker}
-use Rattle.dns_spec.proofs.RecordOrder.{contains_among}
+use Rattle.dns_spec.proofs.Records.SortedOnce.{Each, each_weaker}
+use Rattle.dns_spec.proofs.Records.RecordOrder.{contains_among}
 use Rattle.dns_zone.specs.Nodes.{IsNode}
 use Rattle.dns_zone.specs.NodeForm.{zone_of_tree, IsNodeAt}
 use Rattle.dns_zone.specs.TreeForm.{first_of, row_name, row_label, row_at, kids_at, IsRow, IsKid, AreKids}

@@ -1,21 +1,20 @@
 -- The sets of a name of a built zone.
-use Rattle.std.proofs.Common.{◌≡◌, ℕ, ◌≤◌, ◌<◌, true, false, not, cond, nat_lt, ◌==◌, ◌⊎◌, inl, inr, List, [], ◌∷◌, map, length, Option, None, Some, IfSome, refl, sym, ap, ◌∙◌, subst, filter, is_gt, nat_cmp, arith, Less, Equal, Greater}
-use Rattle.std.proofs.lemmas.Bool.{ltb-false, eqb-true, eq-eqb, cases_lt, lt-ltb, le-ltb}
+use Rattle.std.proofs.Common.{◌≡◌, ℕ, ◌≤◌, ◌<◌, true, false, not, cond, ◌==◌, ◌⊎◌, inl, inr, List, [], ◌∷◌, map, length, Option, None, Some, IfSome, refl, sym, ap, ◌∙◌, subst, filter, is_gt, nat_cmp, arith, Less, Equal, Greater}
+use Rattle.std.proofs.lemmas.Bool.{eqb-true, eq-eqb, cases_lt, lt-ltb, le-ltb}
 use Rattle.std.proofs.lemmas.Cmp.{nat_cmp_total, tied_itself}
 use Rattle.std.proofs.lemmas.List.{length-map}
 use Rattle.std.proofs.lemmas.Option.{none-some, same_Some}
 use Rattle.std.specs.List.Sorted.{IsNonDecreasingBy}
 use Rattle.std.specs.Ordering.{ordering_then}
-use Rattle.dns_spec.specs.Names.{DomainName, folded, names_equal, same}
+use Rattle.dns_spec.specs.Names.{DomainName, folded, same}
 use Rattle.dns_spec.specs.Data.{Valid}
 use Rattle.dns_spec.specs.Records.{ResourceRecord, ZoneContents, distinct, sort_by, data_order, record_order, at, rrset}
 use Rattle.dns_spec.specs.Sets.{RecordSet, records_at, set_of, rising_types, of_lowest_type, of_first_type}
-use Rattle.dns_spec.specs.Checks.{count, large_set}
 use Rattle.dns_spec.specs.ZonePrinted.{IsReadRecord}
-use Rattle.dns_spec.proofs.SortedOnce.{Each, Among, each_filter, each_distinct, each_sort, each_weaker, filter_each, among_filter, sort_among, length-sort_by}
-use Rattle.dns_spec.proofs.RecordOrder.{each_all, all_each}
-use Rattle.dns_spec.proofs.PassedChecks.{checks_at}
-use Rattle.dns_spec.proofs.ItemSets.{IsOf, as_set, first_ttl, own_records, each_typed, any_false, filter_test}
+use Rattle.dns_spec.proofs.Records.SortedOnce.{Each, each_filter, each_distinct, each_sort, each_weaker, filter_each, length-sort_by}
+use Rattle.dns_spec.proofs.Records.RecordOrder.{each_all, all_each}
+use Rattle.dns_spec.proofs.Replies.FewItems.{count_few}
+use Rattle.dns_spec.proofs.Replies.ItemSets.{IsOf, as_set, first_ttl, own_records, each_typed}
 use Rattle.dns_zone.specs.Nodes.{IsSetOf}
 use Rattle.dns_zone.specs.SetForm.{data_of, lent, IsLent, AreOfType}
 use Rattle.dns_zone.specs.ZoneForm.{IsBuilt}
@@ -127,32 +126,8 @@ module _ (z : ZoneContents) (kept : IsBuilt z) (n : DomainName) where
     are_of_type = of_one_type t (rrset z n t) read_set
 
     -- RFC 2181 5.2, and the limit of a set
-    few : (r : ResourceRecord) → Among r (rrset z n t) → length (rrset z n t) ≤ 64
-    few r m =
-        let in_type = sort_among data_order r typed m in
-        let in_at = among_filter (λ (s : ResourceRecord). s.rtype == t) r (at z n) in_type in
-        let in_zone = among_filter (λ (s : ResourceRecord). same s.owner n) r z.records in_at in
-        let is_t : r.rtype ≡ t =
-        eqb-true r.rtype t
-        (filter_test (λ (s : ResourceRecord). s.rtype == t) r (at z n) in_type) in
-        let alike : folded r.owner ≡ folded n =
-        same-is r.owner n
-        (filter_test (λ (s : ResourceRecord). same s.owner n) r z.records in_at) in
-        let one_name : at z r.owner ≡ at z n =
-        ap (λ (f : DomainName). filter (λ (s : ResourceRecord). names_equal (folded s.owner) f)
-        z.records) alike in
-        let fine : large_set z r.owner ≡ false =
-        (checks_at z kept.low lows kept.passes r in_zone).1.1.1.1.1.1.1.1.1.1.1.1.1.0 in
-        let one : nat_lt 64 (count z r.owner r.rtype) ≡ false =
-        any_false (λ (q : ResourceRecord). nat_lt 64 (count z r.owner q.rtype)) (at z r.owner) r
-        fine (subst (Among r) (sym one_name) in_at)
-        in
-        let own : count z r.owner r.rtype ≡ length typed =
-        ap (λ rs. length (filter (λ (s : ResourceRecord). s.rtype == r.rtype) rs)) one_name
-        ∙ ap (λ (u : ℕ). length (filter (λ (s : ResourceRecord). s.rtype == u) (at z n))) is_t
-        in
-        let bound = ltb-false _ _ one in
-        omega (arith, length-sort_by data_order typed)
+    few : length (rrset z n t) ≤ 64
+    few = let bound = count_few z kept.low lows kept.passes n t in omega (arith, length-sort_by data_order typed, bound)
 
     pub set_kept : folded n ≡ n → (s : RecordSet) → set_of (rrset z n t) ≡ Some s
         → (s.rtype ≡ t) × IsSetOf (record { zone = z; name = n }) s
@@ -174,12 +149,9 @@ module _ (z : ZoneContents) (kept : IsBuilt z) (n : DomainName) where
             → (s.rtype ≡ t) × IsSetOf (record { zone = z; name = n }) s
         go [] p e = absurd (none-some s e)
         go (r ∷ rs) p e =
-            let own =
-            subst (Each (IsOf (folded n) k t)) p (own_records z kept.low lows kept.passes n t)
-            in
-            let read =
-            subst (Each (λ (q : ResourceRecord). IsReadRecord q × (q.rtype ≡ t))) p read_set in
-            let bound = few r (subst (Among r) (sym p) (inl refl)) in
+            let own = subst (Each (IsOf (folded n) k t)) p (own_records z kept.low lows kept.passes n t) in
+            let read = subst (Each (λ (q : ResourceRecord). IsReadRecord q × (q.rtype ≡ t))) p read_set in
+            let bound = few in
             let set : RecordSet = lent r.rtype r.ttl (r ∷ rs) in
             subst (λ (y : RecordSet). (y.rtype ≡ t) × IsSetOf (record { zone = z; name = n }) y)
             (same_Some set s e) (

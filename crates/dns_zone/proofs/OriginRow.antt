@@ -6,8 +6,8 @@ use Rattle.std.specs.List.Sorted.{IsPartitionedBy}
 use Rattle.dns_spec.specs.Names.{DomainName, wire, is_name, same, at_or_below}
 use Rattle.dns_spec.specs.Data.{type_soa}
 use Rattle.dns_spec.specs.Records.{ResourceRecord, ZoneContents}
-use Rattle.dns_spec.proofs.SortedOnce.{Each, Among}
-use Rattle.dns_spec.proofs.RecordOrder.{among_contains}
+use Rattle.dns_spec.proofs.Records.SortedOnce.{Each, Among}
+use Rattle.dns_spec.proofs.Records.RecordOrder.{among_contains}
 use Rattle.dns_zone.specs.ZoneForm.{AreOrdered, IsBuilt}
 use Rattle.dns_zone.specs.TreeForm.{owners, row_octets, IsRow}
 use Rattle.dns_zone.proofs.Pairs.{filter_all}

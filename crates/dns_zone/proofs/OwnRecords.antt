@@ -9,7 +9,7 @@ use Rattle.dns_spec.specs.Data.{type_a, type_aaaa}
 use Rattle.dns_spec.specs.Records.{ResourceRecord, ZoneContents, at, owns, data_order, record_order}
 use Rattle.dns_spec.specs.Tree.{is_cut}
 use Rattle.dns_spec.specs.Checks.{at_or_below_cut, lacks_address}
-use Rattle.dns_spec.proofs.SortedOnce.{filter_each}
+use Rattle.dns_spec.proofs.Records.SortedOnce.{filter_each}
 use Rattle.dns_zone.specs.ZoneForm.{AreOrdered}
 use Rattle.dns_zone.specs.CutForm.{AreTopmost}
 use Rattle.dns_zone.proofs.Pairs.{pairs_of, pairs_filter, rising}

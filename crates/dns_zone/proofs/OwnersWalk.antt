@@ -9,16 +9,16 @@ use Rattle.std.specs.List.Sorted.{IsPartitionedBy}
 use Rattle.std.specs.Ordering.{ordering_reverse}
 use Rattle.dns_spec.specs.Names.{DomainName, folded, same, names_equal, name_order}
 use Rattle.dns_spec.specs.Records.{ResourceRecord, ZoneContents, at, record_order}
-use Rattle.dns_spec.proofs.RecordOrder.{each_all, all_each}
-use Rattle.dns_spec.proofs.SortedOnce.{Each, each_filter, filter_each, each_weaker}
+use Rattle.dns_spec.proofs.Records.RecordOrder.{each_all, all_each}
+use Rattle.dns_spec.proofs.Records.SortedOnce.{Each, each_filter, filter_each, each_weaker}
 use Rattle.dns_zone.specs.ZoneForm.{AreOrdered}
 use Rattle.dns_zone.specs.OwnerForm.{IsOwner}
-use Rattle.dns_zone.specs.ToldForm.{HasOwners, begins_with_owner, owners_once}
+use Rattle.dns_zone.specs.ReportedForm.{HasOwners, begins_with_owner, owners_once}
 use Rattle.dns_zone.proofs.Pairs.{Pairs, pairs_filter, each_both, filter_all, filter_within, halves}
 use Rattle.dns_zone.proofs.NameOrder.{name_order_total, same-is, same-from, same-tied}
 use Rattle.dns_zone.proofs.AtName.{unmoved, record_order_total, is_before, is_at, OwnerNotAfter, ordered_records, owners_in_order, at_parted, at_others}
 use Rattle.dns_zone.proofs.OwnRecords.{own_types}
-use Rattle.dns_zone.proofs.ToldNames.{greater_behind}
+use Rattle.dns_zone.proofs.ReportedNames.{greater_after}
 
 -- what passes a test, counted from the front, is all that passes it where this comes first
 pub front : {X : Type 0} (p : X → Bool) (xs : List X) → IsPartitionedBy p xs → (take (prefix_len p xs) xs ≡ filter p xs) × (drop (prefix_len p xs) xs ≡ filter (λ x. not (p x)) xs)
@@ -67,8 +67,8 @@ module _ (z : ZoneContents) where
     pub before_owners : HasOwners z (filter (is_before o) z.records)
     before_owners = kept_owners (is_before o) z.records (λ s r g t. before_origin o s r g ∙ t) (all_owners ordered)
 
-    pub behind_owners : HasOwners z (filter (λ r. not (is_at o r)) (filter (λ r. not (is_before o r)) z.records))
-    behind_owners =
+    pub after_owners : HasOwners z (filter (λ r. not (is_at o r)) (filter (λ r. not (is_before o r)) z.records))
+    after_owners =
         others_owners o (filter (λ r. not (is_before o r)) z.records)
         (kept_owners (λ r. not (is_before o r)) z.records (λ s r g t. ap not (before_origin o s r g) ∙ t) (all_owners ordered))
 
@@ -124,13 +124,13 @@ once_others r (q ∷ rs) h = go (begins_with_owner r.owner (q ∷ rs)) refl (onc
     go false e f =
         ap (λ ss. folded r.owner ∷ owners_once ss)
         (sym (rest ∙ filter_all (λ s. not (is_at r.owner s)) (q ∷ rs)
-        (each_weaker (λ s. name_order (folded r.owner) (folded s.owner) ≡ Less) (λ s. not (is_at r.owner s) ≡ true) (q ∷ rs) other (greater_behind r (q ∷ rs) h e))))
+        (each_weaker (λ s. name_order (folded r.owner) (folded s.owner) ≡ Less) (λ s. not (is_at r.owner s) ≡ true) (q ∷ rs) other (greater_after r (q ∷ rs) h e))))
       where
         other : (s : ResourceRecord) → name_order (folded r.owner) (folded s.owner) ≡ Less → not (is_at r.owner s) ≡ true
         other s l = ap not (false_from_ne_true (same s.owner r.owner) (λ k.
             false≢true (ap is_lt (sym (same-tied (folded r.owner) (folded s.owner) (same-from (folded r.owner) (folded s.owner) (ap folded (sym (same-is s.owner r.owner k))))) ∙ l))))
 
--- one owner is told, and the walk goes on behind it
+-- one owner is reported, and the walk goes on after it
 pub record Step (z : ZoneContents) (n : DomainName) (rs own others : List ResourceRecord) : Type 0 where
   pub is_owner : IsOwner z n own
   pub has_owners : HasOwners z others
@@ -149,8 +149,8 @@ step_first z r rs own others k low h t =
     let parts = front (is_at r.owner) (r ∷ rs) (first_parted z r rs h) in
     let own_is : own ≡ filter (is_at r.owner) (r ∷ rs) = t.own_is ∙ ap (λ i. take i (r ∷ rs)) t.count ∙ parts.0 in
     let others_are : others ≡ filter (λ s. not (is_at r.owner s)) (r ∷ rs) = t.others_are ∙ ap (λ i. drop i (r ∷ rs)) t.count ∙ parts.1 in
-    let behind : others ≡ filter (λ s. not (is_at r.owner s)) rs = others_are ∙ without_first (is_at r.owner) r rs (same-from r.owner r.owner refl) in
-    let count : length others ≡ length (filter (λ s. not (is_at r.owner s)) rs) = ap length behind in
+    let after : others ≡ filter (λ s. not (is_at r.owner s)) rs = others_are ∙ without_first (is_at r.owner) r rs (same-from r.owner r.owner refl) in
+    let count : length others ≡ length (filter (λ s. not (is_at r.owner s)) rs) = ap length after in
     let both = length-filter_both (is_at r.owner) (λ s. not (is_at r.owner s)) (λ s. refl) rs in
     record {
       is_owner = subst (IsOwner z r.owner) (sym own_is) (first_owner z r rs h low);

@@ -1,10 +1,12 @@
--- Lists whose elements are in order, each with each behind it, and what a search by halves finds in them.
-use Rattle.std.proofs.Common.{◌≡◌, ℕ, zero, suc, ◌<◌, ◌≤◌, Bool, true, false, not, cond, List, [], ◌∷◌, length, take, drop, get_or, refl, sym, ap, ◌∙◌, arith, filter}
-use Rattle.std.proofs.lemmas.Bool.{false≢true}
+-- Lists whose elements are in order, each with each after it, and what a search by halves finds in them.
+use Rattle.std.proofs.Common.{◌≡◌, ℕ, zero, suc, ◌<◌, ◌≤◌, Bool, true, false, not, cond, ◌⊎◌, inl, inr, List, [], ◌∷◌, length, take, drop, get_or, refl, sym, ap, ◌∙◌, subst, arith, filter}
+use Rattle.std.proofs.lemmas.Bool.{false≢true, false_from_ne_true, cases_lt}
+use Rattle.std.proofs.lemmas.List.{length-take, get_or-take}
+use Rattle.std.proofs.Math.Nat.{min-eq_left}
 use Rattle.std.specs.List.Sorted.{IsPartitionPoint, IsPartitionedBy, IsNonDecreasingBy}
-use Rattle.dns_spec.proofs.SortedOnce.{Each, each_filter, each_weaker}
+use Rattle.dns_spec.proofs.Records.SortedOnce.{Each, each_filter, each_weaker}
 
--- R holds of each element and each behind it
+-- R holds of each element and each after it
 abbrev pub Pairs : {X : Type 0} → (X → X → Type 0) → List X → Type 0
 Pairs R [] = Unit {0}
 Pairs R (x ∷ xs) = Each (R x) xs × Pairs R xs
@@ -97,6 +99,28 @@ halves p (x ∷ xs) (suc i) l h =
       ap (λ ys. x ∷ ys) rest.0 ∙ sym (ap (λ t. cond t (x ∷ filter p xs) (filter p xs)) here),
       rest.1 ∙ sym (ap (λ t. cond (not t) (x ∷ filter (λ y. not (p y)) xs) (filter (λ y. not (p y)) xs)) here),
     )
+
+-- where the element at n does not pass, a search among those before it finds where all end that pass
+pub near_point : {X : Type 0} (p : X → Bool) (xs : List X) (n i : ℕ) → n < length xs → ((d : X) → p (get_or xs n d) ≡ false) → IsPartitionedBy p xs
+    → i ≤ length (take n xs) → IsPartitionPoint (λ y. p y ≡ true) (λ y. p y ≡ false) (take n xs) i → IsPartitionPoint (λ y. p y ≡ true) (λ y. p y ≡ false) xs i
+near_point {X = X} p xs n i l fails parts bound point = (
+  λ k d a b. subst (λ y. p y ≡ true) (get_or-take n xs k d (omega (arith, long, a, bound))) (point.0 k d a (omega (arith, long, a, bound))),
+  λ k d a b. after k d a b (cases_lt k n),
+)
+  where
+    long : length (take n xs) ≡ n
+    long = length-take n xs ∙ min-eq_left (omega arith)
+
+    after : (k : ℕ) (d : X) → i ≤ k → k < length xs → (k < n) ⊎ (n ≤ k) → p (get_or xs k d) ≡ false
+    after k d a b (inl m) = subst (λ y. p y ≡ false) (get_or-take n xs k d m) (point.1 k d a (omega (arith, long, m)))
+    after k d a b (inr m) = false_from_ne_true (p (get_or xs k d)) (λ e. false≢true (sym (fails d) ∙ parts n k d m b e))
+
+pub near_parted : {X : Type 0} (p : X → Bool) (xs : List X) (n : ℕ) → n < length xs → IsPartitionedBy p xs → IsPartitionedBy p (take n xs)
+near_parted p xs n l parts i j d a b e =
+    let long : length (take n xs) ≡ n = length-take n xs ∙ min-eq_left (omega arith) in
+    let short : j < n = omega (arith, long, b) in
+    subst (λ y. p y ≡ true) (sym (get_or-take n xs i d (omega (arith, a, short))))
+    (parts i j d a (omega arith) (subst (λ y. p y ≡ true) (get_or-take n xs j d short) e))
 
 -- a test of a first element
 abbrev pub first_passes : {X : Type 0} → (X → Bool) → List X → Bool

@@ -1,10 +1,10 @@
--- What walks over records that stand by their types tell of the RRsets of an owner.
+-- What walks over records that stand by their types report of the RRsets of an owner.
 use Rattle.std.proofs.Common.{◌≡◌, ℕ, zero, suc, ◌+◌, ◌<◌, ◌≤◌, Bool, true, false, ◌&&◌, ◌||◌, not, cond, nat_lt, eqb, ◌==◌, ◌⊎◌, inl, inr, List, [], ◌∷◌, map, length, drop, refl, sym, ap, ap₂, ◌∙◌, arith, filter}
 use Rattle.std.proofs.lemmas.Bool.{ltb-false, eqb-true, ne_eqb, eqb-false, eq-eqb, cases_lt, lt-ltb, le-ltb, or_right, or_parts, true≢false}
 use Rattle.std.specs.List.{list_any}
 use Rattle.dns_spec.specs.Records.{ResourceRecord, distinct}
-use Rattle.dns_spec.proofs.SortedOnce.{Each, each_weaker, each_filter, filter_each}
-use Rattle.dns_zone.specs.SetWalks.{begins_with_type, next_differs, neighbours_differ, repeats_behind, sets_ended}
+use Rattle.dns_spec.proofs.Records.SortedOnce.{Each, each_weaker, each_filter, filter_each}
+use Rattle.dns_zone.specs.SetWalks.{begins_with_type, next_differs, neighbours_differ, repeats_after, sets_ended}
 use Rattle.dns_zone.proofs.Pairs.{Pairs, filter_all}
 
 abbrev TypeUpTo : ResourceRecord → ResourceRecord → Type 0
@@ -110,11 +110,11 @@ no_more t (s ∷ rs) e =
     let first = e.0 in
     ap (λ b. cond b (s ∷ of_number t rs) (of_number t rs)) (ne_eqb s.rtype t (λ k. absurd (omega arith))) ∙ no_more t rs e.1
 
-none_behind : (t k : ℕ) (rs : List ResourceRecord) → Each (λ (s : ResourceRecord). t < s.rtype) rs → begins_with_type t (drop k rs) ≡ false
-none_behind t zero [] e = refl
-none_behind t zero (s ∷ rs) e = let first = e.0 in ne_eqb s.rtype t (λ h. absurd (omega arith))
-none_behind t (suc k) [] e = refl
-none_behind t (suc k) (s ∷ rs) e = none_behind t k rs e.1
+none_after : (t k : ℕ) (rs : List ResourceRecord) → Each (λ (s : ResourceRecord). t < s.rtype) rs → begins_with_type t (drop k rs) ≡ false
+none_after t zero [] e = refl
+none_after t zero (s ∷ rs) e = let first = e.0 in ne_eqb s.rtype t (λ h. absurd (omega arith))
+none_after t (suc k) [] e = refl
+none_after t (suc k) (s ∷ rs) e = none_after t k rs e.1
 
 other_than : (a b : ℕ) → a ≤ b → (b ≡ a → ⊥) → a < b
 other_than a b l n = go (cases_lt a b)
@@ -126,33 +126,33 @@ other_than a b l n = go (cases_lt a b)
 above_all : (t : ℕ) (s : ResourceRecord) (rs : List ResourceRecord) → t < s.rtype → Each (TypeUpTo s) rs → Each (λ (q : ResourceRecord). t < q.rtype) rs
 above_all t s rs l e = each_weaker (TypeUpTo s) (λ (q : ResourceRecord). t < q.rtype) rs (λ q h. omega arith) e
 
--- more than k of them are of the least type exactly where the one k behind the first is
-run_behind : (t k : ℕ) (rs : List ResourceRecord) → Each (λ (s : ResourceRecord). t ≤ s.rtype) rs → Pairs TypeUpTo rs
+-- more than k of them are of the least type exactly where the one k after the first is
+run_after : (t k : ℕ) (rs : List ResourceRecord) → Each (λ (s : ResourceRecord). t ≤ s.rtype) rs → Pairs TypeUpTo rs
     → nat_lt k (length (of_number t rs)) ≡ begins_with_type t (drop k rs)
-run_behind t zero [] e h = refl
-run_behind t (suc k) [] e h = le-ltb (suc k) 0 (omega arith)
-run_behind t zero (s ∷ rs) e h = go (eqb s.rtype t) refl
+run_after t zero [] e h = refl
+run_after t (suc k) [] e h = le-ltb (suc k) 0 (omega arith)
+run_after t zero (s ∷ rs) e h = go (eqb s.rtype t) refl
   where
     go : (b : Bool) → eqb s.rtype t ≡ b → nat_lt 0 (length (cond b (s ∷ of_number t rs) (of_number t rs))) ≡ b
     go true f = lt-ltb 0 _ (omega arith)
     go false f =
         let above = other_than t s.rtype e.0 (eqb-false s.rtype t f) in
         ap (λ xs. nat_lt 0 (length xs)) (no_more t rs (above_all t s rs above h.0))
-run_behind t (suc k) (s ∷ rs) e h = go (eqb s.rtype t) refl (run_behind t k rs e.1 h.1)
+run_after t (suc k) (s ∷ rs) e h = go (eqb s.rtype t) refl (run_after t k rs e.1 h.1)
   where
     go : (b : Bool) → eqb s.rtype t ≡ b → nat_lt k (length (of_number t rs)) ≡ begins_with_type t (drop k rs) → nat_lt (suc k) (length (cond b (s ∷ of_number t rs) (of_number t rs))) ≡ begins_with_type t (drop k rs)
     go true f rest = lt_suc k (length (of_number t rs)) ∙ rest
     go false f rest =
         let above = other_than t s.rtype e.0 (eqb-false s.rtype t f) in
         let all = above_all t s rs above h.0 in
-        ap (λ xs. nat_lt (suc k) (length xs)) (no_more t rs all) ∙ le-ltb (suc k) 0 (omega arith) ∙ sym (none_behind t k rs all)
+        ap (λ xs. nat_lt (suc k) (length xs)) (no_more t rs all) ∙ le-ltb (suc k) 0 (omega arith) ∙ sym (none_after t k rs all)
 
 first_run : (k : ℕ) (r : ResourceRecord) (rs : List ResourceRecord) → Pairs TypeUpTo (r ∷ rs) → is_large k (r ∷ rs) r ≡ begins_with_type r.rtype (drop k rs)
 first_run k r rs h =
     ap (λ b. nat_lt (suc k) (length (cond b (r ∷ of_number r.rtype rs) (of_number r.rtype rs)))) (eq-eqb r.rtype r.rtype refl)
-    ∙ lt_suc k (length (of_number r.rtype rs)) ∙ run_behind r.rtype k rs h.0 h.1
+    ∙ lt_suc k (length (of_number r.rtype rs)) ∙ run_after r.rtype k rs h.0 h.1
 
-pub large-walk : (k : ℕ) (rs : List ResourceRecord) → Pairs TypeUpTo rs → list_any (is_large k rs) rs ≡ repeats_behind k rs
+pub large-walk : (k : ℕ) (rs : List ResourceRecord) → Pairs TypeUpTo rs → list_any (is_large k rs) rs ≡ repeats_after k rs
 large-walk k [] h = refl
 large-walk k (r ∷ rs) h = go (is_large k (r ∷ rs) r) refl (large-walk k rs h.1)
   where
@@ -170,11 +170,11 @@ large-walk k (r ∷ rs) h = go (is_large k (r ∷ rs) r) refl (large-walk k rs h
             few ∙ sym (le-ltb (suc k) (length (of_number s.rtype rs)) (omega arith))
         same_type false f = refl
 
-    go : (b : Bool) → is_large k (r ∷ rs) r ≡ b → list_any (is_large k rs) rs ≡ repeats_behind k rs → (b || list_any (is_large k (r ∷ rs)) rs) ≡ (begins_with_type r.rtype (drop k rs) || repeats_behind k rs)
-    go true e rest = sym (ap (λ b. b || repeats_behind k rs) (sym (first_run k r rs h) ∙ e))
+    go : (b : Bool) → is_large k (r ∷ rs) r ≡ b → list_any (is_large k rs) rs ≡ repeats_after k rs → (b || list_any (is_large k (r ∷ rs)) rs) ≡ (begins_with_type r.rtype (drop k rs) || repeats_after k rs)
+    go true e rest = sym (ap (λ b. b || repeats_after k rs) (sym (first_run k r rs h) ∙ e))
     go false e rest =
         any_alike (is_large k (r ∷ rs)) (is_large k rs) rs (other e) ∙ rest
-        ∙ sym (ap (λ b. b || repeats_behind k rs) (sym (first_run k r rs h) ∙ e))
+        ∙ sym (ap (λ b. b || repeats_after k rs) (sym (first_run k r rs h) ∙ e))
 
 -- how many types
 each_distinct : {X : Type 0} (P : X → Type 0) (eq : X → X → Bool) (xs : List X) → Each P xs → Each P (distinct eq xs)

@@ -6,7 +6,7 @@ use Rattle.std.proofs.lemmas.List.Elements.{filter-append}
 use Rattle.std.proofs.lemmas.List.Filters.{length-filter_both}
 use Rattle.std.proofs.Math.Seq.{drop-nil}
 use Rattle.std.specs.List.{list_any}
-use Rattle.dns_spec.proofs.SortedOnce.{Each, Among, filter_each}
+use Rattle.dns_spec.proofs.Records.SortedOnce.{Each, Among, filter_each}
 use Rattle.dns_zone.specs.TreeForm.{span}
 use Rattle.dns_zone.proofs.Pairs.{each_get, filter_all}
 
@@ -40,7 +40,7 @@ take_span (suc a) (suc b) (x ∷ xs) h =
 pub filter_again : {X : Type 0} (p : X → Bool) (xs : List X) → filter p (filter p xs) ≡ filter p xs
 filter_again p xs = filter_all p (filter p xs) (filter_each p xs)
 
--- where a part is all that passes, nothing before it or behind it passes
+-- where a part is all that passes, nothing before it or after it passes
 module _ {X : Type 0} (p : X → Bool) (xs : List X) (a b : ℕ) (h : a ≤ b)
     (e : span xs a b ≡ filter p xs) where
   lengths : length (filter p xs)
@@ -64,8 +64,8 @@ module _ {X : Type 0} (p : X → Bool) (xs : List X) (a b : ℕ) (h : a ≤ b)
       let n : length (filter p (take a xs)) ≡ 0 = omega (arith, lengths) in
       nil_from_length (filter p (take a xs)) n
 
-  pub none_behind : filter p (drop b xs) ≡ []
-  none_behind =
+  pub none_past : filter p (drop b xs) ≡ []
+  none_past =
       let n : length (filter p (drop b xs)) ≡ 0 = omega (arith, lengths) in
       nil_from_length (filter p (drop b xs)) n
 

@@ -10,9 +10,9 @@ use Rattle.dns_spec.specs.Names.{DomainName, same, at_or_below, below, name_orde
 use Rattle.dns_spec.specs.Data.{type_ns}
 use Rattle.dns_spec.specs.Records.{ResourceRecord, ZoneContents, owns}
 use Rattle.dns_spec.specs.Tree.{is_cut}
-use Rattle.dns_spec.proofs.SortedOnce.{Each, each_weaker}
+use Rattle.dns_spec.proofs.Records.SortedOnce.{Each, each_weaker}
 use Rattle.dns_zone.specs.ZoneForm.{AreOrdered}
-use Rattle.dns_zone.specs.CutForm.{behind, AreApart, AreTopmost, last_passes}
+use Rattle.dns_zone.specs.CutForm.{after, AreApart, AreTopmost, last_passes}
 use Rattle.dns_zone.proofs.Pairs.{Pairs, pairs_weaker, parted, filter_all, each_get}
 use Rattle.dns_zone.proofs.NameOrder.{name_order_total, same-tied, tied-same}
 use Rattle.dns_zone.proofs.NameTree.{same-under, itself-under, same-below}
@@ -20,7 +20,7 @@ use Rattle.dns_zone.proofs.AtName.{OwnerNotAfter, owners_in_order}
 use Rattle.dns_zone.proofs.AboveCuts.{Apart, apart_pairs, pairs_apart, last_above, last_any, none_any, any_weaker}
 use Rattle.std.proofs.lemmas.Cmp.{upto, tied_back, tied_itself}
 
--- the cuts that are not behind a name come first
+-- the cuts that are not after a name come first
 before_all : (m : DomainName) (c d : ResourceRecord) → Apart c d → not (is_gt (name_order d.owner m)) ≡ true → not (is_gt (name_order c.owner m)) ≡ true
 before_all m c d a h =
     ap not (upto name_order_total c.owner d.owner m (less (name_order c.owner d.owner) a.0) (not-true (is_gt (name_order d.owner m)) h))
@@ -30,26 +30,26 @@ before_all m c d a h =
     less Equal h = refl
     less Greater h = absurd (false≢true h)
 
-pairs_behind : (R : ResourceRecord → ResourceRecord → Type 0) (bs : List (Bor ResourceRecord)) → Pairs R (behind bs) → Pairs (λ b d. R b.now d.now) bs
-pairs_behind R [] h = tt
-pairs_behind R (b ∷ bs) h = (each_behind (R b.now) bs h.0, pairs_behind R bs h.1)
+pairs_after : (R : ResourceRecord → ResourceRecord → Type 0) (bs : List (Bor ResourceRecord)) → Pairs R (after bs) → Pairs (λ b d. R b.now d.now) bs
+pairs_after R [] h = tt
+pairs_after R (b ∷ bs) h = (each_after (R b.now) bs h.0, pairs_after R bs h.1)
   where
-    each_behind : (P : ResourceRecord → Type 0) (ds : List (Bor ResourceRecord)) → Each P (behind ds) → Each (λ d. P d.now) ds
-    each_behind P [] e = tt
-    each_behind P (d ∷ ds) e = (e.0, each_behind P ds e.1)
+    each_after : (P : ResourceRecord → Type 0) (ds : List (Bor ResourceRecord)) → Each P (after ds) → Each (λ d. P d.now) ds
+    each_after P [] e = tt
+    each_after P (d ∷ ds) e = (e.0, each_after P ds e.1)
 
-pub cuts_parted : (m : DomainName) (bs : List (Bor ResourceRecord)) → AreApart (behind bs) → IsPartitionedBy (λ (b : Bor ResourceRecord). not (is_gt (name_order b.now.owner m))) bs
+pub cuts_parted : (m : DomainName) (bs : List (Bor ResourceRecord)) → AreApart (after bs) → IsPartitionedBy (λ (b : Bor ResourceRecord). not (is_gt (name_order b.now.owner m))) bs
 cuts_parted m bs h =
     parted (λ (b : Bor ResourceRecord). not (is_gt (name_order b.now.owner m))) bs
-    (pairs_behind (λ c d. not (is_gt (name_order d.owner m)) ≡ true → not (is_gt (name_order c.owner m)) ≡ true) bs
-    (pairs_weaker Apart (λ c d. not (is_gt (name_order d.owner m)) ≡ true → not (is_gt (name_order c.owner m)) ≡ true) (behind bs) (before_all m) (apart_pairs (behind bs) h)))
+    (pairs_after (λ c d. not (is_gt (name_order d.owner m)) ≡ true → not (is_gt (name_order c.owner m)) ≡ true) bs
+    (pairs_weaker Apart (λ c d. not (is_gt (name_order d.owner m)) ≡ true → not (is_gt (name_order c.owner m)) ≡ true) (after bs) (before_all m) (apart_pairs (after bs) h)))
 
-pub filter_behind : (p : ResourceRecord → Bool) (bs : List (Bor ResourceRecord)) → behind (filter (λ (b : Bor ResourceRecord). p b.now) bs) ≡ filter p (behind bs)
-filter_behind p [] = refl
-filter_behind p (b ∷ bs) = go (p b.now) (filter_behind p bs)
+pub filter_after : (p : ResourceRecord → Bool) (bs : List (Bor ResourceRecord)) → after (filter (λ (b : Bor ResourceRecord). p b.now) bs) ≡ filter p (after bs)
+filter_after p [] = refl
+filter_after p (b ∷ bs) = go (p b.now) (filter_after p bs)
   where
-    go : (t : Bool) → behind (filter (λ (b : Bor ResourceRecord). p b.now) bs) ≡ filter p (behind bs)
-        → behind (if t then b ∷ filter (λ (b : Bor ResourceRecord). p b.now) bs else filter (λ (b : Bor ResourceRecord). p b.now) bs) ≡ (if t then b.now ∷ filter p (behind bs) else filter p (behind bs))
+    go : (t : Bool) → after (filter (λ (b : Bor ResourceRecord). p b.now) bs) ≡ filter p (after bs)
+        → after (if t then b ∷ filter (λ (b : Bor ResourceRecord). p b.now) bs else filter (λ (b : Bor ResourceRecord). p b.now) bs) ≡ (if t then b.now ∷ filter p (after bs) else filter p (after bs))
     go true e = ap (λ cs. b.now ∷ cs) e
     go false e = e
 

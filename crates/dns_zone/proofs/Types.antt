@@ -4,7 +4,7 @@ use Rattle.std.proofs.lemmas.Bool.{ltb-true, ltb-false, eqb-true, eq-eqb, ne_eqb
 use Rattle.std.specs.List.{list_any, slice_get}
 use Rattle.std.specs.List.Sorted.{IsPartitionedBy, IsNonDecreasingBy}
 use Rattle.dns_spec.specs.Records.{ResourceRecord}
-use Rattle.dns_spec.proofs.SortedOnce.{Each, filter_each}
+use Rattle.dns_spec.proofs.Records.SortedOnce.{Each, filter_each}
 use Rattle.dns_zone.proofs.Pairs.{Pairs, pairs_of, pairs_filter, pairs_rising, parted, filter_within, first_passes}
 
 pub none_pass : {X : Type 0} (p : X → Bool) (xs : List X) → Each (λ x. p x ≡ false) xs → list_any p xs ≡ false

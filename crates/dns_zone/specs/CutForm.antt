@@ -8,9 +8,9 @@ use Rattle.dns_spec.specs.Records.{ResourceRecord, ZoneContents}
 use Rattle.dns_spec.specs.Tree.{is_cut}
 use Rattle.dns_zone.specs.ZoneForm.{AreOrdered}
 
--- the records behind references
-abbrev pub behind : List (Bor ResourceRecord) → List ResourceRecord
-behind = map (λ b. b.now)
+-- the records after references
+abbrev pub after : List (Bor ResourceRecord) → List ResourceRecord
+after = map (λ b. b.now)
 
 -- a test of a last element
 abbrev pub last_passes : {X : Type 0} → (X → Bool) → List X → Bool
@@ -34,7 +34,8 @@ pub record AreTopmost (z : ZoneContents) (cuts : List ResourceRecord) : Type 0 w
   pub cover : (n : DomainName) → is_cut z n ≡ true → list_any (λ (c : ResourceRecord). at_or_below n c.owner) cuts ≡ true
 
 -- What a zone under check keeps.
-pub record IsSurvey (z : ZoneContents) (cuts : List ResourceRecord) : Type 0 where
+pub record IsSurvey (z : ZoneContents) (keyed cuts : List ResourceRecord) : Type 0 where
+  pub keyed_is : keyed ≡ z.records
   pub ordered : AreOrdered z.records
   pub lower : folded z.origin ≡ z.origin
   pub topmost : AreTopmost z cuts

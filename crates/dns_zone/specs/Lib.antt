@@ -7,4 +7,5 @@ pub mod NodeForm
 pub mod SetWalks
 pub mod CutForm
 pub mod OwnerForm
-pub mod ToldForm
+pub mod ReportedForm
+pub mod KeyForm

@@ -1,8 +1,11 @@
 -- What a reader learns here: a name of a zone that is under check.
-use Rattle.std.specs.Prelude.{◌≡◌, List}
+use Rattle.std.specs.Prelude.{◌≡◌, ◌==◌, ◌&&◌, Bool, false, List}
+use Rattle.std.specs.Option.{option_map_or}
 use Rattle.std.specs.List.Sorted.{IsNonDecreasingBy}
-use Rattle.dns_spec.specs.Names.{DomainName, folded}
-use Rattle.dns_spec.specs.Records.{ResourceRecord, ZoneContents, at}
+use Rattle.dns_spec.specs.Names.{DomainName, folded, at_or_below}
+use Rattle.dns_spec.specs.Data.{type_ns, type_cname, target}
+use Rattle.dns_spec.specs.Checks.{lacks_address}
+use Rattle.dns_spec.specs.Records.{ResourceRecord, ZoneContents, at, owns}
 
 -- a zone, and a name whose checks are asked for
 pub record NameOfZone : Type 0 where
@@ -14,3 +17,11 @@ pub record IsOwner (z : ZoneContents) (n : DomainName) (own : List ResourceRecor
   pub lower : folded n ≡ n
   pub own_is : own ≡ at z n
   pub by_types : IsNonDecreasingBy (λ (r : ResourceRecord). r.rtype) own
+
+-- an NS record whose target is a name of the zone that owns a CNAME
+abbrev pub is_server_alias : ZoneContents → ResourceRecord → Bool
+is_server_alias z r = r.rtype == type_ns && option_map_or (λ m. at_or_below m z.origin && owns z m type_cname) (target r.rtype r.rdata) false
+
+-- an NS record of a name, whose target is a name of the zone that lacks an address
+abbrev pub is_server_lost : ZoneContents → DomainName → ResourceRecord → Bool
+is_server_lost z n r = r.rtype == type_ns && option_map_or (λ m. at_or_below m z.origin && lacks_address z n m) (target r.rtype r.rdata) false

@@ -16,10 +16,10 @@ abbrev pub neighbours_differ : List ResourceRecord → Bool
 neighbours_differ [] = false
 neighbours_differ (r ∷ rs) = next_differs r rs || neighbours_differ rs
 
--- k records behind the next one of some record stands one of its type
-abbrev pub repeats_behind : ℕ → List ResourceRecord → Bool
-repeats_behind k [] = false
-repeats_behind k (r ∷ rs) = begins_with_type r.rtype (drop k rs) || repeats_behind k rs
+-- k records after the next one of some record stands one of its type
+abbrev pub repeats_after : ℕ → List ResourceRecord → Bool
+repeats_after k [] = false
+repeats_after k (r ∷ rs) = begins_with_type r.rtype (drop k rs) || repeats_after k rs
 
 -- how many records are the last of their type
 abbrev pub sets_ended : List ResourceRecord → ℕ

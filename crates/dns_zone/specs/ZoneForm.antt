@@ -1,5 +1,6 @@
 -- What a reader learns here: how records are kept for a zone, and what every built zone keeps.
-use Rattle.std.specs.Prelude.{⊤, ◌≡◌, ◌≢◌, ◌≤◌, List, [], All, length, Bool, not, if◌then◌else◌}
+use Rattle.std.specs.Prelude.{⊤, ◌≡◌, ◌≢◌, ◌≤◌, ℕ, List, [], All, length, take, drop, Bool, not, if◌then◌else◌}
+use Rattle.std.specs.List.{filter}
 use Rattle.dns_spec.specs.Names.{folded}
 use Rattle.dns_spec.specs.Records.{ResourceRecord, ZoneContents, sort_by, record_order}
 use Rattle.dns_spec.specs.Checks.{faults, Passes}
@@ -26,11 +27,17 @@ pub record IsBuilt (z : ZoneContents) : Type 0 where
   pub few : length z.records ≤ most_records
   pub passes : Passes z
 
--- what is told of a zone that can't be built: its faults, one at least, or nothing where no memory was found
-abbrev pub TellsFaults : BuildFault → ZoneContents → Type 0
-TellsFaults (Faults found) z = (found.items ≡ faults z) × (faults z ≢ [])
-TellsFaults NoMemory z = ⊤
+-- what is reported of a zone that can't be built: its faults, one at least, or nothing where no memory was found
+abbrev pub ReportsFaults : BuildFault → ZoneContents → Type 0
+ReportsFaults (Faults found) z = (found.items ≡ faults z) × (faults z ≢ [])
+ReportsFaults NoMemory z = ⊤
 
 -- the records that are an SOA, or those that are none
 abbrev pub is_chosen : Bool → ResourceRecord → Bool
 is_chosen soa r = if soa then is_soa r else not (is_soa r)
+
+-- the first k elements are those that pass a test, and the others those that do not
+pub record IsFront {X : Type 0} (p : X → Bool) (xs : List X) (k : ℕ) : Type 0 where
+  pub bound : k ≤ length xs
+  pub passing : take k xs ≡ filter p xs
+  pub others : drop k xs ≡ filter (λ x. not (p x)) xs

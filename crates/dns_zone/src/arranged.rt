@@ -7,16 +7,17 @@ ghost use Rattle.std.specs.List.Sorted.{IsPermutation};
 ghost use Rattle.std.specs.Ordering.{nat_cmp, ordering_then};
 ghost use Rattle.dns_spec.specs.Records.{record_order};
 
+use crate::key::Key;
 use crate::order::record_order;
 use dns_master::Record;
 use dns_name::Name;
 use std::alloc::{AllocError, Global};
 use std::cmp::Ordering;
 
-// How many octets of a label make a key.
+// How many octets of an owner's key are kept.
 const KEY_OCTETS: usize = 16;
 
-// A record, where it stands, and the key of its owner.
+// A record, where it stands, and the first octets of its owner's key.
 #[derive(Drop)]
 struct Place<'a> {
     key: u128,
@@ -61,12 +62,13 @@ fn places<'a>(
     ensures count { IfOk result (λ places. length places.items ≡ length records.now) }
     ensures below { IfOk result (λ places. All (λ (p : Place). p.at < length records.now) places.items) }
 {
-    let labels = origin.label_count();
+    let mut room = Key::of(origin);
+    let origin_octets = room.octets().len();
     let mut places = Vec::with_capacity(alloc, records.len())?;
     let mut rest = records;
     let mut at = 0;
     'records: while let Some((listed, others)) = rest.split_first() {
-        let key = key_below(labels, &listed.owner);
+        let key = key_after(places.as_slice(), origin_octets, &listed.owner, &mut room);
         places.push(Place { key, at, listed })?;
         rest = others;
         at += 1;
@@ -74,16 +76,25 @@ fn places<'a>(
     Ok(places)
 }
 
-// Most owners of a zone differ by the label next to the origin's, and most of these by their first octets.
-fn key_below(origin_labels: usize, owner: &Name) -> u128 {
-    let labels_below = owner.label_count().saturating_sub(origin_labels);
-    if labels_below == 0 {
+// The key of an owner, which is mostly that of the record before.
+fn key_after(places: &[Place<'_>], origin_octets: usize, owner: &Name, room: &mut Key) -> u128 {
+    if let Some(last) = places.last() {
+        let before = last.listed;
+        if before.owner == *owner {
+            return last.key;
+        }
+    }
+    key_below(origin_octets, owner, room)
+}
+
+// The first octets that the key of an owner has after that of the origin, by which most owners of a zone differ.
+fn key_below(origin_octets: usize, owner: &Name, room: &mut Key) -> u128 {
+    room.make_that_of(owner);
+    let octets = room.octets();
+    if octets.len() < origin_octets {
         return 0;
     }
-    match owner.labels().nth(labels_below - 1) {
-        Some(label) => u128::from_be_bytes(leading_octets(label.octets())),
-        None => 0,
-    }
+    u128::from_be_bytes(leading_octets(&octets[origin_octets..]))
 }
 
 // The first octets, with zeros where there are fewer.

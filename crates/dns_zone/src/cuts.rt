@@ -6,8 +6,10 @@ ghost use Rattle.dns_spec.specs.Names.{folded, name_order, at_or_below, below};
 ghost use Rattle.dns_spec.specs.Records.{ResourceRecord};
 ghost use Rattle.dns_spec.specs.Data.{type_ns};
 ghost use Rattle.dns_zone.specs.ZoneForm.{AreOrdered};
-ghost use Rattle.dns_zone.specs.CutForm.{behind, AreTopmost, AreApart, last_passes};
+ghost use Rattle.dns_zone.specs.CutForm.{after, AreTopmost, AreApart, last_passes};
 
+use crate::key::Key;
+use crate::keyed::Keyed;
 use dns_master::Record;
 use dns_name::Name;
 use dns_rdata::RType;
@@ -20,12 +22,12 @@ use std::alloc::{AllocError, Global};
 pub(crate) fn topmost_cuts<'a>(
     alloc: Global,
     origin: &Name,
-    records: &'a [Record],
-) -> Result<Vec<&'a Record>, AllocError>
+    records: &'a [Keyed<'a>],
+) -> Result<Vec<&'a Keyed<'a>>, AllocError>
     requires { AreOrdered records.now }
-    ensures { IfOk result (λ cuts. AreTopmost (record { origin = origin.now; records = records.now }) (behind cuts.items)) }
+    ensures { IfOk result (λ cuts. AreTopmost (record { origin = origin.now; records = records.now }) (after cuts.items)) }
 {
-    let mut cuts: Vec<&'a Record> = Vec::with_capacity(alloc, records.len())?;
+    let mut cuts: Vec<&'a Keyed<'a>> = Vec::with_capacity(alloc, records.len())?;
     'records: for listed in records {
         if is_topmost(origin, cuts.as_slice(), listed) {
             cuts.push(listed)?;
@@ -35,11 +37,12 @@ pub(crate) fn topmost_cuts<'a>(
 }
 
 // Whether the record makes a cut that is not at or below the last of the cuts.
-fn is_topmost(origin: &Name, cuts: &[&Record], listed: &Record) -> bool
+fn is_topmost(origin: &Name, cuts: &[&Keyed<'_>], listed: &Keyed<'_>) -> bool
     ensures { result ≡ ((listed.now.rtype == type_ns && below listed.now.owner origin.now)
-        && not (last_passes (λ (c : ResourceRecord). at_or_below listed.now.owner c.owner) (behind cuts.now))) }
+        && not (last_passes (λ (c : ResourceRecord). at_or_below listed.now.owner c.owner) (after cuts.now))) }
 {
-    is_delegation(origin, listed) && !is_covered(cuts, &listed.owner)
+    let record = listed.listed();
+    is_delegation(origin, record) && !is_covered(cuts, &record.owner)
 }
 
 fn is_delegation(origin: &Name, listed: &Record) -> bool
@@ -48,38 +51,38 @@ fn is_delegation(origin: &Name, listed: &Record) -> bool
     listed.rtype == RType::NS && listed.owner.below(origin)
 }
 
-/// The cuts that are not behind the name in canonical order.
-pub(crate) fn not_behind<'a, 'b>(cuts: &'b [&'a Record], name: &Name) -> &'b [&'a Record]
-    requires apart { AreApart (behind cuts.now) }
+/// The cuts that are not after the name in canonical order.
+pub(crate) fn not_after<'a, 'b>(cuts: &'b [&'a Keyed<'a>], name: &Name) -> &'b [&'a Keyed<'a>]
+    requires apart { AreApart (after cuts.now) }
     requires lower { folded name.now ≡ name.now }
-    ensures { behind result.now ≡ filter (λ (c : ResourceRecord). not (is_gt (name_order c.owner name.now))) (behind cuts.now) }
+    ensures { after result.now ≡ filter (λ (c : ResourceRecord). not (is_gt (name_order c.owner name.now))) (after cuts.now) }
 {
-    &cuts[..cuts.partition_point(|cut| !is_behind(cut, name))]
-}
-
-fn is_behind(listed: &Record, name: &Name) -> bool
-    requires { folded name.now ≡ name.now }
-    ensures { result ≡ is_gt (name_order listed.now.owner name.now) }
-{
-    listed.owner.order_in_lower_case(name).is_gt()
+    let key = Key::of(name);
+    &cuts[..cuts.partition_point(|cut| !cut.order(name, &key).is_gt())]
 }
 
 /// Whether the name is at or below the last of the cuts.
-pub(crate) fn is_covered(cuts: &[&Record], name: &Name) -> bool
-    ensures { result ≡ last_passes (λ (c : ResourceRecord). at_or_below name.now c.owner) (behind cuts.now) }
+pub(crate) fn is_covered(cuts: &[&Keyed<'_>], name: &Name) -> bool
+    ensures { result ≡ last_passes (λ (c : ResourceRecord). at_or_below name.now c.owner) (after cuts.now) }
 {
     match cuts.last() {
-        Some(cut) => name.at_or_below(&cut.owner),
+        Some(cut) => {
+            let listed = cut.listed();
+            name.at_or_below(&listed.owner)
+        }
         None => false,
     }
 }
 
 /// Whether the name is below the last of the cuts.
-pub(crate) fn is_below_last(cuts: &[&Record], name: &Name) -> bool
-    ensures { result ≡ last_passes (λ (c : ResourceRecord). below name.now c.owner) (behind cuts.now) }
+pub(crate) fn is_below_last(cuts: &[&Keyed<'_>], name: &Name) -> bool
+    ensures { result ≡ last_passes (λ (c : ResourceRecord). below name.now c.owner) (after cuts.now) }
 {
     match cuts.last() {
-        Some(cut) => name.below(&cut.owner),
+        Some(cut) => {
+            let listed = cut.listed();
+            name.below(&listed.owner)
+        }
         None => false,
     }
 }

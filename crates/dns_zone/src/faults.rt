@@ -5,9 +5,10 @@ ghost use Rattle.dns_spec.specs.Names.{folded};
 ghost use Rattle.dns_spec.specs.Checks.{faults};
 ghost use Rattle.dns_zone.specs.ZoneForm.{AreOrdered};
 ghost use Rattle.dns_zone.specs.OwnerForm.{IsOwner};
-ghost use Rattle.dns_zone.specs.ToldForm.{HasOwners, failed_from, owners_once, told_around, told_at};
+ghost use Rattle.dns_zone.specs.ReportedForm.{HasOwners, failed_from, owners_once, reported_around, reported_at};
 
 use crate::fault::CheckFault;
+use crate::keyed::{beside_keys, keys_of};
 use crate::lookup::{count_at, count_before, count_in_front};
 use crate::owner::Owner;
 use crate::survey::Survey;
@@ -15,10 +16,10 @@ use dns_master::Record;
 use dns_name::Name;
 use std::alloc::{AllocError, Global};
 
-/// The faults of the zone of these records, by the order of owners, then by code. They are told of all owners, and of
+/// The faults of the zone of these records, by the order of owners, then by code. They are reported of all owners, and of
 /// the origin where it owns nothing too.
 ///
-/// An error only where memory for the list of faults, or for that of cuts, was not found.
+/// An error only where memory for the list of faults, for keys or for cuts was not found.
 pub(crate) fn faults(
     alloc: Global,
     origin: &Name,
@@ -28,60 +29,62 @@ pub(crate) fn faults(
     requires lower { folded origin.now ≡ origin.now }
     ensures { IfOk result (λ found. found.items ≡ faults (record { origin = origin.now; records = records.now })) }
 {
-    let survey = Survey::new(alloc, origin, records)?;
-    let (before, others) = records.split_at(count_before(records, origin));
-    let (own, behind) = others.split_at(count_at(others, origin));
+    let keys = keys_of(alloc, records)?;
+    let keyed = beside_keys(alloc, records, keys.as_slice())?;
+    let survey = Survey::new(alloc, origin, records, keyed.as_slice())?;
+    let (before, others) = records.split_at(count_before(keyed.as_slice(), origin));
+    let (own, after) = others.split_at(count_at(others, origin));
     let mut found = Vec::new(alloc);
-    tell_around(&survey, before, origin, own, behind, &mut found)?;
+    report_around(&survey, before, origin, own, after, &mut found)?;
     Ok(found)
 }
 
-// Adds the faults of the owners before a name, of the name, and of the owners behind it.
-fn tell_around(
+// Adds the faults of the owners before a name, of the name, and of the owners after it.
+fn report_around(
     survey: &Survey<'_>,
     before: &[Record],
     name: &Name,
     own: &[Record],
-    behind: &[Record],
+    after: &[Record],
     found: &mut Vec<CheckFault>,
 ) -> Result<(), AllocError>
     requires before { HasOwners survey.now before.now }
     requires own { IsOwner survey.now name.now own.now }
-    requires behind { HasOwners survey.now behind.now }
-    ensures { OnOk result (found.new.items ≡ found.old.items ++ told_around survey.now before.now name.now behind.now) }
+    requires after { HasOwners survey.now after.now }
+    ensures { OnOk result (found.new.items ≡ found.old.items ++ reported_around survey.now before.now name.now after.now) }
 {
-    tell_owners(survey, before, found)?;
-    tell(survey, name, own, found)?;
-    tell_owners(survey, behind, found)
+    report_owners(survey, before, found)?;
+    report(survey, name, own, found)?;
+    report_owners(survey, after, found)
 }
 
 // Adds the faults of all owners of records that stand by them.
-fn tell_owners(
+fn report_owners(
     survey: &Survey<'_>,
     records: &[Record],
     found: &mut Vec<CheckFault>,
 ) -> Result<(), AllocError>
     requires { HasOwners survey.now records.now }
-    ensures { OnOk result (found.new.items ≡ found.old.items ++ flat_map (told_at survey.now) (owners_once records.now)) }
+    ensures { OnOk result (found.new.items ≡ found.old.items ++ flat_map (reported_at survey.now) (owners_once records.now)) }
 {
     let mut rest = records;
     'owners: while let Some((first, _)) = rest.split_first() {
         let (own, others) = rest.split_at(count_in_front(rest, &first.owner));
-        tell(survey, &first.owner, own, found)?;
+        report(survey, &first.owner, own, found)?;
         rest = others;
     }
     Ok(())
 }
 
 // Adds the faults of a name, whose records these are.
-fn tell(
+fn report(
     survey: &Survey<'_>,
     name: &Name,
     own: &[Record],
     found: &mut Vec<CheckFault>,
 ) -> Result<(), AllocError>
     requires { IsOwner survey.now name.now own.now }
-    ensures { OnOk result (found.new.items ≡ found.old.items ++ told_at survey.now name.now) }
+    ensures { OnOk result (found.new.items ≡ found.old.items ++ reported_at survey.now name.now) }
 {
     let failed = Owner::new(survey, name, own).judged();
     add_failed(name, &failed, found)

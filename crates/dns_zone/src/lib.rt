@@ -5,6 +5,8 @@ mod arranged;
 mod cuts;
 mod fault;
 mod faults;
+mod key;
+mod keyed;
 mod lookup;
 mod node;
 mod order;

@@ -1,28 +1,38 @@
 //! Records of a name, found by halves among records in canonical order.
-ghost use Rattle.std.specs.Prelude.{◌≡◌, ◌≤◌, ◌==◌, length, take, drop, not, nat_lt};
+ghost use Rattle.std.specs.Prelude.{◌≡◌, ◌≤◌, ◌==◌, length, take, drop, not, nat_lt, IfSome};
 ghost use Rattle.std.specs.List.{list_any, filter, prefix_len};
 ghost use Rattle.std.specs.List.Sorted.{IsPartitionedBy, IsNonDecreasingBy};
 ghost use Rattle.std.specs.Ordering.{is_lt};
 ghost use Rattle.dns_spec.specs.Names.{folded, same, at_or_below, name_order};
 ghost use Rattle.dns_spec.specs.Records.{ResourceRecord};
-ghost use Rattle.dns_zone.specs.ZoneForm.{AreOrdered};
+ghost use Rattle.dns_zone.specs.ZoneForm.{AreOrdered, IsFront};
 
+use crate::key::Key;
+use crate::keyed::Keyed;
 use dns_master::Record;
 use dns_name::Name;
 use dns_rdata::RType;
 
+// How many records are looked at before all are: most owners have few records, and most names few below them.
+const NEAR: usize = 4;
+
 /// The records whose owner is the name, which stand side by side.
-pub(crate) fn records_at<'a>(records: &'a [Record], name: &Name) -> &'a [Record]
+pub(crate) fn records_at<'a>(
+    keyed: &[Keyed<'_>],
+    records: &'a [Record],
+    name: &Name,
+) -> &'a [Record]
+    requires keyed { keyed.now ≡ records.now }
     requires ordered { AreOrdered records.now }
     requires lower { folded name.now ≡ name.now }
     ensures { result.now ≡ filter (λ (r : ResourceRecord). same r.owner name.now) records.now }
 {
-    let others = &records[count_before(records, name)..];
+    let others = &records[count_before(keyed, name)..];
     &others[..count_at(others, name)]
 }
 
 /// How many of the records have an owner that comes before the name.
-pub(crate) fn count_before(records: &[Record], name: &Name) -> usize
+pub(crate) fn count_before(records: &[Keyed<'_>], name: &Name) -> usize
     requires ordered { AreOrdered records.now }
     requires lower { folded name.now ≡ name.now }
     ensures bound { result ≤ length records.now }
@@ -31,7 +41,8 @@ pub(crate) fn count_before(records: &[Record], name: &Name) -> usize
     ensures others { drop result records.now
         ≡ filter (λ (r : ResourceRecord). not (is_lt (name_order r.owner name.now))) records.now }
 {
-    records.partition_point(|listed| is_before(listed, name))
+    let key = Key::of(name);
+    records.partition_point(|listed| listed.order(name, &key).is_lt())
 }
 
 /// How many of the records have the name as owner, where these stand in front.
@@ -44,7 +55,26 @@ pub(crate) fn count_at(records: &[Record], name: &Name) -> usize
     ensures others { drop result records.now
         ≡ filter (λ (r : ResourceRecord). not (same r.owner name.now)) records.now }
 {
+    if let Some(count) = count_at_among(records, name, 1) {
+        return count;
+    }
+    if let Some(count) = count_at_among(records, name, NEAR) {
+        return count;
+    }
     records.partition_point(|listed| is_at(listed, name))
+}
+
+// The same where it is at most `near`, and a record stands there; or nothing.
+fn count_at_among(records: &[Record], name: &Name, near: usize) -> Option<usize>
+    requires in_front { IsPartitionedBy (λ (r : ResourceRecord). same r.owner name.now) records.now }
+    requires lower { folded name.now ≡ name.now }
+    ensures { IfSome result (λ k. IsFront (λ (r : ResourceRecord). same r.owner name.now) records.now k) }
+{
+    let next = records.get(near)?;
+    if is_at(next, name) {
+        return None;
+    }
+    Some(records[..near].partition_point(|listed| is_at(listed, name)))
 }
 
 /// How many of the records have owners at or below the name, where these stand in front.
@@ -56,7 +86,25 @@ pub(crate) fn count_under(records: &[Record], name: &Name) -> usize
     ensures others { drop result records.now
         ≡ filter (λ (r : ResourceRecord). not (at_or_below r.owner name.now)) records.now }
 {
+    if let Some(count) = count_under_among(records, name, 1) {
+        return count;
+    }
+    if let Some(count) = count_under_among(records, name, NEAR) {
+        return count;
+    }
     records.partition_point(|listed| listed.owner.at_or_below(name))
+}
+
+// The same where it is at most `near`, and a record stands there; or nothing.
+fn count_under_among(records: &[Record], name: &Name, near: usize) -> Option<usize>
+    requires { IsPartitionedBy (λ (r : ResourceRecord). at_or_below r.owner name.now) records.now }
+    ensures { IfSome result (λ k. IsFront (λ (r : ResourceRecord). at_or_below r.owner name.now) records.now k) }
+{
+    let next = records.get(near)?;
+    if next.owner.at_or_below(name) {
+        return None;
+    }
+    Some(records[..near].partition_point(|listed| listed.owner.at_or_below(name)))
 }
 
 /// How many records stand in front whose owner is the name. They are passed one by one.
@@ -109,13 +157,6 @@ fn count_below(records: &[Record], rtype: RType) -> usize
         ≡ filter (λ (r : ResourceRecord). not (nat_lt r.rtype rtype.0)) records.now }
 {
     records.partition_point(|listed| listed.rtype.0 < rtype.0)
-}
-
-fn is_before(listed: &Record, name: &Name) -> bool
-    requires { folded name.now ≡ name.now }
-    ensures { result ≡ is_lt (name_order listed.now.owner name.now) }
-{
-    listed.owner.order_in_lower_case(name).is_lt()
 }
 
 fn is_at(listed: &Record, name: &Name) -> bool

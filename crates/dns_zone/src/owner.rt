@@ -4,7 +4,7 @@ ghost use Rattle.dns_spec.specs.Records.{owns};
 ghost use Rattle.dns_spec.specs.Tree.{is_cut};
 ghost use Rattle.dns_spec.specs.Checks.{is_origin, count, owns_such, is_address_type, below_cut, checks, no_soa, many_soa, soa_elsewhere, no_ns, outside, cname_and_other, many_cname, ttls_differ, ns_target_alias, ns_target_lost, mx_target_alias, data_at_cut, wildcard_ns, large_set, many_sets};
 ghost use Rattle.dns_spec.specs.Data.{type_ns, type_cname};
-ghost use Rattle.dns_zone.specs.OwnerForm.{IsOwner};
+ghost use Rattle.dns_zone.specs.OwnerForm.{IsOwner, is_server_alias, is_server_lost};
 
 use crate::lookup::has_type;
 use crate::sets::{have_large_set, have_many_sets, have_other_ttls};
@@ -45,6 +45,7 @@ impl<'a> Owner<'a> {
     pub(crate) fn judged(&self) -> [bool; 15]
         ensures { result ≡ map (λ c. c.1 self.now.zone self.now.name) checks }
     {
+        let (is_alias, is_lost) = self.judged_servers();
         [
             self.has_no_soa(),
             self.has_many_soa(),
@@ -54,8 +55,8 @@ impl<'a> Owner<'a> {
             self.has_cname_and_other(),
             self.has_many_cname(),
             self.has_other_ttls(),
-            self.has_ns_target_alias(),
-            self.has_ns_target_lost(),
+            is_alias,
+            is_lost,
             self.has_mx_target_alias(),
             self.has_data_at_cut(),
             self.has_wildcard_ns(),
@@ -115,19 +116,34 @@ impl<'a> Owner<'a> {
         have_other_ttls(self.own)
     }
 
-    fn has_ns_target_alias(&self) -> bool
-        ensures { result ≡ ns_target_alias self.now.zone self.now.name }
+    // Whether the target of an NS record is an alias, and whether that of one lacks an address. Each is looked up once.
+    fn judged_servers(&self) -> (bool, bool)
+        ensures alias { result.0 ≡ ns_target_alias self.now.zone self.now.name }
+        ensures lost { result.1 ≡ ns_target_lost self.now.zone self.now.name }
     {
-        self.own.iter().any(|listed| listed.rtype == RType::NS
-            && self.survey.is_target_alias(listed))
+        let owner_is_cut = self.is_cut();
+        let mut rest = self.own;
+        let mut has_alias = false;
+        let mut has_lost = false;
+        'servers: while let Some((first, others)) = rest.split_first() {
+            let (is_alias, is_lost) = self.judged_server(first, owner_is_cut);
+            has_alias |= is_alias;
+            has_lost |= is_lost;
+            rest = others;
+        }
+        (has_alias, has_lost)
     }
 
-    fn has_ns_target_lost(&self) -> bool
-        ensures { result ≡ ns_target_lost self.now.zone self.now.name }
+    // The same of one record, which may be of any type.
+    fn judged_server(&self, listed: &Record, owner_is_cut: bool) -> (bool, bool)
+        requires { owner_is_cut ≡ is_cut self.now.zone self.now.name }
+        ensures alias { result.0 ≡ is_server_alias self.now.zone listed.now }
+        ensures lost { result.1 ≡ is_server_lost self.now.zone self.now.name listed.now }
     {
-        let is_cut = self.is_cut();
-        self.own.iter().any(|listed| listed.rtype == RType::NS
-            && self.survey.is_target_lost(listed, self.name, is_cut))
+        if listed.rtype != RType::NS {
+            return (false, false);
+        }
+        self.survey.judged_target(listed, self.name, owner_is_cut)
     }
 
     fn has_mx_target_alias(&self) -> bool

@@ -101,7 +101,7 @@ fn write_ttl<W: Write>(ttl: u32, sink: &mut Tally<W>) -> Result<(), SinkFailed>
     sink.write_parts(&[b" ", text, b" IN "])
 }
 
-// The data behind a space, and the end of the line.
+// The data after a space, and the end of the line.
 fn write_data<W: Write>(listed: &Record, sink: &mut Tally<W>) -> Result<(), SinkFailed>
     requires { sink.old.failures < 2 ^ 64 - 1 }
     ensures { Writes W.contents sink.old sink.new result

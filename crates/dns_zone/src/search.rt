@@ -2,7 +2,7 @@
 ghost use Rattle.std.specs.Prelude.{◌≡◌, ◌+◌, ◌<◌, ◌≤◌, map, length, IfSome, IsNone};
 ghost use Rattle.dns_spec.specs.Names.{label_order};
 ghost use Rattle.dns_spec.specs.Meaning.{most_records};
-ghost use Rattle.dns_spec.proofs.SortedOnce.{Each, Among, Rises};
+ghost use Rattle.dns_spec.proofs.Records.SortedOnce.{Each, Among, Rises};
 ghost use Rattle.dns_zone.specs.TreeForm.{row_label, row_name, row_at, IsRow};
 
 use crate::row::Row;

@@ -1,6 +1,6 @@
-//! What walks over the records of one owner tell of its RRsets. The records stand by their types.
+//! What walks over the records of one owner report of its RRsets. The records stand by their types.
 ghost use Rattle.std.specs.Prelude.{◌≡◌, drop, nat_lt};
-ghost use Rattle.dns_zone.specs.SetWalks.{begins_with_type, next_differs, neighbours_differ, repeats_behind, sets_ended};
+ghost use Rattle.dns_zone.specs.SetWalks.{begins_with_type, next_differs, neighbours_differ, repeats_after, sets_ended};
 
 use dns_master::Record;
 use dns_rdata::RType;
@@ -27,7 +27,7 @@ pub(crate) fn have_other_ttls(own: &[Record]) -> bool
 
 /// Whether an RRset has more than 64 records.
 pub(crate) fn have_large_set(own: &[Record]) -> bool
-    ensures { result ≡ repeats_behind 63 own.now }
+    ensures { result ≡ repeats_after 63 own.now }
 {
     let mut rest = own;
     'records: while let Some((first, others)) = rest.split_first() {
@@ -58,7 +58,7 @@ pub(crate) fn have_many_sets(own: &[Record]) -> bool
     false
 }
 
-// Whether the 64th record behind is of the same type.
+// Whether the 64th record after is of the same type.
 fn is_repeated(one: &Record, others: &[Record]) -> bool
     ensures { result ≡ begins_with_type one.now.rtype (drop 63 others.now) }
 {

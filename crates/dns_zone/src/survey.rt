@@ -10,9 +10,10 @@ ghost use Rattle.dns_spec.specs.Data.{type_ns, type_cname, target};
 ghost use Rattle.dns_spec.specs.Tree.{is_cut};
 ghost use Rattle.dns_spec.specs.Checks.{at_or_below_cut, below_cut, lacks_address, has_address};
 ghost use Rattle.dns_zone.specs.ZoneForm.{AreOrdered};
-ghost use Rattle.dns_zone.specs.CutForm.{behind, AreTopmost, AreApart, last_passes};
+ghost use Rattle.dns_zone.specs.CutForm.{after, AreTopmost, AreApart, last_passes};
 
-use crate::cuts::{is_below_last, is_covered, not_behind, topmost_cuts};
+use crate::cuts::{is_below_last, is_covered, not_after, topmost_cuts};
+use crate::keyed::Keyed;
 use crate::lookup::{has_type, records_at};
 use crate::target::target;
 use dns_master::Record;
@@ -26,19 +27,22 @@ use std::marker::Model;
 pub(crate) struct Survey<'a> {
     origin: &'a Name,
     records: &'a [Record],
+    // The same records beside their keys.
+    keyed: &'a [Keyed<'a>],
     // An NS record of each cut that is below no other.
-    cuts: Vec<&'a Record>,
+    cuts: Vec<&'a Keyed<'a>>,
 }
 
 impl<'a> Model for Survey<'a> {
     ghost use Rattle.dns_spec.specs.Records.{ZoneContents};
-    ghost use Rattle.dns_zone.specs.CutForm.{IsSurvey, behind};
+    ghost use Rattle.dns_zone.specs.CutForm.{IsSurvey, after};
 
     ghost Value = { ZoneContents };
 
     ghost view = { λ s. record { origin = s.origin.now; records = s.records.now } };
 
-    ghost invariant = { λ s. IsSurvey (record { origin = s.origin.now; records = s.records.now }) (behind s.cuts.items) };
+    ghost invariant = { λ s. IsSurvey (record { origin = s.origin.now; records = s.records.now })
+        s.keyed.now (after s.cuts.items) };
 }
 
 impl<'a> Survey<'a> {
@@ -47,15 +51,18 @@ impl<'a> Survey<'a> {
         alloc: Global,
         origin: &'a Name,
         records: &'a [Record],
+        keyed: &'a [Keyed<'a>],
     ) -> Result<Survey<'a>, AllocError>
+        requires keyed { keyed.now ≡ records.now }
         requires ordered { AreOrdered records.now }
         requires lower { folded origin.now ≡ origin.now }
         ensures { IfOk result (λ survey. survey ≡ record { origin = origin.now; records = records.now }) }
     {
-        let cuts = topmost_cuts(alloc, origin, records)?;
+        let cuts = topmost_cuts(alloc, origin, keyed)?;
         Ok(Survey {
             origin,
             records,
+            keyed,
             cuts,
         })
     }
@@ -74,7 +81,7 @@ impl<'a> Survey<'a> {
         ensures own { result.now ≡ at self.now name.now }
         ensures by_types { IsNonDecreasingBy (λ (r : ResourceRecord). r.rtype) result.now }
     {
-        records_at(self.records, name)
+        records_at(self.keyed, self.records, name)
     }
 
     /// Whether the name owns a record of the type.
@@ -104,44 +111,58 @@ impl<'a> Survey<'a> {
         self.owns(&target.fold(), RType::CNAME)
     }
 
-    /// Whether the record's target is a name of the zone that lacks an address there (RFC 1034 4.2.1). The record stands
-    /// at `owner`.
-    pub(crate) fn is_target_lost(&self, listed: &Record, owner: &Name, owner_is_cut: bool) -> bool
+    /// Whether the record's target is a name of the zone that owns a CNAME (RFC 2181 10.3), and whether it is one that
+    /// lacks an address there (RFC 1034 4.2.1). It is looked up once. The record stands at `owner`.
+    pub(crate) fn judged_target(
+        &self,
+        listed: &Record,
+        owner: &Name,
+        owner_is_cut: bool,
+    ) -> (bool, bool)
         requires { owner_is_cut ≡ is_cut self.now owner.now }
-        ensures { result ≡ option_map_or (λ m. at_or_below m self.now.origin && lacks_address self.now owner.now m) (target listed.now.rtype listed.now.rdata) false }
+        ensures alias { result.0 ≡ option_map_or (λ m. at_or_below m self.now.origin && owns self.now m type_cname) (target listed.now.rtype listed.now.rdata) false }
+        ensures lost { result.1 ≡ option_map_or (λ m. at_or_below m self.now.origin && lacks_address self.now owner.now m) (target listed.now.rtype listed.now.rdata) false }
     {
         match target(listed) {
-            Some(target) => self.is_lost(&target, owner, owner_is_cut),
-            None => false,
+            Some(target) => self.judged_name(&target, owner, owner_is_cut),
+            None => (false, false),
         }
     }
 
-    fn is_lost(&self, target: &Name, owner: &Name, owner_is_cut: bool) -> bool
+    fn judged_name(&self, target: &Name, owner: &Name, owner_is_cut: bool) -> (bool, bool)
         requires { owner_is_cut ≡ is_cut self.now owner.now }
-        ensures { result ≡ (at_or_below target.now self.now.origin && lacks_address self.now owner.now target.now) }
+        ensures alias { result.0 ≡ (at_or_below target.now self.now.origin && owns self.now target.now type_cname) }
+        ensures lost { result.1 ≡ (at_or_below target.now self.now.origin && lacks_address self.now owner.now target.now) }
     {
         if !target.at_or_below(self.origin) {
-            return false;
+            return (false, false);
         }
-        self.lacks_address(&target.fold(), owner, owner_is_cut)
+        let lower = target.fold();
+        let own = self.at(&lower);
+        let is_alias = has_type(own, RType::CNAME);
+        let is_lost = self.lacks_address(&lower, own, owner, owner_is_cut);
+        (is_alias, is_lost)
     }
 
-    fn lacks_address(&self, target: &Name, owner: &Name, owner_is_cut: bool) -> bool
+    // Whether a name that owns these records lacks an address that a server of `owner` needs.
+    fn lacks_address(&self, target: &Name, own: &[Record], owner: &Name, owner_is_cut: bool) -> bool
         requires lower { folded target.now ≡ target.now }
+        requires own { own.now ≡ at self.now target.now }
+        requires by_types { IsNonDecreasingBy (λ (r : ResourceRecord). r.rtype) own.now }
         requires cut { owner_is_cut ≡ is_cut self.now owner.now }
         ensures { result ≡ lacks_address self.now owner.now target.now }
     {
-        if self.has_address(target) {
+        if self.has_address(target, own) {
             return false;
         }
         !self.is_at_or_below_cut(target) || owner_is_cut && target.at_or_below(owner)
     }
 
-    fn has_address(&self, name: &Name) -> bool
-        requires { folded name.now ≡ name.now }
+    fn has_address(&self, name: &Name, own: &[Record]) -> bool
+        requires own { own.now ≡ at self.now name.now }
+        requires by_types { IsNonDecreasingBy (λ (r : ResourceRecord). r.rtype) own.now }
         ensures { result ≡ has_address self.now name.now }
     {
-        let own = self.at(name);
         has_type(own, RType::A) || has_type(own, RType::AAAA)
     }
 
@@ -150,7 +171,7 @@ impl<'a> Survey<'a> {
         requires { folded name.now ≡ name.now }
         ensures { result ≡ at_or_below_cut self.now name.now }
     {
-        is_covered(not_behind(self.cuts.as_slice(), name), name)
+        is_covered(not_after(self.cuts.as_slice(), name), name)
     }
 
     /// Whether the name is below a cut. A cut is below the origin, so what is below a cut has two labels more than the
@@ -162,6 +183,6 @@ impl<'a> Survey<'a> {
         if name.label_count().saturating_sub(self.origin.label_count()) < 2 {
             return false;
         }
-        is_below_last(not_behind(self.cuts.as_slice(), name), name)
+        is_below_last(not_after(self.cuts.as_slice(), name), name)
     }
 }

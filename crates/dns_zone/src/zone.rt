@@ -7,7 +7,7 @@ ghost use Rattle.dns_spec.specs.Records.{ResourceRecord, zone_of, ordered_zone, 
 ghost use Rattle.dns_spec.specs.Checks.{faults};
 ghost use Rattle.dns_spec.specs.Meaning.{most_records};
 ghost use Rattle.dns_spec.specs.ZonePrinted.{is_soa};
-ghost use Rattle.dns_zone.specs.ZoneForm.{IsBuilt, TellsFaults};
+ghost use Rattle.dns_zone.specs.ZoneForm.{IsBuilt, ReportsFaults};
 ghost use Rattle.dns_zone.specs.NodeForm.{zone_of_tree, IsZoneTree};
 
 use crate::fault::BuildFault;
@@ -47,7 +47,7 @@ impl Zone {
         requires { length records.items ≤ most_records }
         ensures ok { IfOk result (λ zone. zone ≡ ordered_zone origin.now records.items) }
         ensures passes { IfOk result (λ zone. faults (zone_of origin.now records.items) ≡ []) }
-        ensures faults { IfErr result (λ fault. TellsFaults fault (zone_of origin.now records.items)) }
+        ensures faults { IfErr result (λ fault. ReportsFaults fault (zone_of origin.now records.items)) }
     {
         let origin = origin.fold();
         let records = ordered(alloc, &origin, records)?;

@@ -1,8 +1,9 @@
-//! A printer of messages: `dnsmsg` prints the message that the first line of standard input is, in hexadecimal digits.
+//! A printer of messages: `dnsmsg` prints the message that the first line of standard input is, in
+//! hexadecimal digits.
 #![tactic(auto)]
 
 use dns_name::Tally;
-use dns_tools::{FaultWord, exit_status, finish, given_words, run_message, told};
+use dns_tools::{FaultWord, exit_status, finish, given_words, run_message, say};
 use std::io::{self, BufWriter};
 use std::process::ExitCode;
 use std::rt::Env;
@@ -10,7 +11,7 @@ use std::rt::Env;
 fn main(rt: HostRuntime) -> ExitCode {
     ExitCode::from(match print(&rt) {
         Ok(status) => status,
-        Err(word) => told(&rt, word),
+        Err(word) => say(&rt, word),
     })
 }
 

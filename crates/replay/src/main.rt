@@ -1,7 +1,8 @@
-//! Replays recorded runs of the checker: `replay FILE` reads the cases of FILE, gives the words and the zone file of each
-//! to what `zonecheck` calls, and tells each case that is answered otherwise than recorded.
+//! Replays recorded runs of the programs: `replay FILE ..` reads the cases of each FILE, gives the
+//! words, the zone file and the standard input of each to what the program calls, and reports each
+//! case that is answered otherwise than recorded.
 //!
-//! The head of `data/zonecheck.cases` says how a case is written.
+//! The heads of the files in `data/` say how a case is written.
 #![tactic(auto)]
 
 mod answer;
@@ -18,14 +19,17 @@ use std::rt::{Env, Files};
 
 fn main(rt: HostRuntime) -> Result<(), Fault> {
     let words = given_words(&rt)?;
-    let [file] = words.as_slice() else {
+    if words.is_empty() {
         return Err(Fault::Usage);
-    };
-    let text = fs::read_to_string(&rt, file.as_str())?;
-    replay(&rt, text.as_str())
+    }
+    for file in words.as_slice() {
+        let text = fs::read_to_string(&rt, file.as_str())?;
+        replay(&rt, text.as_str())?;
+    }
+    Ok(())
 }
 
-// Replays all cases, which empty lines part, and counts them.
+// Replays all cases of a file, which empty lines part, and counts them.
 fn replay<R: Print + AllocGlobal>(rt: &R, text: &str) -> Result<(), Fault> {
     let mut count = 0u32;
     let mut differing = 0u32;
@@ -49,7 +53,12 @@ fn replay<R: Print + AllocGlobal>(rt: &R, text: &str) -> Result<(), Fault> {
 fn gives_its_answer<R: Print + AllocGlobal>(rt: &R, part: &str) -> Result<bool, Fault> {
     let alloc = rt.alloc();
     let case = read_case(alloc, part)?;
-    let answer = Answer::of(alloc, case.words.as_slice(), case.file.as_slice())?;
+    let answer = Answer::of(
+        alloc,
+        case.words.as_slice(),
+        case.file.as_slice(),
+        case.input.as_slice(),
+    )?;
     if answer == case.wanted {
         return Ok(true);
     }

@@ -1,10 +1,10 @@
-//! A checker of zone files: `zonecheck [--quiet] [--print] ORIGIN FILE` says whether the zone of ORIGIN in FILE may be
-//! served, tells all of its faults, or prints it in its canonical text.
+//! A checker of zone files: `zonecheck [--quiet] [--print] ORIGIN FILE` says whether the zone of
+//! ORIGIN in FILE may be served, reports all of its faults, or prints it in its canonical text.
 #![tactic(auto)]
 
 use dns_name::Tally;
 use dns_tools::{
-    FaultWord, check_words, check_zone, exit_status, finish, given_words, open_file, told,
+    FaultWord, check_words, check_zone, exit_status, finish, given_words, open_file, say,
 };
 use std::io::{self, BufWriter};
 use std::process::ExitCode;
@@ -13,7 +13,7 @@ use std::rt::{Env, Files};
 fn main(rt: HostRuntime) -> ExitCode {
     ExitCode::from(match check(&rt) {
         Ok(status) => status,
-        Err(word) => told(&rt, word),
+        Err(word) => say(&rt, word),
     })
 }
 

@@ -1,31 +1,77 @@
-//! A server of one zone: `zoneserve once ORIGIN FILE` loads the zone of ORIGIN from FILE, and answers each message of
-//! standard input, a line of hexadecimal digits, by a line on standard output.
+//! A server of one zone. `zoneserve once [--tcp] ORIGIN FILE` loads the zone of ORIGIN from FILE,
+//! and answers each message of standard input, a line of hexadecimal digits, by a line on standard
+//! output; `zoneserve udp|tcp ADDR TURNS ORIGIN FILE` answers at an address.
 #![tactic(auto)]
 
 use dns_name::Tally;
 use dns_tools::{
-    FaultWord, Limit, exit_status, given_words, load_zone, open_file, run_once, serve_words, told,
+    FaultWord, LoadFault, Refusal, Service, exit_status, finish, given_words, load_zone, open_file,
+    run_once, say, serve_connections, serve_datagrams, serve_words, write_refusal,
 };
-use std::io;
+use dns_zone::Zone;
+use std::io::{self, BufWriter};
+use std::net::{Net, TcpListener, TcpStream};
 use std::process::ExitCode;
 use std::rt::{Env, Files};
 
 fn main(rt: HostRuntime) -> ExitCode {
-    ExitCode::from(match serve(&rt) {
+    ExitCode::from(match run(&rt, &rt.stderr()) {
         Ok(status) => status,
-        Err(word) => told(&rt, word),
+        Err(word) => say(&rt, word),
     })
 }
 
-// Answers standard input from the zone that the words name, and gives the status for the lines that it had.
-fn serve<R: Env + Files + Input + Print + AllocGlobal>(rt: &R) -> Result<u8, FaultWord> {
+// Serves the zone that the words name, as they ask, and gives the status.
+fn run<R, E: Print>(rt: &R, errors: &E) -> Result<u8, FaultWord>
+where
+    R: Env + Files + Input + Print + Eprint + AllocGlobal,
+    R: Net<Listener = TcpListener, Stream = TcpStream>,
+{
     let alloc = rt.alloc();
     let words = given_words(rt)?;
     let words = serve_words(alloc, words.as_slice())?;
     let file = open_file(rt, words.file)?;
-    let zone = load_zone(alloc, &words.origin, &mut Tally::new(file))?;
-    let (mut source, mut sink) = (Tally::new(rt.reader()), Tally::new(io::writer(rt)));
-    let outcome = run_once(alloc, &zone, Limit::Udp, &mut source, &mut sink);
-    outcome?;
+    // The file is closed before anything is served.
+    let loaded = load_zone(alloc, &words.origin, &mut Tally::new(file));
+    match loaded {
+        Ok(zone) => serve(rt, &zone, &words.service),
+        Err(LoadFault::Refused(refusal)) => refuse(rt, errors, &refusal),
+        Err(LoadFault::Stopped(stop)) => Err(FaultWord::from(stop)),
+    }
+}
+
+fn serve<R>(rt: &R, zone: &Zone, service: &Service<'_>) -> Result<u8, FaultWord>
+where
+    R: Input + Print + Eprint + AllocGlobal + Net<Listener = TcpListener, Stream = TcpStream>,
+{
+    let are_said = match service {
+        Service::Once(limit) => {
+            let (mut source, mut sink) = (Tally::new(rt.reader()), Tally::new(io::writer(rt)));
+            let outcome = run_once(rt.alloc(), zone, *limit, &mut source, &mut sink);
+            outcome?;
+            return Ok(exit_status(&outcome));
+        }
+        Service::Udp { address, turns } => serve_datagrams(rt, zone, address, *turns)?,
+        Service::Tcp { address, turns } => serve_connections(rt, zone, address, *turns)?,
+    };
+    Ok(if are_said { 0 } else { 2 })
+}
+
+// Says on standard error why there is no zone to serve, in the lines of the checker.
+fn refuse<R: AllocGlobal, E: Print>(
+    rt: &R,
+    errors: &E,
+    refusal: &Refusal,
+) -> Result<u8, FaultWord> {
+    let Ok(output) = BufWriter::new(rt.alloc(), io::writer(errors)) else {
+        return Err(FaultWord::NoMemory);
+    };
+    let mut sink = Tally::new(output);
+    let written = write_refusal(refusal, &mut sink);
+    let outcome = match written {
+        Ok(()) => Ok(false),
+        Err(failed) => Err(failed.into()),
+    };
+    let outcome = finish(outcome, sink.into_inner());
     Ok(exit_status(&outcome))
 }

@@ -1,4 +1,4 @@
-//! Faults of whole entries: `R05` to `R13`, of which the least is told.
+//! Faults of whole entries: `R05` to `R13`, of which the least is reported.
 
 use super::reading::{Row, judge};
 use std::test::Fail;

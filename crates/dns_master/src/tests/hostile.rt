@@ -46,8 +46,8 @@ fn files_that_are_written_to_do_harm(rt: HostRuntime) -> Result<(), Fail> {
     for (begin, piece, times, wanted) in FILES {
         let mut text = repeated(rt.alloc(), begin, 1)?;
         text.extend_from_slice(repeated(rt.alloc(), piece, times)?.as_slice())?;
-        let told = fault(rt.alloc(), text.as_slice())?;
-        assert_eq!(rt; told, wanted, "at {piece:?} after {begin:?}");
+        let reported = fault(rt.alloc(), text.as_slice())?;
+        assert_eq!(rt; reported, wanted, "at {piece:?} after {begin:?}");
     }
     Ok(())
 }

@@ -1,4 +1,4 @@
-//! Faults of long files: `R14` and `R15`, and what is told before them.
+//! Faults of long files: `R14` and `R15`, and what is reported before them.
 
 use super::reading::{Row, fault, repeated};
 use std::alloc::{AllocError, Global};
@@ -47,7 +47,8 @@ const LIMITS: [Limit<'static>; 33] = [
     (b"a 1 A 192.0.2.1", b"0", (15, 2)),
 ];
 
-// A text whose first line is a comment, and that has just as many octets as are allowed up to the end of `within`.
+// A text whose first line is a comment, and that has just as many octets as are allowed up to the
+// end of `within`.
 fn fill(text: &mut Vec<u8>, within: &[u8], beyond: &[u8]) -> Result<(), AllocError> {
     text.truncate(MOST_OCTETS - 100);
     text.resize((MOST_OCTETS - 1).saturating_sub(within.len()), b';')?;
@@ -62,8 +63,8 @@ fn what_stands_at_the_limit(rt: HostRuntime) -> Result<(), Fail> {
     for (within, beyond, wanted) in LIMITS {
         fill(&mut text, within, beyond)?;
         assert_eq!(rt; text.len(), MOST_OCTETS.saturating_add(beyond.len()));
-        let told = fault(rt.alloc(), text.as_slice())?;
-        assert_eq!(rt; told, wanted, "at {within:?} and {beyond:?}");
+        let reported = fault(rt.alloc(), text.as_slice())?;
+        assert_eq!(rt; reported, wanted, "at {within:?} and {beyond:?}");
     }
     Ok(())
 }

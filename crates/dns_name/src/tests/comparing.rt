@@ -58,7 +58,8 @@ fn compared_names(rt: HostRuntime) -> Result<(), Fail> {
     assert!(rt; name != lower);
     assert!(rt; name == name.copied());
     assert!(rt; name == name.clone()?);
-    // `@` and `[` stand around A to Z, and differ from `` ` `` and `{` by the same bit as letters do.
+    // `@` and `[` stand around A to Z, and differ from ``
+    // ` `` and `{` by the same bit as letters do.
     assert!(rt; !name_of(&[b"@["])?.same(&name_of(&[b"`{"])?));
     Ok(())
 }

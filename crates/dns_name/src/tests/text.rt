@@ -42,7 +42,8 @@ fn names_read(rt: HostRuntime) -> Result<(), Fail> {
     Ok(())
 }
 
-// In a label a bad escape goes before an empty or a long label, and a faulty label before a long name.
+// In a label a bad escape goes before an empty or a long label, and a faulty label before a long
+// name.
 #[test]
 fn fault_order(rt: HostRuntime) {
     let rows: [(&[u8], u8); 15] = [

@@ -3,7 +3,7 @@ use arrayvec::ArrayVec;
 use std::io::{self, ErrorKind, Write};
 use std::test::Fail;
 
-// The names of RFC 4034 6.1 in their order, behind the root.
+// The names of RFC 4034 6.1 in their order, after the root.
 const IN_ORDER: [&[u8]; 10] = [
     b".",
     b"example.",
@@ -17,7 +17,8 @@ const IN_ORDER: [&[u8]; 10] = [
     b"\\200.z.example.",
 ];
 
-/// A device that takes at most three octets a call. Once its calls are used up one fails, and later ones would work.
+/// A device that takes at most three octets a call. Once its calls are used up one fails, and later
+/// ones would work.
 #[derive(Drop)]
 struct Failing {
     calls_left: usize,
@@ -97,7 +98,8 @@ fn names_written(rt: HostRuntime) -> Result<(), Fail> {
     Ok(())
 }
 
-// `ns.example.` is written in four calls. Where one of them fails, the octets before it were written.
+// `ns.example.` is written in four calls. Where one of them fails, the octets before it were
+// written.
 #[test]
 fn each_write_of_a_name_fails(rt: HostRuntime) -> Result<(), Fail> {
     let text = b"ns.example.";

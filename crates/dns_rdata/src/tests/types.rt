@@ -76,7 +76,7 @@ impl Write for TakesOne {
 }
 
 #[test]
-fn a_failure_behind_the_word_is_told(rt: HostRuntime) {
+fn a_failure_after_the_word_is_told(rt: HostRuntime) {
     let mut sink = Tally::new(TakesOne { taken: false });
     assert!(rt; RType(65).write_text(&mut sink).is_err());
     assert_eq!(rt; sink.failures(), 1);

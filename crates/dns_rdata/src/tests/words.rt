@@ -3,7 +3,8 @@ use dns_name::Name;
 use std::alloc::Global;
 use std::test::Fail;
 
-// Words as a zone file has them, one space between them: those in quotation marks hold no space here.
+// Words as a zone file has them, one space between them: those in quotation marks hold no space
+// here.
 fn words<'a>(alloc: Global, text: &'a [u8]) -> Result<Vec<Word<'a>>, Fail> {
     let mut words = Vec::new(alloc);
     if text.is_empty() {

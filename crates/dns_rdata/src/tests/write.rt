@@ -84,7 +84,8 @@ fn data_written(rt: HostRuntime) -> Result<(), Fail> {
     Ok(())
 }
 
-/// A device that takes at most three octets a call. Once its calls are used up one fails, and later ones would work.
+/// A device that takes at most three octets a call. Once its calls are used up one fails, and later
+/// ones would work.
 #[derive(Drop)]
 struct Failing {
     calls_left: usize,
@@ -110,7 +111,8 @@ impl Write for Failing {
     }
 }
 
-// No text is longer than 40 octets, so that 40 calls write it. Where one before the last fails, a beginning was written.
+// No text is longer than 40 octets, so that 40 calls write it. Where one before the last fails, a
+// beginning was written.
 #[test]
 fn each_write_fails(rt: HostRuntime) -> Result<(), Fail> {
     for (rtype, octets, text) in ROWS {
@@ -150,7 +152,8 @@ fn longest_text_written(rt: HostRuntime) -> Result<(), Fail> {
     }
     let mut sink = Tally::new(Vec::new(rt.alloc()));
     assert_eq!(rt; write(rt.alloc(), RType::TXT, &data, &mut sink), Ok(()));
-    // Each quotation mark has a backslash before it, each string two marks around it, and a space before it or none.
+    // Each quotation mark has a backslash before it, each string two marks around it, and a space
+    // before it or none.
     assert_eq!(rt; sink.into_inner().len(), 2 * 255 * 255 + 3 * 510 - 1);
     let mut sink = Tally::new(Vec::new(rt.alloc()));
     assert_eq!(rt; write(rt.alloc(), RType(65280), &data, &mut sink), Ok(()));

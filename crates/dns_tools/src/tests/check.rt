@@ -66,7 +66,7 @@ fn checked(alloc: Global, text: &[u8], flags: Flags, most: usize) -> Result<(boo
     Ok((passes, sink.into_inner().text))
 }
 
-// The sample with a line of it replaced, or with lines behind it where `line` is past its end.
+// The sample with a line of it replaced, or with lines after it where `line` is past its end.
 fn changed(alloc: Global, line: usize, others: &str) -> Result<String, Fail> {
     let mut text = String::new(alloc);
     for (place, old) in SAMPLE.lines().enumerate() {

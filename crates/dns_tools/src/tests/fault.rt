@@ -1,4 +1,5 @@
-use crate::{FaultWord, Stop, exit_status};
+use crate::{FaultWord, Stop, TurnWord, exit_status};
+use dns_serve::{StreamFault, TurnFault};
 use std::test::Fail;
 
 #[test]
@@ -11,29 +12,30 @@ fn statuses_of_an_engine(rt: HostRuntime) {
 }
 
 #[test]
-fn texts_and_statuses_of_the_fault_words(rt: HostRuntime) -> Result<(), Fail> {
+fn texts_of_the_words(rt: HostRuntime) -> Result<(), Fail> {
     let rows = [
-        (FaultWord::Usage, "usage", 2),
-        (FaultWord::BadOrigin, "bad origin", 2),
-        (FaultWord::NoMemory, "no memory", 2),
-        (FaultWord::SourceFailed, "R16", 2),
-        (FaultWord::SinkFailed, "P1", 2),
-        (FaultWord::ZoneRefused, "zone refused", 1),
-        (
-            FaultWord::FaultyEntry { line: 7, code: 11 },
-            "line 7: R11",
-            1,
-        ),
-        (
-            FaultWord::FaultyEntry { line: 10, code: 1 },
-            "line 10: R01",
-            1,
-        ),
+        (FaultWord::Usage, "usage"),
+        (FaultWord::BadOrigin, "bad origin"),
+        (FaultWord::NoMemory, "no memory"),
+        (FaultWord::SourceFailed, "R16"),
+        (FaultWord::SinkFailed, "P1"),
+        (FaultWord::NotBound, "bind"),
     ];
-    for (word, text, status) in rows {
+    for (word, text) in rows {
         let shown = word.to_string(rt.alloc())?;
         assert_eq!(rt; shown.as_str(), text);
-        assert_eq!(rt; word.status(), status, "of {text}");
+    }
+    let rows = [
+        (TurnWord::from(TurnFault::ReceiveFailed), "U1"),
+        (TurnWord::from(TurnFault::SendFailed), "U2"),
+        (TurnWord::NotAccepted, "accept"),
+        (TurnWord::from(StreamFault::SourceFailed), "S1"),
+        (TurnWord::from(StreamFault::SinkFailed), "S2"),
+        (TurnWord::from(StreamFault::Cut), "S3"),
+    ];
+    for (word, text) in rows {
+        let shown = word.to_string(rt.alloc())?;
+        assert_eq!(rt; shown.as_str(), text);
     }
     Ok(())
 }

@@ -1,12 +1,13 @@
 use super::devices::{Kept, Pieces};
-use super::load::{F1, example};
+use super::load::{Z0, example};
 use crate::load::load;
-use crate::{Limit, Stop, run_once};
+use crate::{Stop, run_once};
+use dns_answer::Limit;
 use dns_name::Tally;
 use std::alloc::Global;
 use std::test::Fail;
 
-// What a run over the sample file writes and answers, for an input in pieces and a number of calls that work.
+// What a run over the sample zone, over UDP, writes and answers, for an input in pieces and a number of calls that work.
 fn run(
     alloc: Global,
     input: &[u8],
@@ -14,7 +15,9 @@ fn run(
     reads: u32,
     writes: u32,
 ) -> Result<(Vec<u8>, Result<bool, Stop>), Fail> {
-    let zone = load(alloc, &example()?, &mut Tally::new(F1.as_bytes()))?;
+    let Ok(zone) = load(alloc, &example()?, &mut Tally::new(Z0.as_bytes())) else {
+        return Err("the sample zone is refused".into());
+    };
     let mut source = Tally::new(Pieces {
         text: input,
         most,
@@ -90,19 +93,23 @@ fn replies_to_one_message(rt: HostRuntime) -> Result<(), Fail> {
         ),
         (
             "123400000001000000000000046e6f7065076578616d706c650000010001",
-            "123484030001000000010000046e6f7065076578616d706c650000010001076578616d706c6500000600010000012c0034026e73076578616d706c65000a686f73746d6173746572076578616d706c65000000000100001c2000000384001275000000012c",
+            "123484030001000000010000046e6f7065076578616d706c650000010001c011000600010000012c0026026e73c0110a686f73746d6173746572c0110000000100001c2000000384001275000000012c",
         ),
         (
-            "123400000001000000000000016203656e74076578616d706c650000010001",
-            "123484000001000000010000016203656e74076578616d706c650000010001076578616d706c6500000600010000012c0034026e73076578616d706c65000a686f73746d6173746572076578616d706c65000000000100001c2000000384001275000000012c",
+            "123400000001000000000000017801790177076578616d706c650000100001",
+            "123484000001000100000000017801790177076578616d706c650000100001c00c0010000100000e10000403616e79",
+        ),
+        (
+            "123400000001000000000000016803737562076578616d706c650000010001",
+            "123480000001000000010001016803737562076578616d706c650000010001c00e0002000100000e100005026e73c00ec02b0001000100000e100004c0000235",
+        ),
+        (
+            "12340000000100000000000005616c696173076578616d706c650000010001",
+            "12348400000100020000000005616c696173076578616d706c650000010001c00c0005000100000e10000603777777c012c02b0001000100000e100004c000020a",
         ),
         (
             "123400000001000000000000076578616d706c650000020001",
-            "123484000001000100000000076578616d706c650000020001c00c0002000100000e10000c026e73076578616d706c6500",
-        ),
-        (
-            "123400000001000000000000076578616d706c650000ff0001",
-            "123484000001000200000000076578616d706c650000ff0001c00c0002000100000e10000c026e73076578616d706c6500c00c0006000100000e100034026e73076578616d706c65000a686f73746d6173746572076578616d706c65000000000100001c2000000384001275000000012c",
+            "123484000001000100000001076578616d706c650000020001c00c0002000100000e100005026e73c00cc0250001000100000e100004c0000201",
         ),
     ];
     for (query, reply) in rows {
@@ -176,7 +183,7 @@ fn more_answers_than_are_gathered(rt: HostRuntime) -> Result<(), Fail> {
 }
 
 #[test]
-fn a_failing_device_stops_the_run_behind_a_beginning(rt: HostRuntime) -> Result<(), Fail> {
+fn a_failing_device_stops_the_run_after_a_beginning(rt: HostRuntime) -> Result<(), Fail> {
     let (input, wanted) = (b"\n00\n\n", b"none\nnone\nnone\n".as_slice());
     for reads in 0..5 {
         let (output, outcome) = run(rt.alloc(), input, 1, reads, 1000)?;

@@ -1,4 +1,5 @@
-use crate::{FaultWord, Flags, check_words, serve_words};
+use crate::{FaultWord, Flags, Service, check_words, serve_words};
+use dns_answer::Limit;
 use std::test::Fail;
 
 fn fault(rt: &impl AllocGlobal, words: &[&str]) -> Option<FaultWord> {
@@ -25,8 +26,46 @@ fn words_that_are_taken(rt: HostRuntime) -> Result<(), Fail> {
 }
 
 #[test]
+fn services_that_are_asked_for(rt: HostRuntime) -> Result<(), Fail> {
+    let rows: [(&[&str], Service<'_>); 5] = [
+        (&["once", "example", "zone"], Service::Once(Limit::Udp)),
+        (
+            &["once", "--tcp", "example", "zone"],
+            Service::Once(Limit::Tcp),
+        ),
+        (
+            &["udp", "[::1]:53", "1", "example", "zone"],
+            Service::Udp {
+                address: "[::1]:53",
+                turns: 1,
+            },
+        ),
+        (
+            &["tcp", "127.0.0.1:53", "1000000", "example", "zone"],
+            Service::Tcp {
+                address: "127.0.0.1:53",
+                turns: 1_000_000,
+            },
+        ),
+        (
+            &["tcp", "-a", "7", "example", "zone"],
+            Service::Tcp {
+                address: "-a",
+                turns: 7,
+            },
+        ),
+    ];
+    for (words, service) in rows {
+        let said = serve_words(rt.alloc(), words)?;
+        assert_eq!(rt; said.service, service, "at {words:?}");
+        assert_eq!(rt; said.file, "zone");
+    }
+    Ok(())
+}
+
+#[test]
 fn words_that_are_refused(rt: HostRuntime) {
-    let usage: [&[&str]; 22] = [
+    let usage: [&[&str]; 29] = [
         &[],
         &["once"],
         &["once", "example"],
@@ -43,12 +82,19 @@ fn words_that_are_refused(rt: HostRuntime) {
         &["once", "--help", "zone"],
         &["once", "--", "example", "zone"],
         &["--", "once", "example", "zone"],
-        &["once", "--tcp", "example", "zone"],
+        &["once", "--tcp", "--tcp", "example", "zone"],
+        &["once", "example", "--tcp", "zone"],
         &["once", "-example", "zone"],
         &["once", "example", "-"],
         &["once", "example", "zone", "--tcp=1"],
-        &["udp", "127.0.0.1:53", "1", "example", "zone"],
-        &["tcp", "127.0.0.1:53", "1", "example", "zone"],
+        &["udp", "127.0.0.1:53", "example", "zone"],
+        &["udp", "127.0.0.1:53", "0", "example", "zone"],
+        &["tcp", "127.0.0.1:53", "1000001", "example", "zone"],
+        &["tcp", "127.0.0.1:53", "01", "example", "zone"],
+        &["tcp", "127.0.0.1:53", "-1", "example", "zone"],
+        &["udp", "127.0.0.1:53", "1", "-example", "zone"],
+        &["udp", "127.0.0.1:53", "1", "example", "-"],
+        &["udp", "--tcp", "127.0.0.1:53", "1", "example", "zone"],
     ];
     for words in usage {
         assert_eq!(rt; fault(&rt, words), Some(FaultWord::Usage), "at {words:?}");

@@ -1,4 +1,5 @@
-//! A plain reader of messages, written from RFC 1035 4.1 without regard to speed: whether octets are a message.
+//! A plain reader of messages, written from RFC 1035 4.1 without regard to speed: whether octets
+//! are a message.
 
 // The name at a place: how long it is on the wire, and the place after its own octets.
 fn plain_name(octets: &[u8], run: usize, place: usize, depth: u32) -> Option<(usize, usize)> {

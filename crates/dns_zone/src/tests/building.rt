@@ -1,11 +1,11 @@
-//! Zones that are built, and faults that are told.
+//! Zones that are built, and faults that are reported.
 
 use super::texts::{built, file_with};
 use crate::BuildFault;
 use std::test::Fail;
 
 // A fault: the owner's wire form, and the number of the code.
-type Told<'a> = (&'a [u8], u8);
+type Reported<'a> = (&'a [u8], u8);
 
 #[test]
 fn origins_and_serials(rt: HostRuntime) -> Result<(), Fail> {
@@ -40,10 +40,10 @@ fn origins_and_serials(rt: HostRuntime) -> Result<(), Fail> {
 }
 
 #[test]
-fn faults_are_told(rt: HostRuntime) -> Result<(), Fail> {
+fn faults_are_reported(rt: HostRuntime) -> Result<(), Fail> {
     let more = file_with(rt.alloc(), b"www CNAME ns\nx.sub TXT \"q\"\n")?;
     let other_ttl = file_with(rt.alloc(), b"www 1 A 192.0.2.10\n")?;
-    let rows: [(&[u8], &[Told<'_>]); 3] = [
+    let rows: [(&[u8], &[Reported<'_>]); 3] = [
         (
             &more,
             &[
@@ -56,11 +56,11 @@ fn faults_are_told(rt: HostRuntime) -> Result<(), Fail> {
         (&other_ttl, &[(b"\x03www\x07example\x00", 8)]),
     ];
     for (text, wanted) in rows {
-        let Some(Err(BuildFault::Faults(told))) = built(rt.alloc(), b"example.", text)? else {
+        let Some(Err(BuildFault::Faults(reported))) = built(rt.alloc(), b"example.", text)? else {
             panic!(rt; "no faults of {text:?}");
         };
-        assert_eq!(rt; told.len(), wanted.len());
-        for (fault, (owner, code)) in told.iter().zip(wanted) {
+        assert_eq!(rt; reported.len(), wanted.len());
+        for (fault, (owner, code)) in reported.iter().zip(wanted) {
             assert_eq!(rt; fault.owner.octets(), *owner);
             assert_eq!(rt; fault.code, *code);
         }

@@ -33,7 +33,7 @@ ns.sub.example. 3600 IN A 192.0.2.53
 www.example. 3600 IN A 192.0.2.10
 ";
 
-/// Those lines, and others behind them.
+/// Those lines, and others after them.
 pub(super) fn file_with(alloc: Global, others: &[u8]) -> Result<Vec<u8>, Fail> {
     let mut text = Vec::new(alloc);
     for line in LINES {

@@ -1,5 +1,5 @@
 use Rattle.std.proofs.Common.{rules, ◌≡◌, ◌+◌, ◌≤◌, [], ◌∷◌, length, refl, ap, arith}
-use Rattle.dns_spec.proofs.TextTokens.{front-shorter}
+use Rattle.dns_spec.proofs.ZoneTexts.TextTokens.{front-shorter}
 use Rattle.dns_master.specs.TokenForm.{shown_token}
 use Rattle.dns_master.specs.EntryForm.{misplaced, over, onward, step, line_ends}
 use Rattle.dns_master.proofs.EntryLoop.{token-read, entry-ended, entry-unended, entry-wrong, lines-shorter}

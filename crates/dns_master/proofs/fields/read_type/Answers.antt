@@ -4,7 +4,7 @@ use Rattle.dns_spec.specs.Names.{Octets}
 use Rattle.dns_spec.specs.DataText.{Word}
 use Rattle.dns_spec.specs.TypeText.{NamesType}
 use Rattle.dns_spec.specs.Meaning.{is_zone_type}
-use Rattle.dns_spec.proofs.TypeWords.{one_type}
+use Rattle.dns_spec.proofs.DataWords.TypeWords.{one_type}
 use Rattle.dns_master.proofs.fields.read_type.Goals as goal
 
 pub returns-in_default : goal.returns-in_default

@@ -15,8 +15,8 @@ pub returns-then-goes_on-clause-err : goal.returns-then-goes_on-clause-err
 returns-then-goes_on-clause-err c = λ other.
     let empty : c.entries.rest.now ≡ [] = nil_from_length c.entries.rest.now (search rules) in
     let memory : TooLong ≢ NoMemory = search rules in
-    let told = past-limit _ c.args.goes_on _ c.entries.rest.now c.entries.reader c.entries.invariant.so_far empty c.if-goes_on.true in
-    rw c.entry_fault-then-goes_on.ensures.code (rw (c.entry_fault-then-goes_on.ensures.line memory) told)
+    let reported = past-limit _ c.args.goes_on _ c.entries.rest.now c.entries.reader c.entries.invariant.so_far empty c.if-goes_on.true in
+    rw c.entry_fault-then-goes_on.ensures.code (rw (c.entry_fault-then-goes_on.ensures.line memory) reported)
 
 pub returns-clause-ok : goal.returns-clause-ok
 returns-clause-ok c =

@@ -3,7 +3,8 @@
 use super::judge::{Known, Meant};
 use std::alloc::{AllocError, AllocFailed, Global};
 
-/// A word: its octets as they are spelled, and what they stand for, each with whether it was an escape.
+/// A word: its octets as they are spelled, and what they stand for, each with whether it was an
+/// escape.
 #[derive(Drop)]
 pub(super) struct PlainWord {
     pub raw: Vec<u8>,
@@ -42,7 +43,8 @@ enum Place {
     Return(bool),
     // After a backslash: whether in a string.
     Backslash(bool),
-    // After one digit or two of an escape, which say this number: whether in a string, and how many are still to come.
+    // After one digit or two of an escape, which say this number: whether in a string, and how many
+    // are still to come.
     Digits(bool, u32, u32),
 }
 

@@ -5,9 +5,9 @@ use Rattle.dns_spec.specs.Names.{DomainName, label_order}
 use Rattle.std.specs.declared.cmp.Ordering.{Ordering}
 use Rattle.dns_name.proofs.name.order_of_labels.Given as goal
 
--- the order of names of as many labels, and `behind` where they are equal
+-- the order of names of as many labels, and `after` where they are equal
 abbrev order_then : DomainName → DomainName → Ordering → Ordering
-order_then n m behind = ordering_then (slice_cmp label_order (reverse n) (reverse m)) behind
+order_then n m after = ordering_then (slice_cmp label_order (reverse n) (reverse m)) after
 
 abbrev pub invariant-labels : goal.invariant-labels
 invariant-labels l = (length l.left ≡ length l.right) × (order_then l.left l.right l.order ≡ order_then l.initial.left l.initial.right l.fn.longer)

@@ -14,7 +14,7 @@ returns-in_default-first_part c =
 pub pieces-preserved : goal.pieces-preserved
 pieces-preserved c =
     c.pieces.invariant ∙ ap (λ ps. is_some (cut (pieces_in ps) c.pieces.rest.now)) c.in-Some.ensures.cases.0
-    ∙ more_are_cut (piece_of c.in-Some.piece.now) (pieces_in c.in-Some.others.now) c.pieces.rest.now (part_for c.in-Some-first_part.field-0-0) c.in-Some-first_part.behind.now
+    ∙ more_are_cut (piece_of c.in-Some.piece.now) (pieces_in c.in-Some.others.now) c.pieces.rest.now (part_for c.in-Some-first_part.field-0-0) c.in-Some-first_part.after.now
     c.in-Some-first_part.ensures.0
 
 pub returns : goal.returns

@@ -1,6 +1,6 @@
 use Rattle.std.proofs.Common.{arith, ap, length, ◌∙◌}
 use Rattle.dns_spec.specs.Data.{valid}
-use Rattle.dns_spec.proofs.LoweredData.{lowered_data}
+use Rattle.dns_spec.proofs.DataWords.LoweredData.{lowered_data}
 use Rattle.dns_rdata.proofs.PartLemmas.{length-lower_case}
 use Rattle.dns_rdata.proofs.rdata.data_of.Goals as goal
 

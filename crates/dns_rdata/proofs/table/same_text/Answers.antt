@@ -1,4 +1,4 @@
-use Rattle.dns_spec.proofs.NameLaws.{octets_equal-decides, same_tests}
+use Rattle.dns_spec.proofs.DomainNames.NameLaws.{octets_equal-decides, same_tests}
 use Rattle.dns_rdata.proofs.table.same_text.Goals as goal
 
 pub returns : goal.returns

@@ -26,9 +26,9 @@ words-preserved c =
 pub returns-then-len-count-2-clause-fault : goal.returns-then-len-count-2-clause-fault
 returns-then-len-count-2-clause-fault c = λ _ d said short.
     let number = (c.octet_count.ensures c.in_ok-count.count).0 c.in_ok-count.ensures.ok_part in
-    let behind = subst (λ ws. SaysUnknown ws d) c.in-Some.ensures.cases.0 said in
-    let same = only_octets c.in-Some.first.now c.in-Some.others.now c.words.octets.items d (at_end _ c.words.word-index _ c.words-test.false c.words.invariant) behind in
-    omega (arith, c.if-len-count-2.true, c.len-2.ensures, ap length same, count_is_length c.in-Some.first.now c.in_ok-count.count d number.1 behind.1 number.2 short)
+    let after = subst (λ ws. SaysUnknown ws d) c.in-Some.ensures.cases.0 said in
+    let same = only_octets c.in-Some.first.now c.in-Some.others.now c.words.octets.items d (at_end _ c.words.word-index _ c.words-test.false c.words.invariant) after in
+    omega (arith, c.if-len-count-2.true, c.len-2.ensures, ap length same, count_is_length c.in-Some.first.now c.in_ok-count.count d number.1 after.1 number.2 short)
 
 pub returns-clause-ok : goal.returns-clause-ok
 returns-clause-ok c =

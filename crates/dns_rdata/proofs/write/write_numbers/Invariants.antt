@@ -11,7 +11,7 @@ abbrev pub invariant-numbers : goal.invariant-numbers
 invariant-numbers g l = record {
   long : l.left * size_of l.size ≤ length l.rest;
   written : Written (g.W.Write.contents l.initial.sink.device) (g.W.Write.contents l.sink.device) (spaced l.fn.before (form_words (replicate l.count (number_word (size_of l.size))) l.octets)) (spaced l.before (form_words (replicate l.left (number_word (size_of l.size))) l.rest));
-  behind : form_rest (replicate l.left (number_word (size_of l.size))) l.rest ≡ form_rest (replicate l.count (number_word (size_of l.size))) l.octets;
+  after : form_rest (replicate l.left (number_word (size_of l.size))) l.rest ≡ form_rest (replicate l.count (number_word (size_of l.size))) l.octets;
   counted : l.sink.failures ≡ l.initial.sink.failures;
 }
 

@@ -4,7 +4,7 @@ use Rattle.std.proofs.lemmas.List.{nil_from_length}
 use Rattle.dns_spec.specs.Data.{are_strings}
 use Rattle.dns_name.proofs.Results.{OnErr-always}
 use Rattle.dns_name.proofs.WritesLemmas.{Written-more, Written-begun}
-use Rattle.dns_rdata.proofs.SpacedWords.{string_begins, more_strings, spaced-strings, behind_strings}
+use Rattle.dns_rdata.proofs.SpacedWords.{string_begins, more_strings, spaced-strings, after_strings}
 use Rattle.dns_rdata.proofs.write.write_strings.Goals as goal
 
 pub write_string-requires-clause-string : goal.write_string-requires-clause-string
@@ -35,4 +35,4 @@ strings-preserved g c =
 
 pub returns-clause-rest : goal.returns-clause-rest
 returns-clause-rest g c =
-    nil_from_length c.strings.rest.now (eqb-true _ _ (sym c.is_empty.ensures ∙ c.strings-test.false)) ∙ sym (behind_strings c.args.octets.now c.requires.strings)
+    nil_from_length c.strings.rest.now (eqb-true _ _ (sym c.is_empty.ensures ∙ c.strings-test.false)) ∙ sym (after_strings c.args.octets.now c.requires.strings)

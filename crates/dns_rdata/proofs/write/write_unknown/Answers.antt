@@ -8,7 +8,7 @@ use Rattle.dns_name.proofs.WritesLemmas.{beginning_of_first, Writes-same, Writes
 use Rattle.dns_rdata.proofs.SpacedWords.{space}
 use Rattle.dns_rdata.proofs.write.write_unknown.Goals as goal
 
--- the mark and the length, and what stands behind them
+-- the mark and the length, and what stands after them
 marked : (text digits more : Octets) → text ≡ digits → (92 ∷ 35 ∷ 32 ∷ (text ++ [])) ++ more ≡ 92 ∷ 35 ∷ 32 ∷ (digits ++ more)
 marked text digits more e = ap (λ xs. 92 ∷ 35 ∷ 32 ∷ (xs ++ more)) (append-nil text ∙ e)
 

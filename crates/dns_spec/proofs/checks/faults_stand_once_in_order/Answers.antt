@@ -1,4 +1,4 @@
-use Rattle.dns_spec.proofs.FaultLaws.{faults_are_sorted}
+use Rattle.dns_spec.proofs.ZoneChecks.FaultLaws.{faults_are_sorted}
 use Rattle.dns_spec.proofs.checks.faults_stand_once_in_order.Goals as goal
 
 pub returns : goal.returns

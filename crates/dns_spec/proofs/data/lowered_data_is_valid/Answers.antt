@@ -1,4 +1,4 @@
-use Rattle.dns_spec.proofs.LoweredData.{lowered_data}
+use Rattle.dns_spec.proofs.DataWords.LoweredData.{lowered_data}
 use Rattle.dns_spec.proofs.data.lowered_data_is_valid.Goals as goal
 
 pub returns : goal.returns

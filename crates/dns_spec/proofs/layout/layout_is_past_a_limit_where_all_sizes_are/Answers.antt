@@ -1,4 +1,4 @@
-use Rattle.dns_spec.proofs.LeastSize.{past_limit}
+use Rattle.dns_spec.proofs.Layouts.LeastSize.{past_limit}
 use Rattle.dns_spec.proofs.layout.layout_is_past_a_limit_where_all_sizes_are.Goals as goal
 
 pub returns : goal.returns

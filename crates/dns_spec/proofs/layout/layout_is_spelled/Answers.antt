@@ -1,4 +1,4 @@
-use Rattle.dns_spec.proofs.SharedLayout.{layout_spells}
+use Rattle.dns_spec.proofs.Layouts.SharedLayout.{layout_spells}
 use Rattle.dns_spec.proofs.layout.layout_is_spelled.Goals as goal
 
 pub returns : goal.returns

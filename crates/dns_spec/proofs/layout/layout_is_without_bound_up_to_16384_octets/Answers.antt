@@ -1,4 +1,4 @@
-use Rattle.dns_spec.proofs.SameLayout.{same_layout, same_size}
+use Rattle.dns_spec.proofs.Layouts.SameLayout.{same_layout, same_size}
 use Rattle.dns_spec.proofs.layout.layout_is_without_bound_up_to_16384_octets.Goals as goal
 
 pub returns : goal.returns

@@ -1,4 +1,4 @@
-use Rattle.dns_spec.proofs.LeastSize.{size_possible}
+use Rattle.dns_spec.proofs.Layouts.LeastSize.{size_possible}
 use Rattle.dns_spec.proofs.layout.size_is_possible.Goals as goal
 
 pub returns : goal.returns

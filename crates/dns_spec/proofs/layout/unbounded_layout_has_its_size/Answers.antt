@@ -1,4 +1,4 @@
-use Rattle.dns_spec.proofs.UnboundedSize.{length-unbounded_layout}
+use Rattle.dns_spec.proofs.Layouts.UnboundedSize.{length-unbounded_layout}
 use Rattle.dns_spec.proofs.layout.unbounded_layout_has_its_size.Goals as goal
 
 pub returns : goal.returns

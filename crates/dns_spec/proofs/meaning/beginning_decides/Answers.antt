@@ -1,4 +1,4 @@
-use Rattle.dns_spec.proofs.BeginningsMean.{beginning_decides}
+use Rattle.dns_spec.proofs.ZoneTexts.BeginningsMean.{beginning_decides}
 use Rattle.dns_spec.proofs.meaning.beginning_decides.Goals as goal
 
 pub returns : goal.returns

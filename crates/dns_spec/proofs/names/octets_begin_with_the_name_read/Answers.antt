@@ -1,4 +1,4 @@
-use Rattle.dns_spec.proofs.WireNames.{name_of_reads}
+use Rattle.dns_spec.proofs.DomainNames.WireNames.{name_of_reads}
 use Rattle.dns_spec.proofs.names.octets_begin_with_the_name_read.Goals as goal
 
 pub returns : goal.returns

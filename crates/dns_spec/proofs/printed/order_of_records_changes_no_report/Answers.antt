@@ -1,4 +1,4 @@
-use Rattle.dns_spec.proofs.OrderedReport.{ordered_report}
+use Rattle.dns_spec.proofs.PrintedZones.OrderedReport.{ordered_report}
 use Rattle.dns_spec.proofs.printed.order_of_records_changes_no_report.Goals as goal
 
 pub returns : goal.returns

@@ -1,4 +1,4 @@
-use Rattle.dns_spec.proofs.PrintedAgain.{printed_reports}
+use Rattle.dns_spec.proofs.PrintedZones.PrintedAgain.{printed_reports}
 use Rattle.dns_spec.proofs.printed.printing_twice_is_printing_once.Goals as goal
 
 pub returns : goal.returns

@@ -1,4 +1,4 @@
-use Rattle.dns_spec.proofs.PrintedAgain.{text_of_one}
+use Rattle.dns_spec.proofs.PrintedZones.PrintedAgain.{text_of_one}
 use Rattle.dns_spec.proofs.printed.zones_with_one_text_hold_the_same_records.Goals as goal
 
 pub returns : goal.returns

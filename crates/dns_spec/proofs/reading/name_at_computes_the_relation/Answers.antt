@@ -1,4 +1,4 @@
-use Rattle.dns_spec.proofs.NameReading.{name_at_computes}
+use Rattle.dns_spec.proofs.Messages.NameReading.{name_at_computes}
 use Rattle.dns_spec.proofs.reading.name_at_computes_the_relation.Goals as goal
 
 pub returns : goal.returns

@@ -1,4 +1,4 @@
-use Rattle.dns_spec.proofs.FirstOctets.{first_octets_read}
+use Rattle.dns_spec.proofs.Replies.FirstOctets.{first_octets_read}
 use Rattle.dns_spec.proofs.reply.first_512_octets_are_read.Goals as goal
 
 pub returns : goal.returns

@@ -1,4 +1,4 @@
-use Rattle.dns_spec.proofs.FirstOctets.{first_octets_decide}
+use Rattle.dns_spec.proofs.Replies.FirstOctets.{first_octets_decide}
 use Rattle.dns_spec.proofs.reply.first_512_octets_decide.Goals as goal
 
 pub returns : goal.returns

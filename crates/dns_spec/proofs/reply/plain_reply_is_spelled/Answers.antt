@@ -1,4 +1,4 @@
-use Rattle.dns_spec.proofs.ReplySpelled.{reply_spells}
+use Rattle.dns_spec.proofs.Replies.ReplySpelled.{reply_spells}
 use Rattle.dns_spec.proofs.reply.plain_reply_is_spelled.Goals as goal
 
 pub returns : goal.returns

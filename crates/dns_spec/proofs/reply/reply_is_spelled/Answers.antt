@@ -1,4 +1,4 @@
-use Rattle.dns_spec.proofs.ReplySpelled.{shared_reply_spells}
+use Rattle.dns_spec.proofs.Replies.ReplySpelled.{shared_reply_spells}
 use Rattle.dns_spec.proofs.reply.reply_is_spelled.Goals as goal
 
 pub returns : goal.returns

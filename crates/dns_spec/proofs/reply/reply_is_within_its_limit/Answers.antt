@@ -1,4 +1,4 @@
-use Rattle.dns_spec.proofs.ReplySpelled.{shared_reply_fits}
+use Rattle.dns_spec.proofs.Replies.ReplySpelled.{shared_reply_fits}
 use Rattle.dns_spec.proofs.reply.reply_is_within_its_limit.Goals as goal
 
 pub returns : goal.returns

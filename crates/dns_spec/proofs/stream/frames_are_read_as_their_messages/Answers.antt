@@ -1,4 +1,4 @@
-use Rattle.dns_spec.proofs.StreamFrames.{frames_again}
+use Rattle.dns_spec.proofs.Streams.StreamFrames.{frames_again}
 use Rattle.dns_spec.proofs.stream.frames_are_read_as_their_messages.Goals as goal
 
 pub returns : goal.returns

@@ -1,4 +1,4 @@
-use Rattle.dns_spec.proofs.WrittenNames.{name_spelled}
+use Rattle.dns_spec.proofs.NameTexts.WrittenNames.{name_spelled}
 use Rattle.dns_spec.proofs.text.written_name_is_read_back.Goals as goal
 
 pub returns : goal.returns

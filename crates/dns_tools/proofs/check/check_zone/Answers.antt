@@ -2,7 +2,7 @@ use Rattle.std.proofs.Common.{rules, ◌∙◌}
 use Rattle.dns_master.specs.Codes.{fault_of}
 use Rattle.dns_zone.specs.declared.fault.BuildFault.TheVariants.{Faults}
 use Rattle.dns_tools.specs.Checked.{options_of}
-use Rattle.dns_tools.proofs.CheckedZone.{fault_checked, zone_checked, told_as, faults_checked}
+use Rattle.dns_tools.proofs.CheckedZone.{fault_checked, zone_checked, reported_as, faults_checked}
 use Rattle.dns_tools.proofs.check.check_zone.Goals as goal
 
 pub returns-in_default-clause-report : goal.returns-in_default-clause-report
@@ -17,6 +17,6 @@ returns-in-Ok-build-clause-report g c =
 
 pub returns-in-Err-Faults-clause-report : goal.returns-in-Err-Faults-clause-report
 returns-in-Err-Faults-clause-report g c =
-    let told = told_as c.build.result (Faults c.in-Err-Faults.faults) _ (search rules) c.build.ensures.faults in
+    let reported = reported_as c.build.result (Faults c.in-Err-Faults.faults) _ (search rules) c.build.ensures.faults in
     faults_checked _ c.args.origin.now _ (options_of c.args.flags) c.in-Ok.records.items _ _ _ _ c.fold-origin.ensures c.in-Ok.ensures.ok
-    (c.as_slice.ensures.value ∙ told.0) told.1 c.report_check_faults.ensures.written
+    (c.as_slice.ensures.value ∙ reported.0) reported.1 c.report_check_faults.ensures.written

@@ -7,7 +7,7 @@ use Rattle.dns_wire.proofs.query.read_name.Given as goal
 -- the labels so far and those to come are the name
 abbrev pub invariant-labels : goal.invariant-labels
 invariant-labels l = record {
-  told : read_on l.datagram l.name l.at ≡ name_at l.datagram 12;
+  name_is : read_on l.datagram l.name l.at ≡ name_at l.datagram 12;
   is_name : is_name l.name ≡ true;
 }
 

@@ -1,5 +1,4 @@
 use Rattle.std.proofs.Common.{ap, ◌∙◌}
-use Rattle.std.specs.Borrow.{Bor}
 use Rattle.dns_spec.specs.Names.{below}
 use Rattle.dns_spec.specs.Records.{ResourceRecord}
 use Rattle.dns_zone.proofs.AboveCuts.{last_is}
@@ -7,5 +6,5 @@ use Rattle.dns_zone.proofs.cuts.is_below_last.Goals as goal
 
 pub returns-in-Some : goal.returns-in-Some
 returns-in-Some c =
-    c.below.ensures ∙ ap (λ (b : Bor ResourceRecord). below c.args.name.now b.now.owner) c.cut.view_is
+    c.below.ensures ∙ ap (λ (r : ResourceRecord). below c.args.name.now r.owner) (c.listed.view_is ∙ c.listed-listed.ensures)
     ∙ last_is (λ (r : ResourceRecord). below c.args.name.now r.owner) c.in-Some.cut.now c.args.cuts.now c.in-Some.ensures.value

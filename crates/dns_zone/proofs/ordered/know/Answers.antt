@@ -1,5 +1,5 @@
 use Rattle.std.proofs.Common.{arith, subst}
-use Rattle.dns_spec.proofs.SmallOctets.{Small}
+use Rattle.dns_spec.proofs.DomainNames.SmallOctets.{Small}
 use Rattle.dns_spec.specs.ZonePrinted.{IsReadRecord}
 use Rattle.dns_zone.proofs.KnownRecords.{small_labels}
 use Rattle.dns_zone.proofs.ordered.know.Goals as goal

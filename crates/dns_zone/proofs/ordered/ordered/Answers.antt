@@ -6,7 +6,7 @@ use Rattle.std.proofs.lemmas.List.Sorted.{ranks_by, length_permutation, IsPermut
 use Rattle.std.specs.List.{dedup}
 use Rattle.std.specs.List.Sorted.{IsSorted, IsPermutation}
 use Rattle.dns_spec.specs.Records.{records_equal, distinct, sort_by, record_order}
-use Rattle.dns_spec.proofs.RecordOrder.{sort_risen, rises_canonical, LowerOwner, record_order_total, canonical_records, all_canonical}
+use Rattle.dns_spec.proofs.Records.RecordOrder.{sort_risen, rises_canonical, LowerOwner, record_order_total, canonical_records, all_canonical}
 use Rattle.dns_spec.specs.ZonePrinted.{IsReadRecord}
 use Rattle.dns_zone.specs.ZoneForm.{AreOrdered}
 use Rattle.dns_zone.proofs.ordered.ordered.Goals as goal

@@ -2,7 +2,7 @@ use Rattle.std.proofs.Common.{rules, subst}
 use Rattle.std.specs.Io.KnownBytes.{Appends}
 use Rattle.dns_name.specs.Counted.{AppendsBeginning}
 use Rattle.dns_name.proofs.Results.{OnErr-always}
-use Rattle.dns_spec.proofs.PrintedZone.{printed_moves, zone_means}
+use Rattle.dns_spec.proofs.PrintedZones.PrintedZone.{printed_moves, zone_means}
 use Rattle.dns_zone.proofs.PrintedRecords.{text_of_ordered}
 use Rattle.dns_zone.proofs.printed.print.Goals as goal
 

@@ -1,4 +1,4 @@
-use Rattle.std.proofs.Common.{◌≡◌, true, ap, sym, ◌∙◌, subst, length, ◌-◌, List}
+use Rattle.std.proofs.Common.{◌≡◌, Bool, true, ap, sym, ◌∙◌, subst, length, ◌-◌, List}
 use Rattle.std.specs.List.Sorted.{IsPartitionedBy}
 use Rattle.dns_spec.specs.Names.{DomainName, Octets, wire, folded, below}
 use Rattle.dns_spec.specs.Records.{ResourceRecord}
@@ -46,39 +46,34 @@ child_octets-octets-requires-clause-lower c =
     (sym (labels_of_spelled c.octets-owner.result.now r.owner spelled name))
     (owner_lower rs c.requires.canonical n c.args.next c.requires.next r c.index-records-next.is)
 
+-- a name and records that are those of another name and of other records
+parted : (P : DomainName → ResourceRecord → Bool) {m n : DomainName} {xs ys : List ResourceRecord}
+    → m ≡ n → xs ≡ ys → IsPartitionedBy (P n) ys → IsPartitionedBy (P m) xs
+parted P {m} {n} {xs} {ys} name back h =
+    subst (λ (k : DomainName). IsPartitionedBy (P k) xs) (sym name)
+    (subst (λ (zs : List ResourceRecord). IsPartitionedBy (P n) zs) (sym back) h)
+
 pub count_at-requires-clause-in_front : goal.count_at-requires-clause-in_front
 count_at-requires-clause-in_front c =
-    let rs = c.args.records.now in
     let n = labels_of c.args.parent.now in
-    let r = c.index-records-next.result in
-    let octets = c.child_octets-octets.result.now in
     let spelled =
     c.octets-owner.ensures.value ∙ ap (λ (q : ResourceRecord). wire q.owner) c.record.view_is in
-    let child =
-    subst (λ (o : Octets). IsChildOf n o octets) spelled c.child_octets-octets.ensures in
-    subst (λ (m : DomainName). IsPartitionedBy (is_at m) c.split_at.result.1.now)
-    (sym c.from_octets-name.ensures.value)
-    (subst (λ (xs : List ResourceRecord). IsPartitionedBy (is_at (labels_of octets)) xs)
-    (sym c.split_at.ensures.back)
-    (own_front rs c.requires.canonical n c.args.next c.requires.next r c.index-records-next.is
-    octets child))
+    parted is_at c.from_octets-name.ensures.value c.split_at.ensures.back
+    (own_front c.args.records.now c.requires.canonical n c.args.next c.requires.next _
+    c.index-records-next.is c.child_octets-octets.result.now
+    (subst (λ (o : Octets). IsChildOf n o c.child_octets-octets.result.now) spelled
+    c.child_octets-octets.ensures))
 
 pub count_under-requires : goal.count_under-requires
 count_under-requires c =
-    let rs = c.args.records.now in
     let n = labels_of c.args.parent.now in
-    let r = c.index-records-next.result in
-    let octets = c.child_octets-octets.result.now in
     let spelled =
     c.octets-owner.ensures.value ∙ ap (λ (q : ResourceRecord). wire q.owner) c.record.view_is in
-    let child =
-    subst (λ (o : Octets). IsChildOf n o octets) spelled c.child_octets-octets.ensures in
-    subst (λ (m : DomainName). IsPartitionedBy (is_under m) c.split_at.result.1.now)
-    (sym c.from_octets-name.ensures.value)
-    (subst (λ (xs : List ResourceRecord). IsPartitionedBy (is_under (labels_of octets)) xs)
-    (sym c.split_at.ensures.back)
-    (under_front rs c.requires.canonical n c.args.next c.requires.next r c.index-records-next.is
-    octets child))
+    parted is_under c.from_octets-name.ensures.value c.split_at.ensures.back
+    (under_front c.args.records.now c.requires.canonical n c.args.next c.requires.next _
+    c.index-records-next.is c.child_octets-octets.result.now
+    (subst (λ (o : Octets). IsChildOf n o c.child_octets-octets.result.now) spelled
+    c.child_octets-octets.ensures))
 
 pub returns : goal.returns
 returns c =

@@ -1,6 +1,6 @@
 use Rattle.std.proofs.Common.{rules, ◌≡◌, ◌+◌, ap, ◌∙◌, drop}
 use Rattle.dns_spec.specs.ZoneText.{run_length}
-use Rattle.dns_spec.proofs.Escapes.{counted_escape}
+use Rattle.dns_spec.proofs.NameTexts.Escapes.{counted_escape}
 use Rattle.dns_master.specs.TokenForm.{by_itself}
 use Rattle.dns_master.proofs.RunLemmas.{run-itself, run-end, run-escape, run-no_escape, run-none}
 use Rattle.dns_master.proofs.run.Run.length.Goals as goal

@@ -1,9 +1,14 @@
 use Rattle.std.proofs.Common.{inl, inr}
+use Rattle.dns_name.proofs.Results.{fault_turned}
 use Rattle.dns_master.proofs.RecordSteps.{said-lowered}
 use Rattle.dns_master.proofs.state.Reader.read_data.Goals as goal
 
-pub returns-in-Err-clause-err : goal.returns-in-Err-clause-err
-returns-in-Err-clause-err c = λ other. elim c.code_of_data.ensures [ inl h ↦ absurd (other h.1) | inr h ↦ (h.1, c.in-Err.ensures.fault h.0) ]
+pub returns-clause-lowered : goal.returns-clause-lowered
+returns-clause-lowered c = said-lowered _ _ _ _ c.in_ok-read_words.ensures.ok
 
-pub returns-in-Ok-clause-lowered : goal.returns-in-Ok-clause-lowered
-returns-in-Ok-clause-lowered c = said-lowered _ _ _ _ c.in-Ok.ensures.ok
+pub returns-in_err-read_words-clause-err : goal.returns-in_err-read_words-clause-err
+returns-in_err-read_words-clause-err c =
+    fault_turned c.from_residual.result _ _ c.from_residual.ensures.1 (λ code turned other. elim turned [
+      | inl h ↦ absurd (other h.1)
+      | inr h ↦ (h.1, c.in_err-read_words.ensures.fault h.0)
+    ])

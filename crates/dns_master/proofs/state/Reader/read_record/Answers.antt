@@ -37,10 +37,10 @@ returns-in_err-rdata-clause-err c =
     let is_in : is_other_class f.class ≡ false = ap (λ (x : Fields). is_other_class x.class) (sym c.fields.view_is) ∙ search rules in
     let typed : TypeIs f.others c.in-Some.rtype.0 = subst (λ (x : Fields). TypeIs x.others c.in-Some.rtype.0) c.fields.view_is c.in-Some.ensures.0 in
     let words : c.in-Some.words.now ≡ drop 1 f.others = c.in-Some.ensures.1 ∙ ap (λ (x : Fields). drop 1 x.others) c.fields.view_is in
-    let told = c.in_err-rdata.ensures.err other in
-    rw told.0 (data-fault o earlier c.args.owner f c.in-Ok.stated _ c.in-Some.rtype.0 stated is_in typed
+    let reported = c.in_err-rdata.ensures.err other in
+    rw reported.0 (data-fault o earlier c.args.owner f c.in-Ok.stated _ c.in-Some.rtype.0 stated is_in typed
     (ttl-or f.ttl _ _ _ stated (ttl-or _ _ _ _ known.default_is known.stated_is)) c.in-Some-ttl_in_force.ttl (search rules) c.args.self.now.origin known.origin_is known.no_other
-    (subst (λ ws. Nothing (Says c.in-Some.rtype.0 ws c.args.self.now.origin)) words told.1)))
+    (subst (λ ws. Nothing (Says c.in-Some.rtype.0 ws c.args.self.now.origin)) words reported.1)))
 
 pub returns-then-len-ge-MOST_RECORDS-clause-err : goal.returns-then-len-ge-MOST_RECORDS-clause-err
 returns-then-len-ge-MOST_RECORDS-clause-err c = λ _ o earlier known.

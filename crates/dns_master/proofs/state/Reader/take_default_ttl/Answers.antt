@@ -14,8 +14,8 @@ returns-in_default-clause-err c = λ o earlier known.
 pub invariant_of-self : goal.invariant_of-self
 invariant_of-self c = record {
   default_short = λ n e.
-      let told = (c.read_default_ttl.ensures c.in-Some.ttl).0 c.in-Some.is in
-      subst (λ m. m ≤ 2147483647) (same_Some c.in-Some.ttl n e) (one-short c.args.words.now c.in-Some.ttl told);
+      let reported = (c.read_default_ttl.ensures c.in-Some.ttl).0 c.in-Some.is in
+      subst (λ m. m ≤ 2147483647) (same_Some c.in-Some.ttl n e) (one-short c.args.words.now c.in-Some.ttl reported);
   stated_short = c.args.self.now.stated_short;
   few = c.args.self.now.few;
 }

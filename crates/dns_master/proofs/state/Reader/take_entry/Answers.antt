@@ -10,8 +10,8 @@ use Rattle.dns_master.proofs.state.Reader.take_entry.Goals as goal
 pub returns-in_err-end-clause-err : goal.returns-in_err-end-clause-err
 returns-in_err-end-clause-err c =
     fault_handed_on c.from_residual.result c.in_err-end.field-0.0 _ c.from_residual.ensures.1 (λ other o earlier known.
-    let told = c.in_err-end.ensures.err other in
-    rw told.0 (wrong-faulty o earlier c.args.goes_on c.args.text.now told.1))
+    let reported = c.in_err-end.ensures.err other in
+    rw reported.0 (wrong-faulty o earlier c.args.goes_on c.args.text.now reported.1))
 
 pub returns-in_err-check_end-clause-err : goal.returns-in_err-check_end-clause-err
 returns-in_err-check_end-clause-err c =

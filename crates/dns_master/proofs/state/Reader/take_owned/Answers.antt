@@ -3,7 +3,7 @@ use Rattle.dns_spec.specs.Names.{DomainName}
 use Rattle.dns_spec.specs.ZoneText.{Entry}
 use Rattle.dns_spec.specs.FileFaults.{bad_owner, no_owner}
 use Rattle.dns_spec.specs.Meaning.{RecordGives, faulty, NameIs, owned, sort_of, fields}
-use Rattle.dns_spec.proofs.LoweredData.{folded-folded}
+use Rattle.dns_spec.proofs.DataWords.LoweredData.{folded-folded}
 use Rattle.dns_master.specs.Codes.{fault_of}
 use Rattle.dns_master.specs.declared.fault.ReadCode.{ReadCode}
 use Rattle.dns_master.specs.declared.fault.ReadCode.TheVariants.{NoMemory}
@@ -33,8 +33,8 @@ returns-clause-err c =
     → RecordGives o earlier no_owner (λ n. n ≡ c.fold_in_place.new.self) (fields c.args.words.now) (faulty (fault_of code)))
     → code ≢ NoMemory → (o : DomainName) (earlier : List Entry) → Knows o earlier c.args.self.now
     → RecordGives o earlier bad_owner (NameIs o earlier c.args.owner.now) (fields c.args.words.now) (faulty (fault_of code)) =
-    λ code told other o earlier known.
+    λ code reported other o earlier known.
     let named = (c.read_name.ensures c.in-Some.owner).0 c.in-Some.is in
     given-owner o earlier (NameIs o earlier c.args.owner.now) (fields c.args.words.now) c.in-Some.owner c.fold_in_place.new.self
-    (named.0, (c.args.self.now.origin, known.origin_is, named.1)) c.fold_in_place.ensures (rw c.fold_in_place.ensures (folded-folded c.in-Some.owner)) bad_owner _ (told other o earlier known) in
+    (named.0, (c.args.self.now.origin, known.origin_is, named.1)) c.fold_in_place.ensures (rw c.fold_in_place.ensures (folded-folded c.in-Some.owner)) bad_owner _ (reported other o earlier known) in
     IfErr-map _ all c.take_record.ensures.err

@@ -47,9 +47,9 @@ returns-clause-ok c =
       origin_is = refl;
       default_is = refl;
       stated_is = λ w h.
-          let told : IfSome (fields c.args.words.now).ttl (λ x. TtlSays x c.in_ok-record.record.ttl) =
+          let reported : IfSome (fields c.args.words.now).ttl (λ x. TtlSays x c.in_ok-record.record.ttl) =
           subst (λ (f : Fields). IfSome f.ttl (λ x. TtlSays x c.in_ok-record.record.ttl)) c.of-fields.ensures c.in_ok-record.ensures.ttl in
-          rw now (last-stated (fields c.args.words.now).ttl w c.in_ok-record.record.ttl c.args.self.now.stated_ttl told h);
+          rw now (last-stated (fields c.args.words.now).ttl w c.in_ok-record.record.ttl c.args.self.now.stated_ttl reported h);
       records = grown;
     } in
     OnOk-map _ all c.push_record.ensures.ok

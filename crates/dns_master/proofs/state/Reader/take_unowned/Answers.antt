@@ -46,7 +46,7 @@ returns-clause-err c =
     → RecordGives o earlier no_owner (λ n. n ≡ c.copied-owner.result) (fields c.args.words.now) (faulty (fault_of code)))
     → code ≢ NoMemory → (o : DomainName) (earlier : List Entry) → Knows o earlier c.args.self.now
     → RecordGives o earlier no_owner (OwnerBefore o earlier) (fields c.args.words.now) (faulty (fault_of code)) =
-    λ code told other o earlier known.
+    λ code reported other o earlier known.
     let last = subst (LastOwner o earlier) (copied_is c) known.owner_is in
-    given-owner o earlier (OwnerBefore o earlier) (fields c.args.words.now) last.0 c.copied-owner.result last.1 last.2 (low c) no_owner _ (told other o earlier known) in
+    given-owner o earlier (OwnerBefore o earlier) (fields c.args.words.now) last.0 c.copied-owner.result last.1 last.2 (low c) no_owner _ (reported other o earlier known) in
     IfErr-map _ all c.take_record.ensures.err

@@ -1,6 +1,6 @@
 use Rattle.std.proofs.Common.{◌≡◌, ◌≤◌, ◌<◌, ◌∷◌, length, ap, sym, ◌∙◌, arith}
 use Rattle.dns_spec.specs.Names.{Octets, DomainName, wire, same, at_or_below}
-use Rattle.dns_spec.proofs.NameLaws.{at_or_below-short, at_or_below-long}
+use Rattle.dns_spec.proofs.DomainNames.NameLaws.{at_or_below-short, at_or_below-long}
 use Rattle.dns_name.specs.WireForm.{labels_of, IsWireForm}
 use Rattle.dns_name.proofs.WireLemmas.{IsWireForm-wire, labels_of_spelled, same_from_octets}
 use Rattle.dns_name.proofs.name.Name.at_or_below.Goals as goal
@@ -12,12 +12,12 @@ labels-init c =
       ap (λ n. at_or_below n c.args.ancestor.now) (labels_of_spelled _ _ octets.value octets.is_name),
     )
 
--- a suffix that is longer than the name sought goes on behind its first label
+-- a suffix that is longer than the name sought goes on after its first label
 one_on : (xs ys : Octets) (l : Octets) (n a : DomainName) → IsWireForm xs → labels_of xs ≡ l ∷ n → ys ≡ wire a → length ys < length xs → at_or_below n a ≡ at_or_below (labels_of xs) a
 one_on xs ys l n a form e f longer =
     let w : wire (l ∷ n) ≡ xs = ap wire (sym e) ∙ form.wire_is in
-    let behind = at_or_below-long l n a (omega (arith, ap length w, ap length f)) in
-    sym (ap (λ m. at_or_below m a) e ∙ behind)
+    let after = at_or_below-long l n a (omega (arith, ap length w, ap length f)) in
+    sym (ap (λ m. at_or_below m a) e ∙ after)
 
 pub labels-preserved : goal.labels-preserved
 labels-preserved c =

@@ -1,5 +1,5 @@
 use Rattle.std.proofs.Common.{ap, sym, ◌∙◌}
-use Rattle.dns_spec.proofs.NameLaws.{length-is_name}
+use Rattle.dns_spec.proofs.DomainNames.NameLaws.{length-is_name}
 use Rattle.dns_spec.specs.Names.{is_name}
 use Rattle.dns_name.proofs.name.Name.labels.Goals as goal
 

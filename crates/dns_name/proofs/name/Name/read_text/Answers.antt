@@ -1,5 +1,5 @@
 use Rattle.std.proofs.Common.{refl, sym, ◌∙◌}
-use Rattle.dns_spec.proofs.NameLaws.{octets_equal-decides}
+use Rattle.dns_spec.proofs.DomainNames.NameLaws.{octets_equal-decides}
 use Rattle.dns_name.proofs.TextLemmas.{SpellsWordIff-root}
 use Rattle.dns_name.proofs.name.Name.read_text.Goals as goal
 

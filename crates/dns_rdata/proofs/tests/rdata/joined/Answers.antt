@@ -2,7 +2,7 @@ use Rattle.std.proofs.Common.{map, ap, ◌∙◌}
 use Rattle.std.proofs.lemmas.Iterator.Consumers.{YieldsList-from_first, YieldsList-end}
 use Rattle.dns_spec.specs.Data.{parts}
 use Rattle.dns_spec.specs.Data as Data
-use Rattle.dns_spec.proofs.LoweredData.{joined-parts}
+use Rattle.dns_spec.proofs.DataWords.LoweredData.{joined-parts}
 use Rattle.std.proofs.Common.{List}
 use Rattle.dns_rdata.specs.Parts.{shown_part, with_octets}
 use Rattle.dns_rdata.proofs.PartLemmas.{lent_joined}

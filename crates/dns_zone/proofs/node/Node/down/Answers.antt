@@ -4,7 +4,7 @@ use Rattle.std.specs.Char.{to_ascii_lowercase}
 use Rattle.dns_spec.specs.Names.{Octets, DomainName, folded}
 use Rattle.dns_spec.specs.Records.{ResourceRecord}
 use Rattle.dns_spec.specs.Tree.{exists}
-use Rattle.dns_spec.proofs.SortedOnce.{Each, Among}
+use Rattle.dns_spec.proofs.Records.SortedOnce.{Each, Among}
 use Rattle.dns_zone.specs.Nodes.{ZoneNode}
 use Rattle.dns_zone.specs.NodeForm.{zone_of_tree, node_at}
 use Rattle.dns_zone.specs.TreeForm.{first_of, row_name, row_label, row_at, kids_at, IsRow}
@@ -50,31 +50,37 @@ returns-in_err-found-clause-child c =
     rw c.from_residual-in_err-found.ensures
     (λ h. absurd (false≢true h), λ h. absurd (c.in_err-found.ensures.none refl (absent h)))
 
+module _ (c : goal.After-count_visit) where
+  abbrev kids : List Row
+  kids = kids_at c.self.inside.tree.now.rows.items c.self.inside.tree.now.bounds.items c.self.inside.row
+
+  fits : c.in_ok-found.found < length kids
+  fits =
+      subst (λ (xs : List Row). c.in_ok-found.found < length xs) c.kids_of-start.ensures.kids
+      c.in_ok-found.ensures.found.0
+
+  -- the label of the child that was found is the one that was asked for
+  label : row_label c.self.inside.tree.now.records.items (row_at kids c.in_ok-found.found)
+      ≡ map to_ascii_lowercase c.args.label
+  label =
+      let asked : c.in_ok-lower.lower ≡ map to_ascii_lowercase c.args.label =
+      ap first_of (sym c.in_ok-lower.ensures.steps ∙ c.labels.ensures.labels
+      ∙ c.fold_in_place.ensures ∙ ap folded (c.if-not-push.ensures.pushed
+      ∙ ap (λ (x : DomainName). x ++ c.args.label ∷ []) c.root-asked.ensures)) in
+      sym (ap₂ (λ (rs : List ResourceRecord) (xs : List Row). row_label rs
+      (row_at xs c.in_ok-found.found)) c.as_slice.ensures.value c.kids_of-start.ensures.kids)
+      ∙ c.in_ok-found.ensures.found.1 ∙ c.octets.ensures.value ∙ asked
+
 pub returns-clause-child : goal.returns-clause-child
 returns-clause-child c =
     let t = c.self.inside.tree.now in
     let k = c.self.inside.row in
     let l = c.args.label in
-    let i = c.in_ok-found.found in
-    let asked : c.in_ok-lower.lower ≡ map to_ascii_lowercase l =
-    ap first_of (sym c.in_ok-lower.ensures.steps ∙ c.labels.ensures.labels ∙ c.fold_in_place.ensures
-    ∙ ap folded
-    (c.if-not-push.ensures.pushed ∙ ap (λ (x : DomainName). x ++ l ∷ []) c.root-asked.ensures))
-    in
-    let fits : i < length (kids_at t.rows.items t.bounds.items k) =
-    subst (λ (xs : List Row). i < length xs) c.kids_of-start.ensures.kids
-    c.in_ok-found.ensures.found.0 in
-    let label : row_label t.records.items (row_at (kids_at t.rows.items t.bounds.items k) i) ≡ map
-    to_ascii_lowercase l =
-    sym (ap₂ (λ (rs : List ResourceRecord) (xs : List Row). row_label rs (row_at xs i))
-    c.as_slice.ensures.value c.kids_of-start.ensures.kids)
-    ∙ c.in_ok-found.ensures.found.1 ∙ c.octets.ensures.value ∙ asked
-    in
     let n = row_name t.records.items (row_at t.rows.items k) in
     let present : exists (zone_of_tree t) (l ∷ n) ≡ true =
     sym (child-exists (zone_of_tree t) l n (is_row t k c.self.invariant).lower)
-    ∙ ap (λ (x : Octets). exists (zone_of_tree t) (x ∷ n)) (sym label)
-    ∙ kid_exists t k c.self.invariant i fits
+    ∙ ap (λ (x : Octets). exists (zone_of_tree t) (x ∷ n)) (sym (label c))
+    ∙ kid_exists t k c.self.invariant c.in_ok-found.found (fits c)
     in (
       λ h. ap (λ (v : ZoneNode). exists v.zone (l ∷ v.name)) (sym c.self.view_is) ∙ present,
       λ h. refl,
@@ -84,25 +90,12 @@ pub returns-clause-node : goal.returns-clause-node
 returns-clause-node c =
     let t = c.self.inside.tree.now in
     let k = c.self.inside.row in
-    let l = c.args.label in
     let i = c.in_ok-found.found in
-    let asked : c.in_ok-lower.lower ≡ map to_ascii_lowercase l =
-    ap first_of (sym c.in_ok-lower.ensures.steps ∙ c.labels.ensures.labels ∙ c.fold_in_place.ensures
-    ∙ ap folded
-    (c.if-not-push.ensures.pushed ∙ ap (λ (x : DomainName). x ++ l ∷ []) c.root-asked.ensures))
-    in
-    let fits : i < length (kids_at t.rows.items t.bounds.items k) =
-    subst (λ (xs : List Row). i < length xs) c.kids_of-start.ensures.kids
-    c.in_ok-found.ensures.found.0 in
-    let label : row_label t.records.items (row_at (kids_at t.rows.items t.bounds.items k) i) ≡ map
-    to_ascii_lowercase l =
-    sym (ap₂ (λ (rs : List ResourceRecord) (xs : List Row). row_label rs (row_at xs i))
-    c.as_slice.ensures.value c.kids_of-start.ensures.kids)
-    ∙ c.in_ok-found.ensures.found.1 ∙ c.octets.ensures.value ∙ asked
-    in
     ap (λ (j : ℕ). node_at t (j + i)) c.kids_of-start.ensures.start
     ∙ ap (λ (n : DomainName). record { zone = zone_of_tree t; name = n })
-    (kid_name t k c.self.invariant i fits
-    ∙ ap (λ (x : Octets). x ∷ row_name t.records.items (row_at t.rows.items k)) label)
-    ∙ ap (λ (v : ZoneNode). record { zone = v.zone; name = map to_ascii_lowercase l ∷ v.name })
-    c.self.view_is
+    (kid_name t k c.self.invariant i (fits c)
+    ∙ ap (λ (x : Octets). x ∷ row_name t.records.items (row_at t.rows.items k)) (label c))
+    ∙ ap (λ (v : ZoneNode). record {
+      zone = v.zone;
+      name = map to_ascii_lowercase c.args.label ∷ v.name;
+    }) c.self.view_is

@@ -3,8 +3,7 @@ use Rattle.std.proofs.lemmas.List.{nil_from_length}
 use Rattle.std.proofs.lemmas.Bool.{false≢true, eqb-true, eq-eqb}
 use Rattle.dns_spec.specs.Names.{folded}
 use Rattle.dns_spec.specs.Records.{ResourceRecord}
-use Rattle.dns_spec.specs.Checks.{faults}
-use Rattle.dns_spec.proofs.FaultOrder.{folded_folded}
+use Rattle.dns_spec.proofs.ZoneChecks.FaultOrder.{folded_folded}
 use Rattle.dns_zone.specs.ZoneForm.{IsBuilt}
 use Rattle.dns_zone.specs.TreeForm.{IsTree}
 use Rattle.dns_zone.proofs.BuiltZone.{found_of_read, built}
@@ -16,14 +15,10 @@ faults-requires-clause-lower c =
 
 pub returns-then-not-is_empty-clause-faults : goal.returns-then-not-is_empty-clause-faults
 returns-then-not-is_empty-clause-faults c =
-    let found =
-    c.in_ok-found.ensures
-    ∙ ap (λ (xs : List ResourceRecord). faults
-    (record { origin = c.fold-origin.result; records = xs })) c.as_slice.ensures.value in
     let same =
     found_of_read c.args.origin.now c.fold-origin.result c.args.records.items
-    c.in_ok-records.records.items c.in_ok-found.found.items c.fold-origin.ensures
-    c.in_ok-records.ensures.records found in (
+    c.in_ok-records.records.items _ c.in_ok-found.found.items c.fold-origin.ensures
+    c.in_ok-records.ensures.records c.as_slice.ensures.value c.in_ok-found.ensures in (
       same,
       λ none.
           let length_is : length c.in_ok-found.found.items ≡ 0 = ap length (same ∙ none) in
@@ -35,16 +30,11 @@ returns-then-not-is_empty-clause-faults c =
 
 pub rows_of-requires : goal.rows_of-requires
 rows_of-requires c =
-    let found =
-    c.in_ok-found.ensures
-    ∙ ap (λ (xs : List ResourceRecord). faults
-    (record { origin = c.fold-origin.result; records = xs })) c.as_slice.ensures.value in
     let empty : vec_len c.in_ok-found.found ≡ 0 =
     eqb-true (vec_len c.in_ok-found.found) 0 (sym c.is_empty.ensures ∙ c.if-not-is_empty.false)
     in
     let kept =
-    built c.args.origin.now c.fold-origin.result c.args.records.items c.in_ok-records.records.items
-    c.in_ok-found.found.items c.fold-origin.ensures c.in_ok-records.ensures.records found
+    built c.args.origin.now c.fold-origin.result c.args.records.items c.in_ok-records.records.items _ c.in_ok-found.found.items c.fold-origin.ensures c.in_ok-records.ensures.records c.as_slice.ensures.value c.in_ok-found.ensures
     (omega (arith, c.in_ok-found.found.ok.0)) c.requires c.in_ok-records.ensures.count
     c.in_ok-records.ensures.in_order c.in_ok-records.ensures.each
     in
@@ -54,16 +44,11 @@ rows_of-requires c =
 
 pub invariant_of-result : goal.invariant_of-result
 invariant_of-result c =
-    let found =
-    c.in_ok-found.ensures
-    ∙ ap (λ (xs : List ResourceRecord). faults
-    (record { origin = c.fold-origin.result; records = xs })) c.as_slice.ensures.value in
     let empty : vec_len c.in_ok-found.found ≡ 0 =
     eqb-true (vec_len c.in_ok-found.found) 0 (sym c.is_empty.ensures ∙ c.if-not-is_empty.false)
     in
     let kept =
-    built c.args.origin.now c.fold-origin.result c.args.records.items c.in_ok-records.records.items
-    c.in_ok-found.found.items c.fold-origin.ensures c.in_ok-records.ensures.records found
+    built c.args.origin.now c.fold-origin.result c.args.records.items c.in_ok-records.records.items _ c.in_ok-found.found.items c.fold-origin.ensures c.in_ok-records.ensures.records c.as_slice.ensures.value c.in_ok-found.ensures
     (omega (arith, c.in_ok-found.found.ok.0)) c.requires c.in_ok-records.ensures.count
     c.in_ok-records.ensures.in_order c.in_ok-records.ensures.each
     in
@@ -77,15 +62,11 @@ invariant_of-result c =
 
 pub returns-clause-passes : goal.returns-clause-passes
 returns-clause-passes c =
-    let found =
-    c.in_ok-found.ensures
-    ∙ ap (λ (xs : List ResourceRecord). faults
-    (record { origin = c.fold-origin.result; records = xs })) c.as_slice.ensures.value in
     let empty : vec_len c.in_ok-found.found ≡ 0 =
     eqb-true (vec_len c.in_ok-found.found) 0 (sym c.is_empty.ensures ∙ c.if-not-is_empty.false)
     in
     let none : length c.in_ok-found.found.items ≡ 0 = omega (arith, c.in_ok-found.found.ok.0) in
     sym (found_of_read c.args.origin.now c.fold-origin.result c.args.records.items
-    c.in_ok-records.records.items c.in_ok-found.found.items c.fold-origin.ensures
-    c.in_ok-records.ensures.records found)
+    c.in_ok-records.records.items _ c.in_ok-found.found.items c.fold-origin.ensures
+    c.in_ok-records.ensures.records c.as_slice.ensures.value c.in_ok-found.ensures)
     ∙ nil_from_length c.in_ok-found.found.items none

@@ -1,0 +1,102 @@
+-- The sets that end an answer, by the sets of nodes.
+use Rattle.std.proofs.Common.{◌≡◌, ℕ, Bool, true, false, cond, ◌||◌, List, [], ◌∷◌, map, None, Some, refl, sym, ap, ◌∙◌, append-nil}
+use Rattle.std.specs.Prelude.{◌==◌}
+use Rattle.std.specs.List.{filter, filter_map, cons_option}
+use Rattle.std.specs.Ordering.{is_gt, nat_cmp}
+use Rattle.dns_spec.specs.Names.{Octets, DomainName}
+use Rattle.dns_spec.specs.Data.{target, type_ns, type_mx, type_srv, qtype_any}
+use Rattle.dns_spec.specs.Records.{ResourceRecord, of_type, with_owner, sort_by, insert_by, data_order, distinct}
+use Rattle.dns_spec.specs.Sets.{RecordSet, set_of, records_at, rising_types, of_first_type, of_lowest_type}
+use Rattle.dns_spec.specs.Layout.{Section}
+use Rattle.dns_spec.specs.Answer.{item, has_target_type, targets_of, asked_records}
+use Rattle.dns_answer.specs.Targets.{set_targets}
+
+-- records of a set shown with another owner
+shown_again : (n owner : DomainName) (ttl : ℕ) (set : RecordSet) → with_owner owner (records_at n ttl set) ≡ records_at owner ttl set
+shown_again n owner ttl set = go set.rdata
+  where
+    go : (ds : List Octets) → with_owner owner (map (λ (d : Octets). record { owner = n; ttl = ttl; rtype = set.rtype; rdata = d }) ds)
+        ≡ map (λ (d : Octets). record { owner = owner; ttl = ttl; rtype = set.rtype; rdata = d }) ds
+    go [] = refl
+    go (d ∷ ds) = ap (λ rs. record { owner = owner; ttl = ttl; rtype = set.rtype; rdata = d } ∷ rs) (go ds)
+
+pub item-shown : (s : Section) (n owner : DomainName) (rs : List ResourceRecord) (set : RecordSet) → set_of rs ≡ Some set → records_at n set.ttl set ≡ rs
+    → item s (with_owner owner rs) ≡ record { section = s; records = records_at owner set.ttl set } ∷ []
+item-shown s n owner [] set e f = absurd (cc)
+item-shown s n owner (r ∷ rs) set e f =
+    ap (λ xs. record { section = s; records = xs } ∷ []) (ap (with_owner owner) (sym f) ∙ shown_again n owner set.ttl set)
+
+-- the targets of a set
+
+pub targets_of_set : (s : Section) (owner : DomainName) (ttl : ℕ) (set : RecordSet) → (set.rtype == type_ns || set.rtype == type_mx || set.rtype == type_srv) ≡ true
+    → targets_of (record { section = s; records = records_at owner ttl set } ∷ []) ≡ set_targets set
+targets_of_set s owner ttl set e =
+    ap (filter_map (λ (r : ResourceRecord). cond (has_target_type r) (target r.rtype r.rdata) None)) (append-nil (records_at owner ttl set)) ∙ go set.rdata
+  where
+    go : (ds : List Octets) → filter_map (λ (r : ResourceRecord). cond (has_target_type r) (target r.rtype r.rdata) None) (map (λ (d : Octets). record { owner = owner; ttl = ttl; rtype = set.rtype; rdata = d }) ds)
+        ≡ filter_map (λ (d : Octets). target set.rtype d) ds
+    go [] = refl
+    go (d ∷ ds) =
+        ap (λ b. cons_option (cond b (target set.rtype d) None) (filter_map (λ (r : ResourceRecord). cond (has_target_type r) (target r.rtype r.rdata) None) (map (λ (d : Octets). record { owner = owner; ttl = ttl; rtype = set.rtype; rdata = d }) ds))) e
+        ∙ ap (cons_option (target set.rtype d)) (go ds)
+
+pub no_targets_of_set : (s : Section) (owner : DomainName) (ttl : ℕ) (set : RecordSet) → (set.rtype == type_ns || set.rtype == type_mx || set.rtype == type_srv) ≡ false
+    → targets_of (record { section = s; records = records_at owner ttl set } ∷ []) ≡ []
+no_targets_of_set s owner ttl set e =
+    ap (filter_map (λ (r : ResourceRecord). cond (has_target_type r) (target r.rtype r.rdata) None)) (append-nil (records_at owner ttl set)) ∙ go set.rdata
+  where
+    go : (ds : List Octets) → filter_map (λ (r : ResourceRecord). cond (has_target_type r) (target r.rtype r.rdata) None) (map (λ (d : Octets). record { owner = owner; ttl = ttl; rtype = set.rtype; rdata = d }) ds) ≡ []
+    go [] = refl
+    go (d ∷ ds) =
+        ap (λ b. cons_option (cond b (target set.rtype d) None) (filter_map (λ (r : ResourceRecord). cond (has_target_type r) (target r.rtype r.rdata) None) (map (λ (d : Octets). record { owner = owner; ttl = ttl; rtype = set.rtype; rdata = d }) ds))) e
+        ∙ go ds
+
+-- owners say nothing of types and of the order of data
+
+insert_shown : (n : DomainName) (r : ResourceRecord) (rs : List ResourceRecord) → insert_by data_order (record r { owner = n }) (with_owner n rs) ≡ with_owner n (insert_by data_order r rs)
+insert_shown n r [] = refl
+insert_shown n r (s ∷ rs) = go (is_gt (data_order r s)) (insert_shown n r rs)
+  where
+    go : (b : Bool) → insert_by data_order (record r { owner = n }) (with_owner n rs) ≡ with_owner n (insert_by data_order r rs)
+        → cond b (record s { owner = n } ∷ insert_by data_order (record r { owner = n }) (with_owner n rs)) (record r { owner = n } ∷ record s { owner = n } ∷ with_owner n rs)
+        ≡ with_owner n (cond b (s ∷ insert_by data_order r rs) (r ∷ s ∷ rs))
+    go true e = ap (λ xs. record s { owner = n } ∷ xs) e
+    go false e = refl
+
+sort_shown : (n : DomainName) (rs : List ResourceRecord) → sort_by data_order (with_owner n rs) ≡ with_owner n (sort_by data_order rs)
+sort_shown n [] = refl
+sort_shown n (r ∷ rs) = ap (insert_by data_order (record r { owner = n })) (sort_shown n rs) ∙ insert_shown n r (sort_by data_order rs)
+
+filter_shown : (n : DomainName) (t : ℕ) (rs : List ResourceRecord) → filter (λ (r : ResourceRecord). r.rtype == t) (with_owner n rs) ≡ with_owner n (filter (λ (r : ResourceRecord). r.rtype == t) rs)
+filter_shown n t [] = refl
+filter_shown n t (r ∷ rs) = go (r.rtype == t) (filter_shown n t rs)
+  where
+    go : (b : Bool) → filter (λ (s : ResourceRecord). s.rtype == t) (with_owner n rs) ≡ with_owner n (filter (λ (s : ResourceRecord). s.rtype == t) rs)
+        → cond b (record r { owner = n } ∷ filter (λ (s : ResourceRecord). s.rtype == t) (with_owner n rs)) (filter (λ (s : ResourceRecord). s.rtype == t) (with_owner n rs))
+        ≡ with_owner n (cond b (r ∷ filter (λ (s : ResourceRecord). s.rtype == t) rs) (filter (λ (s : ResourceRecord). s.rtype == t) rs))
+    go true e = ap (λ xs. record r { owner = n } ∷ xs) e
+    go false e = e
+
+pub of_type-shown : (n : DomainName) (t : ℕ) (rs : List ResourceRecord) → of_type t (with_owner n rs) ≡ with_owner n (of_type t rs)
+of_type-shown n t rs = ap (sort_by data_order) (filter_shown n t rs) ∙ sort_shown n (filter (λ (r : ResourceRecord). r.rtype == t) rs)
+
+types_shown : (n : DomainName) (rs : List ResourceRecord) → map (λ (r : ResourceRecord). r.rtype) (with_owner n rs) ≡ map (λ (r : ResourceRecord). r.rtype) rs
+types_shown n [] = refl
+types_shown n (r ∷ rs) = ap (λ ts. r.rtype ∷ ts) (types_shown n rs)
+
+lowest_shown : (n : DomainName) (rs : List ResourceRecord) → of_lowest_type (with_owner n rs) ≡ with_owner n (of_lowest_type rs)
+lowest_shown n rs = ap (λ ts. of_first_type (rising ts) (with_owner n rs)) (types_shown n rs) ∙ go (rising_types rs)
+  where
+    rising : List ℕ → List ℕ
+    rising ts = sort_by nat_cmp (distinct ◌==◌ ts)
+
+    go : (ts : List ℕ) → of_first_type ts (with_owner n rs) ≡ with_owner n (of_first_type ts rs)
+    go [] = refl
+    go (t ∷ ts) = of_type-shown n t rs
+
+pub asked-shown : (n : DomainName) (t : ℕ) (rs : List ResourceRecord) → asked_records t (with_owner n rs) ≡ with_owner n (asked_records t rs)
+asked-shown n t rs = go (t == qtype_any)
+  where
+    go : (b : Bool) → cond b (of_lowest_type (with_owner n rs)) (of_type t (with_owner n rs)) ≡ with_owner n (cond b (of_lowest_type rs) (of_type t rs))
+    go true = lowest_shown n rs
+    go false = of_type-shown n t rs

@@ -1,0 +1,15 @@
+pub mod Offered
+pub mod Offering
+pub mod WayLaws
+pub mod WaySteps
+pub mod TargetLaws
+pub mod EndingSets
+pub mod Endings
+pub mod AskedSets
+pub mod StandingAddresses
+pub mod AnswerItems
+pub mod ChainSteps
+pub mod AnswerCosts
+pub mod PutReplies
+pub mod SentReplies
+pub mod SeekSteps

@@ -1,0 +1,110 @@
+-- Sets offered one after the other: what is kept of them, and when one is missing.
+use Rattle.std.proofs.Common.{◌≡◌, ℕ, ◌+◌, ◌<◌, ◌≤◌, Bool, true, false, cond, nat_le, nat_lt, List, [], ◌∷◌, ◌++◌, length, Some, refl, sym, ap, ◌∙◌, subst, arith, length-append}
+use Rattle.std.proofs.lemmas.Bool.{ltb-true, lt-ltb}
+use Rattle.dns_spec.specs.Reading.{MessageQuestion}
+use Rattle.dns_spec.specs.Layout.{Item}
+use Rattle.dns_spec.specs.Reply.{kept, fitting}
+use Rattle.dns_spec.proofs.Layouts.GrowingSize.{size_grows, kept_is_fitting}
+use Rattle.dns_answer.specs.Draft.{Draft, empty_draft, size_with, offer, offered}
+
+pub offered-append : (d : Draft) (is js : List Item) → offered d (is ++ js) ≡ offered (offered d is) js
+unfolding offered
+offered-append d [] js = refl
+offered-append d (i ∷ is) js = offered-append (offer d i) is js
+
+pub offered-nil : (d : Draft) → offered d [] ≡ d
+unfolding offered
+offered-nil d = refl
+
+pub offered-one : (d : Draft) (i : Item) → offered d (i ∷ []) ≡ offer d i
+unfolding offered
+offered-one d i = refl
+
+-- a full reply stays as it is
+offer-full : (d : Draft) (i : Item) → d.full ≡ true → offer d i ≡ d
+offer-full d i e = rw e refl
+
+pub offered-full : (d : Draft) (is : List Item) → d.full ≡ true → offered d is ≡ d
+unfolding offered
+offered-full d [] e = refl
+offered-full d (i ∷ is) e = ap (λ x. offered x is) (offer-full d i e) ∙ offered-full d is e
+
+-- a reply with room keeps what fits
+pub offered-kept : (q : MessageQuestion) (limit : ℕ) (front is : List Item)
+    → (offered (record { question = q; limit = limit; kept = front; full = false }) is).kept ≡ fitting (size_with q) limit front is
+unfolding offered
+offered-kept q limit front [] = refl
+offered-kept q limit front (i ∷ is) = go (nat_le (size_with q (front ++ i ∷ [])) limit) (offered-kept q limit (front ++ i ∷ []) is)
+  where
+    go : (b : Bool)
+        → (offered (record { question = q; limit = limit; kept = front ++ i ∷ []; full = false }) is).kept ≡ fitting (size_with q) limit (front ++ i ∷ []) is
+        → (offered (cond b (record { question = q; limit = limit; kept = front ++ i ∷ []; full = false }) (record { question = q; limit = limit; kept = front; full = true })) is).kept
+        ≡ cond b (fitting (size_with q) limit (front ++ i ∷ []) is) front
+    go true e = e
+    go false e = ap (λ (d : Draft). d.kept) (offered-full (record { question = q; limit = limit; kept = front; full = true }) is refl)
+
+pub offered-keeps : (q : MessageQuestion) (limit : ℕ) (is : List Item) → (offered (empty_draft q limit) is).kept ≡ kept (size_with q) limit is
+offered-keeps q limit is = offered-kept q limit [] is ∙ sym (kept_is_fitting (size_with q) (size_grows (Some q)) limit is)
+
+-- Sets are missing exactly where the reply is full once they are offered.
+abbrev open_draft : MessageQuestion → ℕ → List Item → Draft
+open_draft q limit front = record { question = q; limit = limit; kept = front; full = false }
+
+abbrev full_draft : MessageQuestion → ℕ → List Item → Draft
+full_draft q limit front = record { question = q; limit = limit; kept = front; full = true }
+
+record Counted (n : ℕ) (d : Draft) (is : List Item) : Type 0 where
+  whole : d.full ≡ false → length d.kept ≡ n + length is
+  missing : d.full ≡ true → length d.kept < n + length is
+
+counts : (q : MessageQuestion) (limit : ℕ) (front is : List Item) → Counted (length front) (offered (open_draft q limit front) is) is
+unfolding offered
+counts q limit front [] = record { whole = λ e. omega arith; missing = λ e. absurd (cc) }
+counts q limit front (i ∷ is) = go (nat_le (size_with q (front ++ i ∷ [])) limit) (counts q limit (front ++ i ∷ []) is)
+  where
+    go : (b : Bool) → Counted (length (front ++ i ∷ [])) (offered (open_draft q limit (front ++ i ∷ [])) is) is
+        → Counted (length front) (offered (cond b (open_draft q limit (front ++ i ∷ [])) (full_draft q limit front)) is) (i ∷ is)
+    go true c = record {
+      whole = λ e. let w = c.whole e in omega (arith, length-append front (i ∷ []));
+      missing = λ e. let w = c.missing e in omega (arith, length-append front (i ∷ []));
+    }
+    go false c =
+        let same = offered-full (full_draft q limit front) is refl in
+        subst (λ d. Counted (length front) d (i ∷ is)) (sym same)
+        (record { whole = λ e. absurd (cc); missing = λ e. omega arith })
+
+-- a reply that is offered more has no fewer sets
+longer : (q : MessageQuestion) (limit : ℕ) (front is : List Item) (b : Bool) → length front ≤ length (offered (record { question = q; limit = limit; kept = front; full = b }) is).kept
+unfolding offered
+longer q limit front [] b = omega arith
+longer q limit front (i ∷ is) true = longer q limit front is true
+longer q limit front (i ∷ is) false = go (nat_le (size_with q (front ++ i ∷ [])) limit) (longer q limit (front ++ i ∷ []) is false) (longer q limit front is true)
+  where
+    go : (b : Bool) → length (front ++ i ∷ []) ≤ length (offered (open_draft q limit (front ++ i ∷ [])) is).kept
+        → length front ≤ length (offered (full_draft q limit front) is).kept
+        → length front ≤ length (offered (cond b (open_draft q limit (front ++ i ∷ [])) (full_draft q limit front)) is).kept
+    go true h k = omega (arith, length-append front (i ∷ []))
+    go false h k = k
+
+-- What is kept of all sets lacks one of the first of them exactly where the reply is full once those are offered.
+truncated_by : (d : Draft) (rest : List Item) (n : ℕ) (first : List Item) → Counted 0 d first → (b : Bool) → d.full ≡ b
+    → nat_lt (length (offered d rest).kept) (length first) ≡ d.full
+truncated_by d rest n first c true f =
+    let short = c.missing f in
+    ap (λ (x : Draft). nat_lt (length x.kept) (length first)) (offered-full d rest f) ∙ lt-ltb (length d.kept) (length first) (omega (arith, short)) ∙ sym f
+truncated_by d rest n first c false f =
+    let whole = c.whole f in
+    let more = longer d.question d.limit d.kept rest d.full in
+    not_short (nat_lt (length (offered d rest).kept) (length first)) refl (omega arith) ∙ sym f
+  where
+    not_short : (b : Bool) → nat_lt (length (offered d rest).kept) (length first) ≡ b → length first ≤ length (offered d rest).kept
+        → nat_lt (length (offered d rest).kept) (length first) ≡ false
+    not_short true e h = absurd (let l = ltb-true (length (offered d rest).kept) (length first) e in omega arith)
+    not_short false e h = e
+
+pub offered-truncated : (q : MessageQuestion) (limit : ℕ) (first rest : List Item)
+    → nat_lt (length (kept (size_with q) limit (first ++ rest))) (length first) ≡ (offered (empty_draft q limit) first).full
+offered-truncated q limit first rest =
+    let d = offered (empty_draft q limit) first in
+    ap (λ is. nat_lt (length is) (length first)) (sym (offered-keeps q limit (first ++ rest)) ∙ ap (λ (x : Draft). x.kept) (offered-append (empty_draft q limit) first rest))
+    ∙ truncated_by d rest 0 first (counts q limit [] first) d.full refl

@@ -1,0 +1,142 @@
+-- What is put at the front of the buffer is the reply that the definitions state.
+use Rattle.std.proofs.Common.{◌≡◌, ℕ, ◌+◌, ◌≤◌, Bool, true, false, cond, not, ◌&&◌, nat_lt, nat_le, List, [], ◌∷◌, ◌++◌, length, take, Option, Some, is_some, refl, sym, ap, ◌∙◌, subst, arith, length-take, append_assoc}
+use Rattle.std.proofs.lemmas.Bool.{ltb-true, ltb-false, eqb-true, eq-eqb, false_from_ne_true}
+use Rattle.std.specs.Prelude.{◌==◌}
+use Rattle.std.specs.List.{list_any}
+use Rattle.dns_spec.specs.Names.{Octets, DomainName, is_name}
+use Rattle.dns_spec.specs.Records.{ZoneContents}
+use Rattle.dns_spec.specs.Reading.{Header, MessageQuestion}
+use Rattle.dns_spec.specs.Query.{reply_head}
+use Rattle.dns_spec.specs.Layout.{Item, layout, size}
+use Rattle.dns_spec.specs.Answer.{Outcome, outcome, items, is_authoritative, follows_alias, alias_set, has_any}
+use Rattle.dns_spec.specs.Reply.{kept, truncated, answered, keep_longest}
+use Rattle.dns_spec.proofs.Replies.FewItems.{few_nodes}
+use Rattle.dns_spec.proofs.Layouts.LayoutSize.{length-layout}
+use Rattle.dns_zone.specs.Nodes.{Walk}
+use Rattle.dns_wire.specs.QueryForm.{code_of}
+use Rattle.dns_answer.specs.Draft as spec
+use Rattle.dns_answer.specs.Draft.{empty_draft, offer, offered, size_with}
+use Rattle.dns_answer.specs.DraftForm.{State, Holds}
+use Rattle.dns_answer.specs.Walks.{Took}
+use Rattle.dns_answer.specs.Ending.{ending_targets, others_by}
+use Rattle.dns_answer.specs.Chain.{chain_items, chain_required, chain_outcome, chain_nodes, chain_misses, aliases_of, names_from}
+use Rattle.dns_answer.specs.Seeking.{SeeksFrom, Seeks, Followed, TookFrom}
+use Rattle.dns_answer.specs.Replies.{IsReply, Answers, Costs}
+use Rattle.dns_answer.specs.declared.ending.Verdict.{Verdict}
+use Rattle.dns_answer.proofs.Offering.{Offers-is}
+use Rattle.dns_answer.proofs.Offered.{offered-keeps, offered-truncated}
+use Rattle.dns_answer.proofs.ChainSteps.{chain-all, chain-all_required}
+use Rattle.dns_answer.proofs.AnswerCosts.{rcode-is, authority-is, visits-fit, comparisons-fit}
+
+-- a layout that stands at the front of the buffer has room there
+pub laid_within : (h : Header) (q : Option MessageQuestion) (is : List Item) (out : Octets) (len : ℕ) → len ≡ size q is → take len out ≡ layout h q is → len ≤ length out
+laid_within h q is out len sized laid =
+    let a = length-take len out in
+    let b = ap length laid ∙ length-layout h q is ∙ sym sized in
+    omega (arith, a, b)
+
+-- offering sets does not change the question
+offered-question : (d : spec.Draft) (is : List Item) → (offered d is).question ≡ d.question
+unfolding offered
+offered-question d [] = refl
+offered-question d (i ∷ is) = offered-question (offer d i) is ∙ go d.full (nat_le (size_with d.question (d.kept ++ i ∷ [])) d.limit)
+  where
+    go : (a b : Bool) → (cond a d (cond b (record d { kept = d.kept ++ i ∷ [] }) (record d { full = true }))).question ≡ d.question
+    go true b = refl
+    go false true = refl
+    go false false = refl
+
+-- what is required comes first
+required-first : (z : ZoneContents) (t k : ℕ) (sought : List DomainName) (s : DomainName)
+    → chain_items z t k sought s ≡ chain_required z t k sought s ++ others_by z (chain_outcome z t k sought s).referral (ending_targets (chain_outcome z t k sought s))
+unfolding chain_items chain_required
+required-first z t k sought s = sym (append_assoc (aliases_of z t (names_from z t k sought s)) _ _)
+
+-- the names sought are one exactly where none was added
+one_sought : (n : ℕ) (b : Bool) → 1 ≤ n → nat_lt 1 n ≡ b → (n == 1) ≡ not b
+one_sought n true from more = false_from_ne_true (n == 1) (λ h. let a = eqb-true n 1 h in let b = ltb-true 1 n more in absurd (omega (arith, a, b)))
+one_sought n false from more = let a = ltb-false 1 n more in eq-eqb n 1 (omega (arith, a, from))
+
+module _ (z : ZoneContents) (h : Header) (q : MessageQuestion) where
+  abbrev o : Outcome
+  o = chain_outcome z q.qtype 16 [] q.qname
+
+  truncates : (limit : ℕ) → truncated z q (keep_longest z limit q) ≡ (offered (empty_draft q limit) (chain_required z q.qtype 16 [] q.qname)).full
+  truncates limit =
+      ap (λ rs. nat_lt (length (keep_longest z limit q)) (length rs)) (chain-all_required z q.qname q.qtype)
+      ∙ ap (λ js. nat_lt (length (kept (size (Some q)) limit js)) (length (chain_required z q.qtype 16 [] q.qname)))
+      (chain-all z q.qname q.qtype ∙ required-first z q.qtype 16 [] q.qname)
+      ∙ offered-truncated q limit (chain_required z q.qtype 16 [] q.qname) (others_by z o.referral (ending_targets o))
+
+  authoritative : (v : Verdict) (count : ℕ) → v.is_referral ≡ is_some o.referral → Followed z q.qtype 1 count q.qname v
+      → not (v.is_referral && (count == 1)) ≡ is_authoritative (outcome z q.qname q.qtype)
+  authoritative v count refers followed =
+      go v.is_referral (is_some o.referral) (follows_alias q.qtype && has_any (alias_set z q.qname)) refers followed.1 ∙ sym (authority-is z q.qname q.qtype)
+    where
+      go : (a b f : Bool) → a ≡ b → (a ≡ true → nat_lt 1 count ≡ f) → not (a && (count == 1)) ≡ not (b && not f)
+      go true b f e more = ap not (one_sought count f followed.0 (more refl)) ∙ ap (λ x. not (x && not f)) e
+      go false b f e more = ap (λ x. not (x && not f)) e
+
+  answers : (w w' : State) (v : Verdict) (count : ℕ) (aa : Bool) (head : Header) → SeeksFrom w w' z q.qtype 16 [] q.qname v → Followed z q.qtype 1 count q.qname v
+      → aa ≡ not (v.is_referral && (count == 1)) → head ≡ reply_head h aa v.is_truncated (code_of v.rcode) → Answers z h q w w' head
+  answers w w' v count aa head seeks followed authority is_head = record {
+    offers = Offers-is w w' _ _ (sym (chain-all z q.qname q.qtype)) seeks.offers;
+    header = λ limit begun.
+        let rcode = seeks.rcode ∙ sym (rcode-is z q.qname q.qtype) in
+        let tc = seeks.truncated (empty_draft q limit) begun ∙ sym (truncates limit) in
+        let speaks = authority ∙ authoritative v count seeks.referral followed in
+        is_head ∙ (λ i. reply_head h (speaks i) (tc i) (rcode i));
+  }
+
+  -- So they are where the zone and the question are stated by other names.
+  pub answers-found : (z1 : ZoneContents) (n : DomainName) (t : ℕ) (sought sought' : List DomainName) (w w' : State) (v : Verdict) (aa : Bool) (head : Header) → z1 ≡ z → n ≡ q.qname → t ≡ q.qtype → sought ≡ n ∷ []
+      → Seeks w w' z1 t 16 sought n v → Followed z1 t (length sought) (length sought') n v → aa ≡ not (v.is_referral && (length sought' == 1))
+      → head ≡ reply_head h aa v.is_truncated (code_of v.rcode) → Answers z h q w w' head
+  answers-found z1 n t sought sought' w w' v aa head same_zone same_name same_type first seeks followed authority is_head =
+      let found = seeks [] (λ p. ap (list_any p) first) in
+      let from : SeeksFrom w w' z q.qtype 16 [] q.qname v =
+      subst (λ y. SeeksFrom w w' y q.qtype 16 [] q.qname v) same_zone
+      (subst (λ m. SeeksFrom w w' z1 q.qtype 16 [] m v) same_name (subst (λ u. SeeksFrom w w' z1 u 16 [] n v) same_type found))
+      in
+      let then : Followed z q.qtype 1 (length sought') q.qname v =
+      subst (λ y. Followed y q.qtype 1 (length sought') q.qname v) same_zone
+      (subst (λ m. Followed z1 q.qtype 1 (length sought') m v) same_name
+      (subst (λ u. Followed z1 u 1 (length sought') n v) same_type (subst (λ xs. Followed z1 t (length xs) (length sought') n v) first followed)))
+      in
+      answers w w' v (length sought') aa head from then authority is_head
+
+  -- Then they are laid out at the front of the buffer.
+  pub answer-put : (limit : ℕ) (w w' : State) (head : Header) (len : ℕ) (out : Octets) → Holds w (empty_draft q limit) → Answers z h q w w' head
+      → ((d : spec.Draft) → Holds w' d → len ≡ size (Some d.question) d.kept)
+      → ((d : spec.Draft) → Holds w' d → take len out ≡ layout head (Some d.question) d.kept)
+      → IsReply z limit (answered h q) len out
+  answer-put limit w w' head len out begun stated sized laid =
+      let all = items z q.qname q.qtype in
+      let d = offered (empty_draft q limit) all in
+      let held : Holds w' d = stated.offers.draft (empty_draft q limit) begun in
+      record {
+        octets =
+            ap (λ x. Some x)
+            (laid d held ∙ ap (λ (x : MessageQuestion). layout head (Some x) d.kept) (offered-question (empty_draft q limit) all)
+            ∙ ap (λ js. layout head (Some q) js) (offered-keeps q limit all) ∙ ap (λ x. layout x (Some q) (keep_longest z limit q)) (stated.header limit begun));
+        within = laid_within _ _ _ out len (sized d held) (laid d held);
+      }
+
+-- What the search for the question's name took is no more than an answer may take.
+pub answer-costs : (h : Header) (q : MessageQuestion) (n : DomainName) (t : ℕ) (sought : List DomainName) (s s1 s' : Walk) → is_name q.qname ≡ true → n ≡ q.qname → t ≡ q.qtype → sought ≡ n ∷ []
+    → s.visits ≡ 0 → s.comparisons ≡ 0 → s1.visits ≡ s.visits + 1 → s1.comparisons ≡ s.comparisons → s1.zone ≡ s.zone → TookFrom s1 s' t 16 sought n → Costs (answered h q) s s'
+answer-costs h q n t sought s s1 s' name same_name same_type first visits comparisons one_visit same_count zone took =
+    let z = s.zone in
+    let there : Took s1 s' (chain_nodes z q.qtype 16 [] q.qname) (chain_misses z q.qtype 16 [] q.qname) =
+    subst (λ y. Took s1 s' (chain_nodes y q.qtype 16 [] q.qname) (chain_misses y q.qtype 16 [] q.qname)) zone
+    (subst (λ m. Took s1 s' (chain_nodes s1.zone q.qtype 16 [] m) (chain_misses s1.zone q.qtype 16 [] m)) same_name
+    (subst (λ u. Took s1 s' (chain_nodes s1.zone u 16 [] n) (chain_misses s1.zone u 16 [] n)) same_type (took [] (λ p. ap (list_any p) first))))
+    in
+    let fits = visits-fit z q.qname q.qtype s1 s' _ (omega (arith, visits, one_visit)) there in
+    let few = few_nodes z q.qname q.qtype name in
+    record {
+      zone = there.zone ∙ zone;
+      visits = fits;
+      visits_a_name = omega (arith, fits, few);
+      comparisons = comparisons-fit z q.qname q.qtype s1 s' _ (omega (arith, comparisons, same_count)) there;
+    }

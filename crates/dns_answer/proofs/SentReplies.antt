@@ -1,0 +1,85 @@
+-- What is sent is the reply that the definitions state, by the query that a datagram was read as.
+use Rattle.std.proofs.Common.{◌≡◌, ◌↔◌, ℕ, ◌<◌, ◌≤◌, Bool, true, false, not, cond, Option, None, Some, IsTrue, IsNone, IfSome, All, refl, sym, ap, subst, ◌∙◌, arith}
+use Rattle.std.proofs.lemmas.Bool.{true≢false}
+use Rattle.std.proofs.lemmas.List.Elements.{All-weaker}
+use Rattle.std.specs.Prelude.{◌==◌}
+use Rattle.std.specs.Option.{option_map}
+use Rattle.dns_spec.specs.Names.{Octets}
+use Rattle.dns_spec.specs.Records.{ResourceRecord, ZoneContents}
+use Rattle.dns_spec.specs.Reading.{MessageQuestion, Spells, format_error, not_implemented}
+use Rattle.dns_spec.specs.Query.{field16, opcode, head_of, refusal_head, counts_are_one_question, question_at, is_ignored, QueryRead, absent, refused_with, query, query_or_error, query_read}
+use Rattle.dns_spec.specs.Layout.{layout}
+use Rattle.dns_spec.specs.Laws.{IsWritable}
+use Rattle.dns_spec.specs.ZonePrinted.{IsReadRecord}
+use Rattle.dns_spec.specs.Reply.{decide_query, decide, Reply, reply_of, keep_longest, reply_with, reply, octets_by, reply_message, octets_of}
+use Rattle.dns_spec.proofs.Replies.ReplySpelled.{shared_reply_spells}
+use Rattle.dns_zone.specs.Nodes.{Walk}
+use Rattle.dns_zone.specs.ZoneForm.{IsBuilt}
+use Rattle.dns_answer.specs.Limits.{limit_of}
+use Rattle.dns_answer.specs.Replies.{Costs}
+use Rattle.dns_answer.specs.declared.reply.Limit.{Limit}
+use Rattle.dns_answer.specs.declared.reply.Limit.TheVariants.{Udp, Tcp}
+
+-- the datagrams to which no reply is owed
+abbrev is_absent : QueryRead → Bool
+is_absent absent = true
+is_absent (refused_with h) = false
+is_absent (query h q) = false
+
+absent-is : (d : Octets) → is_absent (query_read d) ≡ is_ignored d
+unfolding query_read
+absent-is d = go (is_ignored d) (not (opcode (field16 d 2) == 0)) (not (counts_are_one_question d)) (question_at d)
+  where
+    go : (a b c : Bool) (q : Option MessageQuestion)
+        → is_absent (cond a absent (cond b (refused_with (refusal_head (head_of d) not_implemented)) (cond c (refused_with (refusal_head (head_of d) format_error)) (query_or_error (head_of d) q)))) ≡ a
+    go true b c q = refl
+    go false true c q = refl
+    go false false true q = refl
+    go false false false None = refl
+    go false false false (Some q) = refl
+
+module _ (d : Octets) (y : QueryRead) (read : y ≡ query_read d) where
+  ignored-by : is_ignored d ≡ is_absent y
+  ignored-by = sym (absent-is d) ∙ ap is_absent (sym read)
+
+  -- nothing is sent exactly where no reply is owed
+  pub silent : is_absent y ≡ true → (let none : Option ℕ = None in IsNone none) ↔ IsTrue (is_ignored d)
+  silent e = (λ h. ignored-by ∙ e, λ h. refl)
+
+  pub stated : is_absent y ≡ false → (len : ℕ) → IsNone (Some len) ↔ IsTrue (is_ignored d)
+  stated e len = (λ h. absurd (true≢false h), λ h. sym h ∙ ignored-by ∙ e)
+
+  -- the octets and the decision
+  pub octets-by : (z : ZoneContents) (limit : ℕ) → option_map (octets_by layout) (reply_of (keep_longest z limit) z (decide_query z y)) ≡ octets_of z d limit
+  unfolding octets_of reply reply_with decide
+  octets-by z limit = ap (λ x. option_map (octets_by layout) (reply_of (keep_longest z limit) z (decide_query z x))) read
+
+  pub costs-by : (z : ZoneContents) (s s' : Walk) → Costs (decide_query z y) s s' → Costs (decide z d) s s'
+  unfolding decide
+  costs-by z s s' costs = subst (λ x. Costs (decide_query z x) s s') read costs
+
+-- the records of a built zone fit a message
+writable : (r : ResourceRecord) → IsReadRecord r → IsWritable r
+writable r read = record { owner = read.owner; rtype = read.rtype; ttl = let t = read.ttl in omega (arith, t); rdata = read.rdata }
+
+-- limits have room for a question, and lengths of messages for them
+limit_from : (limit : Limit) → 271 ≤ limit_of limit
+limit_from Udp = omega arith
+limit_from Tcp = omega arith
+
+limit_upto : (limit : Limit) → limit_of limit ≤ 65535
+limit_upto Udp = omega arith
+limit_upto Tcp = omega arith
+
+-- What is sent spells the message of the reply.
+pub spelled : (z : ZoneContents) (d sent : Octets) (limit : Limit) → IsBuilt z → All (λ o. o < 256) d → Some sent ≡ octets_of z d (limit_of limit)
+    → IfSome (reply z d (limit_of limit)) (λ r. Spells sent (reply_message r))
+unfolding octets_of
+spelled z d sent limit built low e = go (reply z d (limit_of limit)) refl e
+  where
+    go : (x : Option Reply) → reply z d (limit_of limit) ≡ x → Some sent ≡ option_map (octets_by layout) x → IfSome x (λ r. Spells sent (reply_message r))
+    go None is e = tt
+    go (Some r) is e =
+        let same : sent ≡ octets_by layout r = cc in
+        subst (λ b. Spells b (reply_message r)) (sym same)
+        (shared_reply_spells z d (limit_of limit) r (All-weaker IsReadRecord IsWritable writable z.records built.each) low (limit_from limit) (limit_upto limit) is)

@@ -1,0 +1,124 @@
+-- How the way down to a name goes on from the name above it.
+use Rattle.std.proofs.Common.{◌≡◌, ℕ, suc, ◌+◌, ◌-◌, ◌≤◌, Bool, true, false, cond, ◌||◌, ◌&&◌, List, [], ◌∷◌, map, reverse, length, drop, None, Some, refl, sym, ap, ◌∙◌, arith}
+use Rattle.std.proofs.lemmas.Bool.{false≢true, and_parts, ltb-true, false_from_ne_true}
+use Rattle.std.proofs.lemmas.List.{length-map, reverse-append}
+use Rattle.std.proofs.lemmas.List.Folds.{find-append}
+use Rattle.std.specs.Prelude.{nat_lt, nat_le, ◌==◌}
+use Rattle.std.specs.Ordering.{is_gt}
+use Rattle.std.specs.Char.{to_ascii_lowercase}
+use Rattle.std.specs.List.{find, filter, list_any}
+use Rattle.std.specs.Option.{option_or, is_some}
+use Rattle.dns_spec.specs.Names.{Octets, DomainName, folded, names_equal, same, at_or_below, below, suffixes}
+use Rattle.dns_spec.specs.Data.{type_ns}
+use Rattle.dns_spec.specs.Records.{ResourceRecord, ZoneContents, at, owns, rrset, sort_by, insert_by, data_order}
+use Rattle.dns_spec.specs.Sets.{set_of}
+use Rattle.dns_spec.specs.Tree.{exists, is_cut, cut_of, closest_encloser, without_first}
+use Rattle.dns_spec.proofs.DomainNames.NameLaws.{at_or_below-cons, same-length}
+use Rattle.dns_zone.proofs.NameOrder.{same-from, lower_twice}
+use Rattle.dns_zone.proofs.NameTree.{under-trans, itself-under}
+use Rattle.dns_zone.proofs.OwnRecords.{own-owns}
+use Rattle.dns_zone.proofs.AboveCuts.{any_weaker}
+use Rattle.dns_zone.proofs.Existing.{exists-lower}
+
+-- names above and below
+pub above_under : (l : Octets) (n a : DomainName) (k : ℕ) → at_or_below (l ∷ n) a ≡ true → length (l ∷ n) ≡ length a + suc k → at_or_below n a ≡ true
+above_under l n a k h len = go (same (l ∷ n) a) refl (sym (at_or_below-cons l n a) ∙ h)
+  where
+    go : (b : Bool) → same (l ∷ n) a ≡ b → (b || at_or_below n a) ≡ true → at_or_below n a ≡ true
+    go true e f = absurd (let s = same-length (l ∷ n) a e in omega arith)
+    go false e f = f
+
+pub under_same : (n a : DomainName) → at_or_below n a ≡ true → length n ≡ length a → same n a ≡ true
+under_same n a h len =
+    let none : length n - length a ≡ 0 = omega arith in
+    ap (λ k. same (drop k n) a) (sym none) ∙ (and_parts (nat_le (length a) (length n)) (same (drop (length n - length a) n) a) h).1
+
+-- the cuts on the way
+cut_from : (z : ZoneContents) (l : Octets) (n : DomainName) → cut_of z (l ∷ n) ≡ option_or (cut_of z n) (cond (is_cut z (folded (l ∷ n))) (Some (folded (l ∷ n))) None)
+cut_from z l n =
+    ap (find (is_cut z)) (reverse-append (folded (l ∷ n) ∷ []) (suffixes (folded n)))
+    ∙ find-append (is_cut z) (reverse (suffixes (folded n))) (folded (l ∷ n) ∷ [])
+
+pub cut-above : (z : ZoneContents) (l : Octets) (n c : DomainName) → cut_of z n ≡ Some c → cut_of z (l ∷ n) ≡ Some c
+cut-above z l n c e = cut_from z l n ∙ ap (λ x. option_or x (cond (is_cut z (folded (l ∷ n))) (Some (folded (l ∷ n))) None)) e
+
+pub cut-here : (z : ZoneContents) (l : Octets) (n : DomainName) → cut_of z n ≡ None → is_cut z (folded (l ∷ n)) ≡ true → cut_of z (l ∷ n) ≡ Some (folded (l ∷ n))
+cut-here z l n e f = cut_from z l n ∙ ap (λ x. option_or x (cond (is_cut z (folded (l ∷ n))) (Some (folded (l ∷ n))) None)) e ∙ ap (λ b. cond b (Some (folded (l ∷ n))) None) f
+
+pub cut-none : (z : ZoneContents) (l : Octets) (n : DomainName) → cut_of z n ≡ None → is_cut z (folded (l ∷ n)) ≡ false → cut_of z (l ∷ n) ≡ None
+cut-none z l n e f = cut_from z l n ∙ ap (λ x. option_or x (cond (is_cut z (folded (l ∷ n))) (Some (folded (l ∷ n))) None)) e ∙ ap (λ b. cond b (Some (folded (l ∷ n))) None) f
+
+-- records of a type make a set where there is one
+insert_some : (r : ResourceRecord) (rs : List ResourceRecord) → is_some (set_of (insert_by data_order r rs)) ≡ true
+insert_some r [] = refl
+insert_some r (s ∷ rs) = go (is_gt (data_order r s))
+  where
+    go : (b : Bool) → is_some (set_of (cond b (s ∷ insert_by data_order r rs) (r ∷ s ∷ rs))) ≡ true
+    go true = refl
+    go false = refl
+
+sorted_some : (rs : List ResourceRecord) → is_some (set_of (sort_by data_order rs)) ≡ is_some (set_of rs)
+sorted_some [] = refl
+sorted_some (r ∷ rs) = insert_some r (sort_by data_order rs)
+
+filtered_some : (p : ResourceRecord → Bool) (rs : List ResourceRecord) → is_some (set_of (filter p rs)) ≡ list_any p rs
+filtered_some p [] = refl
+filtered_some p (r ∷ rs) = go (p r) (filtered_some p rs)
+  where
+    go : (b : Bool) → is_some (set_of (filter p rs)) ≡ list_any p rs → is_some (set_of (cond b (r ∷ filter p rs) (filter p rs))) ≡ (b || list_any p rs)
+    go true e = refl
+    go false e = e
+
+pub set-owned : (z : ZoneContents) (n : DomainName) (t : ℕ) → is_some (set_of (rrset z n t)) ≡ owns z n t
+set-owned z n t =
+    sorted_some (filter (λ (r : ResourceRecord). r.rtype == t) (at z n)) ∙ filtered_some (λ (r : ResourceRecord). r.rtype == t) (at z n) ∙ own-owns z n t
+
+-- a name below the origin is a cut where it owns NS
+pub cut-by_set : (z : ZoneContents) (n : DomainName) → below n z.origin ≡ true → is_cut z n ≡ is_some (set_of (rrset z n type_ns))
+cut-by_set z n h = ap (λ b. b && owns z n type_ns) h ∙ sym (set-owned z n type_ns)
+
+-- names that exist
+pub exists-folded : (z : ZoneContents) (n : DomainName) → exists z (folded n) ≡ exists z n
+exists-folded z n = exists-lower z (folded n) n (lower_twice n) (length-map n (map to_ascii_lowercase))
+
+itself : (n : DomainName) → at_or_below n n ≡ true
+itself n = itself-under n n (same-from n n refl)
+
+pub one_under : (l : Octets) (n : DomainName) → at_or_below (l ∷ n) n ≡ true
+one_under l n = at_or_below-cons l n n ∙ ap (λ b. same (l ∷ n) n || b) (itself n) ∙ or_true (same (l ∷ n) n)
+  where
+    or_true : (b : Bool) → (b || true) ≡ true
+    or_true true = refl
+    or_true false = refl
+
+pub exists-up : (z : ZoneContents) (l : Octets) (n : DomainName) → exists z n ≡ false → exists z (l ∷ n) ≡ false
+exists-up z l n e = false_from_ne_true (exists z (l ∷ n)) (λ h.
+    false≢true (sym e ∙ any_weaker (λ (r : ResourceRecord). at_or_below r.owner (l ∷ n)) (λ (r : ResourceRecord). at_or_below r.owner n) z.records
+    (λ r under. under-trans r.owner (l ∷ n) n under (one_under l n)) h))
+
+-- the closest encloser
+first_suffix : (z : ZoneContents) (n : DomainName) → find (exists z) (suffixes n) ≡ cond (exists z n) (Some n) (find (exists z) (without_first (suffixes n)))
+first_suffix z [] = refl
+first_suffix z (l ∷ n) = refl
+
+pub encloser-here : (z : ZoneContents) (l : Octets) (n : DomainName) → exists z n ≡ true → closest_encloser z (l ∷ n) ≡ Some (folded n)
+encloser-here z l n e = first_suffix z (folded n) ∙ ap (λ b. cond b (Some (folded n)) (find (exists z) (without_first (suffixes (folded n))))) (exists-folded z n ∙ e)
+
+pub encloser-above : (z : ZoneContents) (l : Octets) (n : DomainName) → exists z n ≡ false → closest_encloser z (l ∷ n) ≡ closest_encloser z n
+encloser-above z l n e = first_suffix z (folded n) ∙ ap (λ b. cond b (Some (folded n)) (find (exists z) (without_first (suffixes (folded n))))) (exists-folded z n ∙ e)
+
+-- at the origin no cut is on the way
+short_cut : (z : ZoneContents) (n : DomainName) → length n ≤ length z.origin → is_cut z n ≡ false
+short_cut z n h = go (nat_lt (length z.origin) (length n)) refl
+  where
+    go : (b : Bool) → nat_lt (length z.origin) (length n) ≡ b → ((b && at_or_below n z.origin) && owns z n type_ns) ≡ false
+    go true e = absurd (let lt = ltb-true (length z.origin) (length n) e in omega arith)
+    go false e = refl
+
+pub no_cut-at_origin : (z : ZoneContents) (n : DomainName) → length n ≤ length z.origin → cut_of z n ≡ None
+no_cut-at_origin z [] h = ap (λ b. cond b (Some []) None) (short_cut z [] h)
+no_cut-at_origin z (l ∷ n) h = cut-none z l n (no_cut-at_origin z n (omega arith)) (short_cut z (folded (l ∷ n)) (omega (arith, length-map (l ∷ n) (map to_ascii_lowercase))))
+
+-- the records at a name, by its lower case
+pub at-folded : (z : ZoneContents) (n : DomainName) → at z (folded n) ≡ at z n
+at-folded z n = ap (λ f. filter (λ (r : ResourceRecord). names_equal (folded r.owner) f) z.records) (lower_twice n)

@@ -1,0 +1,18 @@
+use Rattle.std.proofs.Common.{◌*◌, ◌≤◌, [], length}
+use Rattle.std.specs.List.{filter}
+use Rattle.dns_answer.specs.DraftForm.{Offers}
+use Rattle.dns_answer.specs.Walks.{Took}
+use Rattle.dns_answer.specs.Targets.{targets_of_first, side_items, side_nodes, side_takes}
+use Rattle.dns_answer.proofs.addresses.offer_addresses.Given as goal
+
+-- what was offered and taken for the first targets
+abbrev pub invariant-targets : goal.invariant-targets
+invariant-targets g l =
+    let z = l.fn.steps.zone in
+    let p = side_takes l.side in
+    record {
+      offers : Offers l.fn.draft l.draft (side_items z p [] (targets_of_first l.i l.set));
+      took : Took l.fn.steps l.steps (side_nodes z p (targets_of_first l.i l.set)) (length (filter p (targets_of_first l.i l.set)));
+      hits : length (filter p (targets_of_first l.i l.set)) ≤ l.i;
+      few : side_nodes z p (targets_of_first l.i l.set) ≤ 127 * l.i;
+    }

@@ -1,0 +1,8 @@
+use Rattle.std.proofs.Common.{◌≡◌, false}
+use Rattle.std.specs.List.{list_any}
+use Rattle.dns_spec.specs.Names.{same}
+use Rattle.dns_answer.specs.Targets.{targets_of_first}
+use Rattle.dns_answer.proofs.addresses.stood_before.Given as goal
+
+abbrev pub invariant-earlier : goal.invariant-earlier
+invariant-earlier l = list_any (same l.target) (targets_of_first l.i l.set) ≡ false

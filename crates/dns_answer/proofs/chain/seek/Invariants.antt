@@ -1,0 +1,17 @@
+use Rattle.std.proofs.Common.{◌≡◌, ◌+◌, ◌*◌, ◌≤◌, length}
+use Rattle.dns_answer.specs.Walks.{HasRoom}
+use Rattle.dns_answer.specs.Seeking.{LedOn}
+use Rattle.dns_answer.proofs.chain.seek.Given as goal
+
+-- where the names sought so far have led
+abbrev pub invariant-names : goal.invariant-names
+invariant-names g l = record {
+  led : LedOn l.fn.draft l.draft l.fn.steps l.steps l.fn.qtype l.fn.more l.more l.fn.sought.items l.sought.items l.fn.name l.name;
+  deep : length l.name ≡ length l.fn.steps.zone.origin + l.depth;
+  few : l.depth ≤ 127;
+  room : HasRoom l.steps (129 * (l.more + 129));
+  count : length l.sought.items + l.more ≤ 17;
+}
+
+abbrev pub decreases-names : goal.decreases-names
+decreases-names g l = l.more

@@ -1,0 +1,162 @@
+use Rattle.std.proofs.Common.{rules, ◌≡◌, [], ◌&&◌, ◌-◌, refl, sym, ap, ◌∙◌, subst, arith, Some, None}
+use Rattle.std.proofs.lemmas.Bool.{false≢true}
+use Rattle.dns_name.specs.WireForm.{labels_of}
+use Rattle.dns_spec.specs.Layout.{answer}
+use Rattle.dns_spec.specs.Records.{ZoneContents, at, with_owner}
+use Rattle.dns_spec.specs.Answer.{item, has_any, alias_set, positive, negative, referral_to, outcome_by}
+use Rattle.dns_spec.specs.Reading.{name_error}
+use Rattle.dns_zone.specs.Nodes.{ZoneNode}
+use Rattle.dns_answer.specs.Ending.{Ends, TookTargets}
+use Rattle.dns_answer.specs.Walks.{IsApex, IsBelowCut}
+use Rattle.dns_answer.specs.Seeking.{NextIs}
+use Rattle.dns_answer.proofs.ChainSteps.{ends-cut, ends-nothing, ends-records}
+use Rattle.dns_answer.proofs.SeekSteps.{seeks-ended, took-ended, took-less, own-cut, found-at, none-followed, none-own, seeks-alias, alias-ends, alias-item, alias-goes_on, has-alias, completes-on}
+use Rattle.dns_answer.proofs.chain.seek_one.Goals as goal
+
+pub look_up-requires-clause-room : goal.look_up-requires-clause-room
+look_up-requires-clause-room g c = record {
+  visits = omega (arith, c.requires.room.visits, c.requires.few);
+  comparisons = omega (arith, c.requires.room.comparisons, c.requires.few);
+}
+
+pub refer-requires : goal.refer-requires
+refer-requires g c =
+    let same_zone = c.look_up.ensures.took.zone in (
+      search rules,
+      (
+        subst (λ z. IsApex z c.args.apex.now) (sym same_zone) c.requires.apex,
+        (
+          (c.args.name.now, subst (λ z. IsBelowCut z c.args.name.now c.in-Cut.cut (labels_of c.in-Cut.octets.now)) (sym same_zone) c.in-Cut.ensures.found.0),
+          (
+            c.in-Cut.ensures.found.1,
+            record {
+              visits = omega (arith, c.in-Cut.ensures.took.visits, c.requires.room.visits, c.requires.few);
+              comparisons = omega (arith, c.in-Cut.ensures.took.visits, c.in-Cut.ensures.took.comparisons, c.requires.room.comparisons, c.requires.few);
+            },
+          ),
+        ),
+      ),
+    )
+
+pub returns-in-Cut : goal.returns-in-Cut
+returns-in-Cut g c =
+    let z = c.args.steps.now.zone in
+    let o = referral_to z c.in-Cut.cut.name in
+    record {
+      seeks = λ before were. seeks-ended z c.args.qtype c.args.more before c.args.name.now _ _ _ o
+          (ends-cut z c.args.qtype c.args.more before c.args.name.now c.in-Cut.cut.name c.in-Cut.ensures.found.0.cut)
+          (subst (λ y. Ends c.args.draft.now c.refer.new.draft y (referral_to y c.in-Cut.cut.name) c.refer.result) c.look_up.ensures.took.zone c.refer.ensures.ends);
+      took = λ before were. took-ended z c.args.qtype c.args.more before c.args.name.now _ c.look_up.new.steps _ c.args.depth [] o
+          (ends-cut z c.args.qtype c.args.more before c.args.name.now c.in-Cut.cut.name c.in-Cut.ensures.found.0.cut)
+          c.requires.depth c.look_up.ensures.took.zone c.in-Cut.ensures.took
+          (subst (λ y. TookTargets c.look_up.new.steps c.refer.new.steps (referral_to y c.in-Cut.cut.name)) c.look_up.ensures.took.zone c.refer.ensures.took);
+      own = λ r. own-cut z c.args.qtype c.args.name.now c.in-Cut.cut.name c.in-Cut.ensures.found.0.cut;
+    }
+
+pub returns-in-Nothing : goal.returns-in-Nothing
+returns-in-Nothing g c =
+    let z = c.args.steps.now.zone in
+    let o = negative z name_error in
+    let denied = subst (λ y. Ends c.args.draft.now c.deny.new.draft y (negative y name_error) c.deny.result) (ap (λ (v : ZoneNode). v.zone) c.requires.apex.node) c.deny.ensures in
+    record {
+      seeks = λ before were. seeks-ended z c.args.qtype c.args.more before c.args.name.now _ _ _ o
+          (ends-nothing z c.args.qtype c.args.more before c.args.name.now c.in-Nothing.ensures.found.no_cut c.in-Nothing.ensures.found.none) denied;
+      took = λ before were. took-less z c.args.qtype c.args.more before c.args.name.now _ _ c.args.depth [] o
+          (ends-nothing z c.args.qtype c.args.more before c.args.name.now c.in-Nothing.ensures.found.no_cut c.in-Nothing.ensures.found.none) c.requires.depth c.in-Nothing.ensures.took;
+      own = λ r. absurd (false≢true (sym denied.referral ∙ r));
+    }
+
+pub offer_asked-requires : goal.offer_asked-requires
+offer_asked-requires g c =
+    let z = c.args.steps.now.zone in
+    let same_zone = c.look_up.ensures.took.zone in
+    let at_node = c.or_apex-node.result.now in
+    let here = found-at z c.args.name.now c.in-Records.node c.args.apex.now at_node c.in-Records.ensures.found c.requires.apex.node c.or_apex-node.ensures in (
+      search rules,
+      (
+        subst (λ z. IsApex z c.args.apex.now) (sym same_zone) c.requires.apex,
+        (
+          here.0 ∙ sym same_zone,
+          (
+            none-followed z c.args.name.now at_node c.in-Records.ensures.found.no_cut here.1 c.args.qtype c.in_default.ensures.alias,
+            record {
+              visits = omega (arith, c.in-Records.ensures.took.visits, c.requires.room.visits, c.requires.few);
+              comparisons = omega (arith, c.in-Records.ensures.took.visits, c.in-Records.ensures.took.comparisons, c.requires.room.comparisons, c.requires.few);
+            },
+          ),
+        ),
+      ),
+    )
+
+pub returns-in_default : goal.returns-in_default
+returns-in_default g c =
+    let z = c.args.steps.now.zone in
+    let at_node = c.or_apex-node.result.now in
+    let rs = with_owner c.args.name.now (at at_node.zone at_node.name) in
+    let here = found-at z c.args.name.now c.in-Records.node c.args.apex.now at_node c.in-Records.ensures.found c.requires.apex.node c.or_apex-node.ensures in
+    let no_cut = c.in-Records.ensures.found.no_cut in
+    let none = none-followed z c.args.name.now at_node no_cut here.1 c.args.qtype c.in_default.ensures.alias in
+    let o = outcome_by z c.args.qtype None (Some rs) in
+    record {
+      seeks = λ before were. seeks-ended z c.args.qtype c.args.more before c.args.name.now _ _ _ o
+          (ends-records z c.args.qtype c.args.more before c.args.name.now rs no_cut here.1 none)
+          (subst (λ y. Ends c.args.draft.now c.offer_asked.new.draft y (outcome_by y c.args.qtype None (Some rs)) c.offer_asked.result) c.look_up.ensures.took.zone c.offer_asked.ensures.ends);
+      took = λ before were. took-ended z c.args.qtype c.args.more before c.args.name.now _ c.look_up.new.steps _ c.args.depth [] o
+          (ends-records z c.args.qtype c.args.more before c.args.name.now rs no_cut here.1 none)
+          c.requires.depth c.look_up.ensures.took.zone c.in-Records.ensures.took
+          (subst (λ y. TookTargets c.look_up.new.steps c.offer_asked.new.steps (outcome_by y c.args.qtype None (Some rs))) c.look_up.ensures.took.zone c.offer_asked.ensures.took);
+      own = λ r. none-own z c.args.name.now at_node no_cut here.1 c.args.qtype none;
+    }
+
+pub returns-in_default-next_sought : goal.returns-in_default-next_sought
+returns-in_default-next_sought g c =
+    let z = c.args.steps.now.zone in
+    let s = c.args.name.now in
+    let at_node = c.or_apex-node.result.now in
+    let set = c.in-Some.alias in
+    let here = found-at z s c.in-Records.node c.args.apex.now at_node c.in-Records.ensures.found c.requires.apex.node c.or_apex-node.ensures in
+    let no_cut = c.in-Records.ensures.found.no_cut in
+    let is = c.in-Some.ensures.alias in
+    let origin_is : c.origin-2.result.now ≡ z.origin = c.origin-2.ensures.value ∙ ap (λ (y : ZoneContents). y.origin) c.look_up.ensures.took.zone in
+    let next = subst (λ o. NextIs set c.args.more c.args.sought.now.items o None) origin_is c.in_default-next_sought.ensures.next in
+    record {
+      seeks = λ before were. seeks-alias z c.args.qtype c.args.more before s _ _ _ _
+          (alias-ends z s at_node no_cut here.1 set is.1 c.in-Some.ensures.rtype c.in-Some.ensures.kept c.args.qtype c.args.more c.args.sought.now.items before is.0 were next)
+          (alias-item z s at_node no_cut here.1 set is.1 c.in-Some.ensures.rtype c.in-Some.ensures.kept c.ttl.result c.ttl.ensures)
+          c.offer.ensures refl refl c.is_full.ensures;
+      took = λ before were. took-less z c.args.qtype c.args.more before s _ _ c.args.depth (item answer (alias_set z s)) (positive [])
+          (alias-ends z s at_node no_cut here.1 set is.1 c.in-Some.ensures.rtype c.in-Some.ensures.kept c.args.qtype c.args.more c.args.sought.now.items before is.0 were next)
+          c.requires.depth c.in-Records.ensures.took;
+      own = λ r. absurd (false≢true r);
+    }
+
+pub returns : goal.returns
+returns g c =
+    let z = c.args.steps.now.zone in
+    let s = c.args.name.now in
+    let at_node = c.or_apex-node.result.now in
+    let set = c.in-Some.alias in
+    let m = c.in-Some-next_sought.target in
+    let here = found-at z s c.in-Records.node c.args.apex.now at_node c.in-Records.ensures.found c.requires.apex.node c.or_apex-node.ensures in
+    let no_cut = c.in-Records.ensures.found.no_cut in
+    let is = c.in-Some.ensures.alias in
+    let origin_is : c.origin-2.result.now ≡ z.origin = c.origin-2.ensures.value ∙ ap (λ (y : ZoneContents). y.origin) c.look_up.ensures.took.zone in
+    let next = subst (λ o. NextIs set c.args.more c.args.sought.now.items o (Some (m, c.in-Some-next_sought.depth))) origin_is c.in-Some-next_sought.ensures.next in
+    let first = c.in-Records.ensures.took in
+    record {
+      more = next.0;
+      below = next.2;
+      deep = next.4;
+      few = next.5;
+      alias = ap (λ b. b && has_any (alias_set z s)) is.0 ∙ has-alias z s at_node no_cut here.1 set is.1;
+      took = record {
+        zone = first.zone;
+        from = first.from;
+        visits = omega (arith, first.visits, c.requires.few);
+        comparisons = first.comparisons;
+      };
+      completes = λ before were. completes-on z c.args.qtype c.args.more before s _ _ _ _ _ c.args.depth (c.args.more - 1) m
+          (alias-goes_on z s at_node no_cut here.1 set is.1 c.in-Some.ensures.rtype c.in-Some.ensures.kept c.args.qtype c.args.more c.args.sought.now.items before m c.in-Some-next_sought.depth is.0 were next)
+          (alias-item z s at_node no_cut here.1 set is.1 c.in-Some.ensures.rtype c.in-Some.ensures.kept c.ttl.result c.ttl.ensures)
+          c.offer.ensures c.requires.depth first;
+    }

@@ -1,0 +1,33 @@
+-- What a reader learns here: what becomes of a reply when set after set is offered to it.
+use Rattle.std.specs.Prelude.{ℕ, Bool, true, false, List, [], ◌∷◌, ◌++◌, nat_le, if◌then◌else◌}
+use Rattle.std.specs.Prelude.{Some}
+use Rattle.dns_spec.specs.Reading.{MessageQuestion}
+use Rattle.dns_spec.specs.Layout.{Item, size}
+
+-- A reply to a question while sets are offered to it: the sets that it has, and whether one did not fit, after which none is
+-- tried.
+pub record Draft : Type 0 where
+  pub question : MessageQuestion
+  pub limit : ℕ
+  pub kept : List Item
+  pub full : Bool
+
+-- the reply to a question before the first set
+abbrev pub empty_draft : MessageQuestion → ℕ → Draft
+empty_draft q limit = record { question = q; limit = limit; kept = []; full = false }
+
+-- the size of a reply with some sets
+abbrev pub size_with : MessageQuestion → List Item → ℕ
+size_with q sets = size (Some q) sets
+
+-- a set is put where there is room for it, and none is put after one for which there was no room
+abbrev pub offer : Draft → Item → Draft
+offer d i =
+    let next = d.kept ++ i ∷ [] in
+    if d.full then d
+    else if nat_le (size_with d.question next) d.limit then record d { kept = next }
+    else record d { full = true }
+
+unfoldable pub offered : Draft → List Item → Draft
+offered d [] = d
+offered d (i ∷ is) = offered (offer d i) is

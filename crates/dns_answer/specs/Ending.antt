@@ -1,0 +1,65 @@
+-- What a reader learns here: which sets end an answer, after the aliases, and what the header says of it.
+use Rattle.std.specs.Prelude.{◌≡◌, ℕ, ◌+◌, Bool, true, not, List, [], ◌++◌, length}
+use Rattle.std.specs.Prelude.{Option, None, Some}
+use Rattle.std.specs.Option.{is_some}
+use Rattle.std.specs.List.{filter}
+use Rattle.dns_spec.specs.Names.{DomainName, at_or_below}
+use Rattle.dns_spec.specs.Records.{ZoneContents}
+use Rattle.dns_spec.specs.Layout.{Item}
+use Rattle.dns_spec.specs.Answer.{Outcome, main_items, targets_of}
+use Rattle.dns_zone.specs.Nodes.{Walk}
+use Rattle.dns_wire.specs.QueryForm.{code_of}
+use Rattle.dns_answer.specs.Draft as spec
+use Rattle.dns_answer.specs.Draft.{offered}
+use Rattle.dns_answer.specs.DraftForm.{State, Holds, Offers}
+use Rattle.dns_answer.specs.Walks.{Took}
+use Rattle.dns_answer.specs.Targets.{side_items, side_nodes}
+use Rattle.dns_answer.specs.declared.ending.Verdict.{Verdict}
+
+abbrev pub all_names : DomainName → Bool
+all_names m = true
+
+abbrev pub inside : DomainName → DomainName → Bool
+inside c m = at_or_below m c
+
+abbrev pub not_inside : DomainName → DomainName → Bool
+not_inside c m = not (at_or_below m c)
+
+-- the addresses that a referral needs, and all others
+abbrev pub glue_by : ZoneContents → Option DomainName → List DomainName → List Item
+glue_by z None ms = []
+glue_by z (Some c) ms = side_items z (inside c) [] ms
+
+abbrev pub others_by : ZoneContents → Option DomainName → List DomainName → List Item
+others_by z None ms = side_items z all_names [] ms
+others_by z (Some c) ms = side_items z (not_inside c) [] ms
+
+-- the targets of an outcome: of a referral those of its servers
+abbrev pub ending_targets : Outcome → List DomainName
+ending_targets o = targets_of (main_items o)
+
+-- the sets that may not be left out, and all
+abbrev pub ending_required : ZoneContents → Outcome → List Item
+ending_required z o = main_items o ++ glue_by z o.referral (ending_targets o)
+
+abbrev pub ending_items : ZoneContents → Outcome → List Item
+ending_items z o = ending_required z o ++ others_by z o.referral (ending_targets o)
+
+-- the nodes and the missing names on the ways to the targets
+abbrev pub nodes_by : ZoneContents → Option DomainName → List DomainName → ℕ
+nodes_by z None ms = side_nodes z all_names ms
+nodes_by z (Some c) ms = side_nodes z (inside c) ms + side_nodes z (not_inside c) ms
+
+abbrev pub misses_by : Option DomainName → List DomainName → ℕ
+misses_by None ms = length (filter all_names ms)
+misses_by (Some c) ms = length (filter (inside c) ms) + length (filter (not_inside c) ms)
+
+-- The sets that end an answer are offered, and the header says so.
+pub record Ends (w w' : State) (z : ZoneContents) (o : Outcome) (v : Verdict) : Type 0 where
+  pub offers : Offers w w' (ending_items z o)
+  pub rcode : code_of v.rcode ≡ o.rcode
+  pub referral : v.is_referral ≡ is_some o.referral
+  pub truncated : (d : spec.Draft) → Holds w d → v.is_truncated ≡ (offered d (ending_required z o)).full
+
+abbrev pub TookTargets : Walk → Walk → Outcome → Type 0
+TookTargets s s' o = Took s s' (nodes_by s.zone o.referral (ending_targets o)) (misses_by o.referral (ending_targets o))

@@ -1,0 +1,66 @@
+-- What a reader learns here: how a question is judged, when a reply was put, and what it may take.
+use Rattle.std.specs.Prelude.{◌≡◌, ℕ, ◌+◌, ◌*◌, ◌≤◌, true, length, take, None, Some}
+use Rattle.std.specs.Option.{option_map}
+use Rattle.dns_spec.specs.Names.{Octets, at_or_below}
+use Rattle.dns_spec.specs.Records.{ZoneContents}
+use Rattle.dns_spec.specs.Reading.{Header, MessageQuestion}
+use Rattle.dns_spec.specs.Layout.{layout}
+use Rattle.dns_spec.specs.Answer.{items, most_visits, names_looked_up, most_comparisons}
+use Rattle.dns_spec.specs.Reply.{Decision, silence, header_alone, question_alone, answered, refusal, answer_with, reply_of, keep_longest, octets_by}
+use Rattle.dns_zone.specs.Nodes.{Walk}
+use Rattle.dns_wire.specs.QueryForm.{code_of}
+use Rattle.dns_answer.specs.Draft.{empty_draft}
+use Rattle.dns_answer.specs.DraftForm.{State, Holds, Offers}
+use Rattle.dns_answer.specs.declared.reply.Judged.{Judged}
+use Rattle.dns_answer.specs.declared.reply.Judged.TheVariants.{Refused, Answered}
+
+-- a question is refused with an RCODE, or its name is so many labels below the origin
+abbrev pub JudgedAs : ZoneContents → MessageQuestion → Judged → Type 0
+JudgedAs z q (Refused rcode) = refusal z q ≡ Some (code_of rcode)
+JudgedAs z q (Answered depth) =
+    (refusal z q ≡ None) × (at_or_below q.qname z.origin ≡ true)
+    × (length q.qname ≡ length z.origin + depth) × (depth ≤ 127)
+
+-- The octets at the front of `out` are the reply that a decision makes, with the longest beginning
+-- of the sets that fits.
+pub record IsReply (z : ZoneContents) (limit : ℕ) (x : Decision) (len : ℕ) (out : Octets)
+    : Type 0 where
+  pub octets : Some (take len out)
+      ≡ option_map (octets_by layout) (reply_of (keep_longest z limit) z x)
+  pub within : len ≤ length out
+
+-- All sets of an answer are offered, and this is the header of the reply that keeps what fits of
+-- them.
+pub record Answers (z : ZoneContents) (h : Header) (q : MessageQuestion) (w w' : State)
+    (head : Header) : Type 0 where
+  pub offers : Offers w w' (items z q.qname q.qtype)
+  pub header : (limit : ℕ) → Holds w (empty_draft q limit)
+      → head ≡ (answer_with z h q (keep_longest z limit q)).header
+
+-- the most nodes that a decision visits, and the most names that it looks up: none, unless a
+-- question is answered
+abbrev pub visits_for : ZoneContents → Decision → ℕ
+visits_for z silence = 0
+visits_for z (header_alone h) = 0
+visits_for z (question_alone h q) = 0
+visits_for z (answered h q) = most_visits z q.qname q.qtype
+
+abbrev pub names_for : ZoneContents → Decision → ℕ
+names_for z silence = 0
+names_for z (header_alone h) = 0
+names_for z (question_alone h q) = 0
+names_for z (answered h q) = names_looked_up z q.qname q.qtype
+
+-- the most labels that it compares, where it visits so many nodes
+abbrev pub comparisons_for : ZoneContents → Decision → ℕ → ℕ
+comparisons_for z silence visits = 0
+comparisons_for z (header_alone h) visits = 0
+comparisons_for z (question_alone h q) visits = 0
+comparisons_for z (answered h q) visits = most_comparisons z q.qname q.qtype visits
+
+-- A walk that had counted nothing took no more than a decision may.
+pub record Costs (x : Decision) (s s' : Walk) : Type 0 where
+  pub zone : s'.zone ≡ s.zone
+  pub visits : s'.visits ≤ visits_for s.zone x
+  pub visits_a_name : s'.visits ≤ 128 * names_for s.zone x
+  pub comparisons : s'.comparisons ≤ comparisons_for s.zone x s'.visits

@@ -1,0 +1,111 @@
+-- What a reader learns here: where the way down to a name ends, what is found for it, and what that took.
+use Rattle.std.specs.Prelude.{◌≡◌, ℕ, ◌+◌, ◌*◌, ◌≤◌, Bool, true, false, if◌then◌else◌}
+use Rattle.std.specs.Prelude.{Option, None, Some}
+use Rattle.std.specs.Option.{unwrap_or}
+use Rattle.dns_spec.specs.Names.{DomainName, folded}
+use Rattle.dns_spec.specs.Records.{ZoneContents, at, with_owner}
+use Rattle.dns_spec.specs.Tree.{exists, cut_of, closest_encloser, found}
+use Rattle.dns_name.specs.WireForm.{labels_of, IsWireForm}
+use Rattle.dns_zone.specs.Nodes.{Walk, ZoneNode, IsNode}
+use Rattle.dns_answer.specs.declared.lookup.Way.{Way}
+use Rattle.dns_answer.specs.declared.lookup.Way.TheVariants as ways
+use Rattle.dns_answer.specs.declared.lookup.Found.{Found}
+use Rattle.dns_answer.specs.declared.lookup.Found.TheVariants as finds
+use Rattle.dns_answer.specs.declared.lookup.Reached.{Reached}
+use Rattle.dns_answer.specs.declared.lookup.Reached.TheVariants as reaches
+
+-- the node of a name
+abbrev pub node_of : ZoneContents → DomainName → ZoneNode
+node_of z n = record { zone = z; name = n }
+
+-- a node, or the apex
+abbrev pub node_or : ZoneNode → Option ZoneNode → ZoneNode
+node_or apex node = unwrap_or node apex
+
+-- the node of the origin
+pub record IsApex (z : ZoneContents) (apex : ZoneNode) : Type 0 where
+  pub node : apex ≡ node_of z z.origin
+  pub exists : IsNode z z.origin
+
+-- no cut is on the way, and the name exists
+pub record IsThere (z : ZoneContents) (n : DomainName) (node : Option ZoneNode) : Type 0 where
+  pub no_cut : cut_of z n ≡ None
+  pub stands : exists z n ≡ true
+  pub at_name : node_or (node_of z z.origin) node ≡ node_of z (folded n)
+
+-- no cut is on the way, and the name does not exist
+pub record IsMissing (z : ZoneContents) (n : DomainName) (node : Option ZoneNode) : Type 0 where
+  pub no_cut : cut_of z n ≡ None
+  pub missing : exists z n ≡ false
+  pub encloser : closest_encloser z n ≡ Some (node_or (node_of z z.origin) node).name
+  pub zone : (node_or (node_of z z.origin) node).zone ≡ z
+  pub lower : folded (node_or (node_of z z.origin) node).name ≡ (node_or (node_of z z.origin) node).name
+
+-- RFC 1034 4.3.2 step 3b: the cut at or above the name, whose name is also that of the last labels asked for
+pub record IsBelowCut (z : ZoneContents) (n : DomainName) (node : ZoneNode) (name : DomainName) : Type 0 where
+  pub cut : cut_of z n ≡ Some node.name
+  pub zone : node.zone ≡ z
+  pub spelled : folded name ≡ node.name
+
+abbrev pub WalkedTo : ZoneContents → DomainName → Way → Type 0
+WalkedTo z n (ways.Cut node octets) = IsBelowCut z n node (labels_of octets.now) × IsWireForm octets.now
+WalkedTo z n (ways.Name node) = IsThere z n node
+WalkedTo z n (ways.Encloser node) = IsMissing z n node
+
+-- what is found for the name
+pub record IsNothing (z : ZoneContents) (n : DomainName) : Type 0 where
+  pub no_cut : cut_of z n ≡ None
+  pub none : found z n ≡ None
+
+pub record AreRecords (z : ZoneContents) (n : DomainName) (node : Option ZoneNode) : Type 0 where
+  pub no_cut : cut_of z n ≡ None
+  pub zone : (node_or (node_of z z.origin) node).zone ≡ z
+  pub records : found z n ≡ Some (with_owner n (at z (node_or (node_of z z.origin) node).name))
+
+abbrev pub FoundAs : ZoneContents → DomainName → Found → Type 0
+FoundAs z n (finds.Cut node octets) = IsBelowCut z n node (labels_of octets.now) × IsWireForm octets.now
+FoundAs z n finds.Nothing = IsNothing z n
+FoundAs z n (finds.Records node) = AreRecords z n node
+
+-- the name itself, below a cut too
+pub record IsReached (z : ZoneContents) (n : DomainName) (node : Option ZoneNode) : Type 0 where
+  pub stands : exists z n ≡ true
+  pub at_name : node_or (node_of z z.origin) node ≡ node_of z (folded n)
+
+abbrev pub ReachedAs : ZoneContents → DomainName → Reached → Type 0
+ReachedAs z n (reaches.Name node) = IsReached z n node
+ReachedAs z n reaches.Missing = exists z n ≡ false
+
+-- a walk that may still be handed so many nodes, and make 17 comparisons for each
+pub record HasRoom (s : Walk) (nodes : ℕ) : Type 0 where
+  pub visits : s.visits + nodes ≤ 4294967295
+  pub comparisons : s.comparisons + 17 * nodes ≤ 4294967295
+
+-- What a look-up took: at most so many nodes, and 17 comparisons for each node and for each label without a child.
+pub record Took (s s' : Walk) (nodes misses : ℕ) : Type 0 where
+  pub zone : s'.zone ≡ s.zone
+  pub from : s.visits ≤ s'.visits
+  pub visits : s'.visits ≤ s.visits + nodes
+  pub comparisons : s'.comparisons + 17 * s.visits ≤ s.comparisons + 17 * (s'.visits + misses)
+
+abbrev pub missed : Way → ℕ
+missed (ways.Cut c o) = 0
+missed (ways.Name n) = 0
+missed (ways.Encloser n) = 1
+
+abbrev pub missed_name : Reached → ℕ
+missed_name (reaches.Name n) = 0
+missed_name reaches.Missing = 1
+
+-- what a way took: a node less where a child was missing
+pub record TookWay (s s' : Walk) (nodes misses : ℕ) : Type 0 where
+  pub took : Took s s' nodes misses
+  pub fewer : s'.visits + misses ≤ s.visits + nodes
+
+abbrev pub one_if : Bool → ℕ
+one_if b = if b then 1 else 0
+
+pub record TookChild (s s' : Walk) (is_there : Bool) : Type 0 where
+  pub zone : s'.zone ≡ s.zone
+  pub visits : s'.visits ≡ s.visits + one_if is_there
+  pub comparisons : s'.comparisons ≤ s.comparisons + 17

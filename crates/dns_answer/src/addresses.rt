@@ -1,0 +1,156 @@
+//! Addresses of the targets of a set (RFC 1034 4.3.2 step 6).
+ghost use Rattle.std.specs.Prelude.{◌≡◌, ℕ, ◌+◌, ◌*◌, ◌≤◌, ◌<◌, [], ◌∷◌, ◌++◌, length, take, get_or, map, true, false, not, IsTrue};
+ghost use Rattle.std.specs.List.{list_any, filter};
+ghost use Rattle.dns_spec.specs.Names.{same, at_or_below};
+ghost use Rattle.dns_spec.specs.Data.{target};
+ghost use Rattle.dns_spec.specs.Answer.{item};
+ghost use Rattle.dns_spec.specs.Records.{rrset};
+ghost use Rattle.dns_spec.specs.Layout.{additional};
+ghost use Rattle.dns_spec.specs.Sets.{HasValidData};
+ghost use Rattle.dns_answer.specs.Walks.{IsApex, HasRoom, Took};
+ghost use Rattle.dns_answer.specs.DraftForm.{Offers};
+ghost use Rattle.dns_answer.specs.Targets.{addresses_of, side_items, side_nodes, side_takes, set_targets, targets_of_first, target_items, target_nodes, target_misses};
+
+use crate::draft::Draft;
+use crate::lookup::{Reached, or_apex, reach};
+use crate::names::depth_below;
+use dns_name::Name;
+use dns_rdata::{RType, Rdata, SetView};
+use dns_wire::Section;
+use dns_zone::{Node, RecordSet, Steps};
+
+/// Which targets are meant: all, or those at or below a cut, or the others.
+#[derive(Clone, Copy)]
+pub(crate) enum Side<'c> {
+    /// All of them.
+    All,
+    /// Those at or below the cut, without whose addresses the asker gets no further.
+    Inside(&'c Name),
+    /// Those that are not.
+    Outside(&'c Name),
+}
+
+impl Side<'_> {
+    // Whether the target is meant.
+    fn takes(self, target: &Name) -> bool
+        ensures { result ≡ side_takes self.entry target.now }
+    {
+        match self {
+            Side::All => true,
+            Side::Inside(cut) => target.at_or_below(cut),
+            Side::Outside(cut) => !target.at_or_below(cut),
+        }
+    }
+}
+
+/// Offers the addresses of the targets of a set, of those that are meant, in order. Those of a target that stood before are not
+/// offered again.
+pub(crate) fn offer_addresses<'z, const N: usize, const SIZE: usize>(
+    set: &RecordSet<'z>,
+    side: Side<'_>,
+    apex: &Node<'z>,
+    steps: &mut Steps<'z>,
+    draft: &mut Draft<N, SIZE>,
+)
+    requires apex { IsApex steps.old.zone apex.now }
+    requires valid { HasValidData set.now }
+    requires few { length set.now.rdata ≤ 64 }
+    requires room { HasRoom steps.old (64 * 128) }
+    ensures offers { Offers draft.old draft.new (side_items steps.old.zone (side_takes side.entry) [] (set_targets set.now)) }
+    ensures took { Took steps.old steps.new (side_nodes steps.old.zone (side_takes side.entry) (set_targets set.now)) (length (filter (side_takes side.entry) (set_targets set.now))) }
+    ensures bound { Took steps.old steps.new (127 * 64) 64 }
+{
+    'targets: for i in 0..set.len() {
+        offer_target(set, i, side, apex, steps, draft);
+    }
+}
+
+// Offers the addresses of the target of a record, if it is meant and did not stand before.
+fn offer_target<'z, const N: usize, const SIZE: usize>(
+    set: &RecordSet<'z>,
+    i: usize,
+    side: Side<'_>,
+    apex: &Node<'z>,
+    steps: &mut Steps<'z>,
+    draft: &mut Draft<N, SIZE>,
+)
+    requires apex { IsApex steps.old.zone apex.now }
+    requires valid { HasValidData set.now }
+    requires inside { i < length set.now.rdata }
+    requires room { HasRoom steps.old 128 }
+    ensures offers { Offers draft.old draft.new
+        (target_items steps.old.zone (side_takes side.entry) (targets_of_first i set.now) (target set.now.rtype (get_or set.now.rdata i []))) }
+    ensures took { Took steps.old steps.new (target_nodes steps.old.zone (side_takes side.entry) (target set.now.rtype (get_or set.now.rdata i [])))
+        (target_misses (side_takes side.entry) (target set.now.rtype (get_or set.now.rdata i []))) }
+    ensures few { target_nodes steps.old.zone (side_takes side.entry) (target set.now.rtype (get_or set.now.rdata i [])) ≤ 127 }
+{
+    let Some(target) = Rdata::target(set.rtype(), set.rdata(i)) else {
+        return;
+    };
+    if !side.takes(&target) {
+        return;
+    }
+    let Some(depth) = depth_below(&target, steps.origin()) else {
+        return;
+    };
+    if stood_before(set, i, &target) {
+        return;
+    }
+    offer_address(&target, depth, apex, steps, draft);
+}
+
+// Whether one of the first records of a set has the same target.
+fn stood_before(set: &RecordSet<'_>, count: usize, target: &Name) -> bool
+    requires valid { HasValidData set.now }
+    requires inside { count ≤ length set.now.rdata }
+    ensures { result ≡ list_any (same target.now) (targets_of_first count set.now) }
+{
+    'earlier: for i in 0..count {
+        if let Some(earlier) = Rdata::target(set.rtype(), set.rdata(i)) {
+            if target.same(&earlier) {
+                return true;
+            }
+        }
+    }
+    false
+}
+
+// Offers the addresses of one name: its A set, then its AAAA set, below a cut too, never by a wildcard.
+fn offer_address<'z, const N: usize, const SIZE: usize>(
+    target: &Name,
+    depth: usize,
+    apex: &Node<'z>,
+    steps: &mut Steps<'z>,
+    draft: &mut Draft<N, SIZE>,
+)
+    requires apex { IsApex steps.old.zone apex.now }
+    requires below { IsTrue (at_or_below target.now steps.old.zone.origin) }
+    requires depth { length target.now ≡ length steps.old.zone.origin + depth }
+    requires room { HasRoom steps.old (depth + 1) }
+    ensures offers { Offers draft.old draft.new (addresses_of steps.old.zone target.now) }
+    ensures took { Took steps.old steps.new depth 1 }
+{
+    let node = match reach(target.octets(), depth, apex, steps) {
+        Reached::Missing => return,
+        Reached::Name(node) => node,
+    };
+    let node = or_apex(&node, &*apex);
+    let owner = target.fold();
+    offer_type(node, RType::A, &owner, draft);
+    offer_type(node, RType::AAAA, &owner, draft);
+}
+
+// Offers the set of a type at a node, if there is one.
+fn offer_type<const N: usize, const SIZE: usize>(
+    node: &Node<'_>,
+    rtype: RType,
+    owner: &Name,
+    draft: &mut Draft<N, SIZE>,
+)
+    requires owner { node.now.name ≡ owner.now }
+    ensures { Offers draft.old draft.new (item additional (rrset node.now.zone node.now.name rtype.0)) }
+{
+    if let Some(set) = node.set(rtype) {
+        draft.offer(Section::Additional, owner, set.ttl(), &set);
+    }
+}

@@ -1,0 +1,145 @@
+//! How the answer for the last name sought ends (RFC 1034 4.3.2 step 3, RFC 2308).
+ghost use Rattle.std.specs.Prelude.{◌≡◌, ◌+◌, ◌*◌, ◌≤◌, ◌&&◌, ◌||◌, ◌==◌, length, true, false, IfSome};
+ghost use Rattle.std.specs.Option.{is_some};
+ghost use Rattle.dns_spec.specs.Names.{DomainName};
+ghost use Rattle.dns_spec.specs.Data.{type_ns, type_mx, type_srv, qtype_any, type_cname};
+ghost use Rattle.dns_spec.specs.Records.{at, rrset, with_owner, of_type};
+ghost use Rattle.dns_spec.specs.Sets.{set_of, of_lowest_type};
+ghost use Rattle.dns_spec.specs.Answer.{referral_to, negative, outcome_by, follows_alias, has_any, asked_records};
+ghost use Rattle.dns_name.specs.WireForm.{labels_of, IsWireForm};
+ghost use Rattle.dns_zone.specs.Nodes.{IsSetOf};
+ghost use Rattle.dns_wire.specs.QueryForm.{code_of};
+ghost use Rattle.dns_answer.specs.Walks.{IsApex, IsBelowCut, HasRoom};
+ghost use Rattle.dns_answer.specs.Ending.{Ends, TookTargets};
+
+use crate::addresses::{Side, offer_addresses};
+use crate::draft::Draft;
+use dns_name::Name;
+use dns_rdata::{RType, Rdata, SetView};
+use dns_wire::{Rcode, Section};
+use dns_zone::{Node, RecordSet, Steps};
+
+/// A QTYPE that asks for all types (RFC 1035 3.2.3).
+pub(crate) const QTYPE_ANY: u16 = 255;
+
+/// What the header says of an answer.
+#[derive(Clone, Copy)]
+pub(crate) struct Verdict {
+    pub(crate) rcode: Rcode,
+    /// Whether the last name sought is referred to other servers.
+    pub(crate) is_referral: bool,
+    /// Whether a set that may not be left out is missing.
+    pub(crate) is_truncated: bool,
+}
+
+/// Refers the asker to the servers of a cut: their set, the addresses of those at or below the cut, and those of the others
+/// (RFC 1034 4.3.2 step 3b).
+pub(crate) fn refer<'z, const N: usize, const SIZE: usize>(
+    cut: &Node<'z>,
+    octets: &[u8],
+    apex: &Node<'z>,
+    steps: &mut Steps<'z>,
+    draft: &mut Draft<N, SIZE>,
+) -> Verdict
+    requires apex { IsApex steps.old.zone apex.now }
+    requires cut { (n : DomainName) × IsBelowCut steps.old.zone n cut.now (labels_of octets.now) }
+    requires form { IsWireForm octets.now }
+    requires room { HasRoom steps.old (128 * 128) }
+    ensures ends { Ends draft.old draft.new steps.old.zone (referral_to steps.old.zone cut.now.name) result }
+    ensures took { TookTargets steps.old steps.new (referral_to steps.old.zone cut.now.name) }
+{
+    let mut name = Name::from_octets(octets);
+    name.fold_in_place();
+    let Some(servers) = cut.set(RType::NS) else {
+        unreachable!();
+    };
+    draft.offer(Section::Authority, &name, servers.ttl(), &servers);
+    offer_addresses(&servers, Side::Inside(&name), apex, steps, draft);
+    let is_truncated = draft.is_full();
+    offer_addresses(&servers, Side::Outside(&name), apex, steps, draft);
+    Verdict {
+        rcode: Rcode::NoError,
+        is_referral: true,
+        is_truncated,
+    }
+}
+
+/// Says that there is nothing: the SOA of the zone, with the lesser of its TTL and its MINIMUM (RFC 2308 3, 5).
+pub(crate) fn deny<const N: usize, const SIZE: usize>(
+    rcode: Rcode,
+    apex: &Node<'_>,
+    origin: &Name,
+    draft: &mut Draft<N, SIZE>,
+) -> Verdict
+    requires apex { IsApex apex.now.zone apex.now }
+    requires origin { origin.now ≡ apex.now.zone.origin }
+    ensures { Ends draft.old draft.new apex.now.zone (negative apex.now.zone (code_of rcode)) result }
+{
+    let Some(soa) = apex.set(RType::SOA) else {
+        return Verdict {
+            rcode,
+            is_referral: false,
+            is_truncated: draft.is_full(),
+        };
+    };
+    let ttl = soa.ttl().min(Rdata::soa_minimum(soa.rdata(0)));
+    draft.offer(Section::Authority, origin, ttl, &soa);
+    Verdict {
+        rcode,
+        is_referral: false,
+        is_truncated: draft.is_full(),
+    }
+}
+
+/// Offers the set asked for of the records at a node, shown at a name, and the addresses of its targets; or says that there
+/// is none.
+pub(crate) fn offer_asked<'z, const N: usize, const SIZE: usize>(
+    node: &Node<'z>,
+    name: &Name,
+    qtype: u16,
+    apex: &Node<'z>,
+    steps: &mut Steps<'z>,
+    draft: &mut Draft<N, SIZE>,
+) -> Verdict
+    requires apex { IsApex steps.old.zone apex.now }
+    requires zone { node.now.zone ≡ steps.old.zone }
+    requires no_alias { (follows_alias qtype && has_any (of_type type_cname (with_owner name.now (at node.now.zone node.now.name)))) ≡ false }
+    requires room { HasRoom steps.old (64 * 128) }
+    ensures ends { Ends draft.old draft.new steps.old.zone
+        (outcome_by steps.old.zone qtype None (Some (with_owner name.now (at node.now.zone node.now.name)))) result }
+    ensures took { TookTargets steps.old steps.new
+        (outcome_by steps.old.zone qtype None (Some (with_owner name.now (at node.now.zone node.now.name)))) }
+{
+    let Some(set) = asked_set(node, qtype) else {
+        return deny(Rcode::NoError, apex, steps.origin(), draft);
+    };
+    draft.offer(Section::Answer, name, set.ttl(), &set);
+    let is_truncated = draft.is_full();
+    if has_targets(set.rtype()) {
+        offer_addresses(&set, Side::All, apex, steps, draft);
+    }
+    Verdict {
+        rcode: Rcode::NoError,
+        is_referral: false,
+        is_truncated,
+    }
+}
+
+// The set asked for; of all types that of the lowest number (RFC 8482 4.1).
+fn asked_set<'z>(node: &Node<'z>, qtype: u16) -> Option<RecordSet<'z>>
+    ensures set { result ≡ set_of (asked_records qtype (at node.now.zone node.now.name)) }
+    ensures kept { IfSome result (IsSetOf node.now) }
+{
+    if qtype == QTYPE_ANY {
+        node.first_set()
+    } else {
+        node.set(RType(qtype))
+    }
+}
+
+// Addresses of the targets of these types are of use to the asker.
+fn has_targets(rtype: RType) -> bool
+    ensures { result ≡ (rtype.0 == type_ns || rtype.0 == type_mx || rtype.0 == type_srv) }
+{
+    rtype == RType::NS || rtype == RType::MX || rtype == RType::SRV
+}

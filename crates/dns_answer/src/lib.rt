@@ -1,0 +1,16 @@
+//! The answer of a zone to a query (RFC 1034 4.3.2): what is found for a name, which sets end an answer, and the reply to which
+//! they are offered.
+#![tactic(auto)]
+
+mod addresses;
+mod chain;
+mod draft;
+mod ending;
+mod lookup;
+mod names;
+mod reply;
+
+pub use reply::{Limit, respond};
+
+#[cfg(test)]
+mod tests;

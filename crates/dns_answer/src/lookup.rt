@@ -1,0 +1,158 @@
+//! What a zone has for a name (RFC 1034 4.3.2 step 3).
+ghost use Rattle.std.specs.Prelude.{◌≡◌, ℕ, ◌+◌, ◌*◌, ◌-◌, ◌≤◌, ◌<◌, ◌∷◌, length, IsTrue, IsSome, IfSome, IsNone, MatchOption, true, false, is_some, []};
+ghost use Rattle.dns_spec.specs.Names.{Octets, DomainName, at_or_below, folded};
+ghost use Rattle.dns_spec.specs.Tree.{exists, asterisk};
+ghost use Rattle.dns_name.specs.WireForm.{labels_of, IsWireForm};
+ghost use Rattle.dns_zone.specs.Nodes.{ZoneNode, IsNode};
+ghost use Rattle.dns_answer.specs.Walks.{IsApex, node_or, WalkedTo, FoundAs, ReachedAs, HasRoom, Took, TookWay, TookChild, missed, missed_name};
+
+use dns_name::{Label, Name, first_label};
+use dns_rdata::RType;
+use dns_zone::{Node, Steps};
+
+/// Where the way from the apex down to a name ends.
+#[derive(Drop)]
+pub(crate) enum Way<'n, 'z> {
+    /// At the first cut on the way: its node, and the octets of its name as they are spelled.
+    Cut(Node<'z>, &'n [u8]),
+    /// At the name. `None` is the apex.
+    Name(Option<Node<'z>>),
+    /// At the closest encloser of a name that does not exist. `None` is the apex.
+    Encloser(Option<Node<'z>>),
+}
+
+/// What is found for a name.
+#[derive(Drop)]
+pub(crate) enum Found<'n, 'z> {
+    /// A cut is at or above it: the cut's node, and the octets of its name as they are spelled.
+    Cut(Node<'z>, &'n [u8]),
+    /// Nothing: the name is in error.
+    Nothing,
+    /// The records at a node, its own or those of a wildcard. `None` is the apex.
+    Records(Option<Node<'z>>),
+}
+
+/// Where the way from the apex down to a name ends that cuts do not end.
+#[derive(Drop)]
+pub(crate) enum Reached<'z> {
+    /// At the name. `None` is the apex.
+    Name(Option<Node<'z>>),
+    /// The name does not exist.
+    Missing,
+}
+
+/// What is found for a name at or below the origin, `depth` labels below it.
+pub(crate) fn look_up<'n, 'z>(
+    name: &'n Name,
+    depth: usize,
+    apex: &Node<'z>,
+    steps: &mut Steps<'z>,
+) -> Found<'n, 'z>
+    requires apex { IsApex steps.old.zone apex.now }
+    requires below { IsTrue (at_or_below name.now steps.old.zone.origin) }
+    requires depth { length name.now ≡ length steps.old.zone.origin + depth }
+    requires room { HasRoom steps.old (depth + 1) }
+    ensures found { FoundAs steps.old.zone name.now result }
+    ensures took { Took steps.old steps.new depth 2 }
+{
+    match walk(name.octets(), depth, apex, steps) {
+        Way::Cut(node, octets) => Found::Cut(node, octets),
+        Way::Name(node) => Found::Records(node),
+        Way::Encloser(node) => match wildcard_below(or_apex(&node, &*apex), steps) {
+            Some(node) => Found::Records(Some(node)),
+            None => Found::Nothing,
+        },
+    }
+}
+
+// The node, or the apex where there is none.
+pub(crate) fn or_apex<'a, 'z>(node: &'a Option<Node<'z>>, apex: &'a Node<'z>) -> &'a Node<'z>
+    ensures { result.now ≡ node_or apex.now node.now }
+{
+    match node {
+        Some(node) => node,
+        None => apex,
+    }
+}
+
+// The wildcard below a name (RFC 4592 2.1.1).
+fn wildcard_below<'z>(encloser: &Node<'z>, steps: &mut Steps<'z>) -> Option<Node<'z>>
+    requires zone { steps.old.zone ≡ encloser.now.zone }
+    requires room { HasRoom steps.old 1 }
+    ensures node { MatchOption result
+        (exists encloser.now.zone (asterisk ∷ encloser.now.name) ≡ false)
+        (λ n. (exists encloser.now.zone (asterisk ∷ encloser.now.name) ≡ true) × (n ≡ record { zone = encloser.now.zone; name = asterisk ∷ encloser.now.name })) }
+    ensures took { TookChild steps.old steps.new (is_some result) }
+{
+    let Some(label) = Label::new(b"*") else {
+        return None;
+    };
+    encloser.down(label, steps)
+}
+
+// The way from the apex down to a name, up to the first cut on it (RFC 1034 4.3.2 step 3b). The labels are taken from the
+// right.
+fn walk<'n, 'z>(
+    octets: &'n [u8],
+    depth: usize,
+    apex: &Node<'z>,
+    steps: &mut Steps<'z>,
+) -> Way<'n, 'z>
+    requires form { IsWireForm octets.now }
+    requires apex { IsApex steps.old.zone apex.now }
+    requires below { IsTrue (at_or_below (labels_of octets.now) steps.old.zone.origin) }
+    requires depth { length (labels_of octets.now) ≡ length steps.old.zone.origin + depth }
+    requires room { HasRoom steps.old depth }
+    ensures way { WalkedTo steps.old.zone (labels_of octets.now) result }
+    ensures took { TookWay steps.old steps.new depth (missed result) }
+{
+    if depth == 0 {
+        return Way::Name(None);
+    }
+    let Some((label, rest)) = first_label(octets) else {
+        unreachable!();
+    };
+    let above = match walk(rest, depth - 1, &*apex, steps) {
+        Way::Cut(node, octets) => return Way::Cut(node, octets),
+        Way::Encloser(node) => return Way::Encloser(node),
+        Way::Name(node) => node,
+    };
+    let Some(node) = or_apex(&above, &*apex).down(label, steps) else {
+        return Way::Encloser(above);
+    };
+    if node.set(RType::NS).is_some() {
+        return Way::Cut(node, octets);
+    }
+    Way::Name(Some(node))
+}
+
+/// The node of a name at or below the origin, `depth` labels below it, below a cut too.
+pub(crate) fn reach<'z>(
+    octets: &[u8],
+    depth: usize,
+    apex: &Node<'z>,
+    steps: &mut Steps<'z>,
+) -> Reached<'z>
+    requires form { IsWireForm octets.now }
+    requires apex { IsApex steps.old.zone apex.now }
+    requires below { IsTrue (at_or_below (labels_of octets.now) steps.old.zone.origin) }
+    requires depth { length (labels_of octets.now) ≡ length steps.old.zone.origin + depth }
+    requires room { HasRoom steps.old (depth + 1) }
+    ensures reached { ReachedAs steps.old.zone (labels_of octets.now) result }
+    ensures took { Took steps.old steps.new depth (missed_name result) }
+{
+    if depth == 0 {
+        return Reached::Name(None);
+    }
+    let Some((label, rest)) = first_label(octets) else {
+        unreachable!();
+    };
+    let above = match reach(rest, depth - 1, &*apex, steps) {
+        Reached::Name(node) => node,
+        Reached::Missing => return Reached::Missing,
+    };
+    match or_apex(&above, &*apex).down(label, steps) {
+        Some(node) => Reached::Name(Some(node)),
+        None => Reached::Missing,
+    }
+}

@@ -1,0 +1,220 @@
+//! The reply to a datagram (RFC 1034 4.3.2).
+ghost use Rattle.std.specs.Prelude.{◌≡◌, ◌↔◌, ℕ, ◌+◌, ◌*◌, ◌≤◌, [], min, length, take, true, false, IsTrue, IsNone, IfSome};
+ghost use Rattle.std.specs.Option.{option_map, option_copied};
+ghost use Rattle.dns_spec.specs.Names.{at_or_below};
+ghost use Rattle.dns_spec.specs.Records.{ZoneContents};
+ghost use Rattle.dns_spec.specs.Reading.{Spells};
+ghost use Rattle.dns_spec.specs.Query.{is_ignored};
+ghost use Rattle.dns_spec.specs.Layout.{layout};
+ghost use Rattle.dns_spec.specs.Reply.{answered, decide, decide_question, is_meta_type, refusal, reply, reply_message, octets_of};
+ghost use Rattle.dns_answer.specs.Limits.{limit_of};
+ghost use Rattle.dns_answer.specs.Replies.{JudgedAs, IsReply, Answers, Costs, visits_for, names_for, comparisons_for};
+
+use crate::chain::{MOST_SOUGHT, seek};
+use crate::draft::Draft;
+use crate::names::depth_below;
+use arrayvec::ArrayVec;
+use dns_name::Name;
+use dns_wire::{CLASS_IN, Head, Page, QueryRead, Question, QuickHash, Rcode, read_query};
+use dns_zone::Steps;
+
+/// How many octets a reply may have.
+#[derive(Clone, Copy, Debug, PartialEq, Eq)]
+pub enum Limit {
+    /// Over UDP: 512 (RFC 1035 4.2.1).
+    Udp,
+    /// Over TCP: 65,535 (RFC 1035 4.2.2).
+    Tcp,
+}
+
+impl Limit {
+    /// So many octets.
+    pub fn octets(self) -> usize
+        ensures { result ≡ limit_of self }
+    {
+        match self {
+            Limit::Udp => 512,
+            Limit::Tcp => 65_535,
+        }
+    }
+}
+
+/// Writes the reply to a datagram at the front of `out`, and answers its length in octets.
+///
+/// `None`, with nothing promised of `out`, exactly where no reply is owed: the datagram is shorter
+/// than a header, or is a reply itself. Any octets are a datagram. Its reply is that of RFC 1034
+/// 4.3.2 and RFC 2308, with the longest beginning of the RRsets that fits, and is truncated where
+/// one of them is missing that may not be left out.
+///
+/// Conditions: nothing was counted by the walk, and `out` is as long as the limit. No memory is
+/// taken. Where no question is answered, no name is looked up.
+pub fn respond(
+    steps: &mut Steps<'_>,
+    datagram: &[u8],
+    limit: Limit,
+    out: &mut [u8],
+) -> Option<usize>
+    requires visits { steps.old.visits ≡ 0 }
+    requires comparisons { steps.old.comparisons ≡ 0 }
+    requires out { length out.old ≡ limit_of limit }
+    ensures absent { IsNone result ↔ IsTrue (is_ignored datagram.now) }
+
+    // The octets, and the message that they spell.
+    ensures octets { option_map (λ len. take len out.new) result
+        ≡ octets_of steps.old.zone datagram.now (limit_of limit) }
+    ensures spells { IfSome result (λ len.
+        IfSome (reply steps.old.zone datagram.now (limit_of limit))
+        (λ r. Spells (take len out.new) (reply_message r))) }
+    ensures fits { IfSome result (λ len. len ≤ limit_of limit) }
+
+    // What was looked up.
+    ensures zone { steps.new.zone ≡ steps.old.zone }
+    ensures visits { steps.new.visits
+        ≤ visits_for steps.old.zone (decide steps.old.zone datagram.now) }
+    ensures visits_a_name { steps.new.visits
+        ≤ 128 * names_for steps.old.zone (decide steps.old.zone datagram.now) }
+    ensures comparisons { steps.new.comparisons
+        ≤ comparisons_for steps.old.zone (decide steps.old.zone datagram.now) steps.new.visits }
+{
+    let origin = steps.origin();
+    match read_query(datagram) {
+        QueryRead::Absent => None,
+        QueryRead::Refused(head) => Some(put_refusal(head, None, out)),
+        QueryRead::Query(head, question) => {
+            Some(put_reply(steps, origin, &head, &question, limit, out))
+        }
+    }
+}
+
+// Puts the reply to a query: a refusal, or an answer in the room that its limit needs.
+fn put_reply<'z>(
+    steps: &mut Steps<'z>,
+    origin: &Name,
+    head: &Head,
+    question: &Question,
+    limit: Limit,
+    out: &mut [u8],
+) -> usize
+    requires origin { origin.now ≡ steps.old.zone.origin }
+    requires visits { steps.old.visits ≡ 0 }
+    requires comparisons { steps.old.comparisons ≡ 0 }
+    requires out { length out.old ≡ limit_of limit }
+    ensures reply { IsReply steps.old.zone (limit_of limit)
+        (decide_question head.now question.now (refusal steps.old.zone question.now))
+        result out.new }
+    ensures costs { Costs
+        (decide_question head.now question.now (refusal steps.old.zone question.now))
+        steps.old steps.new }
+{
+    match judge(question, origin) {
+        Judged::Refused(rcode) => {
+            put_refusal(head.reply(false, false, rcode), Some(question), out)
+        }
+        Judged::Answered(depth) => match limit {
+            Limit::Udp => put_answer::<256, 512>(steps, head, question, depth, out),
+            Limit::Tcp => put_answer::<8192, 65_535>(steps, head, question, depth, out),
+        },
+    }
+}
+
+// Whether a question is answered, and how many labels its name has below the origin.
+#[derive(Clone, Copy)]
+enum Judged {
+    Refused(Rcode),
+    Answered(usize),
+}
+
+// A question is judged by its class, then its type, then its name.
+fn judge(question: &Question, origin: &Name) -> Judged
+    ensures { (z : ZoneContents) → z.origin ≡ origin.now → JudgedAs z question.now result }
+{
+    if question.qclass != CLASS_IN {
+        return Judged::Refused(Rcode::Refused);
+    }
+    if is_meta_type(question.qtype) {
+        return Judged::Refused(Rcode::NotImplemented);
+    }
+    match depth_below(&question.name, origin) {
+        None => Judged::Refused(Rcode::Refused),
+        Some(depth) => Judged::Answered(depth),
+    }
+}
+
+// A type that no record has: 0, OPT, and 128 to 254 (RFC 6895 3.1).
+fn is_meta_type(qtype: u16) -> bool
+    ensures { result ≡ is_meta_type qtype }
+{
+    qtype == 0 || qtype == 41 || (128 <= qtype && qtype <= 254)
+}
+
+// Puts a reply without records: a header, and the question if it is repeated.
+fn put_refusal(head: Head, question: Option<&Question>, out: &mut [u8]) -> usize
+    requires { 512 ≤ length out.old }
+    ensures octets { take result out.new ≡ layout head (option_copied question.entry) [] }
+    ensures within { result ≤ length out.new }
+{
+    let mut hash = QuickHash;
+    let page: Page<256, 512> = Page::new(512, question, &mut hash);
+    page.finish(head, out)
+}
+
+// Puts the answer to a question whose name is `depth` labels below the origin, of as many octets
+// as there is room for.
+fn put_answer<'z, const N: usize, const SIZE: usize>(
+    steps: &mut Steps<'z>,
+    head: &Head,
+    question: &Question,
+    depth: usize,
+    out: &mut [u8],
+) -> usize
+    requires visits { steps.old.visits ≡ 0 }
+    requires comparisons { steps.old.comparisons ≡ 0 }
+    requires below { IsTrue (at_or_below question.now.qname steps.old.zone.origin) }
+    requires depth { length question.now.qname ≡ length steps.old.zone.origin + depth }
+    requires few { depth ≤ 127 }
+    requires from { 512 ≤ SIZE }
+    requires upto { SIZE ≤ 65535 }
+    requires places { min SIZE 16384 ≤ 2 * N }
+    requires most { N ≤ 8192 }
+    requires out { length out.old ≡ SIZE }
+    ensures reply { IsReply steps.old.zone SIZE (answered head.now question.now) result out.new }
+    ensures costs { Costs (answered head.now question.now) steps.old steps.new }
+{
+    let mut draft: Draft<N, SIZE> = Draft::new(SIZE, question);
+    let head = offer_answer(head, question, depth, steps, &mut draft);
+    draft.finish(head, out)
+}
+
+// Offers all sets that answer a question, and answers the header of the reply.
+fn offer_answer<'z, const N: usize, const SIZE: usize>(
+    head: &Head,
+    question: &Question,
+    depth: usize,
+    steps: &mut Steps<'z>,
+    draft: &mut Draft<N, SIZE>,
+) -> Head
+    requires visits { steps.old.visits ≡ 0 }
+    requires comparisons { steps.old.comparisons ≡ 0 }
+    requires below { IsTrue (at_or_below question.now.qname steps.old.zone.origin) }
+    requires depth { length question.now.qname ≡ length steps.old.zone.origin + depth }
+    requires few { depth ≤ 127 }
+    ensures answers { Answers steps.old.zone head.now question.now draft.old draft.new result }
+    ensures costs { Costs (answered head.now question.now) steps.old steps.new }
+{
+    let apex = steps.apex();
+    let mut sought = ArrayVec::new();
+    sought.push(question.name.copied());
+    let verdict = seek(
+        &question.name,
+        depth,
+        question.qtype,
+        MOST_SOUGHT - 1,
+        &mut sought,
+        &apex,
+        steps,
+        draft,
+    );
+    // The server speaks for the zone, unless all that it answers is a referral (RFC 1035 4.1.1).
+    let only_refers = verdict.is_referral && sought.len() == 1;
+    head.reply(!only_refers, verdict.is_truncated, verdict.rcode)
+}

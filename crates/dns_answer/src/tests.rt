@@ -1,0 +1,6 @@
+mod costs;
+mod long;
+mod refusals;
+mod replies;
+mod rows;
+mod zones;

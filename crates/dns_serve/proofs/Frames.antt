@@ -1,0 +1,67 @@
+-- Octets that are not a whole frame, and a message in its frame, by the parts in which they are read.
+use Rattle.std.proofs.Common.{◌≡◌, ℕ, zero, suc, ◌+◌, ◌-◌, ◌*◌, ◌^◌, ◌<◌, ◌≤◌, min, Bool, true, false, cond, nat_le, ◌⊎◌, inl, inr, List, [], ◌∷◌, ◌++◌, length, take, drop, replicate, All, Option, None, Some, refl, sym, ap, ap₂, ◌∙◌, subst, arith, append_assoc, append-nil, length-append}
+use Rattle.std.proofs.lemmas.Bool.{cases_lt, leb-true}
+use Rattle.std.proofs.lemmas.List.{take_all, take-append-le}
+use Rattle.std.proofs.lemmas.List.Elements.{All-head}
+use Rattle.dns_spec.specs.Names.{Octets}
+use Rattle.dns_spec.specs.Query.{field16}
+use Rattle.dns_spec.specs.Layout.{octets16}
+use Rattle.dns_spec.specs.Stream.{frame, has_frame, first_frame, IsCutFrame}
+use Rattle.dns_spec.proofs.Streams.StreamFrames.{two_octets, two_again, length_zeros}
+
+-- the octets begin with no whole frame, since its length says more
+no_frame : (x : Octets) → length x < 2 + field16 x 0 → first_frame x ≡ None
+unfolding first_frame
+no_frame x h = go (has_frame x) refl
+  where
+    go : (t : Bool) → has_frame x ≡ t → ◌≡◌ {A = Option (Octets × Octets)} (cond t (Some (take (field16 x 0) (drop 2 x), drop (field16 x 0) (drop 2 x))) None) None
+    go false e = refl
+    go true e = let le = leb-true (2 + field16 x 0) (length x) e in absurd (omega arith)
+
+pub no_frame_short : (x : Octets) → length x < 2 → first_frame x ≡ None
+no_frame_short x h = no_frame x (omega arith)
+
+pub no_frame_inside : (n : ℕ) (part : Octets) → n < 2 ^ 16 → length part < n → first_frame (octets16 n ++ part) ≡ None
+no_frame_inside n part h short =
+    let value = two_again n part h in
+    no_frame (octets16 n ++ part) (omega (arith, value, short, length-append (octets16 n) part))
+
+pub cut_inside : (n : ℕ) (part : Octets) → n < 2 ^ 16 → length part < n → IsCutFrame (octets16 n ++ part)
+cut_inside n part h short =
+    let zeros : Octets = replicate (n - length part) 0 in
+    let len : length (part ++ zeros) ≡ n = length-append part zeros ∙ omega (arith, length_zeros (n - length part), short) in
+    record {
+      message = part ++ zeros;
+      short = omega (arith, len, h);
+      missing = zeros;
+      whole = ap (λ k. octets16 k ++ (part ++ zeros)) len ∙ sym (append_assoc (octets16 n) part zeros);
+      some = omega (arith, length-append (octets16 n) part);
+      cut = omega (arith, length_zeros (n - length part), short);
+    }
+
+pub cut_first : (a : ℕ) → a < 256 → IsCutFrame (a ∷ [])
+cut_first a ha = record {
+  message = replicate (a * 256) 0;
+  short = omega (arith, length_zeros (a * 256), ha);
+  missing = 0 ∷ replicate (a * 256) 0;
+  whole = ap (λ n. octets16 n ++ replicate (a * 256) 0) (length_zeros (a * 256) ∙ omega arith) ∙ ap (λ z. z ++ replicate (a * 256) 0) (two_octets a 0 ha (omega arith));
+  some = omega arith;
+  cut = omega arith;
+}
+
+-- of a message that is read in two parts the first 512 octets are kept
+pub kept_front : (n : ℕ) (front rest : Octets) → length front ≡ min n 512 → length rest ≡ n - min n 512 → front ≡ take 512 (front ++ rest)
+kept_front n front rest hf hr = go (cases_lt n 512)
+  where
+    go : (n < 512) ⊎ (512 ≤ n) → front ≡ take 512 (front ++ rest)
+    go (inl less) =
+        let short : length (front ++ rest) ≤ 512 = omega (arith, length-append front rest, hf, hr, less) in
+        let none : rest ≡ [] = empty rest (omega (arith, hr, less)) in
+        sym (take_all 512 (front ++ rest) short ∙ ap (λ r. front ++ r) none ∙ append-nil front)
+      where
+        empty : (r : Octets) → length r ≡ 0 → r ≡ []
+        empty [] e = refl
+        empty (x ∷ r) e = absurd (omega arith)
+    go (inr more) =
+        let len : length front ≡ 512 = omega (arith, hf, more) in
+        sym (take-append-le 512 front rest (omega (arith, len)) ∙ take_all 512 front (omega (arith, len)))

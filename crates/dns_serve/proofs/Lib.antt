@@ -1,0 +1,4 @@
+pub mod Readings
+pub mod Frames
+pub mod Sessions
+pub mod OneTurn

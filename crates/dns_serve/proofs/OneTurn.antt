@@ -1,0 +1,68 @@
+-- What a turn does with the datagram that was received.
+use Rattle.std.proofs.lemmas.List.{take_all, length-take}
+use Rattle.std.proofs.Common.{◌≡◌, ℕ, ◌≤◌, arith, List, [], ◌∷◌, ◌++◌, append-nil, refl, take, Option, Some, None, Bool, true, false, sym, ap, ◌∙◌, subst}
+use Rattle.std.specs.Option.{option_map, is_some}
+use Rattle.dns_spec.specs.Names.{Octets}
+use Rattle.dns_spec.specs.Records.{ZoneContents}
+use Rattle.dns_spec.proofs.Replies.FirstOctets.{first_octets_answer}
+use Rattle.dns_serve.specs.Turns.{Grows, KeepsAll, IsHanded, reply_over_udp, one_or_none, Turn, IsTurn, IsUnsent}
+
+abbrev turn : Option (List Octets) → Option (List Octets) → Option (List Octets) → Option (List Octets) → Turn
+turn a b c d = record { had = a; has = b; sent = c; has_sent = d }
+
+kept_twice : (a b c : Option (List Octets)) (ds es : List Octets) → ds ≡ [] → Grows a b ds → Grows b c es → Grows a c es
+kept_twice None b c ds es e p q = tt
+kept_twice (Some x) None c ds es e p q = absurd p
+kept_twice (Some x) (Some y) None ds es e p q = absurd q
+kept_twice (Some x) (Some y) (Some z) ds es e p q = q ∙ ap (λ l. l ++ es) (p ∙ ap (λ l. x ++ l) e ∙ append-nil x)
+
+then_kept : (a b c : Option (List Octets)) (ds : List Octets) → Grows a b ds → KeepsAll b c → Grows a c ds
+then_kept None b c ds p q = tt
+then_kept (Some x) None c ds p q = absurd p
+then_kept (Some x) (Some y) None ds p q = absurd q
+then_kept (Some x) (Some y) (Some z) ds p q = q ∙ append-nil y ∙ p
+
+-- the reply to what is kept of a datagram is the reply to the datagram
+reply_is : (z : ZoneContents) (d kept piece : Octets) (reply : Option Octets) → piece ≡ kept → kept ≡ take 512 d → reply ≡ reply_over_udp z piece → reply_over_udp z d ≡ reply
+reply_is z d kept piece reply e k r = first_octets_answer z d 512 ∙ ap (reply_over_udp z) (sym (e ∙ k)) ∙ sym r
+
+pub turn_without : (z y : ZoneContents) → y ≡ z → (had has sent sent' : Option (List Octets)) (n : ℕ) (buf piece : Octets) (length_of : Option ℕ) (out : Octets)
+    → IsHanded had has n buf → piece ≡ take n buf → length_of ≡ None → option_map (λ len. take len out) length_of ≡ reply_over_udp y piece
+    → KeepsAll sent sent' → IsTurn z (turn had has sent sent') false
+turn_without z y zone_is had has sent sent' n buf piece length_of out h e none r keeps =
+    let same = reply_is z h.datagram (take n buf) piece None e h.kept (sym (ap (option_map (λ len. take len out)) none) ∙ r ∙ ap (λ z. reply_over_udp z piece) zone_is) in record {
+      datagram = h.datagram;
+      received = h.handed;
+      answered = subst (λ o. Grows sent sent' (one_or_none o)) (sym same) keeps;
+      replied_is = sym (ap is_some same);
+    }
+
+pub turn_with : (z y : ZoneContents) → y ≡ z → (had has has' sent sent' sent'' : Option (List Octets)) (n : ℕ) (buf piece : Octets) (length_of : Option ℕ) (len : ℕ) (out reply : Octets)
+    → IsHanded had has n buf → piece ≡ take n buf → length_of ≡ Some len → option_map (λ len. take len out) length_of ≡ reply_over_udp y piece → reply ≡ take len out
+    → KeepsAll sent sent' → KeepsAll has has' → Grows sent' sent'' (reply ∷ []) → IsTurn z (turn had has' sent sent'') true
+turn_with z y zone_is had has has' sent sent' sent'' n buf piece length_of len out reply h e some r is keeps same_has sends =
+    let same = reply_is z h.datagram (take n buf) piece (Some reply) e h.kept (ap Some is ∙ sym (ap (option_map (λ len. take len out)) some) ∙ r ∙ ap (λ z. reply_over_udp z piece) zone_is) in record {
+      datagram = h.datagram;
+      received = then_kept had has has' _ h.handed same_has;
+      answered = subst (λ o. Grows sent sent'' (one_or_none o)) (sym same) (kept_twice sent sent' sent'' [] (reply ∷ []) refl keeps sends);
+      replied_is = sym (ap is_some same);
+    }
+
+pub turn_unsent : (z y : ZoneContents) → y ≡ z → (had has has' sent sent'' : Option (List Octets)) (n : ℕ) (buf piece : Octets) (length_of : Option ℕ) (len : ℕ) (out : Octets)
+    → IsHanded had has n buf → piece ≡ take n buf → length_of ≡ Some len → option_map (λ len. take len out) length_of ≡ reply_over_udp y piece
+    → KeepsAll has has' → IsUnsent z (turn had has' sent sent'')
+turn_unsent z y zone_is had has has' sent sent'' n buf piece length_of len out h e some r same_has =
+    let same = reply_is z h.datagram (take n buf) piece (Some (take len out)) e h.kept (sym (ap (option_map (λ len. take len out)) some) ∙ r ∙ ap (λ z. reply_over_udp z piece) zone_is) in record {
+      datagram = h.datagram;
+      received = then_kept had has has' _ h.handed same_has;
+      due = ap is_some same;
+    }
+
+-- a device that tells no datagrams has handed out what stands in the buffer
+pub handed_unknown : (n : ℕ) (buf : Octets) → n ≤ 512 → IsHanded None None n buf
+handed_unknown n buf h = record {
+  datagram = take n buf;
+  handed = tt;
+  kept = sym (take_all 512 (take n buf) (omega (arith, length-take n buf, h)));
+  within = h;
+}

@@ -1,0 +1,146 @@
+-- What calls of a source give together.
+use Rattle.std.proofs.Common.{◌≡◌, ℕ, ◌+◌, ◌-◌, ◌*◌, ◌^◌, ◌<◌, ◌≤◌, min, All, List, [], ◌∷◌, ◌++◌, slice_index, length, take, Option, Some, Ok, Err, subst, sym, ap, ap₂, ◌∙◌, arith, length-append}
+use Rattle.std.proofs.Math.Seq.{take-append-add}
+use Rattle.std.specs.Io.KnownBytes.{Consumes}
+use Rattle.std.proofs.lemmas.List.Elements.{All-head}
+use Rattle.std.proofs.lemmas.List.{take_all, take-append-le}
+use Rattle.dns_spec.proofs.Streams.StreamFrames.{two_octets}
+use Rattle.dns_spec.proofs.Replies.WritableItems.{each_from_all}
+use Rattle.std.proofs.KnownBytes.{Consumes-trans}
+use Rattle.dns_spec.specs.Names.{Octets}
+use Rattle.dns_spec.specs.Layout.{octets16}
+use Rattle.dns_serve.specs.Reads.{Passed, Gives, GivesSome, GivesFewer, GivesBeginning, GivesPart, GivesPartOfBody, GivesMessage, GivesBody, MessageRead, LengthRead, BodyRead}
+use Rattle.dns_serve.specs.declared.fault.StreamFault.{StreamFault}
+use Rattle.dns_serve.specs.declared.fault.StreamFault.TheVariants.{SourceFailed, SinkFailed, Cut}
+use Rattle.dns_serve.proofs.Frames.{no_frame_short, cut_first, no_frame_inside, cut_inside, kept_front}
+
+-- what came before stands at the front of a buffer, and what comes now after it
+pub came_after : (a b c : Option Octets) (front rest : Octets) (n k : ℕ) → length front ≡ n → Consumes a b front → Consumes b c (take k rest)
+    → Consumes a c (take (n + k) (front ++ rest))
+came_after a b c front rest n k len first second =
+    subst (Consumes a c) (sym (take-append-add front rest k) ∙ ap (λ m. take (m + k) (front ++ rest)) len)
+    (Consumes-trans a b c front (take k rest) first second)
+
+-- octets that pass, and then others
+pub passed_after : (a b c : Option Octets) (n k : ℕ) (octets : Octets) → length octets ≡ k → Passed a b n → Consumes b c octets → Passed a c (n + k)
+passed_after a b c n k octets len p more = record {
+  octets = p.octets ++ octets;
+  consumed = Consumes-trans a b c p.octets octets p.consumed more;
+  count_is = length-append p.octets octets ∙ ap₂ ◌+◌ p.count_is len;
+}
+
+-- octets came, and then fewer than were asked for
+pub fewer_after : (a b c : Option Octets) (n m : ℕ) (front : Octets) → Consumes a b front → length front + m ≤ n → GivesFewer b c m → GivesFewer a c n
+fewer_after a b c n m front consumed le f = record {
+  octets = front ++ f.octets;
+  consumed = Consumes-trans a b c front f.octets consumed f.consumed;
+  fewer = omega (arith, length-append front f.octets, f.fewer, le);
+}
+
+-- octets of a length came, and then too few
+pub beginning_after : (a b c : Option Octets) (n : ℕ) → n < 2 ^ 16 → Consumes a b (octets16 n) → GivesFewer b c n → GivesBeginning a c
+beginning_after a b c n h consumed f = record {
+  given = octets16 n ++ f.octets;
+  consumed = Consumes-trans a b c (octets16 n) f.octets consumed f.consumed;
+  no_frame = no_frame_inside n f.octets h f.fewer;
+}
+
+pub part_after : (a b c : Option Octets) (n : ℕ) → n < 2 ^ 16 → Consumes a b (octets16 n) → GivesPartOfBody b c n → GivesPart a c
+part_after a b c n h consumed p = record {
+  part = octets16 n ++ p.fewer.octets;
+  consumed = Consumes-trans a b c (octets16 n) p.fewer.octets consumed p.fewer.consumed;
+  cut = cut_inside n p.fewer.octets h p.fewer.fewer;
+  no_frame = no_frame_inside n p.fewer.octets h p.fewer.fewer;
+  over = p.over;
+}
+
+pub message_after : (a b c : Option Octets) (n : ℕ) (kept : Octets) → n < 2 ^ 16 → Consumes a b (octets16 n) → GivesBody b c n kept → GivesMessage a c kept
+message_after a b c n kept h consumed m = record {
+  message = m.message;
+  consumed = subst (λ k. Consumes a c (octets16 k ++ m.message)) (sym m.count_is) (Consumes-trans a b c (octets16 n) m.message consumed m.consumed);
+  short = subst (λ k. k < 2 ^ 16) (sym m.count_is) h;
+  kept_is = m.kept_is;
+}
+
+-- a message came in two parts
+pub body_in_two : (a b c : Option Octets) (n : ℕ) (front rest : Octets) → Consumes a b front → Consumes b c rest → length front ≡ min n 512 → length rest ≡ n - min n 512
+    → GivesBody a c n front
+body_in_two a b c n front rest first second hf hr = record {
+  message = front ++ rest;
+  consumed = Consumes-trans a b c front rest first second;
+  count_is = length-append front rest ∙ omega (arith, hf, hr);
+  kept_is = kept_front n front rest hf hr;
+}
+
+-- less than a length came
+pub short_beginning : (a b : Option Octets) (n : ℕ) → n ≡ 2 → GivesFewer a b n → GivesBeginning a b
+short_beginning a b n e f = record { given = f.octets; consumed = f.consumed; no_frame = no_frame_short f.octets (omega (arith, f.fewer, e)) }
+
+-- the first octet of a length came, and no second
+pub first_alone : (a b : Option Octets) (buf : Octets) (count : ℕ) → All (λ o. o < 256) buf → length buf ≡ 2 → count ≡ 1
+    → Gives a b (length buf) count (take count buf) → GivesPart a b
+first_alone a b [] count low two one g = absurd (omega (arith, two))
+first_alone a b (o ∷ buf) count low two one g = record {
+  part = o ∷ [];
+  consumed = subst (λ k. Consumes a b (take k (o ∷ buf))) one g.consumed;
+  cut = cut_first o (All-head (λ o. o < 256) o buf low);
+  no_frame = no_frame_short (o ∷ []) (omega arith);
+  over = g.over (omega (arith, one, two));
+}
+
+-- both octets of a length came
+pub length_came : (a b : Option Octets) (buf : Octets) (count n : ℕ) → length buf ≡ 2 → 2 ≤ count → octets16 n ≡ buf
+    → Gives a b (length buf) count (take count buf) → Consumes a b (octets16 n)
+length_came a b buf count n two more is g =
+    subst (Consumes a b) (take_all count buf (omega (arith, two, more)) ∙ sym is) g.consumed
+
+-- the two octets of a number
+pub number_again : (x : Octets) (n : ℕ) → All (λ o. o < 256) x → length x ≡ 2 → n ≡ slice_index x 0 * 256 + (slice_index x 1 * 1 + 0)
+    → octets16 n ≡ x
+number_again [] n low two value = absurd (omega (arith, two))
+number_again (x ∷ []) n low two value = absurd (omega (arith, two))
+number_again (x ∷ y ∷ []) n low two value =
+    let e = each_from_all (λ o. o < 256) (x ∷ y ∷ []) low in
+    let is : n ≡ x * 256 + y = value ∙ omega arith in
+    ap octets16 is ∙ two_octets x y e.0 e.1.0
+number_again (x ∷ y ∷ z ∷ zs) n low two value = absurd (omega (arith, two))
+
+-- why a message did not come after its length
+body_fault_by : (a b c : Option Octets) (n : ℕ) (buf : Octets) (fault : StreamFault) → (n < 2 ^ 16) × Consumes a b (octets16 n)
+    → BodyRead b c n buf (Err fault) → MessageRead a c buf (Err fault)
+body_fault_by a b c n buf SourceFailed l f = beginning_after a b c n l.0 l.1 f
+body_fault_by a b c n buf SinkFailed l f = f
+body_fault_by a b c n buf Cut l f = part_after a b c n l.0 l.1 f
+
+pub body_fault : (a b c : Option Octets) (read : Option ℕ) (n : ℕ) (buf : Octets) (fault : StreamFault) → read ≡ Some n → LengthRead a b (Ok read)
+    → BodyRead b c n buf (Err fault) → MessageRead a c buf (Err fault)
+body_fault a b c read n buf fault e l f = body_fault_by a b c n buf fault (subst (λ o. LengthRead a b (Ok o)) e l) f
+
+-- what is kept of a message came whole, and then all of the rest, or too little
+pub body_came : (a b c : Option Octets) (count kept first skipped : ℕ) (buf others : Octets) → kept ≡ min count 512 → length buf ≡ kept → kept ≤ first
+    → Gives a b (length buf) first (take first buf) → count - kept ≤ skipped → GivesSome b c (count - kept) skipped → GivesBody a c count (take kept (buf ++ others))
+body_came a b c count kept first skipped buf others least len whole g all s =
+    let within : first ≤ length buf = g.within in
+    let front : take first buf ≡ buf = take_all first buf (omega (arith, len, whole)) in
+    let is_front : take kept (buf ++ others) ≡ buf = take-append-le kept buf others (omega (arith, len)) ∙ take_all kept buf (omega (arith, len)) in
+    subst (GivesBody a c count) (sym is_front)
+    (body_in_two a b c count buf s.passed.octets (subst (Consumes a b) front g.consumed) s.passed.consumed (len ∙ least) (omega (arith, s.passed.count_is, s.within, all, least)))
+
+pub body_cut : (a b c : Option Octets) (count kept first skipped : ℕ) (buf : Octets) → kept ≡ min count 512 → length buf ≡ kept
+    → Gives a b (length buf) first (take first buf) → skipped < count - kept → GivesSome b c (count - kept) skipped → GivesPartOfBody a c count
+body_cut a b c count kept first skipped buf least len g few s = record {
+  fewer = fewer_after a b c count (count - kept) (take first buf) g.consumed (omega (arith, g.length_is, g.within, len, least))
+      (record { octets = s.passed.octets; consumed = s.passed.consumed; fewer = omega (arith, s.passed.count_is, few) });
+  over = s.over few;
+}
+
+-- what is kept of a message did not come whole
+pub body_cut_early : (a b : Option Octets) (count kept first : ℕ) (buf : Octets) → kept ≡ min count 512 → length buf ≡ kept → first < kept
+    → Gives a b (length buf) first (take first buf) → GivesPartOfBody a b count
+body_cut_early a b count kept first buf least len few g = record {
+  fewer = record { octets = take first buf; consumed = g.consumed; fewer = omega (arith, g.length_is, few, least) };
+  over = g.over (omega (arith, len, few));
+}
+
+pub fewer_of_body : (a b : Option Octets) (count kept n : ℕ) → kept ≡ min count 512 → n ≡ kept → GivesFewer a b n → GivesFewer a b count
+fewer_of_body a b count kept n least len f = record { octets = f.octets; consumed = f.consumed; fewer = omega (arith, f.fewer, least, len) }

@@ -1,0 +1,185 @@
+-- What a session has done, message by message.
+use Rattle.std.proofs.Common.{◌≡◌, ℕ, zero, suc, ◌+◌, ◌-◌, ◌^◌, ◌<◌, ◌≤◌, ◌⊎◌, inl, inr, All, List, [], ◌∷◌, ◌++◌, length, take, Option, Some, None, Result, Ok, Err, Bool, true, false, refl, sym, ap, ◌∙◌, subst, arith, append_assoc, append-nil, length-append}
+use Rattle.std.specs.List.{flat_map}
+use Rattle.std.proofs.lemmas.Grind.{flat_map-append}
+use Rattle.std.proofs.lemmas.List.Elements.{All-append}
+use Rattle.std.specs.Io.KnownBytes.{Appends, Consumes, IsAtEnd}
+use Rattle.std.proofs.KnownBytes.{Appends-trans, Appends-nil, Consumes-trans, Consumes-nil}
+use Rattle.dns_spec.specs.Names.{Octets}
+use Rattle.dns_spec.specs.Records.{ZoneContents}
+use Rattle.dns_spec.specs.Stream.{frame, frames, first_frame, reply_frame, replies}
+use Rattle.dns_spec.proofs.Streams.StreamFrames.{frames_again}
+use Rattle.dns_spec.proofs.Replies.FirstOctets.{first_octets_answer}
+use Rattle.dns_name.specs.Counted.{AppendsBeginning}
+use Rattle.dns_serve.specs.Reads.{MessageRead, GivesMessage, GivesNothing, GivesBeginning, GivesPart}
+use Rattle.dns_serve.specs.Streams.{Session, AreFrames, HasServed, WasCut, WasBroken, WasRefused, SessionOf, HasAnswered, HasBegun, StepOf, reply_over_tcp}
+use Rattle.dns_serve.specs.declared.fault.StreamFault.{StreamFault}
+use Rattle.dns_serve.specs.declared.fault.StreamFault.TheVariants.{SourceFailed, SinkFailed, Cut}
+
+abbrev session : Option Octets → Option Octets → Option Octets → Option Octets → Session
+session a b c d = record { unread = a; left = b; held = c; holds = d }
+
+-- the octets that are kept of a message have its reply
+reply_of_kept : (z : ZoneContents) (kept m : Octets) → kept ≡ take 512 m → reply_over_tcp z kept ≡ reply_over_tcp z m
+reply_of_kept z kept m e = ap (reply_over_tcp z) e ∙ sym (first_octets_answer z m 65535)
+
+message_of_read : (a b : Option Octets) (buf : Octets) (read : Option ℕ) (kept : ℕ) → read ≡ Some kept → MessageRead a b buf (Ok read) → GivesMessage a b (take kept buf)
+message_of_read a b buf read kept e m = subst (λ o. MessageRead a b buf (Ok o)) e m
+
+pub answered : (z : ZoneContents) (a b c d : Option Octets) (buf : Octets) (read : Option ℕ) (kept : ℕ) (piece : Octets) → read ≡ Some kept → MessageRead a b buf (Ok read)
+    → piece ≡ take kept buf → Appends c d (reply_frame (reply_over_tcp z piece)) → HasAnswered (reply_over_tcp z) (session a b c d)
+answered z a b c d buf read kept piece e m is w =
+    let g = message_of_read a b buf read kept e m in record {
+      message = g.message;
+      short = g.short;
+      read = g.consumed;
+      written = subst (λ r. Appends c d (reply_frame r)) (reply_of_kept z piece g.message (is ∙ g.kept_is)) w;
+    }
+
+pub begun : (z : ZoneContents) (a b c d : Option Octets) (buf : Octets) (read : Option ℕ) (kept : ℕ) (piece : Octets) → read ≡ Some kept → MessageRead a b buf (Ok read)
+    → piece ≡ take kept buf → AppendsBeginning c d (reply_frame (reply_over_tcp z piece)) → HasBegun (reply_over_tcp z) (session a b c d)
+begun z a b c d buf read kept piece e m is (n, h, w) =
+    let g = message_of_read a b buf read kept e m in record {
+      message = g.message;
+      short = g.short;
+      read = g.consumed;
+      taken = n;
+      written = subst (λ r. Appends c d (take n (reply_frame r))) (reply_of_kept z piece g.message (is ∙ g.kept_is)) w;
+    }
+
+-- So many messages were read, and their replies written.
+pub record Done (reply : Octets → Option Octets) (s : Session) (n : ℕ) : Type 0 where
+  pub messages : List Octets
+  pub short : All (λ m. length m < 2 ^ 16) messages
+  pub count : length messages ≡ n
+  pub read : Consumes s.unread s.left (flat_map frame messages)
+  pub written : Appends s.held s.holds (replies reply messages)
+
+pub done_none : (reply : Octets → Option Octets) (a c : Option Octets) → Done reply (session a a c c) 0
+done_none reply a c = record { messages = []; short = λ k d h. absurd (omega arith); count = refl; read = Consumes-nil a; written = Appends-nil c }
+
+frames_of : (ms : List Octets) (m : Octets) → flat_map frame (ms ++ m ∷ []) ≡ flat_map frame ms ++ frame m
+frames_of ms m = flat_map-append frame ms (m ∷ []) ∙ ap (λ x. flat_map frame ms ++ x) (append-nil (frame m))
+
+replies_of : (reply : Octets → Option Octets) (ms : List Octets) (m : Octets) → replies reply (ms ++ m ∷ []) ≡ replies reply ms ++ reply_frame (reply m)
+replies_of reply ms m = flat_map-append (λ m. reply_frame (reply m)) ms (m ∷ []) ∙ ap (λ x. replies reply ms ++ x) (append-nil (reply_frame (reply m)))
+
+one_short : (m : Octets) → length m < 2 ^ 16 → All (λ m. length m < 2 ^ 16) (m ∷ [])
+one_short m h zero d k = h
+one_short m h (suc k) d l = absurd (omega arith)
+
+all_short : (ms : List Octets) (m : Octets) → All (λ m. length m < 2 ^ 16) ms → length m < 2 ^ 16 → All (λ m. length m < 2 ^ 16) (ms ++ m ∷ [])
+all_short ms m p h = All-append (λ m. length m < 2 ^ 16) ms (m ∷ []) p (one_short m h)
+
+pub done_more : (reply : Octets → Option Octets) (a b c x y z : Option Octets) (n : ℕ) → Done reply (session a b x y) n → HasAnswered reply (session b c y z)
+    → Done reply (session a c x z) (n + 1)
+done_more reply a b c x y z n d h = record {
+  messages = d.messages ++ h.message ∷ [];
+  short = all_short d.messages h.message d.short h.short;
+  count = length-append d.messages (h.message ∷ []) ∙ ap (λ k. k + 1) d.count;
+  read = subst (Consumes a c) (sym (frames_of d.messages h.message)) (Consumes-trans a b c _ _ d.read h.read);
+  written = subst (Appends x z) (sym (replies_of reply d.messages h.message)) (Appends-trans x y z _ _ d.written h.written);
+}
+
+-- frames in front of octets that begin with no frame, or after as many messages as are asked for
+frames_then : (k : ℕ) (ms : List Octets) (rest : Octets) → All (λ m. length m < 2 ^ 16) ms → first_frame rest ≡ None
+    → frames (length ms + k) (flat_map frame ms ++ rest) ≡ ms
+unfolding frames
+frames_then k ms rest short none = frames_again k ms rest short ∙ ap (λ x. ms ++ x) (no_frames k) ∙ append-nil ms
+  where
+    no_frames : (k : ℕ) → frames k rest ≡ []
+    no_frames zero = refl
+    no_frames (suc k) = ap (λ f. elim f as (λ _. List Octets) [ None ↦ [] | Some r ↦ r.0 ∷ frames k r.1 ]) none
+
+frames_by : (most : ℕ) (ms : List Octets) (rest : Octets) → All (λ m. length m < 2 ^ 16) ms → (length ms ≡ most) ⊎ (length ms ≤ most × (first_frame rest ≡ None))
+    → ms ≡ frames most (flat_map frame ms ++ rest)
+unfolding frames
+frames_by most ms rest short (inl e) =
+    sym (ap (λ k. frames k (flat_map frame ms ++ rest)) (sym e ∙ omega arith) ∙ frames_again 0 ms rest short ∙ append-nil ms)
+frames_by most ms rest short (inr (le, none)) =
+    sym (ap (λ k. frames k (flat_map frame ms ++ rest)) (omega (arith, le)) ∙ frames_then (most - length ms) ms rest short none)
+
+-- the frames of what a source had, by what it has lost and what is left
+frames_of_known : (a b : Option Octets) (most : ℕ) (ms : List Octets) (part : Octets) → All (λ m. length m < 2 ^ 16) ms
+    → Consumes a b (flat_map frame ms ++ part) → (length ms ≡ most) ⊎ (length ms ≤ most × (first_frame part ≡ None) × IsAtEnd b) → AreFrames a most ms
+frames_of_known None b most ms part short c over = tt
+frames_of_known (Some x) None most ms part short c over = absurd c
+frames_of_known (Some x) (Some y) most ms part short c (inl e) =
+    subst (λ x. ms ≡ frames most x) (sym (c ∙ append_assoc (flat_map frame ms) part y)) (frames_by most ms (part ++ y) short (inl e))
+frames_of_known (Some x) (Some y) most ms part short c (inr (le, none, end)) =
+    subst (λ x. ms ≡ frames most x) (sym (c ∙ ap (λ z. (flat_map frame ms ++ part) ++ z) end ∙ append-nil (flat_map frame ms ++ part)))
+    (frames_by most ms part short (inr (le, none)))
+
+nil_has_none : first_frame [] ≡ None
+unfolding first_frame
+nil_has_none = refl
+
+with_nothing : (a b : Option Octets) (o : Octets) → Consumes a b o → Consumes a b (o ++ [])
+with_nothing a b o c = subst (Consumes a b) (sym (append-nil o)) c
+
+-- all were read, as many as were asked for, or up to the end
+pub served_most : (reply : Octets → Option Octets) (most n : ℕ) (a b x y : Option Octets) → Done reply (session a b x y) n → n ≡ most
+    → HasServed reply most (session a b x y) n
+served_most reply most n a b x y d e = record {
+  messages = d.messages;
+  are_frames = frames_of_known a b most d.messages [] d.short (with_nothing a b _ d.read) (inl (d.count ∙ e));
+  count = d.count;
+  read = d.read;
+  written = d.written;
+  over = inl e;
+}
+
+pub served_all : (reply : Octets → Option Octets) (most n : ℕ) (a b c x y z : Option Octets) → Done reply (session a b x y) n → n < most
+    → GivesNothing b c × Appends y z [] → HasServed reply most (session a c x z) n
+served_all reply most n a b c x y z d h (g, w) =
+    let read = Consumes-trans a b c _ _ d.read g.consumed in record {
+      messages = d.messages;
+      are_frames = frames_of_known a c most d.messages [] d.short read (inr (omega (arith, d.count, h), nil_has_none, g.over));
+      count = d.count;
+      read = subst (Consumes a c) (append-nil (flat_map frame d.messages)) read;
+      written = subst (Appends x z) (append-nil (replies reply d.messages)) (Appends-trans x y z _ _ d.written w);
+      over = inr g.over;
+    }
+
+unchanged : (x y z : Option Octets) (text : Octets) → Appends x y text → Appends y z [] → Appends x z text
+unchanged x y z text h w = subst (Appends x z) (append-nil text) (Appends-trans x y z text [] h w)
+
+-- the next message could not be read, or its reply not be written
+pub failed : (reply : Octets → Option Octets) (most n : ℕ) (a b c x y z : Option Octets) (fault : StreamFault) → Done reply (session a b x y) n → n < most
+    → StepOf reply (session b c y z) (Err fault) → SessionOf reply most (session a c x z) (Err fault)
+failed reply most n a b c x y z SourceFailed d h (g, w) = record {
+  messages = d.messages;
+  given = flat_map frame d.messages ++ g.given;
+  are_frames = frames_by most d.messages g.given d.short (inr (omega (arith, d.count, h), g.no_frame));
+  fewer = omega (arith, d.count, h);
+  read = Consumes-trans a b c _ _ d.read g.consumed;
+  written = unchanged x y z _ d.written w;
+}
+failed reply most n a b c x y z SinkFailed d h b' = record {
+  earlier = d.messages;
+  message = b'.message;
+  taken = b'.taken;
+  are_frames = frames_of_known a c (length d.messages + 1) (d.messages ++ b'.message ∷ []) [] (all_short d.messages b'.message d.short b'.short)
+      (with_nothing a c _ (subst (Consumes a c) (sym (frames_of d.messages b'.message)) (Consumes-trans a b c _ _ d.read b'.read)))
+      (inl (length-append d.messages (b'.message ∷ [])));
+  within = omega (arith, d.count, h);
+  read = subst (Consumes a c) (sym (frames_of d.messages b'.message)) (Consumes-trans a b c _ _ d.read b'.read);
+  written = Appends-trans x y z _ _ d.written b'.written;
+}
+failed reply most n a b c x y z Cut d h (g, w) =
+    let read = Consumes-trans a b c _ _ d.read g.consumed in record {
+      messages = d.messages;
+      part = g.part;
+      are_frames = frames_of_known a c most d.messages g.part d.short read (inr (omega (arith, d.count, h), g.no_frame, g.over));
+      fewer = omega (arith, d.count, h);
+      read = read;
+      cut = g.cut;
+      over = g.over;
+      written = unchanged x y z _ d.written w;
+    }
+
+pub next_answered : (reply : Octets → Option Octets) (s : Session) (more : Bool) → more ≡ true → StepOf reply s (Ok more) → HasAnswered reply s
+next_answered reply s more e h = subst (λ b. StepOf reply s (Ok b)) e h
+
+pub next_none : (reply : Octets → Option Octets) (s : Session) (more : Bool) → more ≡ false → StepOf reply s (Ok more) → GivesNothing s.unread s.left × Appends s.held s.holds []
+next_none reply s more e h = subst (λ b. StepOf reply s (Ok b)) e h

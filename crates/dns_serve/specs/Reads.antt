@@ -1,0 +1,94 @@
+-- What a reader learns here: what a source gives to a reader that asks for so many octets, in one call or more.
+use Rattle.std.specs.Prelude.{◌≡◌, ℕ, ◌≤◌, ◌<◌, [], ◌++◌, ◌^◌, length, take, Option, None, Some, Result, Ok, Err}
+use Rattle.std.specs.Io.KnownBytes.{Consumes, IsAtEnd}
+use Rattle.dns_spec.specs.Names.{Octets}
+use Rattle.dns_spec.specs.Layout.{octets16}
+use Rattle.dns_spec.specs.Stream.{frame, first_frame, IsCutFrame}
+use Rattle.dns_serve.specs.declared.fault.StreamFault.{StreamFault}
+use Rattle.dns_serve.specs.declared.fault.StreamFault.TheVariants.{SourceFailed, SinkFailed, Cut}
+
+-- these octets, as many as were asked for, or all up to the end of the source
+pub record Gives (old new : Option Octets) (most count : ℕ) (octets : Octets) : Type 0 where
+  pub consumed : Consumes old new octets
+  pub length_is : length octets ≡ count
+  pub within : count ≤ most
+  pub over : count < most → IsAtEnd new
+
+-- so many octets, whatever they are, were taken
+pub record Passed (old new : Option Octets) (count : ℕ) : Type 0 where
+  pub octets : Octets
+  pub consumed : Consumes old new octets
+  pub count_is : length octets ≡ count
+
+-- as many as were asked for, or all up to the end of the source
+pub record GivesSome (old new : Option Octets) (most count : ℕ) : Type 0 where
+  pub passed : Passed old new count
+  pub within : count ≤ most
+  pub over : count < most → IsAtEnd new
+
+-- fewer than were asked for, before the source failed
+pub record GivesFewer (old new : Option Octets) (most : ℕ) : Type 0 where
+  pub octets : Octets
+  pub consumed : Consumes old new octets
+  pub fewer : length octets < most
+
+-- a message in its frame, of which the first 512 octets are kept
+pub record GivesMessage (old new : Option Octets) (kept : Octets) : Type 0 where
+  pub message : Octets
+  pub consumed : Consumes old new (frame message)
+  pub short : length message < 2 ^ 16
+  pub kept_is : kept ≡ take 512 message
+
+-- nothing, since the source is at its end
+pub record GivesNothing (old new : Option Octets) : Type 0 where
+  pub consumed : Consumes old new []
+  pub over : IsAtEnd new
+
+-- a frame that is not whole, up to the end of the source
+pub record GivesPart (old new : Option Octets) : Type 0 where
+  pub part : Octets
+  pub consumed : Consumes old new part
+  pub cut : IsCutFrame part
+  pub no_frame : first_frame part ≡ None
+  pub over : IsAtEnd new
+
+-- octets that do not begin with a whole frame, before the source failed
+pub record GivesBeginning (old new : Option Octets) : Type 0 where
+  pub given : Octets
+  pub consumed : Consumes old new given
+  pub no_frame : first_frame given ≡ None
+
+-- what was read where a message is due: one, of which so many octets are kept; none at the end; or why there is none
+abbrev pub MessageRead : Option Octets → Option Octets → Octets → Result (Option ℕ) StreamFault → Type 0
+MessageRead old new buf (Ok None) = GivesNothing old new
+MessageRead old new buf (Ok (Some n)) = GivesMessage old new (take n buf)
+MessageRead old new buf (Err SourceFailed) = GivesBeginning old new
+MessageRead old new buf (Err SinkFailed) = ⊥
+MessageRead old new buf (Err Cut) = GivesPart old new
+
+-- what was read where the length of a message is due
+abbrev pub LengthRead : Option Octets → Option Octets → Result (Option ℕ) StreamFault → Type 0
+LengthRead old new (Ok None) = GivesNothing old new
+LengthRead old new (Ok (Some n)) = (n < 2 ^ 16) × Consumes old new (octets16 n)
+LengthRead old new (Err SourceFailed) = GivesBeginning old new
+LengthRead old new (Err SinkFailed) = ⊥
+LengthRead old new (Err Cut) = GivesPart old new
+
+-- a message of so many octets, of which the first 512 are kept
+pub record GivesBody (old new : Option Octets) (count : ℕ) (kept : Octets) : Type 0 where
+  pub message : Octets
+  pub consumed : Consumes old new message
+  pub count_is : length message ≡ count
+  pub kept_is : kept ≡ take 512 message
+
+-- a message of which too little came, up to the end of the source
+pub record GivesPartOfBody (old new : Option Octets) (count : ℕ) : Type 0 where
+  pub fewer : GivesFewer old new count
+  pub over : IsAtEnd new
+
+-- what was read where a message of so many octets is due
+abbrev pub BodyRead : Option Octets → Option Octets → ℕ → Octets → Result ℕ StreamFault → Type 0
+BodyRead old new count buf (Ok n) = GivesBody old new count (take n buf)
+BodyRead old new count buf (Err SourceFailed) = GivesFewer old new count
+BodyRead old new count buf (Err SinkFailed) = ⊥
+BodyRead old new count buf (Err Cut) = GivesPartOfBody old new count

@@ -1,0 +1,111 @@
+-- What a reader learns here: what a session over a stream has read and written, where it ends and where it fails.
+use Rattle.std.specs.Prelude.{⊤, ◌≡◌, ℕ, ◌+◌, ◌≤◌, ◌<◌, ◌^◌, ◌⊎◌, All, List, [], ◌∷◌, ◌++◌, length, take, MatchOption, Option, Result, Ok, Err, Bool, true, false}
+use Rattle.std.specs.List.{flat_map}
+use Rattle.std.specs.Io.KnownBytes.{Appends, Consumes, IsAtEnd}
+use Rattle.dns_spec.specs.Names.{Octets}
+use Rattle.dns_spec.specs.Records.{ZoneContents}
+use Rattle.dns_spec.specs.Reply.{octets_of}
+use Rattle.dns_spec.specs.Stream.{frame, frames, after_frames, IsCutFrame, reply_frame, replies}
+use Rattle.dns_name.specs.Counted.{Counted}
+use Rattle.dns_serve.specs.Reads.{GivesNothing, GivesBeginning, GivesPart}
+use Rattle.dns_serve.specs.declared.fault.StreamFault.{StreamFault}
+use Rattle.dns_serve.specs.declared.fault.StreamFault.TheVariants.{SourceFailed, SinkFailed, Cut}
+
+-- the reply of a zone over TCP, where a reply has at most 65,535 octets (RFC 1035 4.2.2)
+abbrev pub reply_over_tcp : ZoneContents → Octets → Option Octets
+reply_over_tcp z m = octets_of z m 65535
+
+-- A session: what its source has still to give and what its sink holds, before and after, where those are known.
+pub record Session : Type 0 where
+  pub unread : Option Octets
+  pub left : Option Octets
+  pub held : Option Octets
+  pub holds : Option Octets
+
+-- The messages are those of the frames that the source began with, at most so many.
+abbrev pub AreFrames : Option Octets → ℕ → List Octets → Type 0
+AreFrames known most ms = MatchOption known ⊤ (λ x. ms ≡ frames most x)
+
+-- RFC 1035 4.2.2: all frames were read, as many as were asked for or to the end of the source, and the replies to their
+-- messages were written.
+pub record HasServed (reply : Octets → Option Octets) (most : ℕ) (s : Session) (n : ℕ) : Type 0 where
+  pub messages : List Octets
+  pub are_frames : AreFrames s.unread most messages
+  pub count : length messages ≡ n
+  pub read : Consumes s.unread s.left (flat_map frame messages)
+  pub written : Appends s.held s.holds (replies reply messages)
+  pub over : (n ≡ most) ⊎ IsAtEnd s.left
+
+-- The source ended inside a frame, when fewer messages were read than asked for. The replies to them were written.
+pub record WasCut (reply : Octets → Option Octets) (most : ℕ) (s : Session) : Type 0 where
+  pub messages : List Octets
+  pub part : Octets
+  pub are_frames : AreFrames s.unread most messages
+  pub fewer : length messages < most
+  pub read : Consumes s.unread s.left (flat_map frame messages ++ part)
+  pub cut : IsCutFrame part
+  pub over : IsAtEnd s.left
+  pub written : Appends s.held s.holds (replies reply messages)
+
+-- The source failed. Of the octets that it had given the replies to all messages were written.
+pub record WasBroken (reply : Octets → Option Octets) (most : ℕ) (s : Session) : Type 0 where
+  pub messages : List Octets
+  pub given : Octets
+  pub are_frames : messages ≡ frames most given
+  pub fewer : length messages < most
+  pub read : Consumes s.unread s.left given
+  pub written : Appends s.held s.holds (replies reply messages)
+
+-- The sink failed. The replies to all messages that were read but the last were written, and a beginning of the reply to
+-- that one; nothing after it was read.
+pub record WasRefused (reply : Octets → Option Octets) (most : ℕ) (s : Session) : Type 0 where
+  pub earlier : List Octets
+  pub message : Octets
+  pub taken : ℕ
+  pub are_frames : AreFrames s.unread (length earlier + 1) (earlier ++ message ∷ [])
+  pub within : length earlier + 1 ≤ most
+  pub read : Consumes s.unread s.left (flat_map frame (earlier ++ message ∷ []))
+  pub written : Appends s.held s.holds (replies reply earlier ++ take taken (reply_frame (reply message)))
+
+-- what a session has done, by its answer
+abbrev pub SessionOf : (Octets → Option Octets) → ℕ → Session → Result ℕ StreamFault → Type 0
+SessionOf reply most s (Ok n) = HasServed reply most s n
+SessionOf reply most s (Err SourceFailed) = WasBroken reply most s
+SessionOf reply most s (Err SinkFailed) = WasRefused reply most s
+SessionOf reply most s (Err Cut) = WasCut reply most s
+
+-- the failures of the source and of the sink after a session: one more exactly where a call of that device failed
+abbrev pub source_failures_after : {A : Type 0} → ℕ → Result A StreamFault → ℕ
+source_failures_after count (Ok a) = count
+source_failures_after count (Err SourceFailed) = count + 1
+source_failures_after count (Err SinkFailed) = count
+source_failures_after count (Err Cut) = count
+
+abbrev pub sink_failures_after : {A : Type 0} → ℕ → Result A StreamFault → ℕ
+sink_failures_after count (Ok a) = count
+sink_failures_after count (Err SourceFailed) = count
+sink_failures_after count (Err SinkFailed) = count + 1
+sink_failures_after count (Err Cut) = count
+
+-- One message was read, and its reply written.
+pub record HasAnswered (reply : Octets → Option Octets) (s : Session) : Type 0 where
+  pub message : Octets
+  pub short : length message < 2 ^ 16
+  pub read : Consumes s.unread s.left (frame message)
+  pub written : Appends s.held s.holds (reply_frame (reply message))
+
+-- One message was read, and a beginning of its reply written.
+pub record HasBegun (reply : Octets → Option Octets) (s : Session) : Type 0 where
+  pub message : Octets
+  pub short : length message < 2 ^ 16
+  pub read : Consumes s.unread s.left (frame message)
+  pub taken : ℕ
+  pub written : Appends s.held s.holds (take taken (reply_frame (reply message)))
+
+-- what the next message of a session has done: its source was at its end (false), it was answered (true), or it failed
+abbrev pub StepOf : (Octets → Option Octets) → Session → Result Bool StreamFault → Type 0
+StepOf reply s (Ok false) = GivesNothing s.unread s.left × Appends s.held s.holds []
+StepOf reply s (Ok true) = HasAnswered reply s
+StepOf reply s (Err SourceFailed) = GivesBeginning s.unread s.left × Appends s.held s.holds []
+StepOf reply s (Err SinkFailed) = HasBegun reply s
+StepOf reply s (Err Cut) = GivesPart s.unread s.left × Appends s.held s.holds []

@@ -1,0 +1,44 @@
+//! Why a turn or a session ended before its time.
+ghost use Rattle.std.specs.Prelude.{◌≡◌};
+
+use dns_name::{SinkFailed, SourceFailed};
+
+/// Why a turn over UDP ended without a reply being sent.
+#[derive(Clone, Copy, Debug, PartialEq, Eq)]
+pub enum TurnFault {
+    /// No datagram was received, and nothing was sent (`U1`).
+    ReceiveFailed,
+    /// The reply could not be sent (`U2`).
+    SendFailed,
+}
+
+/// Why a session over a stream ended before its time.
+#[derive(Clone, Copy, Debug, PartialEq, Eq)]
+pub enum StreamFault {
+    /// The source failed (`S1`). The replies to all messages that it gave whole are written.
+    SourceFailed,
+    /// The sink failed (`S2`). The replies to all messages but the last one read are written, and a beginning of that one's.
+    SinkFailed,
+    /// The source ended inside a length or a message (`S3`). The replies to all messages before are written.
+    Cut,
+}
+
+impl From<SourceFailed> for StreamFault {
+    ghost use Rattle.dns_serve.specs.declared.fault.StreamFault.{StreamFault};
+
+    ghost from_gives = { λ _ fault. fault ≡ StreamFault.SourceFailed };
+
+    fn from(_failed: SourceFailed) -> StreamFault {
+        StreamFault::SourceFailed
+    }
+}
+
+impl From<SinkFailed> for StreamFault {
+    ghost use Rattle.dns_serve.specs.declared.fault.StreamFault.{StreamFault};
+
+    ghost from_gives = { λ _ fault. fault ≡ StreamFault.SinkFailed };
+
+    fn from(_failed: SinkFailed) -> StreamFault {
+        StreamFault::SinkFailed
+    }
+}

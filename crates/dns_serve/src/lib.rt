@@ -1,0 +1,16 @@
+//! What a server does with its transport: one datagram and its reply, and the messages of a stream with theirs.
+#![tactic(auto)]
+
+mod datagrams;
+mod fault;
+mod read;
+mod stream;
+mod turn;
+
+pub use datagrams::{Datagrams, Failed};
+pub use fault::{StreamFault, TurnFault};
+pub use stream::serve_stream;
+pub use turn::udp_turn;
+
+#[cfg(test)]
+mod tests;

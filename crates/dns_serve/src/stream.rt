@@ -1,0 +1,186 @@
+//! A session over a stream: messages, each after its length in two octets, and their replies (RFC 1035 4.2.2).
+ghost use Rattle.std.specs.Prelude.{◌≡◌, ℕ, ◌+◌, ◌-◌, ◌^◌, ◌<◌, ◌≤◌, length, take, IfOk, IfSome};
+ghost use Rattle.dns_name.specs.Counted.{Writes};
+ghost use Rattle.dns_spec.specs.Layout.{octets16};
+ghost use Rattle.dns_spec.specs.Stream.{reply_frame};
+ghost use Rattle.dns_serve.specs.Reads.{MessageRead, LengthRead, BodyRead};
+ghost use Rattle.dns_serve.specs.Streams.{SessionOf, StepOf, reply_over_tcp, source_failures_after, sink_failures_after};
+
+use crate::fault::StreamFault;
+use crate::read::{read_full, skip};
+use byteorder::{BigEndian, ByteOrder};
+use dns_answer::{Limit, respond};
+use dns_name::{SinkFailed, Tally};
+use dns_zone::{Steps, Zone};
+use std::io::{Read, Write};
+
+// What is kept of a message: all that a query can have, since a question ends by octet 271.
+const MOST_KEPT: usize = 512;
+
+// A reply after its length.
+const MOST_FRAME: usize = 65_537;
+
+/// Reads messages, each after its length in two octets, until `most` are read or the source ends between two, and
+/// answers how many. The reply to each is written after its length; a message that gets no reply has nothing written.
+///
+/// `SourceFailed` and `Cut`, where the source fails or ends inside a length or a message: the replies to all messages
+/// before are written. `SinkFailed`: the replies before that to the last message read are written, and a beginning of
+/// that one; nothing after that message is read. Of a message the first 512 octets are kept, the rest is read and let
+/// go. Nothing is tried again, and no memory is taken.
+pub fn serve_stream<R: Read, W: Write>(
+    zone: &Zone,
+    source: &mut Tally<R>,
+    sink: &mut Tally<W>,
+    most: u32,
+) -> Result<u32, StreamFault>
+    requires source { source.old.failures < 2 ^ 64 - 1 }
+    requires sink { sink.old.failures < 2 ^ 64 - 1 }
+    ensures session { SessionOf (reply_over_tcp zone.now) most
+        (record { unread = R.remaining source.old.device; left = R.remaining source.new.device; held = W.contents sink.old.device; holds = W.contents sink.new.device })
+        result }
+    ensures source { source.new.failures ≡ source_failures_after source.old.failures result }
+    ensures sink { sink.new.failures ≡ sink_failures_after sink.old.failures result }
+{
+    let mut room = Room::new();
+    let mut served = 0;
+    'messages: while served < most {
+        if !serve_message(zone, source, sink, &mut room)? {
+            break;
+        }
+        served += 1;
+    }
+    Ok(served)
+}
+
+// Room for what is kept of a message, and for its reply after its length.
+#[derive(Drop)]
+struct Room {
+    message: [u8; MOST_KEPT],
+    reply: [u8; MOST_FRAME],
+}
+
+impl Room {
+    fn new() -> Room {
+        Room {
+            message: [0; MOST_KEPT],
+            reply: [0; MOST_FRAME],
+        }
+    }
+}
+
+// Reads a message and writes its reply: false at the end of the source.
+fn serve_message<R: Read, W: Write>(
+    zone: &Zone,
+    source: &mut Tally<R>,
+    sink: &mut Tally<W>,
+    room: &mut Room,
+) -> Result<bool, StreamFault>
+    requires source { source.old.failures < 2 ^ 64 - 1 }
+    requires sink { sink.old.failures < 2 ^ 64 - 1 }
+    ensures step { StepOf (reply_over_tcp zone.now)
+        (record { unread = R.remaining source.old.device; left = R.remaining source.new.device; held = W.contents sink.old.device; holds = W.contents sink.new.device })
+        result }
+    ensures source { source.new.failures ≡ source_failures_after source.old.failures result }
+    ensures sink { sink.new.failures ≡ sink_failures_after sink.old.failures result }
+{
+    let Some(kept) = read_message(source, &mut room.message, &mut room.reply)? else {
+        return Ok(false);
+    };
+    let (message, _) = room.message.split_at(kept);
+    write_reply(zone, message, sink, &mut room.reply)?;
+    Ok(true)
+}
+
+// Reads a message after its length, and answers how many of its octets are kept: its first 512, at the front of `message`.
+fn read_message<R: Read>(
+    source: &mut Tally<R>,
+    message: &mut [u8],
+    room: &mut [u8],
+) -> Result<Option<usize>, StreamFault>
+    requires source { source.old.failures < 2 ^ 64 - 1 }
+    requires message { length message.old ≡ 512 }
+    requires room { 0 < length room.old }
+    ensures read { MessageRead (R.remaining source.old.device) (R.remaining source.new.device) message.new result }
+    ensures kept { IfOk result (λ kept. IfSome kept (λ k. k ≤ 512)) }
+    ensures source { source.new.failures ≡ source_failures_after source.old.failures result }
+{
+    let mut length = [0; 2];
+    let Some(count) = read_length(source, &mut length)? else {
+        return Ok(None);
+    };
+    let kept = read_body(source, message, room, count)?;
+    Ok(Some(kept))
+}
+
+// Reads the length of a message, or `None` at the end of the source. `room` is for its two octets.
+fn read_length<R: Read>(
+    source: &mut Tally<R>,
+    room: &mut [u8],
+) -> Result<Option<usize>, StreamFault>
+    requires source { source.old.failures < 2 ^ 64 - 1 }
+    requires room { length room.old ≡ 2 }
+    ensures read { LengthRead (R.remaining source.old.device) (R.remaining source.new.device) result }
+    ensures source { source.new.failures ≡ source_failures_after source.old.failures result }
+{
+    let count = read_full(source, room)?;
+    if count == 0 {
+        return Ok(None);
+    }
+    if count < 2 {
+        return Err(StreamFault::Cut);
+    }
+    Ok(Some(message_length(room)))
+}
+
+fn message_length(octets: &[u8]) -> usize
+    requires { length octets.now ≡ 2 }
+    ensures octets { octets16 result ≡ octets.now }
+    ensures below { result < 2 ^ 16 }
+{
+    usize::from(BigEndian::read_u16(octets))
+}
+
+// Reads a message of so many octets, and answers how many of them are kept.
+fn read_body<R: Read>(
+    source: &mut Tally<R>,
+    message: &mut [u8],
+    room: &mut [u8],
+    count: usize,
+) -> Result<usize, StreamFault>
+    requires source { source.old.failures < 2 ^ 64 - 1 }
+    requires message { length message.old ≡ 512 }
+    requires room { 0 < length room.old }
+    ensures read { BodyRead (R.remaining source.old.device) (R.remaining source.new.device) count message.new result }
+    ensures kept { IfOk result (λ kept. kept ≤ 512) }
+    ensures source { source.new.failures ≡ source_failures_after source.old.failures result }
+{
+    let kept = count.min(MOST_KEPT);
+    let (front, _) = message.split_at_mut(kept);
+    if read_full(source, front)? < kept {
+        return Err(StreamFault::Cut);
+    }
+    if skip(source, room, count - kept)? < count - kept {
+        return Err(StreamFault::Cut);
+    }
+    Ok(kept)
+}
+
+// Writes the reply to a message after its length, in one call where the sink takes it, or nothing where it gets none.
+fn write_reply<W: Write>(
+    zone: &Zone,
+    message: &[u8],
+    sink: &mut Tally<W>,
+    room: &mut [u8],
+) -> Result<(), SinkFailed>
+    requires sink { sink.old.failures < 2 ^ 64 - 1 }
+    requires room { length room.old ≡ 65537 }
+    ensures { Writes W.contents sink.old sink.new result (reply_frame (reply_over_tcp zone.now message.now)) }
+{
+    let (length, reply) = room.split_at_mut(2);
+    let mut steps = Steps::new(zone);
+    let Some(count) = respond(&mut steps, message, Limit::Tcp, reply) else {
+        return Ok(());
+    };
+    BigEndian::write_u16(length, count as u16);
+    sink.write_all(&room[..count + 2])
+}

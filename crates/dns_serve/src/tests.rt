@@ -1,0 +1,4 @@
+mod devices;
+mod streams;
+mod turns;
+mod zones;

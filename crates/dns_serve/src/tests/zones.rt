@@ -1,0 +1,39 @@
+use dns_master::read_zone;
+use dns_name::{Name, Tally};
+use dns_zone::{BuildFault, Zone};
+use std::alloc::Global;
+use std::test::Fail;
+
+const Z0: &str = "$TTL 3600
+@ SOA ns hostmaster 1 7200 900 1209600 300
+@ NS ns
+ns A 192.0.2.1
+www A 192.0.2.10
+alias CNAME www
+*.w TXT \"any\"
+a.b.ent A 192.0.2.11
+sub NS ns.sub
+ns.sub A 192.0.2.53
+";
+
+/// A zone of the origin `example.`.
+pub(super) fn sample(alloc: Global) -> Result<Zone, Fail> {
+    let origin = Name::read_text(b"example", &Name::root())?;
+    let records = match read_zone(alloc, &origin, &mut Tally::new(Z0.as_bytes())) {
+        Ok(records) => records,
+        Err(_) => return Err(Fail::new("a faulty file")),
+    };
+    match Zone::build(alloc, &origin, records) {
+        Ok(zone) => Ok(zone),
+        Err(BuildFault::Faults(_)) => Err(Fail::new("a faulty zone")),
+        Err(BuildFault::NoMemory) => Err(Fail::new("no memory")),
+    }
+}
+
+/// The question `www.example. IN A`, of 29 octets.
+pub(super) const WWW: &[u8] =
+    b"\x12\x34\x00\x00\x00\x01\x00\x00\x00\x00\x00\x00\x03www\x07example\x00\x00\x01\x00\x01";
+
+/// Its reply, of 45 octets.
+pub(super) const WWW_REPLY: &[u8] =
+    b"\x12\x34\x84\x00\x00\x01\x00\x01\x00\x00\x00\x00\x03www\x07example\x00\x00\x01\x00\x01\xc0\x0c\x00\x01\x00\x01\x00\x00\x0e\x10\x00\x04\xc0\x00\x02\x0a";

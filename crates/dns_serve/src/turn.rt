@@ -1,0 +1,40 @@
+//! One turn of a server over UDP: a datagram, and its reply (RFC 1035 4.2.1).
+ghost use Rattle.std.specs.Prelude.{◌≡◌, ◌-◌, ◌^◌, ◌<◌, replicate};
+ghost use Rattle.dns_name.specs.Counted.{failures_after};
+ghost use Rattle.dns_serve.specs.Turns.{TurnOf};
+
+use crate::datagrams::Datagrams;
+use crate::fault::TurnFault;
+use dns_answer::{Limit, respond};
+use dns_zone::{Steps, Zone};
+
+// The octets that are kept of a datagram, and those that a reply has at most.
+const MOST_OCTETS: usize = 512;
+
+/// Receives one datagram, and sends its reply to its sender: true where one was sent, false where none is owed.
+///
+/// `ReceiveFailed` where the device failed before, with nothing sent; `SendFailed` where it failed then. Nothing is
+/// tried again, and no memory is taken.
+pub fn udp_turn<D: Datagrams>(zone: &Zone, device: &mut D) -> Result<bool, TurnFault>
+    requires { D.count device.old < 2 ^ 64 - 1 }
+    ensures turn { TurnOf zone.now
+        (record { had = D.received device.old; has = D.received device.new; sent = D.sent device.old; has_sent = D.sent device.new })
+        result }
+    ensures counted { D.count device.new ≡ failures_after (D.count device.old) result }
+{
+    let mut room = [0; MOST_OCTETS];
+    let Ok(count) = device.receive(&mut room) else {
+        return Err(TurnFault::ReceiveFailed);
+    };
+    let (datagram, _) = room.split_at(count);
+    let mut out = [0; MOST_OCTETS];
+    let mut steps = Steps::new(zone);
+    let Some(len) = respond(&mut steps, datagram, Limit::Udp, &mut out) else {
+        return Ok(false);
+    };
+    let (reply, _) = out.split_at(len);
+    match device.send(reply) {
+        Ok(()) => Ok(true),
+        Err(_) => Err(TurnFault::SendFailed),
+    }
+}

@@ -1,0 +1,151 @@
+-- What is written for numbers, addresses, names and strings has no octet that ends the word.
+use Rattle.std.proofs.Common.{◌≡◌, ℕ, ◌+◌, ◌-◌, ◌/◌, ◌%◌, ◌<◌, ◌^◌, ◌⊎◌, inl, inr, Bool, true, false, ◌&&◌, ◌||◌, not, ◌==◌, List, [], ◌∷◌, ◌++◌, map, nat_le, refl, sym, ◌∙◌, ap, subst, arith, append_assoc, decimal}
+use Rattle.std.proofs.lemmas.Bool.{agree_below_at, and_from, cases_Bool, eqb-true, true≢false, false≢true}
+use Rattle.std.proofs.lemmas.Fmt.{decimal_is_IsNumeral}
+use Rattle.std.proofs.lemmas.Str.Parse.{digit_from_value}
+use Rattle.std.specs.List.{flat_map, join_with_byte}
+use Rattle.std.specs.Char.{is_ascii_graphic, digit_char, IsAsciiDigit}
+use Rattle.std.specs.Str.Parse.{AllDigits}
+use Rattle.dns_spec.specs.Names.{Octets, DomainName}
+use Rattle.dns_spec.specs.NameText.{is_special, three_digits, octet_text, label_text, labels_text}
+use Rattle.dns_spec.specs.AddressText.{ipv4_text}
+use Rattle.dns_spec.specs.WrittenText.{string_octet_text, is_unbroken, is_bare, is_quotable}
+use Rattle.dns_spec.proofs.Records.SortedOnce.{Each}
+use Rattle.dns_spec.proofs.DomainNames.SmallOctets.{Small, small_head, small_tail}
+
+-- octets that end no word by themselves
+abbrev pub Bare : Octets → Type 0
+Bare = Each (λ o. is_bare o ≡ true)
+
+pub bare_append : (x y : Octets) → Bare x → Bare y → Bare (x ++ y)
+bare_append [] y h k = k
+bare_append (o ∷ x) y h k = (h.0, bare_append x y h.1 k)
+
+-- texts with an octet between each two
+pub bare_joined : (c : ℕ) (f : ℕ → Octets) (xs : List ℕ) → is_bare c ≡ true → Each (λ x. Bare (f x)) xs → Bare (join_with_byte c (map f xs))
+bare_joined c f [] between each = tt
+bare_joined c f (x ∷ []) between each = each.0
+bare_joined c f (x ∷ y ∷ xs) between each = bare_append (f x) (c ∷ join_with_byte c (map f (y ∷ xs))) each.0 (between, bare_joined c f (y ∷ xs) between each.1)
+
+bare_digit : (c : ℕ) → IsAsciiDigit c → is_bare c ≡ true
+bare_digit c h =
+    let whole : 48 + (c - 48) ≡ c = omega (arith, h.0) in
+    subst (λ e. is_bare e ≡ true) whole (agree_below_at (λ e. is_bare (48 + e)) (λ e. true) 10 (c - 48) refl (omega (arith, h.0, h.1)))
+
+bare_digits : (ds : Octets) → AllDigits 10 ds → Bare ds
+bare_digits [] all = tt
+bare_digits (c ∷ ds) all = (bare_digit c (digit_from_value c all.0), bare_digits ds all.1)
+
+pub bare_decimal : (n : ℕ) → n < 2 ^ 64 → Bare (decimal n)
+bare_decimal n small = bare_digits (decimal n) (decimal_is_IsNumeral n small).0.1
+
+bare_decimals : (d : Octets) → Small d → Each (λ o. Bare (decimal o)) d
+bare_decimals [] small = tt
+bare_decimals (o ∷ d) small = (bare_decimal o (omega (arith, small_head o d small)), bare_decimals d (small_tail o d small))
+
+pub bare_ipv4 : (d : Octets) → Small d → Bare (ipv4_text d)
+bare_ipv4 d small = bare_joined 46 decimal d refl (bare_decimals d small)
+
+pub bare_hex : (ds : List ℕ) → Each (λ d. d < 16) ds → Bare (map digit_char ds)
+bare_hex [] below = tt
+bare_hex (d ∷ ds) below = (agree_below_at (λ e. is_bare (digit_char e)) (λ e. true) 16 d refl below.0, bare_hex ds below.1)
+
+-- octet by octet
+plain_octet : (p : ℕ → Bool) (c : ℕ) (rest : Octets) → p c ≡ true → (c == 92) ≡ false → is_unbroken p rest ≡ true → is_unbroken p (c ∷ rest) ≡ true
+plain_octet p c [] h other after = h
+plain_octet p c (d ∷ rest) h other after = rw (other, is_unbroken) (and_from _ _ h after)
+
+escaped_octet : (p : ℕ → Bool) (x : ℕ) (rest : Octets) → is_ascii_graphic x ≡ true → is_unbroken p rest ≡ true → is_unbroken p (92 ∷ x ∷ rest) ≡ true
+escaped_octet p x rest h after = and_from _ _ h after
+
+pub no_backslash : (p : ℕ → Bool) (o : ℕ) → p 92 ≡ false → p o ≡ true → (o == 92) ≡ false
+no_backslash p o none h = elim (cases_Bool (o == 92)) [
+  | inl e ↦ absurd (true≢false (sym h ∙ ap p (eqb-true o 92 e) ∙ none))
+  | inr other ↦ other
+]
+
+pub bare_text : (x rest : Octets) → Bare x → is_unbroken is_bare rest ≡ true → is_unbroken is_bare (x ++ rest) ≡ true
+bare_text [] rest h after = after
+bare_text (o ∷ x) rest h after = plain_octet is_bare o (x ++ rest) h.0 (no_backslash is_bare o refl h.0) (bare_text x rest h.1 after)
+
+-- a backslash and three digits
+digit_octet : (p : ℕ → Bool) (d : ℕ) (rest : Octets) → ((e : ℕ) → e < 10 → p (48 + e) ≡ true) → p 92 ≡ false → d < 10 → is_unbroken p rest ≡ true
+    → is_unbroken p ((48 + d) ∷ rest) ≡ true
+digit_octet p d rest digit none small after = plain_octet p (48 + d) rest (digit d small) (no_backslash p (48 + d) none (digit d small)) after
+
+graphic_digit : (d : ℕ) → d < 10 → is_ascii_graphic (48 + d) ≡ true
+graphic_digit d small = agree_below_at (λ e. is_ascii_graphic (48 + e)) (λ e. true) 10 d refl small
+
+digits_octet : (p : ℕ → Bool) (x : ℕ) (rest : Octets) → ((e : ℕ) → e < 10 → p (48 + e) ≡ true) → p 92 ≡ false → x < 256 → is_unbroken p rest ≡ true
+    → is_unbroken p (92 ∷ three_digits x ++ rest) ≡ true
+digits_octet p x rest digit none small after =
+    escaped_octet p (48 + x / 100) ((48 + x / 10 % 10) ∷ (48 + x % 10) ∷ rest) (graphic_digit (x / 100) (omega arith))
+    (digit_octet p (x / 10 % 10) ((48 + x % 10) ∷ rest) digit none (omega arith)
+    (digit_octet p (x % 10) rest digit none (omega arith) after))
+
+bare_below_10 : (e : ℕ) → e < 10 → is_bare (48 + e) ≡ true
+bare_below_10 e small = agree_below_at (λ d. is_bare (48 + d)) (λ d. true) 10 e refl small
+
+quotable_below_10 : (e : ℕ) → e < 10 → is_quotable (48 + e) ≡ true
+quotable_below_10 e small = agree_below_at (λ d. is_quotable (48 + d)) (λ d. true) 10 e refl small
+
+-- a test that follows from another
+pub follows : (a b : Bool) → (not a || b) ≡ true → a ≡ true → b ≡ true
+follows true b h e = h
+follows false b h e = absurd (false≢true e)
+
+pub graphic_bare : (x : ℕ) → x < 256 → is_special x ≡ false → is_ascii_graphic x ≡ true → is_bare x ≡ true
+graphic_bare x small other graphic =
+    follows (not (is_special x) && is_ascii_graphic x) (is_bare x)
+    (agree_below_at (λ o. not (not (is_special o) && is_ascii_graphic o) || is_bare o) (λ o. true) 256 x refl small)
+    (and_from _ _ (ap not other) graphic)
+
+special_graphic : (x : ℕ) → x < 256 → is_special x ≡ true → is_ascii_graphic x ≡ true
+special_graphic x small special =
+    follows (is_special x) (is_ascii_graphic x) (agree_below_at (λ o. not (is_special o) || is_ascii_graphic o) (λ o. true) 256 x refl small) special
+
+octet_unbroken : (x : ℕ) (rest : Octets) → x < 256 → is_unbroken is_bare rest ≡ true → is_unbroken is_bare (octet_text x ++ rest) ≡ true
+unfolding octet_text
+octet_unbroken x rest small after = by_cases (cases_Bool (is_special x)) (cases_Bool (is_ascii_graphic x))
+  where
+    by_cases : (is_special x ≡ true) ⊎ (is_special x ≡ false) → (is_ascii_graphic x ≡ true) ⊎ (is_ascii_graphic x ≡ false)
+        → is_unbroken is_bare (octet_text x ++ rest) ≡ true
+    by_cases (inl special) graphic = rw special (escaped_octet is_bare x rest (special_graphic x small special) after)
+    by_cases (inr other) (inl graphic) =
+        let bare = graphic_bare x small other graphic in
+        rw (other, graphic) (plain_octet is_bare x rest bare (no_backslash is_bare x refl bare) after)
+    by_cases (inr other) (inr none) = rw (other, none) (digits_octet is_bare x rest bare_below_10 refl small after)
+
+label_unbroken : (l rest : Octets) → Small l → is_unbroken is_bare rest ≡ true → is_unbroken is_bare (label_text l ++ rest) ≡ true
+label_unbroken [] rest small after = after
+label_unbroken (x ∷ l) rest small after =
+    ap (is_unbroken is_bare) (append_assoc (octet_text x) (label_text l) rest)
+    ∙ octet_unbroken x (label_text l ++ rest) (small_head x l small) (label_unbroken l rest (small_tail x l small) after)
+
+pub labels_unbroken : (n : DomainName) → Each Small n → is_unbroken is_bare (labels_text n) ≡ true
+labels_unbroken [] small = refl
+labels_unbroken (l ∷ n) small =
+    ap (is_unbroken is_bare) (append_assoc (label_text l) (46 ∷ []) (labels_text n))
+    ∙ label_unbroken l (46 ∷ labels_text n) small.0 (plain_octet is_bare 46 (labels_text n) refl refl (labels_unbroken n small.1))
+
+string_octet_unbroken : (o : ℕ) (rest : Octets) → o < 256 → is_unbroken is_quotable rest ≡ true
+    → is_unbroken is_quotable (string_octet_text o ++ rest) ≡ true
+string_octet_unbroken o rest small after = by_cases (cases_Bool (o == 34 || o == 92)) (cases_Bool (nat_le 32 o && nat_le o 126))
+  where
+    by_cases : ((o == 34 || o == 92) ≡ true) ⊎ ((o == 34 || o == 92) ≡ false) → ((nat_le 32 o && nat_le o 126) ≡ true) ⊎ ((nat_le 32 o && nat_le o 126) ≡ false)
+        → is_unbroken is_quotable (string_octet_text o ++ rest) ≡ true
+    by_cases (inl special) shown =
+        let graphic = follows (o == 34 || o == 92) (is_ascii_graphic o) (agree_below_at (λ x. not (x == 34 || x == 92) || is_ascii_graphic x) (λ x. true) 256 o refl small) special in
+        rw special (escaped_octet is_quotable o rest graphic after)
+    by_cases (inr other) (inl shown) =
+        let test : is_quotable o ≡ true =
+        follows (not (o == 34 || o == 92) && (nat_le 32 o && nat_le o 126)) (is_quotable o)
+        (agree_below_at (λ x. not (not (x == 34 || x == 92) && (nat_le 32 x && nat_le x 126)) || is_quotable x) (λ x. true) 256 o refl small)
+        (and_from _ _ (ap not other) shown)
+        in
+        rw (other, shown) (plain_octet is_quotable o rest test (no_backslash is_quotable o refl test) after)
+    by_cases (inr other) (inr none) = rw (other, none) (digits_octet is_quotable o rest quotable_below_10 refl small after)
+
+pub string_unbroken : (s : Octets) → Small s → is_unbroken is_quotable (flat_map string_octet_text s) ≡ true
+string_unbroken [] small = refl
+string_unbroken (o ∷ s) small = string_octet_unbroken o (flat_map string_octet_text s) (small_head o s small) (string_unbroken s (small_tail o s small))

@@ -1,0 +1,182 @@
+-- Groups that are written with colons between are read as those groups again, and nothing in their text is a gap.
+use Rattle.std.proofs.Common.{◌≡◌, ℕ, zero, suc, ◌/◌, ◌%◌, ◌<◌, ◌≤◌, inl, inr, Bool, true, false, ◌&&◌, ◌==◌, All, Option, None, Some, List, [], ◌∷◌, ◌++◌, map, length, nat_lt, nat_le, refl, sym, ◌∙◌, ap, subst, arith, append_assoc, append-nil}
+use Rattle.std.proofs.lemmas.Bool.{agree_below_at, and_from, lt-ltb, le-leb, cases_lt}
+use Rattle.std.proofs.lemmas.Fmt.{digits_is_IsNumeral}
+use Rattle.std.proofs.lemmas.List.Splits.{slice_split_none, slice_split_at}
+use Rattle.std.specs.Option.{option_map}
+use Rattle.std.specs.List.{list_all, slice_split}
+use Rattle.std.specs.Char.{is_ascii_hexdigit, digit_char}
+use Rattle.std.specs.Str.Parse.{digits_value}
+use Rattle.std.specs.Fmt.{digits}
+use Rattle.dns_spec.specs.Names.{Octets}
+use Rattle.dns_spec.specs.AddressText.{is_group, group_values, groups_said, around_gap, groups_text}
+use Rattle.dns_spec.proofs.Records.SortedOnce.{Each}
+use Rattle.dns_spec.proofs.DataWords.GroupDigits.{one_digit, two_digits, three_of, four_of}
+use Rattle.dns_spec.proofs.DataWords.HexAgain.{hex_digit}
+
+abbrev is_colon : ℕ → Bool
+is_colon o = o == 58
+
+-- the text of a group is one to four digits
+pub record OfDigits (text : Octets) : Type 0 where
+  pub first : ℕ
+  pub others : List ℕ
+  pub spelled : text ≡ map digit_char (first ∷ others)
+  pub few : length others ≤ 3
+  pub below : Each (λ d. d < 16) (first ∷ others)
+
+pub group_digits : (g : ℕ) → g < 65536 → OfDigits (digits 16 false g)
+group_digits g small =
+    elim (cases_lt g 16) [
+      | inl one ↦ record { first = g; others = []; spelled = one_digit g one; few = omega arith; below = (one, tt) }
+      | inr more ↦ elim (cases_lt g 256) [
+        | inl two ↦ record { first = g / 16; others = g % 16 ∷ []; spelled = two_digits g more two; few = omega arith; below = (omega arith, (omega arith, tt)) }
+        | inr beyond ↦ elim (cases_lt g 4096) [
+          | inl three ↦ record {
+            first = g / 16 / 16 % 16;
+            others = g / 16 % 16 ∷ g % 16 ∷ [];
+            spelled = three_of g beyond three;
+            few = omega arith;
+            below = (omega arith, (omega arith, (omega arith, tt)));
+          }
+          | inr four ↦ record {
+            first = g / 16 / 16 / 16 % 16;
+            others = g / 16 / 16 % 16 ∷ g / 16 % 16 ∷ g % 16 ∷ [];
+            spelled = four_of g four small;
+            few = omega arith;
+            below = (omega arith, (omega arith, (omega arith, (omega arith, tt))));
+          }
+        ]
+      ]
+    ]
+
+all_hex : (ds : List ℕ) → Each (λ d. d < 16) ds → list_all is_ascii_hexdigit (map digit_char ds) ≡ true
+all_hex [] below = refl
+all_hex (d ∷ ds) below = and_from _ _ (hex_digit d below.0) (all_hex ds below.1)
+
+no_colon : (d : ℕ) → d < 16 → is_colon (digit_char d) ≡ false
+no_colon d below = agree_below_at (λ e. is_colon (digit_char e)) (λ e. false) 16 d refl below
+
+no_colons : (ds : List ℕ) → Each (λ d. d < 16) ds → Each (λ o. is_colon o ≡ false) (map digit_char ds)
+no_colons [] below = tt
+no_colons (d ∷ ds) below = (no_colon d below.0, no_colons ds below.1)
+
+group_length : (ds : List ℕ) → length (map digit_char ds) ≡ length ds
+group_length [] = refl
+group_length (d ∷ ds) = ap suc (group_length ds)
+
+group_text : (g : ℕ) → g < 65536 → is_group (digits 16 false g) ≡ true
+group_text g small =
+    let t = group_digits g small in
+    let text = map digit_char (t.first ∷ t.others) in
+    let long = group_length (t.first ∷ t.others) in
+    let some : nat_lt 0 (length text) ≡ true = lt-ltb 0 (length text) (omega (arith, long)) in
+    let few : nat_le (length text) 4 ≡ true = le-leb (length text) 4 (omega (arith, long, t.few)) in
+    ap is_group t.spelled ∙ and_from (nat_lt 0 (length text) && nat_le (length text) 4) _ (and_from _ _ some few) (all_hex (t.first ∷ t.others) t.below)
+
+group_value : (g : ℕ) → g < 65536 → digits_value 16 (digits 16 false g) ≡ g
+group_value g small = (digits_is_IsNumeral 16 false (omega arith) (omega arith) g (omega arith)).1
+
+-- the text of a group has no colon
+colonless : (g : ℕ) → g < 65536 → Each (λ o. is_colon o ≡ false) (digits 16 false g)
+colonless g small =
+    let t = group_digits g small in
+    let P : Octets → Type 0 = Each (λ o. is_colon o ≡ false) in
+    subst P (sym t.spelled) (no_colons (t.first ∷ t.others) t.below)
+
+all_colonless : (w : Octets) → Each (λ o. is_colon o ≡ false) w → All (λ o. is_colon o ≡ false) w
+all_colonless [] each k d inside = absurd (omega (arith, inside))
+all_colonless (o ∷ w) each zero d inside = each.0
+all_colonless (o ∷ w) each (suc k) d inside = all_colonless w each.1 k d (omega (arith, inside))
+
+-- groups are below 65,536
+abbrev pub Groups : List ℕ → Type 0
+Groups = Each (λ g. g < 65536)
+
+parts_of : (g : ℕ) (gs : List ℕ) → Groups (g ∷ gs) → slice_split is_colon (groups_text (g ∷ gs)) ≡ map (digits 16 false) (g ∷ gs)
+parts_of g [] small = slice_split_none is_colon (digits 16 false g) (all_colonless (digits 16 false g) (colonless g small.0))
+parts_of g (h ∷ gs) small =
+    slice_split_at is_colon (digits 16 false g) 58 (groups_text (h ∷ gs)) (all_colonless (digits 16 false g) (colonless g small.0)) refl
+    ∙ ap (λ ts. digits 16 false g ∷ ts) (parts_of h gs small.1)
+
+values_of : (gs : List ℕ) → Groups gs → group_values (map (digits 16 false) gs) ≡ Some gs
+values_of [] small = refl
+values_of (g ∷ gs) small = rw (group_text g small.0, values_of gs small.1, group_value g small.0) refl
+
+-- the first octet of groups is a digit
+record DigitFirst (text : Octets) : Type 0 where
+  first : ℕ
+  others : Octets
+  whole : text ≡ first ∷ others
+  is_digit : is_colon first ≡ false
+
+digit_first : (g : ℕ) (gs : List ℕ) → Groups (g ∷ gs) → DigitFirst (groups_text (g ∷ gs))
+digit_first g gs small = by_cases gs
+  where
+    t : OfDigits (digits 16 false g)
+    t = group_digits g small.0
+
+    by_cases : (gs : List ℕ) → DigitFirst (groups_text (g ∷ gs))
+    by_cases [] = record { first = digit_char t.first; others = map digit_char t.others; whole = t.spelled; is_digit = no_colon t.first t.below.0 }
+    by_cases (h ∷ gs) = record {
+      first = digit_char t.first;
+      others = map digit_char t.others ++ 58 ∷ groups_text (h ∷ gs);
+      whole = ap (λ x. x ++ 58 ∷ groups_text (h ∷ gs)) t.spelled;
+      is_digit = no_colon t.first t.below.0;
+    }
+
+pub groups_again : (gs : List ℕ) → Groups gs → groups_said (groups_text gs) ≡ Some gs
+groups_again [] small = refl
+groups_again (g ∷ gs) small =
+    let t = digit_first g gs small in
+    ap groups_said t.whole ∙ ap (λ x. group_values (slice_split is_colon x)) (sym t.whole)
+    ∙ ap group_values (parts_of g gs small) ∙ values_of (g ∷ gs) small
+
+-- what is found after a text without a gap
+abbrev before : Octets → Octets × Octets → Octets × Octets
+before w r = (w ++ r.0, r.1)
+
+past_octet : (c : ℕ) (x : Octets) → is_colon c ≡ false → around_gap (c ∷ x) ≡ option_map (before (c ∷ [])) (around_gap x)
+past_octet c [] other = refl
+past_octet c (d ∷ x) other = rw other refl
+
+past_colon : (c : ℕ) (x : Octets) → is_colon c ≡ false → around_gap (58 ∷ c ∷ x) ≡ option_map (before (58 ∷ [])) (around_gap (c ∷ x))
+past_colon c x other = rw other refl
+
+before-before : (v w : Octets) (o : Option (Octets × Octets)) → option_map (before v) (option_map (before w) o) ≡ option_map (before (v ++ w)) o
+before-before v w None = refl
+before-before v w (Some r) = ap (λ f. Some (f, r.1)) (sym (append_assoc v w r.0))
+
+past_word : (w x : Octets) → Each (λ o. is_colon o ≡ false) w → around_gap (w ++ x) ≡ option_map (before w) (around_gap x)
+past_word [] x none = same (around_gap x)
+  where
+    same : (o : Option (Octets × Octets)) → o ≡ option_map (before []) o
+    same None = refl
+    same (Some r) = refl
+past_word (c ∷ w) x none =
+    past_octet c (w ++ x) none.0 ∙ ap (option_map (before (c ∷ []))) (past_word w x none.1) ∙ before-before (c ∷ []) w (around_gap x)
+
+past_groups : (g : ℕ) (gs : List ℕ) (x : Octets) → Groups (g ∷ gs) → around_gap (groups_text (g ∷ gs) ++ x) ≡ option_map (before (groups_text (g ∷ gs))) (around_gap x)
+past_groups g [] x small = past_word (digits 16 false g) x (colonless g small.0)
+past_groups g (h ∷ gs) x small =
+    let w = digits 16 false g in
+    let text = groups_text (h ∷ gs) in
+    let t = digit_first h gs small.1 in
+    let colon : around_gap (58 ∷ (text ++ x)) ≡ option_map (before (58 ∷ [])) (around_gap (text ++ x)) =
+    ap (λ y. around_gap (58 ∷ (y ++ x))) t.whole
+    ∙ past_colon t.first (t.others ++ x) t.is_digit
+    ∙ ap (λ y. option_map (before (58 ∷ [])) (around_gap (y ++ x))) (sym t.whole)
+    in
+    ap around_gap (append_assoc w (58 ∷ text) x)
+    ∙ past_word w (58 ∷ (text ++ x)) (colonless g small.0)
+    ∙ ap (option_map (before w)) (colon ∙ ap (option_map (before (58 ∷ []))) (past_groups h gs x small.1) ∙ before-before (58 ∷ []) text (around_gap x))
+    ∙ before-before w (58 ∷ text) (around_gap x)
+
+pub no_gap : (gs : List ℕ) → Groups gs → around_gap (groups_text gs) ≡ None
+no_gap [] small = refl
+no_gap (g ∷ gs) small = ap around_gap (sym (append-nil (groups_text (g ∷ gs)))) ∙ past_groups g gs [] small
+
+pub gap_after : (gs : List ℕ) (rest : Octets) → Groups gs → around_gap (groups_text gs ++ 58 ∷ 58 ∷ rest) ≡ Some (groups_text gs, rest)
+gap_after [] rest small = refl
+gap_after (g ∷ gs) rest small =
+    past_groups g gs (58 ∷ 58 ∷ rest) small ∙ ap (λ f. Some (f, rest)) (append-nil (groups_text (g ∷ gs)))

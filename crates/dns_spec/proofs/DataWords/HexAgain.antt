@@ -1,0 +1,46 @@
+-- Octets that are written in hex digits are read as those octets again.
+use Rattle.std.proofs.Common.{◌≡◌, ℕ, ◌+◌, ◌*◌, ◌/◌, ◌%◌, ◌<◌, nat_lt, true, [], ◌∷◌, length, refl, ◌∙◌, ap, arith, append-nil}
+use Rattle.std.proofs.lemmas.Bool.{agree_below_at, and_from, eq-eqb, lt-ltb}
+use Rattle.std.proofs.lemmas.Str.{digit_value-digit_char}
+use Rattle.std.specs.Prelude.{Some, decimal}
+use Rattle.std.specs.Char.{is_ascii_hexdigit, digit_char, digit_value}
+use Rattle.dns_spec.specs.Names.{Octets}
+use Rattle.dns_spec.specs.DataText.{hex_octets, is_hex_word, SaysHex, SaysUnknown}
+use Rattle.dns_spec.specs.WrittenText.{plain, hex_text, hex_words}
+use Rattle.dns_spec.proofs.DomainNames.SmallOctets.{Small, small_head, small_tail}
+
+pub hex_digit : (d : ℕ) → d < 16 → is_ascii_hexdigit (digit_char d) ≡ true
+hex_digit d small = agree_below_at (λ e. is_ascii_hexdigit (digit_char e)) (λ e. true) 16 d refl small
+
+-- the two digits of an octet
+digits_say : (o : ℕ) → o < 256 → 16 * digit_value (digit_char (o / 16)) + digit_value (digit_char (o % 16)) ≡ o
+digits_say o small = omega (arith, digit_value-digit_char (o / 16) (omega arith), digit_value-digit_char (o % 16) (omega arith))
+
+pub hex_again : (d : Octets) → Small d → hex_octets (hex_text d) ≡ Some d
+unfolding hex_octets
+hex_again [] small = refl
+hex_again (o ∷ d) small =
+    let here : o < 256 = small_head o d small in
+    let after = hex_again d (small_tail o d small) in
+    rw (hex_digit (o / 16) (omega arith), hex_digit (o % 16) (omega arith), after) (ap (λ x. Some (x ∷ d)) (digits_say o here))
+
+two_each : (d : Octets) → length (hex_text d) ≡ 2 * length d
+two_each [] = refl
+two_each (o ∷ d) = omega (arith, two_each d)
+
+hex_word : (o : ℕ) (d : Octets) → is_hex_word (plain (hex_text (o ∷ d))) ≡ true
+hex_word o d =
+    and_from (nat_lt 0 (length (hex_text (o ∷ d)))) _ (lt-ltb _ _ (omega arith))
+    (eq-eqb (length (hex_text (o ∷ d)) % 2) 0 (omega (arith, two_each d)))
+
+pub hex_said : (d : Octets) → Small d → SaysHex (hex_words d) d
+unfolding hex_octets
+hex_said [] small = (refl, refl)
+hex_said (o ∷ d) small = (
+  and_from _ _ (hex_word o d) refl,
+  ap hex_octets (append-nil (hex_text (o ∷ d))) ∙ hex_again (o ∷ d) small,
+)
+
+-- the form for data of any type says the data
+pub unknown_said : (d : Octets) → Small d → SaysUnknown (plain (decimal (length d)) ∷ hex_words d) d
+unknown_said d small = (refl, refl, hex_said d small)

@@ -1,0 +1,53 @@
+-- Numbers that are written in decimal are read as the octets that spell them again.
+use Rattle.std.proofs.Common.{◌≡◌, ℕ, zero, suc, ◌+◌, ◌*◌, ◌^◌, ◌/◌, ◌<◌, [], ◌∷◌, length, refl, sym, ◌∙◌, ap, subst, arith, pow-suc, mul_comm, mod-eq_of_lt}
+use Rattle.std.proofs.lemmas.Nat.{same_from_place, mod_below, mul-add-lt}
+use Rattle.std.specs.Prelude.{decimal}
+use Rattle.std.specs.Int.{byte_at, bytes_high_first}
+use Rattle.dns_spec.specs.Names.{Octets}
+use Rattle.dns_spec.specs.Data.{number_of}
+use Rattle.dns_spec.specs.DataText.{SaysNumber}
+use Rattle.dns_spec.proofs.Messages.Places.{length-bytes_high_first, number_of-bytes}
+use Rattle.dns_spec.proofs.DomainNames.SmallOctets.{Small, small_head, small_tail}
+
+pub number_of-below : (x : Octets) → Small x → number_of x < 256 ^ length x
+number_of-below [] small = omega arith
+number_of-below (o ∷ x) small =
+    let unit = 256 ^ length x in
+    omega (arith, pow-suc 256 (length x), mul_comm unit 256, mul-add-lt o unit (number_of x) 256 (small_head o x small) (number_of-below x (small_tail o x small)))
+
+byte_at-below : (i n : ℕ) → byte_at i n < 256
+byte_at-below zero n = omega arith
+byte_at-below (suc i) n = mod_below (n / 256 ^ suc i) 256 (omega arith)
+
+pub bytes_below : (k n : ℕ) → Small (bytes_high_first k n)
+bytes_below zero n i d inside = absurd (omega (arith, inside))
+bytes_below (suc k) n zero d inside = byte_at-below k n
+bytes_below (suc k) n (suc i) d inside = bytes_below k n i d (omega (arith, inside))
+
+-- octets are known by their number
+one_spelling : (x y : Octets) → length x ≡ length y → Small x → Small y → number_of x ≡ number_of y → x ≡ y
+one_spelling [] [] long small small' e = refl
+one_spelling [] (p ∷ y) long small small' e = absurd (omega (arith, long))
+one_spelling (o ∷ x) [] long small small' e = absurd (omega (arith, long))
+one_spelling (o ∷ x) (p ∷ y) long small small' e =
+    let same_long : length x ≡ length y = omega (arith, long) in
+    let below : number_of y < 256 ^ length x =
+    subst (λ k. number_of y < 256 ^ k) (sym same_long) (number_of-below y (small_tail p y small'))
+    in
+    let f : o * 256 ^ length x + number_of x ≡ p * 256 ^ length x + number_of y = e ∙ ap (λ k. p * 256 ^ k + number_of y) (sym same_long) in
+    let parts = same_from_place o (number_of x) p (number_of y) (256 ^ length x) (number_of-below x (small_tail o x small)) below f in
+    ap (λ q. q ∷ x) parts.0 ∙ ap (λ z. p ∷ z) (one_spelling x y same_long (small_tail o x small) (small_tail p y small') parts.1)
+
+pub bytes_again : (k : ℕ) (x : Octets) → length x ≡ k → Small x → bytes_high_first k (number_of x) ≡ x
+bytes_again k x long small =
+    let below : number_of x < 256 ^ k = subst (λ j. number_of x < 256 ^ j) long (number_of-below x small) in
+    one_spelling (bytes_high_first k (number_of x)) x (length-bytes_high_first k (number_of x) ∙ sym long) (bytes_below k (number_of x)) small
+    (number_of-bytes k (number_of x) ∙ mod-eq_of_lt below)
+
+pub number_said : (k : ℕ) (x : Octets) → length x ≡ k → Small x → SaysNumber k (decimal (number_of x)) x
+number_said k x long small = (
+  number_of x,
+  subst (λ j. number_of x < 256 ^ j) long (number_of-below x small),
+  refl,
+  sym (bytes_again k x long small),
+)

@@ -1,0 +1,207 @@
+-- Words say at most one piece of data of a type.
+use Rattle.std.proofs.Common.{◌≡◌, ℕ, zero, suc, ◌<◌, ◌≤◌, ◌^◌, Bool, true, false, nat_lt, nat_le, List, [], ◌∷◌, ◌++◌, length, replicate, max, Option, Some, None, refl, sym, ◌∙◌, ap, ap₂, arith, decimal, get_or}
+use Rattle.std.specs.Prelude.{⊤, MatchOption, ◌==◌, if◌then◌else◌}
+use Rattle.std.specs.Bool.{MatchBool}
+use Rattle.std.specs.List.{list_all, flat_map, find}
+use Rattle.std.specs.Option.{option_map}
+use Rattle.std.specs.Int.{bytes_high_first}
+use Rattle.std.specs.Str.Parse.{AllDigits}
+use Rattle.std.proofs.Math.Nat.{pow-le-pow_right}
+use Rattle.std.proofs.lemmas.Bool.{and_parts, and_from, leb-true, ltb-true}
+use Rattle.std.proofs.lemmas.Option.{same_Some}
+use Rattle.std.proofs.lemmas.Fmt.{decimal_is_IsNumeral, decimal_injective}
+use Rattle.std.proofs.lemmas.Str.Parse.{digit_from_value}
+use Rattle.dns_spec.specs.Names.{Octets, DomainName, wire}
+use Rattle.dns_spec.specs.Data.{Piece, fixed, domain, string, strings, anything, numbers, ipv4, ipv6, TypeRow, type_table, row_of, lower_case}
+use Rattle.dns_spec.specs.AddressText.{SaysIpv4, SaysIpv6}
+use Rattle.dns_spec.specs.DataText.{Word, WordForm, number_word, ipv4_word, ipv6_word, name_word, string_word, SaysNumber, SaysString, SaysForm, SaysForms, forms_in, SaysTyped, SaysUnknown, SaysAsSpelled, is_unknown_mark, Says}
+use Rattle.dns_spec.proofs.NameTexts.OneName.{name_once, string_once}
+
+-- numbers of at most 32 bits
+pub number_once : (k : ℕ) (text d e : Octets) → k ≤ 4 → SaysNumber k text d → SaysNumber k text e → d ≡ e
+number_once k text d e few (n, small, said, is) (m, small', said', is') =
+    let most : 256 ^ k ≤ 256 ^ 4 = pow-le-pow_right {n = 256} (omega arith) {i = k} {j = 4} few in
+    let same = decimal_injective n m (omega (arith, small, most)) (omega (arith, small', most)) (sym said ∙ said') in
+    is ∙ ap (bytes_high_first k) same ∙ sym is'
+
+-- two runs of digits with a dot after each
+digits_end : (ds es rest others : Octets) → AllDigits 10 ds → AllDigits 10 es → ds ++ 46 ∷ rest ≡ es ++ 46 ∷ others
+    → (ds ≡ es) × (rest ≡ others)
+digits_end [] [] rest others h k e = (refl, cc)
+digits_end [] (c ∷ es) rest others h (digit, k) e =
+    let range = digit_from_value c digit in
+    absurd (omega (arith, range.0, ap (λ t. get_or t 0 0) e))
+digits_end (c ∷ ds) [] rest others (digit, h) k e =
+    let range = digit_from_value c digit in
+    absurd (omega (arith, range.0, ap (λ t. get_or t 0 0) e))
+digits_end (c ∷ ds) (b ∷ es) rest others (digit, h) (digit', k) e =
+    let head : c ≡ b = cc (e) in
+    let tail : ds ++ 46 ∷ rest ≡ es ++ 46 ∷ others = cc (e) in
+    let after = digits_end ds es rest others h k tail in
+    (ap₂ (λ z zs. z ∷ zs) head after.0, after.1)
+
+-- a text begins with one number in decimal and a dot
+pub number_then_dot : (a b : ℕ) (rest others : Octets) → a < 256 → b < 256 → decimal a ++ 46 ∷ rest ≡ decimal b ++ 46 ∷ others → (a ≡ b) × (rest ≡ others)
+number_then_dot a b rest others small small' e =
+    let numeral = decimal_is_IsNumeral a (omega (arith, small)) in
+    let numeral' = decimal_is_IsNumeral b (omega (arith, small')) in
+    let parts = digits_end (decimal a) (decimal b) rest others numeral.0.1 numeral'.0.1 e in
+    (decimal_injective a b (omega (arith, small)) (omega (arith, small')) parts.0, parts.1)
+
+-- an address is four numbers
+pub record FourNumbers (text d : Octets) : Type 0 where
+  pub first : ℕ
+  pub second : ℕ
+  pub third : ℕ
+  pub fourth : ℕ
+  pub is : d ≡ first ∷ second ∷ third ∷ fourth ∷ []
+  pub first_small : first < 256
+  pub second_small : second < 256
+  pub third_small : third < 256
+  pub fourth_small : fourth < 256
+  pub spelled : text ≡ decimal first ++ 46 ∷ (decimal second ++ 46 ∷ (decimal third ++ 46 ∷ decimal fourth))
+
+pub four_numbers : (text d : Octets) → SaysIpv4 text d → FourNumbers text d
+four_numbers text [] h = absurd (omega (arith, h.four))
+four_numbers text (a ∷ []) h = absurd (omega (arith, h.four))
+four_numbers text (a ∷ b ∷ []) h = absurd (omega (arith, h.four))
+four_numbers text (a ∷ b ∷ c ∷ []) h = absurd (omega (arith, h.four))
+four_numbers text (a ∷ b ∷ c ∷ e ∷ []) h =
+    let all = and_parts (nat_lt a 256) _ h.octets in
+    let all' = and_parts (nat_lt b 256) _ all.1 in
+    let all'' = and_parts (nat_lt c 256) _ all'.1 in
+    let last = and_parts (nat_lt e 256) _ all''.1 in
+    record {
+      first = a;
+      second = b;
+      third = c;
+      fourth = e;
+      is = refl;
+      first_small = ltb-true a 256 all.0;
+      second_small = ltb-true b 256 all'.0;
+      third_small = ltb-true c 256 all''.0;
+      fourth_small = ltb-true e 256 last.0;
+      spelled = h.spelled;
+    }
+four_numbers text (a ∷ b ∷ c ∷ e ∷ f ∷ d) h = absurd (omega (arith, h.four))
+
+pub ipv4_once : (text d e : Octets) → SaysIpv4 text d → SaysIpv4 text e → d ≡ e
+ipv4_once text d e h k =
+    let p = four_numbers text d h in
+    let q = four_numbers text e k in
+    let one = number_then_dot p.first q.first _ _ p.first_small q.first_small (sym p.spelled ∙ q.spelled) in
+    let two = number_then_dot p.second q.second _ _ p.second_small q.second_small one.1 in
+    let three = number_then_dot p.third q.third _ _ p.third_small q.third_small two.1 in
+    let small = p.fourth_small in
+    let small' = q.fourth_small in
+    let four = decimal_injective p.fourth q.fourth (omega (arith, small)) (omega (arith, small')) three.1 in
+    p.is ∙ ap₂ (λ x xs. x ∷ xs) one.0 (ap₂ (λ x xs. x ∷ xs) two.0 (ap₂ (λ x y. x ∷ y ∷ []) three.0 four)) ∙ sym q.is
+
+pub ipv6_once : (text d e : Octets) → SaysIpv6 text d → SaysIpv6 text e → d ≡ e
+ipv6_once text d e h k = same_Some d e (sym h ∙ k)
+
+pub string_data_once : (text d e : Octets) → SaysString text d → SaysString text e → d ≡ e
+string_data_once text d e (s, short, spelled, is) (t, short', spelled', is') =
+    is ∙ ap (λ r. length r ∷ r) (string_once text s t spelled spelled') ∙ sym is'
+
+-- the forms of the table: numbers have at most 32 bits
+is_narrow : WordForm → Bool
+is_narrow (number_word k) = nat_le k 4
+is_narrow ipv4_word = true
+is_narrow ipv6_word = true
+is_narrow name_word = true
+is_narrow string_word = true
+
+form_once : (f : WordForm) (origin : DomainName) (text d e : Octets) → is_narrow f ≡ true → SaysForm f origin text d → SaysForm f origin text e → d ≡ e
+unfolding is_narrow
+form_once (number_word k) origin text d e narrow h h' = number_once k text d e (leb-true k 4 narrow) h h'
+form_once ipv4_word origin text d e narrow h h' = ipv4_once text d e h h'
+form_once ipv6_word origin text d e narrow h h' = ipv6_once text d e h h'
+form_once name_word origin text d e narrow (n, spelled, is) (m, spelled', is') =
+    is ∙ ap wire (name_once origin text n m spelled spelled') ∙ sym is'
+form_once string_word origin text d e narrow h h' = string_data_once text d e h h'
+
+forms_once : (fs : List WordForm) (origin : DomainName) (ws : List Word) (d e : Octets) → list_all is_narrow fs ≡ true → SaysForms fs origin ws d → SaysForms fs origin ws e → d ≡ e
+forms_once [] origin [] d e narrow h k = h ∙ sym k
+forms_once [] origin (w ∷ ws) d e narrow h k = absurd h
+forms_once (f ∷ fs) origin [] d e narrow h k = absurd h
+forms_once (f ∷ fs) origin (w ∷ ws) d e narrow (front, back, is, said, h) (front', back', is', said', k) =
+    let parts = and_parts (is_narrow f) _ narrow in
+    is ∙ ap₂ ◌++◌ (form_once f origin w.raw front front' parts.0 said.said said'.said) (forms_once fs origin ws back back' parts.1 h k) ∙ sym is'
+
+all_alike : (p : WordForm → Bool) (k : ℕ) (f : WordForm) → p f ≡ true → list_all p (replicate k f) ≡ true
+all_alike p zero f h = refl
+all_alike p (suc k) f h = and_from _ _ h (all_alike p k f h)
+
+all_joined : (p : WordForm → Bool) (fs gs : List WordForm) → list_all p fs ≡ true → list_all p gs ≡ true → list_all p (fs ++ gs) ≡ true
+all_joined p [] gs h k = k
+all_joined p (f ∷ fs) gs h k = let parts = and_parts (p f) _ h in and_from _ _ parts.0 (all_joined p fs gs parts.1 k)
+
+is_narrow_piece : Piece → Bool
+is_narrow_piece (fixed (numbers m k)) = nat_le k 4
+is_narrow_piece (fixed ipv4) = true
+is_narrow_piece (fixed ipv6) = true
+is_narrow_piece domain = true
+is_narrow_piece string = true
+is_narrow_piece strings = true
+is_narrow_piece anything = true
+
+narrow_in : (k : ℕ) (p : Piece) → is_narrow_piece p ≡ true → list_all is_narrow (forms_in k p) ≡ true
+unfolding is_narrow is_narrow_piece
+narrow_in k (fixed (numbers m o)) h = all_alike is_narrow m (number_word o) h
+narrow_in k (fixed ipv4) h = refl
+narrow_in k (fixed ipv6) h = refl
+narrow_in k domain h = refl
+narrow_in k string h = refl
+narrow_in k strings h = all_alike is_narrow (max 1 k) string_word refl
+narrow_in k anything h = refl
+
+narrow_forms : (k : ℕ) (ps : List Piece) → list_all is_narrow_piece ps ≡ true → list_all is_narrow (flat_map (forms_in k) ps) ≡ true
+narrow_forms k [] h = refl
+narrow_forms k (p ∷ ps) h =
+    let parts = and_parts (is_narrow_piece p) _ h in
+    all_joined is_narrow (forms_in k p) (flat_map (forms_in k) ps) (narrow_in k p parts.0) (narrow_forms k ps parts.1)
+
+has_narrow_pieces : TypeRow → Bool
+has_narrow_pieces row = list_all is_narrow_piece row.pieces
+
+found_row : (p : TypeRow → Bool) (rows : List TypeRow) → list_all has_narrow_pieces rows ≡ true → MatchOption (find p rows) ⊤ (λ row. has_narrow_pieces row ≡ true)
+found_row p [] h = tt
+found_row p (row ∷ rows) h =
+    let parts = and_parts (has_narrow_pieces row) _ h in
+    by_cases (p row) parts.0 (found_row p rows parts.1)
+  where
+    by_cases : (b : Bool) → has_narrow_pieces row ≡ true → MatchOption (find p rows) ⊤ (λ r. has_narrow_pieces r ≡ true)
+        → MatchOption (if b then Some row else find p rows) ⊤ (λ r. has_narrow_pieces r ≡ true)
+    by_cases true here there = here
+    by_cases false here there = there
+
+typed_once : (t : ℕ) (origin : DomainName) (ws : List Word) (d e : Octets) → SaysTyped t origin ws d → SaysTyped t origin ws e → d ≡ e
+unfolding has_narrow_pieces is_narrow_piece
+typed_once t origin ws d e h k = by_row (row_of t) (found_row (λ (row : TypeRow). row.number == t) type_table refl) h k
+  where
+    Typed : Option TypeRow → Octets → Type 0
+    Typed o x = MatchOption (option_map (λ (row : TypeRow). flat_map (forms_in (length ws)) row.pieces) o) ⊥ (λ fs. SaysForms fs origin ws x)
+
+    by_row : (o : Option TypeRow) → MatchOption o ⊤ (λ row. has_narrow_pieces row ≡ true) → Typed o d → Typed o e → d ≡ e
+    by_row None narrow h k = absurd h
+    by_row (Some row) narrow h k = forms_once (flat_map (forms_in (length ws)) row.pieces) origin ws d e (narrow_forms (length ws) row.pieces narrow) h k
+
+unknown_once : (ws : List Word) (d e : Octets) → SaysUnknown ws d → SaysUnknown ws e → d ≡ e
+unknown_once [] d e h k = absurd h
+unknown_once (w ∷ ws) d e h k = same_Some d e (sym h.2.1 ∙ k.2.1)
+
+as_spelled_once : (t : ℕ) (origin : DomainName) (ws : List Word) (d e : Octets) → SaysAsSpelled t origin ws d → SaysAsSpelled t origin ws e → d ≡ e
+as_spelled_once t origin [] d e h k = typed_once t origin [] d e h k
+as_spelled_once t origin (w ∷ ws) d e h k = by_mark (is_unknown_mark w) h k
+  where
+    Spelled : Bool → Octets → Type 0
+    Spelled b x = MatchBool b (SaysUnknown ws x) (SaysTyped t origin (w ∷ ws) x)
+
+    by_mark : (b : Bool) → Spelled b d → Spelled b e → d ≡ e
+    by_mark true h k = unknown_once ws d e h k
+    by_mark false h k = typed_once t origin (w ∷ ws) d e h k
+
+pub data_once : (t : ℕ) (ws : List Word) (origin : DomainName) (d e : Octets) → Says t ws origin d → Says t ws origin e → d ≡ e
+data_once t ws origin d e h k =
+    sym h.lower ∙ ap (lower_case t) (as_spelled_once t origin ws h.as_spelled k.as_spelled h.said k.said) ∙ k.lower

@@ -1,0 +1,141 @@
+-- The words that are written stand alone, a reader takes them in whole, and none of them is the mark of the form for data of
+-- any type.
+use Rattle.std.proofs.Common.{◌≡◌, ℕ, ◌+◌, ◌/◌, ◌%◌, ◌<◌, ◌^◌, ◌⊎◌, inl, inr, Bool, true, false, ◌==◌, List, [], ◌∷◌, ◌++◌, length, take, drop, nat_lt, refl, sym, ◌∙◌, ap, subst, arith, append_assoc, append-nil, length-append, decimal}
+use Rattle.std.proofs.lemmas.Bool.{and_from, and_right, lt-ltb, cases_Bool}
+use Rattle.std.proofs.lemmas.Fmt.{decimal_nonempty}
+use Rattle.std.specs.Prelude.{if◌then◌else◌, Some, None}
+use Rattle.std.specs.Char.{digit_char}
+use Rattle.std.specs.Fmt.{digits}
+use Rattle.dns_spec.specs.Names.{Octets, DomainName, octets_equal}
+use Rattle.dns_spec.specs.NameText.{label_text, labels_text, name_text}
+use Rattle.dns_spec.specs.AddressText.{SaysIpv6, ipv6_groups, ipv4_text, groups_text, longest_run, longest_place, groups_of, ipv6_text}
+use Rattle.dns_spec.specs.DataText.{Word, is_unknown_mark}
+use Rattle.dns_spec.specs.WrittenText.{plain, quoted, hex_text, is_unbroken, is_bare, stands_alone}
+use Rattle.dns_spec.specs.ZoneText.{is_word_octet, is_string_octet}
+use Rattle.dns_spec.proofs.Records.SortedOnce.{Each}
+use Rattle.dns_spec.proofs.DomainNames.SmallOctets.{Small, small_head, small_tail}
+use Rattle.dns_spec.proofs.NameTexts.WrittenNames.{labels_text_long}
+use Rattle.dns_spec.proofs.DataWords.WordRuns.{Runs, runs_bare, name_runs, string_runs}
+use Rattle.dns_spec.proofs.DataWords.GroupsAgain.{Groups, group_digits}
+use Rattle.dns_spec.proofs.DataWords.Ipv6Again.{groups_of-small, groups_taken, groups_dropped, ipv6_said}
+use Rattle.dns_spec.proofs.DataWords.BareWords.{Bare, bare_append, bare_joined, bare_decimal, bare_ipv4, bare_hex, bare_text, no_backslash, labels_unbroken, string_unbroken}
+
+-- what a reader goes on over in a word
+abbrev pub by_itself : Word → ℕ → Bool
+by_itself w = if w.is_quoted then is_string_octet else is_word_octet
+
+abbrev pub TakenWhole : Word → Type 0
+TakenWhole w = Runs (by_itself w) w.raw
+
+-- a word that stands alone, is taken in whole, and is not the mark
+pub record Standing (w : Word) : Type 0 where
+  pub alone : stands_alone w ≡ true
+  pub whole : TakenWhole w
+  pub unmarked : is_unknown_mark w ≡ false
+
+bare_alone : (x : Octets) → 0 < length x → Bare x → stands_alone (plain x) ≡ true
+bare_alone x some bare = and_from _ _ (lt-ltb 0 (length x) some) (ap (is_unbroken is_bare) (sym (append-nil x)) ∙ bare_text x [] bare refl)
+
+bare_unmarked : (x : Octets) → Bare x → is_unknown_mark (plain x) ≡ false
+bare_unmarked [] bare = refl
+bare_unmarked (o ∷ x) bare = rw (no_backslash is_bare o refl bare.0) refl
+
+pub bare_standing : (x : Octets) → 0 < length x → Bare x → Standing (plain x)
+bare_standing x some bare = record { alone = bare_alone x some bare; whole = runs_bare x bare; unmarked = bare_unmarked x bare }
+
+pub decimal_standing : (n : ℕ) → n < 2 ^ 64 → Standing (plain (decimal n))
+decimal_standing n small = bare_standing (decimal n) (decimal_nonempty n small) (bare_decimal n small)
+
+ipv4_some : (o : ℕ) (d : Octets) → o < 256 → 0 < length (ipv4_text (o ∷ d))
+ipv4_some o [] small = decimal_nonempty o (omega (arith, small))
+ipv4_some o (p ∷ d) small = omega (arith, decimal_nonempty o (omega (arith, small)), length-append (decimal o) (46 ∷ ipv4_text (p ∷ d)))
+
+pub ipv4_standing : (d : Octets) → length d ≡ 4 → Small d → Standing (plain (ipv4_text d))
+ipv4_standing [] long small = absurd (omega (arith, long))
+ipv4_standing (o ∷ d) long small = bare_standing (ipv4_text (o ∷ d)) (ipv4_some o d (small_head o d small)) (bare_ipv4 (o ∷ d) small)
+
+bare_group : (g : ℕ) → g < 65536 → Bare (digits 16 false g)
+bare_group g small = let t = group_digits g small in subst Bare (sym t.spelled) (bare_hex (t.first ∷ t.others) t.below)
+
+bare_groups : (gs : List ℕ) → Groups gs → Bare (groups_text gs)
+bare_groups gs small = bare_joined 58 (digits 16 false) gs refl (each gs small)
+  where
+    each : (gs : List ℕ) → Groups gs → Each (λ g. Bare (digits 16 false g)) gs
+    each [] small = tt
+    each (g ∷ gs) small = (bare_group g small.0, each gs small.1)
+
+-- a text that says an address has an octet
+ipv6_some : (text d : Octets) → SaysIpv6 text d → 0 < length text
+unfolding ipv6_groups
+ipv6_some [] d said = absurd (none_some said)
+  where
+    none_some : None ≡ Some d → ⊥
+    none_some e = cc
+ipv6_some (o ∷ text) d said = omega arith
+
+bare_ipv6 : (d : Octets) → Small d → Bare (ipv6_text d)
+bare_ipv6 d small = by_cases (cases_Bool (nat_lt (longest_run gs) 2))
+  where
+    gs : List ℕ
+    gs = groups_of d
+
+    groups : Groups gs
+    groups = groups_of-small d small
+
+    by_cases : (nat_lt (longest_run gs) 2 ≡ true) ⊎ (nat_lt (longest_run gs) 2 ≡ false) → Bare (ipv6_text d)
+    by_cases (inl short) = rw short (bare_groups gs groups)
+    by_cases (inr long) =
+        let front = take (longest_place gs) gs in
+        let back = drop (longest_place gs + longest_run gs) gs in
+        rw long
+        (bare_append (groups_text front) (58 ∷ 58 ∷ groups_text back) (bare_groups front (groups_taken (longest_place gs) gs groups))
+        (refl, (refl, bare_groups back (groups_dropped (longest_place gs + longest_run gs) gs groups))))
+
+pub ipv6_standing : (d : Octets) → length d ≡ 16 → Small d → Standing (plain (ipv6_text d))
+ipv6_standing d long small = bare_standing (ipv6_text d) (ipv6_some (ipv6_text d) d (ipv6_said d long small)) (bare_ipv6 d small)
+
+-- a dot ends the text of a name
+record DotLast (text : Octets) : Type 0 where
+  front : Octets
+  whole : text ≡ front ++ 46 ∷ []
+
+dot_last : (l : Octets) (n : DomainName) → DotLast (labels_text (l ∷ n))
+dot_last l [] = record { front = label_text l; whole = append-nil (label_text l ++ 46 ∷ []) }
+dot_last l (m ∷ n) =
+    let d = dot_last m n in
+    record { front = (label_text l ++ 46 ∷ []) ++ d.front; whole = ap (λ x. (label_text l ++ 46 ∷ []) ++ x) d.whole ∙ sym (append_assoc (label_text l ++ 46 ∷ []) d.front (46 ∷ [])) }
+
+dotted_unmarked : (x front : Octets) → x ≡ front ++ 46 ∷ [] → is_unknown_mark (plain x) ≡ false
+dotted_unmarked x front e = ap (λ y. is_unknown_mark (plain y)) e ∙ by_cases front
+  where
+    longer : (front : Octets) → octets_equal (front ++ 46 ∷ []) [] ≡ false
+    longer [] = refl
+    longer (c ∷ front) = refl
+
+    by_cases : (front : Octets) → is_unknown_mark (plain (front ++ 46 ∷ [])) ≡ false
+    by_cases [] = refl
+    by_cases (a ∷ []) = and_right (a == 92) _ refl
+    by_cases (a ∷ b ∷ front) = and_right (a == 92) _ (and_right (b == 35) _ (longer front))
+
+pub name_standing : (n : DomainName) → Each Small n → Each (λ l. 0 < length l) n → Standing (plain (name_text n))
+name_standing [] small some = record { alone = refl; whole = name_runs [] small; unmarked = refl }
+name_standing (l ∷ n) small some = record {
+  alone = and_from _ _ (lt-ltb 0 _ (omega (arith, labels_text_long l n some.0))) (labels_unbroken (l ∷ n) small);
+  whole = name_runs (l ∷ n) small;
+  unmarked = (let d = dot_last l n in dotted_unmarked (labels_text (l ∷ n)) d.front d.whole);
+}
+
+pub string_standing : (s : Octets) → Small s → Standing (quoted s)
+string_standing s small = record { alone = string_unbroken s small; whole = string_runs s small; unmarked = refl }
+
+bare_hex_text : (d : Octets) → Small d → Bare (hex_text d)
+bare_hex_text [] small = tt
+bare_hex_text (o ∷ d) small =
+    let below = small_head o d small in
+    bare_append (digit_char (o / 16) ∷ digit_char (o % 16) ∷ []) (hex_text d) (bare_hex (o / 16 ∷ o % 16 ∷ []) (omega (arith, below), (omega arith, tt))) (bare_hex_text d (small_tail o d small))
+
+pub hex_alone : (o : ℕ) (d : Octets) → Small (o ∷ d) → stands_alone (plain (hex_text (o ∷ d))) ≡ true
+hex_alone o d small = bare_alone (hex_text (o ∷ d)) (omega arith) (bare_hex_text (o ∷ d) small)
+
+pub hex_runs : (d : Octets) → Small d → Runs is_word_octet (hex_text d)
+hex_runs d small = runs_bare (hex_text d) (bare_hex_text d small)

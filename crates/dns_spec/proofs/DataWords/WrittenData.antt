@@ -1,0 +1,163 @@
+-- Data of a type, written without compression, is read back as data of that type.
+use Rattle.std.proofs.Common.{◌≡◌, ℕ, zero, suc, ◌+◌, ◌<◌, true, ◌&&◌, not, nat_le, ◌==◌, List, [], ◌∷◌, ◌++◌, length, take, drop, Option, None, Some, is_some, option_map, refl, sym, ap, ◌∙◌, subst, arith, append-nil, length-append, take-append-drop, add-zero}
+use Rattle.std.proofs.lemmas.Bool.{and_parts, leb-true, not-true, eqb-false, false≢true}
+use Rattle.std.proofs.lemmas.Option.{none-some, same_Some, cond_some, some_pair_parts}
+use Rattle.std.proofs.lemmas.List.{length-take-le}
+use Rattle.dns_spec.specs.Names.{Octets, DomainName, wire, is_name, name_of}
+use Rattle.dns_spec.specs.Data.{class_in, width, Piece, fixed, domain, string, strings, anything, pieces_of, Part, octets, name, are_strings, octets_front, strings_front, piece_front, cut, valid}
+use Rattle.dns_spec.specs.Reading.{OctetsAt, PiecesAt, DataAt}
+use Rattle.dns_spec.proofs.DomainNames.WireNames.{name_read}
+use Rattle.dns_spec.proofs.Messages.Places.{Stands, stands_front, stands_rest, stands_within, stands_get, octets_at, name_written}
+
+-- data that is cut into parts begins with the part of its first piece
+pub record CutInto (p : Piece) (ps : List Piece) (os : Octets) (xs : List Part) : Type 0 where
+  pub part : Part
+  pub rest : Octets
+  pub others : List Part
+  pub front : piece_front p os ≡ Some (part, rest)
+  pub more : cut ps rest ≡ Some others
+  pub whole : part ∷ others ≡ xs
+
+pub cut_into : (p : Piece) (ps : List Piece) (os : Octets) (xs : List Part) → cut (p ∷ ps) os ≡ Some xs → CutInto p ps os xs
+unfolding cut
+cut_into p ps os xs h = go (piece_front p os) refl h
+  where
+    mapped : (part : Part) (rest : Octets) (y : Option (List Part)) → piece_front p os ≡ Some (part, rest) → cut ps rest ≡ y
+        → option_map (λ (ys : List Part). part ∷ ys) y ≡ Some xs → CutInto p ps os xs
+    mapped part rest None f e g = absurd (none-some xs g)
+    mapped part rest (Some ys) f e g = record { part = part; rest = rest; others = ys; front = f; more = e; whole = same_Some (part ∷ ys) xs g }
+
+    go : (y : Option (Part × Octets)) → piece_front p os ≡ y
+        → ◌≡◌ {A = Option (List Part)} (elim y [ None ↦ None | Some r ↦ option_map (λ ys. r.0 ∷ ys) (cut ps r.1) ]) (Some xs) → CutInto p ps os xs
+    go None e f = absurd (none-some xs f)
+    go (Some r) e f = mapped r.0 r.1 (cut ps r.1) e refl f
+
+-- the part of a domain name
+pub name_part : (os rest : Octets) (part : Part) → piece_front domain os ≡ Some (part, rest)
+    → (n : DomainName) × (name n ≡ part) × (is_name n ≡ true) × (os ≡ wire n ++ rest)
+name_part os rest part h = go (name_of os) refl h
+  where
+    go : (y : Option (DomainName × Octets)) → name_of os ≡ y
+        → option_map {T = DomainName × Octets} {U = Part × Octets} (λ r. (name r.0, r.1)) y ≡ Some (part, rest)
+        → (n : DomainName) × (name n ≡ part) × (is_name n ≡ true) × (os ≡ wire n ++ rest)
+    go None e f = absurd (none-some (part, rest) f)
+    go (Some (n, tail)) e f =
+        let p = some_pair_parts (name n) part tail rest f in
+        let r = name_read os n tail e in
+        (n, p.0, r.0, r.1 ∙ ap (λ x. wire n ++ x) p.1)
+
+pub octets_part : (k : ℕ) (os rest : Octets) (part : Part) → octets_front k os ≡ Some (part, rest) → octets (take k os) ≡ part
+octets_part k os rest part h = ap (λ z. z.0) (cond_some (nat_le k (length os)) (octets (take k os), drop k os) (part, rest) h).1
+
+-- the octets of data from place i on, and what is after its first part
+module _ {b : Octets} {i : ℕ} (os x rest : Octets) (whole : os ≡ x ++ rest) (at : Stands b i os) where
+  stands_part : Stands b i x
+  stands_part = stands_front x rest (subst (Stands b i) whole at)
+
+  stands_others : Stands b (i + length x) rest
+  stands_others = stands_rest x rest (subst (Stands b i) whole at)
+
+  ends_alike : i + length x + length rest ≡ i + length os
+  ends_alike = omega (arith, ap length whole, length-append x rest)
+
+pub front_taken : (k : ℕ) (os : Octets) (part : Part) (rest : Octets) → octets_front k os ≡ Some (part, rest)
+    → (os ≡ take k os ++ rest) × (length (take k os) ≡ k)
+front_taken k os part rest h =
+    let c = cond_some (nat_le k (length os)) (octets (take k os), drop k os) (part, rest) h in
+    (sym (take-append-drop k os) ∙ ap (λ z. take k os ++ z.1) c.1, length-take-le k os (leb-true k (length os) c.0))
+
+pub all_strings : (os rest : Octets) (part : Part) → strings_front os ≡ Some (part, rest)
+    → (0 < length os) × (are_strings 0 os ≡ true) × (octets os ≡ part) × (rest ≡ [])
+all_strings os rest part h =
+    let t = cond_some (not (length os == 0) && are_strings 0 os) (octets os, []) (part, rest) h in
+    let q = and_parts (not (length os == 0)) (are_strings 0 os) t.0 in
+    (some (length os) (eqb-false (length os) 0 (not-true (length os == 0) q.0)), q.1, ap (λ z. z.0) t.1, sym (ap (λ z. z.1) t.1))
+  where
+    some : (n : ℕ) → (n ≡ 0 → ⊥) → 0 < n
+    some zero ne = absurd (ne refl)
+    some (suc n) ne = omega arith
+
+nothing_after : {b : Octets} {i : ℕ} (os : Octets) → Stands b i os → Stands b (i + length os) []
+nothing_after {b} {i} os at = stands_rest os [] (subst (Stands b i) (sym (append-nil os)) at)
+
+pub pieces_written : {b : Octets} (ps : List Piece) (os : Octets) (xs : List Part) (i : ℕ) → cut ps os ≡ Some xs → Stands b i os → PiecesAt b ps i (i + length os) os
+unfolding cut
+pieces_written [] [] xs i h at = (sym (add-zero i), refl)
+pieces_written [] (o ∷ os) xs i h at = absurd (none-some xs h)
+pieces_written {b} (fixed f ∷ ps) os xs i h at =
+    let c = cut_into (fixed f) ps os xs h in
+    let k = width f in
+    let t = front_taken k os c.part c.rest c.front in
+    let x = take k os in
+    let place : i + length x ≡ i + k = ap (λ z. i + z) t.1 in
+    let end : i + k + length c.rest ≡ i + length os = omega (arith, ends_alike os x c.rest t.0 at, place) in (
+      x,
+      c.rest,
+      subst (λ z. OctetsAt b i (i + z) x) t.1 (octets_at x (stands_part os x c.rest t.0 at)),
+      t.0,
+      subst (λ e. PiecesAt b ps (i + k) e c.rest) end
+          (pieces_written ps c.rest c.others (i + k) c.more (subst (λ z. Stands b z c.rest) place (stands_others os x c.rest t.0 at))),
+    )
+pieces_written {b} (domain ∷ ps) os xs i h at =
+    let c = cut_into domain ps os xs h in
+    let m = name_part os c.rest c.part c.front in
+    let x = wire m.0 in (
+      m.0,
+      i + length x,
+      c.rest,
+      name_written m.0 m.2 (stands_part os x c.rest m.3 at),
+      m.3,
+      subst (λ e. PiecesAt b ps (i + length x) e c.rest) (ends_alike os x c.rest m.3 at)
+          (pieces_written ps c.rest c.others (i + length x) c.more (stands_others os x c.rest m.3 at)),
+    )
+pieces_written {b} (string ∷ ps) [] xs i h at = absurd (none-some xs h)
+pieces_written {b} (string ∷ ps) (k ∷ os) xs i h at =
+    let c = cut_into string ps (k ∷ os) xs h in
+    let t = front_taken (suc k) (k ∷ os) c.part c.rest c.front in
+    let x = take (suc k) (k ∷ os) in
+    let place : i + length x ≡ i + 1 + k = omega (arith, t.1) in
+    let end : i + 1 + k + length c.rest ≡ i + length (k ∷ os) = omega (arith, ends_alike (k ∷ os) x c.rest t.0 at, place) in (
+      k,
+      x,
+      c.rest,
+      stands_get k os at,
+      subst (λ z. OctetsAt b i z x) place (octets_at x (stands_part (k ∷ os) x c.rest t.0 at)),
+      t.0,
+      subst (λ e. PiecesAt b ps (i + 1 + k) e c.rest) end
+          (pieces_written ps c.rest c.others (i + 1 + k) c.more (subst (λ z. Stands b z c.rest) place (stands_others (k ∷ os) x c.rest t.0 at))),
+    )
+pieces_written {b} (strings ∷ ps) os xs i h at =
+    let c = cut_into strings ps os xs h in
+    let t = all_strings os c.rest c.part c.front in
+    let e = i + length os in (
+      os,
+      [],
+      e,
+      octets_at os at,
+      t.0,
+      t.1,
+      sym (append-nil os),
+      refl,
+      subst (λ z. PiecesAt b ps e z []) (add-zero e) (pieces_written ps [] c.others e (ap (cut ps) (sym t.3) ∙ c.more) (nothing_after os at)),
+    )
+pieces_written {b} (anything ∷ ps) os xs i h at =
+    let c = cut_into anything ps os xs h in
+    let none : c.rest ≡ [] = sym (ap (λ z. z.1) (same_Some (octets os, []) (c.part, c.rest) c.front)) in
+    let e = i + length os in (
+      os,
+      [],
+      e,
+      octets_at os at,
+      sym (append-nil os),
+      refl,
+      subst (λ z. PiecesAt b ps e z []) (add-zero e) (pieces_written ps [] c.others e (ap (cut ps) (sym none) ∙ c.more) (nothing_after os at)),
+    )
+
+-- Valid data of class IN, written as it is, is read back.
+pub data_written : {b : Octets} {i : ℕ} (t : ℕ) (d : Octets) → valid t d ≡ true → Stands b i d → DataAt b t class_in i (i + length d) d
+data_written {b} {i} t d h at =
+    (omega arith, stands_within d at, go (cut (pieces_of t) d) refl (and_parts (nat_le (length d) 65535) (is_some (cut (pieces_of t) d)) h).1)
+  where
+    go : (y : Option (List Part)) → cut (pieces_of t) d ≡ y → is_some y ≡ true → PiecesAt b (pieces_of t) i (i + length d) d
+    go None e s = absurd (false≢true s)
+    go (Some xs) e s = pieces_written (pieces_of t) d xs i e at

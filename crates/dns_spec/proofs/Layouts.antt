@@ -1,0 +1,9 @@
+-- Layouts and sharing: what is laid out spells its message, and its size is the least.
+pub mod PlainLayout
+pub mod SharedNames
+pub mod SharedLayout
+pub mod LayoutSize
+pub mod LeastSize
+pub mod GrowingSize
+pub mod UnboundedSize
+pub mod SameLayout

@@ -1,0 +1,189 @@
+-- Up to 16,384 octets the layout is the one without bound: all its places are in reach of a pointer.
+use Rattle.std.proofs.Common.{◌≡◌, ℕ, ◌+◌, ◌-◌, ◌<◌, ◌≤◌, true, ◌⊎◌, inl, inr, List, [], ◌∷◌, ◌++◌, length, drop, Option, None, Some, refl, sym, ap, ◌∙◌, subst, arith, append_assoc, append-nil, length-append}
+use Rattle.std.proofs.lemmas.Option.{none-some}
+use Rattle.dns_spec.specs.Names.{Octets, DomainName, wire}
+use Rattle.dns_spec.specs.Data.{Part, octets, name}
+use Rattle.dns_spec.specs.Records.{ResourceRecord}
+use Rattle.dns_spec.specs.Reading.{Header, MessageQuestion}
+use Rattle.dns_spec.specs.Layout.{Item, records_of, pointer, Placed, has_suffix, suffix_place, place_of, shared_place, shared_octets, Laid, laid_front, data_laid, record_laid, parts_of, record_tail, records_octets, asked_octets, asked_placed, reply_header, layout, size}
+use Rattle.dns_spec.specs.UnboundedLayout.{unbounded_octets, unbounded_data, unbounded_record, unbounded_records, unbounded_layout, unbounded_size}
+use Rattle.dns_spec.proofs.Layouts.LayoutSize.{length-layout, length-record_tail}
+use Rattle.dns_spec.proofs.Layouts.UnboundedSize.{length-unbounded_layout}
+use Rattle.dns_spec.proofs.Layouts.SharedNames.{suffix_from, place_again, place_pushed, shared_to, shared_none, shared_whole, shared_some, shared_alone}
+use Rattle.dns_spec.proofs.Layouts.PlainLayout.{length-question_octets}
+
+-- all places are in reach
+abbrev Low : List Placed → Type 0
+Low ms = (l : Octets) (n : DomainName) (p : ℕ) → place_of ms (l ∷ n) ≡ Some p → p < 16384
+
+same_place : (ms : List Placed) → Low ms → (l : Octets) (n : DomainName) → shared_place ms (l ∷ n) ≡ place_of ms (l ∷ n)
+same_place ms low l n = go (place_of ms (l ∷ n)) refl
+  where
+    go : (x : Option ℕ) → place_of ms (l ∷ n) ≡ x → shared_place ms (l ∷ n) ≡ place_of ms (l ∷ n)
+    go None e = shared_none ms (l ∷ n) e ∙ sym e
+    go (Some p) e = shared_to ms (l ∷ n) p e (low l n p e) ∙ sym e
+
+same_octets : (ms : List Placed) → Low ms → (n : DomainName) → shared_octets ms n ≡ unbounded_octets ms n
+unfolding shared_octets unbounded_octets
+same_octets ms low [] = refl
+same_octets ms low (l ∷ n) =
+    ap (λ (x : Option ℕ). elim x as (λ _. Octets) [ None ↦ length l ∷ (l ++ shared_octets ms n) | Some p ↦ pointer p ]) (same_place ms low l n)
+    ∙ ap (λ w. elim (place_of ms (l ∷ n)) as (λ _. Octets) [ None ↦ length l ∷ (l ++ w) | Some p ↦ pointer p ]) (same_octets ms low n)
+
+-- a suffix that is new begins among the octets laid out
+pub begins_inside : (ms : List Placed) (n front : DomainName) (l : Octets) (t : DomainName) → n ≡ front ++ l ∷ t → place_of ms (l ∷ t) ≡ None
+    → (length (wire (l ∷ t)) ≤ length (wire n)) × (length (wire n) - length (wire (l ∷ t)) < length (shared_octets ms n))
+begins_inside ms n [] l t e none = let len = ap (λ x. length (wire x)) e in (omega (arith, len), omega (arith, shared_some ms n, len))
+begins_inside ms [] (x ∷ front) l t e none = absurd (let z = ap length e in omega (arith, z))
+begins_inside ms (k ∷ n) (x ∷ front) l t e none =
+    let r = begins_inside ms n front l t (ap (λ (y : DomainName). drop 1 y) e) none in
+    let out = shared_none ms (k ∷ n) (place_again ms (k ∷ n) (l ∷ t) (record { front = x ∷ front; whole = e }) none) in
+    let longer : length (wire (k ∷ n)) ≡ 1 + length k + length (wire n) = omega (arith, length-append k (wire n)) in
+    let short = r.0 in
+    let inside = r.1 in
+    (omega (arith, longer, short), omega (arith, longer, short, inside, ap length (shared_whole ms k n out), length-append k (shared_octets ms n)))
+
+low_more : (ms : List Placed) → Low ms → (n : DomainName) (i : ℕ) → i + length (shared_octets ms n) ≤ 16384 → Low (ms ++ (n, i) ∷ [])
+low_more ms low n i room l t p e = go (place_pushed ms (n, i) (l ∷ t) p e)
+  where
+    go : (place_of ms (l ∷ t) ≡ Some p) ⊎ ((place_of ms (l ∷ t) ≡ None) × (has_suffix n (l ∷ t) ≡ true) × (suffix_place (n, i) (l ∷ t) ≡ p)) → p < 16384
+    go (inl f) = low l t p f
+    go (inr f) =
+        let s = suffix_from n (l ∷ t) f.1 in
+        let inside = (begins_inside ms n s.front l t s.whole f.0).1 in
+        let at = f.2 in
+        omega (arith, inside, at, room)
+
+-- octets that end in reach
+abbrev Ends : ℕ → Octets → Octets → Type 0
+Ends p x y = (p + length x ≤ 16384) ⊎ (p + length y ≤ 16384)
+
+-- what ends after octets and others, ends after the octets; what is after both, too
+ends_front : (p : ℕ) (w x y : Octets) → Ends p (w ++ x) (w ++ y) → p + length w ≤ 16384
+ends_front p w x y (inl h) = omega (arith, h, length-append w x)
+ends_front p w x y (inr h) = omega (arith, h, length-append w y)
+
+ends_rest : (p k : ℕ) (w x y : Octets) → p + length w ≡ k → Ends p (w ++ x) (w ++ y) → Ends k x y
+ends_rest p k w x y e (inl h) = inl (omega (arith, h, e, length-append w x))
+ends_rest p k w x y e (inr h) = inr (omega (arith, h, e, length-append w y))
+
+record SameData (ms : List Placed) (a b : Laid) : Type 0 where
+  same : a ≡ b
+  low : Low (ms ++ a.names)
+
+-- data after octets, and after a name, from that after it
+abbrev Again : List Part → Type 0
+Again ps = (ms : List Placed) (p : ℕ) → Low ms → Ends p (data_laid ms p ps).written (unbounded_data ms p ps).written → SameData ms (data_laid ms p ps) (unbounded_data ms p ps)
+
+same_name : (ms : List Placed) (p : ℕ) (n : DomainName) (ps : List Part) → Low ms → Again ps → Ends p (data_laid ms p (name n ∷ ps)).written (unbounded_data ms p (name n ∷ ps)).written
+    → SameData ms (data_laid ms p (name n ∷ ps)) (unbounded_data ms p (name n ∷ ps))
+unfolding data_laid unbounded_data
+same_name ms p n ps low again = subst Same (same_octets ms low n) same
+  where
+    Same : Octets → Type 0
+    Same x =
+        Ends p (shared_octets ms n ++ (data_laid (ms ++ (n, p) ∷ []) (p + length (shared_octets ms n)) ps).written) (x ++ (unbounded_data (ms ++ (n, p) ∷ []) (p + length x) ps).written)
+        → SameData ms (laid_front (shared_octets ms n) ((n, p) ∷ []) (data_laid (ms ++ (n, p) ∷ []) (p + length (shared_octets ms n)) ps)) (laid_front x ((n, p) ∷ []) (unbounded_data (ms ++ (n, p) ∷ []) (p + length x) ps))
+
+    same : Same (shared_octets ms n)
+    same ends =
+        let o = shared_octets ms n in
+        let earlier = ms ++ (n, p) ∷ [] in
+        let next : ℕ = p + length o in
+        let later = data_laid earlier next ps in
+        let others = unbounded_data earlier next ps in
+        let r = again earlier next (low_more ms low n p (ends_front p o later.written others.written ends)) (ends_rest p next o later.written others.written refl ends) in
+        record { same = ap (laid_front o ((n, p) ∷ [])) r.same; low = subst Low (append_assoc ms ((n, p) ∷ []) later.names) r.low }
+
+same_data : (ps : List Part) → Again ps
+unfolding data_laid unbounded_data
+same_data [] ms p low ends = record { same = refl; low = subst Low (sym (append-nil ms)) low }
+same_data (octets o ∷ ps) ms p low ends =
+    let next : ℕ = p + length o in
+    let r = same_data ps ms next low (ends_rest p next o (data_laid ms next ps).written (unbounded_data ms next ps).written refl ends) in
+    record { same = ap (laid_front o []) r.same; low = r.low }
+same_data (name n ∷ ps) ms p low ends = same_name ms p n ps low (same_data ps) ends
+
+-- so it is for a record
+same_record : (ms : List Placed) (p : ℕ) (r : ResourceRecord) → Low ms → Ends p (record_laid ms p r).written (unbounded_record ms p r).written
+    → SameData ms (record_laid ms p r) (unbounded_record ms p r)
+same_record ms p r low = subst Same (same_octets ms low r.owner) same
+  where
+    Laying : (Octets → Laid) → Octets → Laid
+    Laying data_of o = record { written = o ++ record_tail r (data_of o).written; names = (r.owner, p) ∷ (data_of o).names }
+
+    Same : Octets → Type 0
+    Same x =
+        Ends p (Laying (λ o. data_laid (ms ++ (r.owner, p) ∷ []) (p + length o + 10) (parts_of r)) (shared_octets ms r.owner)).written (Laying (λ o. unbounded_data (ms ++ (r.owner, p) ∷ []) (p + length o + 10) (parts_of r)) x).written
+        → SameData ms (Laying (λ o. data_laid (ms ++ (r.owner, p) ∷ []) (p + length o + 10) (parts_of r)) (shared_octets ms r.owner)) (Laying (λ o. unbounded_data (ms ++ (r.owner, p) ∷ []) (p + length o + 10) (parts_of r)) x)
+
+    same : Same (shared_octets ms r.owner)
+    same ends =
+        let o = shared_octets ms r.owner in
+        let earlier = ms ++ (r.owner, p) ∷ [] in
+        let next : ℕ = p + length o + 10 in
+        let d = data_laid earlier next (parts_of r) in
+        let e = unbounded_data earlier next (parts_of r) in
+        let front = ends_front p o (record_tail r d.written) (record_tail r e.written) ends in
+        let tail : Ends (p + length o) (record_tail r d.written) (record_tail r e.written) = ends_rest p (p + length o) o (record_tail r d.written) (record_tail r e.written) refl ends in
+        let s = same_data (parts_of r) earlier next (low_more ms low r.owner p front) (after d.written e.written tail) in
+        record {
+          same = ap (λ (z : Laid). record { written = o ++ record_tail r z.written; names = (r.owner, p) ∷ z.names }) s.same;
+          low = subst Low (append_assoc ms ((r.owner, p) ∷ []) d.names) s.low;
+        }
+      where
+        after : (x y : Octets) → Ends (p + length (shared_octets ms r.owner)) (record_tail r x) (record_tail r y) → Ends (p + length (shared_octets ms r.owner) + 10) x y
+        after x y (inl h) = inl (omega (arith, h, length-record_tail r x))
+        after x y (inr h) = inr (omega (arith, h, length-record_tail r y))
+
+same_records : (ms : List Placed) (p : ℕ) (rs : List ResourceRecord) → Low ms → Ends p (records_octets ms p rs) (unbounded_records ms p rs)
+    → records_octets ms p rs ≡ unbounded_records ms p rs
+unfolding records_octets unbounded_records
+same_records ms p [] low ends = refl
+same_records ms p (r ∷ rs) low ends =
+    let a = record_laid ms p r in
+    let b = unbounded_record ms p r in
+    let s = same_record ms p r low (front ends) in
+    let rest : Laid → Octets = λ l. unbounded_records (ms ++ l.names) (p + length l.written) rs in
+    let again : Ends p (a.written ++ records_octets (ms ++ a.names) (p + length a.written) rs) (a.written ++ rest a) =
+    subst (λ (l : Laid). Ends p (a.written ++ records_octets (ms ++ a.names) (p + length a.written) rs) (l.written ++ rest l)) (sym s.same) ends in
+    let later = same_records (ms ++ a.names) (p + length a.written) rs s.low (ends_rest p (p + length a.written) a.written (records_octets (ms ++ a.names) (p + length a.written) rs) (rest a) refl again) in
+    ap (λ z. a.written ++ z) later ∙ ap (λ (l : Laid). l.written ++ rest l) s.same
+  where
+    front : Ends p ((record_laid ms p r).written ++ records_octets (ms ++ (record_laid ms p r).names) (p + length (record_laid ms p r).written) rs) ((unbounded_record ms p r).written ++ unbounded_records (ms ++ (unbounded_record ms p r).names) (p + length (unbounded_record ms p r).written) rs)
+        → Ends p (record_laid ms p r).written (unbounded_record ms p r).written
+    front (inl h) = inl (let a = record_laid ms p r in omega (arith, h, length-append a.written (records_octets (ms ++ a.names) (p + length a.written) rs)))
+    front (inr h) = inr (let b = unbounded_record ms p r in omega (arith, h, length-append b.written (unbounded_records (ms ++ b.names) (p + length b.written) rs)))
+
+-- the question's name begins in reach
+asked_low : (q : Option MessageQuestion) → 12 + length (asked_octets q) ≤ 16384 → Low (asked_placed q)
+asked_low None room = λ l n p e. absurd (none-some p e)
+asked_low (Some q) room = low_more [] (λ l n p e. absurd (none-some p e)) q.qname 12
+    (omega (arith, room, ap length (shared_alone q.qname), length-question_octets q))
+
+pub same_layout : (h : Header) (q : Option MessageQuestion) (items : List Item) → (size q items ≤ 16384) ⊎ (unbounded_size q items ≤ 16384)
+    → layout h q items ≡ unbounded_layout h q items
+unfolding layout unbounded_layout
+same_layout h q items short = go (ends short)
+  where
+    from : ℕ
+    from = 12 + length (asked_octets q)
+
+    go : Ends 0 (layout h q items) (unbounded_layout h q items) → layout h q items ≡ unbounded_layout h q items
+    go e =
+        let front = reply_header h q items ++ asked_octets q in
+        let rs = records_of items in
+        let ms = asked_placed q in
+        let place : ℕ = 12 + length (asked_octets q) in
+        let head_len : 0 + length front ≡ place = omega (arith, length-append (reply_header h q items) (asked_octets q)) in
+        let low = asked_low q (omega (arith, head_len, ends_front 0 front (records_octets ms place rs) (unbounded_records ms place rs) e)) in
+        ap (λ z. front ++ z) (same_records ms place rs low (ends_rest 0 place front (records_octets ms place rs) (unbounded_records ms place rs) head_len e))
+
+    ends : (size q items ≤ 16384) ⊎ (unbounded_size q items ≤ 16384) → Ends 0 (layout h q items) (unbounded_layout h q items)
+    ends (inl s) = inl (omega (arith, s, length-layout h q items))
+    ends (inr s) = inr (omega (arith, s, length-unbounded_layout h q items))
+
+pub same_size : (q : Option MessageQuestion) (items : List Item) → (size q items ≤ 16384) ⊎ (unbounded_size q items ≤ 16384) → size q items ≡ unbounded_size q items
+same_size q items short =
+    let h : Header = record { id = 0; flags = 0 } in
+    sym (length-layout h q items) ∙ ap length (same_layout h q items short) ∙ length-unbounded_layout h q items

@@ -1,0 +1,162 @@
+-- The size of the layout without bound is the length of that layout, and the least that sharing allows.
+use Rattle.std.proofs.Common.{◌≡◌, ℕ, ◌+◌, ◌<◌, ◌≤◌, Bool, true, false, ◌||◌, cond, List, [], ◌∷◌, ◌++◌, map, length, Option, None, Some, is_some, refl, ap, ap₂, ◌∙◌, subst, arith, length-append}
+use Rattle.std.proofs.lemmas.List.{map-append}
+use Rattle.std.specs.List.{list_any}
+use Rattle.dns_spec.specs.Names.{Octets, DomainName, wire}
+use Rattle.dns_spec.specs.Data.{Part, octets, name}
+use Rattle.dns_spec.specs.Records.{ResourceRecord}
+use Rattle.dns_spec.specs.Reading.{Header, MessageQuestion}
+use Rattle.dns_spec.specs.Layout.{Item, records_of, pointer, Placed, has_suffix, suffix_place, place_of, parts_of, record_tail, asked_octets, asked_placed, reply_header}
+use Rattle.dns_spec.specs.Sharing.{asked_names, names_in, names_of, labels_size, NameSize, DataSize, RecordsSize, Sharing}
+use Rattle.dns_spec.specs.Sharing.NameSize.{whole, shared}
+use Rattle.dns_spec.specs.Sharing.DataSize.{no_parts, after_octets, after_name}
+use Rattle.dns_spec.specs.Sharing.RecordsSize.{no_records, after_record}
+use Rattle.dns_spec.specs.UnboundedLayout.{unbounded_octets, unbounded_data, unbounded_record, unbounded_records, unbounded_layout, unbounded_cost, unbounded_data_size, unbounded_record_size, unbounded_records_size, unbounded_size}
+use Rattle.dns_spec.proofs.Layouts.LayoutSize.{length-record_tail}
+
+-- a name has a place exactly where an earlier name has it as a suffix
+abbrev pub unplaced : List Placed → List DomainName
+unplaced = map (λ (m : Placed). m.0)
+
+placed_else : (m : Placed) (ms : List Placed) (s : DomainName) (t : Bool) → is_some (place_of ms s) ≡ list_any (λ x. has_suffix x s) (unplaced ms)
+    → is_some (cond t (Some (suffix_place m s)) (place_of ms s)) ≡ (t || list_any (λ x. has_suffix x s) (unplaced ms))
+placed_else m ms s true h = refl
+placed_else m ms s false h = h
+
+pub placed : (ms : List Placed) (s : DomainName) → is_some (place_of ms s) ≡ list_any (λ x. has_suffix x s) (unplaced ms)
+placed [] s = refl
+placed (m ∷ ms) s = placed_else m ms s (has_suffix m.0 s) (placed ms s)
+
+pub length-unbounded_octets : (ms : List Placed) (n : DomainName) → length (unbounded_octets ms n) ≡ unbounded_cost (unplaced ms) n
+unfolding unbounded_octets unbounded_cost
+length-unbounded_octets ms [] = refl
+length-unbounded_octets ms (l ∷ n) =
+    go (place_of ms (l ∷ n)) (length-unbounded_octets ms n)
+    ∙ ap (λ (t : Bool). elim t as (λ _. ℕ) [ true ↦ 2 | false ↦ 1 + length l + unbounded_cost (unplaced ms) n ]) (placed ms (l ∷ n))
+  where
+    go : (x : Option ℕ) → length (unbounded_octets ms n) ≡ unbounded_cost (unplaced ms) n
+        → length (elim x as (λ _. Octets) [ None ↦ length l ∷ (l ++ unbounded_octets ms n) | Some p ↦ pointer p ])
+        ≡ elim (is_some x) as (λ _. ℕ) [ true ↦ 2 | false ↦ 1 + length l + unbounded_cost (unplaced ms) n ]
+    go None h = omega (arith, length-append l (unbounded_octets ms n), h)
+    go (Some p) h = refl
+
+pub unplaced-push : (ms : List Placed) (n : DomainName) (p : ℕ) → unplaced (ms ++ (n, p) ∷ []) ≡ unplaced ms ++ n ∷ []
+unplaced-push ms n p = map-append (λ (m : Placed). m.0) ms ((n, p) ∷ [])
+
+pub length-unbounded_data : (ms : List Placed) (p : ℕ) (ps : List Part) → length (unbounded_data ms p ps).written ≡ unbounded_data_size (unplaced ms) ps
+unfolding unbounded_data unbounded_data_size
+length-unbounded_data ms p [] = refl
+length-unbounded_data ms p (octets o ∷ ps) =
+    length-append o (unbounded_data ms (p + length o) ps).written ∙ ap (λ z. length o + z) (length-unbounded_data ms (p + length o) ps)
+length-unbounded_data ms p (name n ∷ ps) =
+    let w = unbounded_octets ms n in
+    length-append w (unbounded_data (ms ++ (n, p) ∷ []) (p + length w) ps).written
+    ∙ ap₂ ◌+◌ (length-unbounded_octets ms n)
+    (length-unbounded_data (ms ++ (n, p) ∷ []) (p + length w) ps ∙ ap (λ z. unbounded_data_size z ps) (unplaced-push ms n p))
+
+pub unplaced-unbounded_data : (ms : List Placed) (p : ℕ) (ps : List Part) → unplaced (unbounded_data ms p ps).names ≡ names_in ps
+unfolding unbounded_data
+unplaced-unbounded_data ms p [] = refl
+unplaced-unbounded_data ms p (octets o ∷ ps) = unplaced-unbounded_data ms (p + length o) ps
+unplaced-unbounded_data ms p (name n ∷ ps) = ap (λ z. n ∷ z) (unplaced-unbounded_data (ms ++ (n, p) ∷ []) (p + length (unbounded_octets ms n)) ps)
+
+length-unbounded_record : (ms : List Placed) (p : ℕ) (r : ResourceRecord) → length (unbounded_record ms p r).written ≡ unbounded_record_size (unplaced ms) r
+length-unbounded_record ms p r =
+    let owner = unbounded_octets ms r.owner in
+    let earlier = ms ++ (r.owner, p) ∷ [] in
+    let d = (unbounded_data earlier (p + length owner + 10) (parts_of r)).written in
+    let d-len : length d ≡ unbounded_data_size (unplaced ms ++ r.owner ∷ []) (parts_of r) =
+    length-unbounded_data earlier (p + length owner + 10) (parts_of r) ∙ ap (λ z. unbounded_data_size z (parts_of r)) (unplaced-push ms r.owner p) in
+    length-append owner (record_tail r d) ∙ omega (arith, length-record_tail r d, length-unbounded_octets ms r.owner, d-len)
+
+unplaced-unbounded_record : (ms : List Placed) (p : ℕ) (r : ResourceRecord) → unplaced (ms ++ (unbounded_record ms p r).names) ≡ unplaced ms ++ names_of r
+unplaced-unbounded_record ms p r =
+    let earlier = ms ++ (r.owner, p) ∷ [] in
+    let place = p + length (unbounded_octets ms r.owner) + 10 in
+    map-append (λ (m : Placed). m.0) ms (unbounded_record ms p r).names
+    ∙ ap (λ z. unplaced ms ++ r.owner ∷ z) (unplaced-unbounded_data earlier place (parts_of r))
+
+pub length-unbounded_records : (ms : List Placed) (p : ℕ) (rs : List ResourceRecord) → length (unbounded_records ms p rs) ≡ unbounded_records_size (unplaced ms) rs
+unfolding unbounded_records unbounded_records_size
+length-unbounded_records ms p [] = refl
+length-unbounded_records ms p (r ∷ rs) =
+    let l = unbounded_record ms p r in
+    let rest = unbounded_records (ms ++ l.names) (p + length l.written) rs in
+    length-append l.written rest
+    ∙ ap₂ ◌+◌ (length-unbounded_record ms p r)
+    (length-unbounded_records (ms ++ l.names) (p + length l.written) rs ∙ ap (λ z. unbounded_records_size z rs) (unplaced-unbounded_record ms p r))
+
+unplaced-asked : (q : Option MessageQuestion) → unplaced (asked_placed q) ≡ asked_names q
+unplaced-asked None = refl
+unplaced-asked (Some q) = refl
+
+pub length-unbounded_layout : (h : Header) (q : Option MessageQuestion) (items : List Item) → length (unbounded_layout h q items) ≡ unbounded_size q items
+unfolding unbounded_layout unbounded_size
+length-unbounded_layout h q items =
+    let from = 12 + length (asked_octets q) in
+    let rs = records_of items in
+    length-append (reply_header h q items ++ asked_octets q) (unbounded_records (asked_placed q) from rs)
+    ∙ ap₂ ◌+◌ (length-append (reply_header h q items) (asked_octets q))
+    (length-unbounded_records (asked_placed q) from rs ∙ ap (λ ms. unbounded_records_size ms rs) (unplaced-asked q))
+
+abbrev any_has : List DomainName → DomainName → Bool
+any_has ms s = list_any (λ m. has_suffix m s) ms
+
+cost_shared : (ms : List DomainName) (l : Octets) (n : DomainName) → any_has ms (l ∷ n) ≡ true → unbounded_cost ms (l ∷ n) ≡ 2
+unfolding unbounded_cost
+cost_shared ms l n e = ap (λ (t : Bool). elim t as (λ _. ℕ) [ true ↦ 2 | false ↦ 1 + length l + unbounded_cost ms n ]) e
+
+cost_labelled : (ms : List DomainName) (l : Octets) (n : DomainName) → any_has ms (l ∷ n) ≡ false → unbounded_cost ms (l ∷ n) ≡ 1 + length l + unbounded_cost ms n
+unfolding unbounded_cost
+cost_labelled ms l n e = ap (λ (t : Bool). elim t as (λ _. ℕ) [ true ↦ 2 | false ↦ 1 + length l + unbounded_cost ms n ]) e
+
+cost_root : (ms : List DomainName) → unbounded_cost ms [] ≡ 1
+unfolding unbounded_cost
+cost_root ms = refl
+
+-- a label more in front of a name
+pub prefixed : {ms : List DomainName} {n : DomainName} {k : ℕ} (l : Octets) → NameSize ms n k → NameSize ms (l ∷ n) (1 + length l + k)
+prefixed {ms} l (whole n) = subst (NameSize ms (l ∷ n)) (omega (arith, length-append l (wire n))) (whole (l ∷ n))
+prefixed {ms} l (shared front m s h) = subst (NameSize ms (l ∷ front ++ m ∷ s)) (omega arith) (shared (l ∷ front) m s h)
+
+-- no size of a name is less than its cost
+wire_some : (n : DomainName) → 0 < length (wire n)
+wire_some [] = omega arith
+wire_some (l ∷ n) = omega arith
+
+cost_whole : (ms : List DomainName) (n : DomainName) → unbounded_cost ms n ≤ length (wire n)
+cost_whole ms [] = let e = cost_root ms in omega (arith, e)
+cost_whole ms (l ∷ n) = go (any_has ms (l ∷ n)) refl (cost_whole ms n)
+  where
+    go : (t : Bool) → any_has ms (l ∷ n) ≡ t → unbounded_cost ms n ≤ length (wire n) → unbounded_cost ms (l ∷ n) ≤ length (wire (l ∷ n))
+    go true e h = let c = cost_shared ms l n e in omega (arith, c, length-append l (wire n), wire_some n)
+    go false e h = let c = cost_labelled ms l n e in omega (arith, c, h, length-append l (wire n))
+
+cost_before : (ms : List DomainName) (front : DomainName) (l : Octets) (n : DomainName) → any_has ms (l ∷ n) ≡ true → unbounded_cost ms (front ++ l ∷ n) ≤ labels_size front + 2
+cost_before ms [] l n e = let c = cost_shared ms l n e in omega (arith, c)
+cost_before ms (k ∷ front) l n e = go (any_has ms (k ∷ front ++ l ∷ n)) refl (cost_before ms front l n e)
+  where
+    go : (t : Bool) → any_has ms (k ∷ (front ++ l ∷ n)) ≡ t → unbounded_cost ms (front ++ l ∷ n) ≤ labels_size front + 2 → unbounded_cost ms (k ∷ (front ++ l ∷ n)) ≤ labels_size (k ∷ front) + 2
+    go true f h = let c = cost_shared ms k (front ++ l ∷ n) f in omega (arith, c)
+    go false f h = let c = cost_labelled ms k (front ++ l ∷ n) f in omega (arith, c, h)
+
+cost_least : {ms : List DomainName} {n : DomainName} {k : ℕ} → NameSize ms n k → unbounded_cost ms n ≤ k
+cost_least {ms} (whole n) = cost_whole ms n
+cost_least {ms} (shared front l n h) = cost_before ms front l n h
+
+-- so it is for data and records
+data_least : {ms : List DomainName} {ps : List Part} {k : ℕ} → DataSize ms ps k → unbounded_data_size ms ps ≤ k
+unfolding unbounded_data_size
+data_least no_parts = omega arith
+data_least (after_octets o ps k d) = let h = data_least d in omega (arith, h)
+data_least (after_name n ps j k c d) = let g = cost_least c in let h = data_least d in omega (arith, g, h)
+
+records_least : {ms : List DomainName} {rs : List ResourceRecord} {k : ℕ} → RecordsSize ms rs k → unbounded_records_size ms rs ≤ k
+unfolding unbounded_records_size
+records_least no_records = omega arith
+records_least (after_record r rs i j k c d e) =
+    let f = cost_least c in let g = data_least d in let h = records_least e in omega (arith, f, g, h)
+
+pub unbounded_size_least : (q : Option MessageQuestion) (items : List Item) (z : ℕ) → Sharing q items z → unbounded_size q items ≤ z
+unfolding unbounded_size
+unbounded_size_least q items z s = let h = records_least s.sized in omega (arith, h, s.whole)

@@ -1,0 +1,292 @@
+-- The computed message is what octets spell.
+use Rattle.std.proofs.Common.{◌≡◌, ℕ, zero, suc, ◌+◌, ◌-◌, ◌<◌, ◌≤◌, Bool, true, false, ◌&&◌, cond, nat_lt, nat_le, ◌==◌, ◌↔◌, List, [], ◌∷◌, ◌++◌, length, take, drop, Option, None, Some, slice_get, option_map, option_and_then, refl, sym, ap, ◌∙◌, subst, arith}
+use Rattle.std.proofs.lemmas.Bool.{and_parts, and_from, leb-true, le-leb, ltb-true, lt-ltb, eqb-true, eq-eqb}
+use Rattle.std.proofs.lemmas.Option.{none-some, same_Some, cond_some, option_and_then_some, some_pair_parts}
+use Rattle.dns_spec.specs.Names.{Octets, DomainName, wire}
+use Rattle.dns_spec.specs.Data.{class_in, width, Piece, fixed, domain, string, strings, anything, pieces_of, are_strings}
+use Rattle.dns_spec.specs.Reading.{MessageQuestion, MessageRecord, DnsMessage, NameAt, OctetsAt, NumberAt, PiecesAt, DataAt, QuestionsAt, RecordAt, RecordsAt, Spells}
+use Rattle.dns_spec.specs.ComputedReading.{name_at, value_at, octets_upto, strings_only, piece_at, pieces_at, data_at, question_after, message_question_at, record_with, record_after, message_record_at, several, last_section, from_additionals, from_authorities, from_answers, message_at}
+use Rattle.dns_spec.proofs.Messages.NameReading.{name_at_computes}
+
+map_some : {X Y P : Type 0} (f : X → Y) (o : Option X) (y : Y) → option_map f o ≡ Some y → ((x : X) → o ≡ Some x → f x ≡ y → P) → P
+map_some f None y e k = absurd (none-some y e)
+map_some f (Some x) y e k = k x refl (same_Some (f x) y e)
+
+then_is : {X Y : Type 0} (f : X → Option Y) (o : Option X) (x : X) (y : Y) → o ≡ Some x → f x ≡ Some y → option_and_then f o ≡ Some y
+then_is f o x y e h = ap (option_and_then f) e ∙ h
+
+module _ (b : Octets) where
+  number_is : (i k : ℕ) → i + k ≤ length b → NumberAt b i k (value_at b i k)
+  number_is i k h = record { within = h; spelled = refl }
+
+  -- octets
+  octets_found : (i e : ℕ) (o : Octets) (j : ℕ) → octets_upto b i e ≡ Some (o, j) → OctetsAt b i e o × (e ≡ j)
+  octets_found i e o j h =
+      let c = cond_some (nat_le i e && nat_le e (length b)) (take (e - i) (drop i b), e) (o, j) h in
+      let p = and_parts (nat_le i e) (nat_le e (length b)) c.0 in
+      (record { ordered = leb-true i e p.0; within = leb-true e (length b) p.1; are = ap (λ z. z.0) c.1 }, ap (λ z. z.1) c.1)
+
+  octets_given : (i e : ℕ) (o : Octets) → OctetsAt b i e o → octets_upto b i e ≡ Some (o, e)
+  octets_given i e o h =
+      let t = and_from (nat_le i e) (nat_le e (length b)) (le-leb i e h.ordered) (le-leb e (length b) h.within) in
+      (λ k. cond (t k) (Some (h.are k, e)) None)
+
+  -- pieces of data
+  strings_found : (o o' : Octets) (j j' : ℕ) → strings_only (o, j) ≡ Some (o', j')
+      → (0 < length o) × (are_strings 0 o ≡ true) × (o ≡ o') × (j ≡ j')
+  strings_found o o' j j' h =
+      let c = cond_some (nat_lt 0 (length o) && are_strings 0 o) (o, j) (o', j') h in
+      let p = and_parts (nat_lt 0 (length o)) (are_strings 0 o) c.0 in
+      (ltb-true 0 (length o) p.0, p.1, ap (λ z. z.0) c.1, ap (λ z. z.1) c.1)
+
+  pieces_found : (ps : List Piece) (i e : ℕ) (d : Octets) → pieces_at b ps i e ≡ Some d → PiecesAt b ps i e d
+  unfolding pieces_at
+  pieces_found [] i e d h = let c = cond_some (i == e) [] d h in (eqb-true i e c.0, sym c.1)
+  pieces_found (fixed f ∷ ps) i e d h =
+      option_and_then_some (λ r. option_map (λ x. r.0 ++ x) (pieces_at b ps r.1 e)) (octets_upto b i (i + width f)) d h (λ r p q.
+      map_some (λ x. r.0 ++ x) (pieces_at b ps r.1 e) d q (λ rest s t.
+      let o = octets_found i (i + width f) r.0 r.1 p in
+      (r.0, rest, o.0, sym t, subst (λ j. PiecesAt b ps j e rest) (sym o.1) (pieces_found ps r.1 e rest s))))
+  pieces_found (domain ∷ ps) i e d h =
+      option_and_then_some (λ r. option_map (λ x. r.0 ++ x) (pieces_at b ps r.1 e)) (option_map (λ r. (wire r.0, r.1)) (name_at b i)) d h (λ r p q.
+      map_some (λ x. r.0 ++ x) (pieces_at b ps r.1 e) d q (λ rest s t.
+      map_some (λ r. (wire r.0, r.1)) (name_at b i) r p (λ n u v. (
+        n.0,
+        r.1,
+        rest,
+        subst (NameAt b i n.0) (ap (λ z. z.1) v) ((name_at_computes b i n.0 n.1).0 u),
+        sym t ∙ ap (λ z. z.0 ++ rest) (sym v),
+        pieces_found ps r.1 e rest s,
+      ))))
+  pieces_found (string ∷ ps) i e d h =
+      option_and_then_some (λ r. option_map (λ x. r.0 ++ x) (pieces_at b ps r.1 e)) (option_and_then (λ k. octets_upto b i (i + 1 + k)) (slice_get b i)) d h (λ r p q.
+      map_some (λ x. r.0 ++ x) (pieces_at b ps r.1 e) d q (λ rest s t.
+      option_and_then_some (λ k. octets_upto b i (i + 1 + k)) (slice_get b i) r p (λ k u v.
+      let o = octets_found i (i + 1 + k) r.0 r.1 v in
+      (k, r.0, rest, u, o.0, sym t, subst (λ j. PiecesAt b ps j e rest) (sym o.1) (pieces_found ps r.1 e rest s)))))
+  pieces_found (strings ∷ ps) i e d h =
+      option_and_then_some (λ r. option_map (λ x. r.0 ++ x) (pieces_at b ps r.1 e)) (option_and_then strings_only (octets_upto b i e)) d h (λ r p q.
+      map_some (λ x. r.0 ++ x) (pieces_at b ps r.1 e) d q (λ rest s t.
+      option_and_then_some strings_only (octets_upto b i e) r p (λ x u v.
+      let o = octets_found i e x.0 x.1 u in
+      let y = strings_found x.0 r.0 x.1 r.1 v in
+      let end : e ≡ r.1 = o.1 ∙ y.3 in (
+        r.0,
+        rest,
+        r.1,
+        subst (λ z. OctetsAt b i z r.0) end (subst (OctetsAt b i e) y.2 o.0),
+        subst (λ z. 0 < length z) y.2 y.0,
+        subst (λ z. are_strings 0 z ≡ true) y.2 y.1,
+        sym t,
+        sym end,
+        pieces_found ps r.1 e rest s,
+      ))))
+  pieces_found (anything ∷ ps) i e d h =
+      option_and_then_some (λ r. option_map (λ x. r.0 ++ x) (pieces_at b ps r.1 e)) (octets_upto b i e) d h (λ r p q.
+      map_some (λ x. r.0 ++ x) (pieces_at b ps r.1 e) d q (λ rest s t.
+      let o = octets_found i e r.0 r.1 p in
+      (r.0, rest, r.1, subst (λ z. OctetsAt b i z r.0) o.1 o.0, sym t, sym o.1, pieces_found ps r.1 e rest s)))
+
+  piece_given : (p : Piece) (ps : List Piece) (i e j : ℕ) (o rest d : Octets) → piece_at b p i e ≡ Some (o, j) → pieces_at b ps j e ≡ Some rest → d ≡ o ++ rest
+      → pieces_at b (p ∷ ps) i e ≡ Some d
+  unfolding pieces_at
+  piece_given p ps i e j o rest d h g s =
+      ap (option_and_then (λ (r : Octets × ℕ). option_map (λ x. r.0 ++ x) (pieces_at b ps r.1 e))) h
+      ∙ ap (option_map (λ x. o ++ x)) g ∙ ap (λ x. Some x) (sym s)
+
+  nil_given : (i e : ℕ) → i ≡ e → pieces_at b [] i e ≡ Some []
+  unfolding pieces_at
+  nil_given i e h = ap (λ (z : Bool). cond {A = Option Octets} z (Some []) None) (eq-eqb i e h)
+
+  pieces_given : (ps : List Piece) (i e : ℕ) (d : Octets) → PiecesAt b ps i e d → pieces_at b ps i e ≡ Some d
+  pieces_given [] i e d h = nil_given i e h.0 ∙ ap (λ x. Some x) (sym h.1)
+  pieces_given (fixed f ∷ ps) i e d h =
+      piece_given (fixed f) ps i e (i + width f) h.0 h.1 d (octets_given i (i + width f) h.0 h.2) (pieces_given ps (i + width f) e h.1 h.4) h.3
+  pieces_given (domain ∷ ps) i e d h =
+      piece_given domain ps i e h.1 (wire h.0) h.2 d (ap (option_map (λ r. (wire r.0, r.1))) ((name_at_computes b i h.0 h.1).1 h.3)) (pieces_given ps h.1 e h.2 h.5) h.4
+  pieces_given (string ∷ ps) i e d h =
+      piece_given string ps i e (i + 1 + h.0) h.1 h.2 d (then_is (λ k. octets_upto b i (i + 1 + k)) (slice_get b i) h.0 (h.1, i + 1 + h.0) h.3 (octets_given i (i + 1 + h.0) h.1 h.4))
+      (pieces_given ps (i + 1 + h.0) e h.2 h.6) h.5
+  pieces_given (strings ∷ ps) i e d h =
+      let whole = octets_given i e h.0 (subst (λ z. OctetsAt b i z h.0) h.7 h.3) in
+      let test = and_from (nat_lt 0 (length h.0)) (are_strings 0 h.0) (lt-ltb 0 (length h.0) h.4) h.5 in
+      piece_given strings ps i e e h.0 h.1 d (then_is strings_only (octets_upto b i e) (h.0, e) (h.0, e) whole (ap (λ t. cond t (Some (h.0, e)) None) test))
+      (pieces_given ps e e h.1 (subst (λ z. PiecesAt b ps z e h.1) h.7 h.8)) h.6
+  pieces_given (anything ∷ ps) i e d h =
+      piece_given anything ps i e e h.0 h.1 d (octets_given i e h.0 (subst (λ z. OctetsAt b i z h.0) h.5 h.3))
+      (pieces_given ps e e h.1 (subst (λ z. PiecesAt b ps z e h.1) h.5 h.6)) h.4
+
+  data_found : (t c i e : ℕ) (d : Octets) → data_at b t c i e ≡ Some d → DataAt b t c i e d
+  data_found t c i e d h = go (nat_le i e && nat_le e (length b)) refl h
+    where
+      ps : List Piece
+      ps = cond (c == class_in) (pieces_of t) (anything ∷ [])
+
+      go : (x : Bool) → (nat_le i e && nat_le e (length b)) ≡ x → cond x (pieces_at b ps i e) None ≡ Some d → DataAt b t c i e d
+      go true q g =
+          let p = and_parts (nat_le i e) (nat_le e (length b)) q in
+          (leb-true i e p.0, leb-true e (length b) p.1, pieces_found ps i e d g)
+      go false q g = absurd (none-some d g)
+
+  data_given : (t c i e : ℕ) (d : Octets) → DataAt b t c i e d → data_at b t c i e ≡ Some d
+  data_given t c i e d h =
+      ap (λ x. cond x (pieces_at b (cond (c == class_in) (pieces_of t) (anything ∷ [])) i e) None)
+      (and_from (nat_le i e) (nat_le e (length b)) (le-leb i e h.0) (le-leb e (length b) h.1))
+      ∙ pieces_given (cond (c == class_in) (pieces_of t) (anything ∷ [])) i e d h.2
+
+  -- questions
+  questions_found : (k i : ℕ) (qs : List MessageQuestion) (e : ℕ) → several (message_question_at b) k i ≡ Some (qs, e) → QuestionsAt b i qs e × (length qs ≡ k)
+  unfolding several
+  questions_found zero i qs e h =
+      let p = some_pair_parts [] qs i e h in
+      (subst (λ z. QuestionsAt b i z e) p.0 p.1, ap length (sym p.0))
+  questions_found (suc k) i qs e h =
+      option_and_then_some (λ r. option_map (λ s. (r.0 ∷ s.0, s.1)) (several (message_question_at b) k r.1)) (message_question_at b i) (qs, e) h (λ r p g.
+      map_some (λ s. (r.0 ∷ s.0, s.1)) (several (message_question_at b) k r.1) (qs, e) g (λ s u v.
+      option_and_then_some (question_after b) (name_at b i) r p (λ n w x.
+      let c = cond_some (nat_le (n.1 + 4) (length b)) (record { qname = n.0; qtype = value_at b n.1 2; qclass = value_at b (n.1 + 2) 2 }, n.1 + 4) r x in
+      let room = leb-true (n.1 + 4) (length b) c.0 in
+      let rest = questions_found k r.1 s.0 s.1 u in
+      let one : QuestionsAt b i (record { qname = n.0; qtype = value_at b n.1 2; qclass = value_at b (n.1 + 2) 2 } ∷ s.0) s.1 = (
+        n.1,
+        (name_at_computes b i n.0 n.1).0 w,
+        number_is n.1 2 (omega (arith, room)),
+        number_is (n.1 + 2) 2 (omega (arith, room)),
+        subst (λ z. QuestionsAt b z s.0 s.1) (sym (ap (λ z. z.1) c.1)) rest.0,
+      ) in
+      let same : (record { qname = n.0; qtype = value_at b n.1 2; qclass = value_at b (n.1 + 2) 2 } ∷ s.0, s.1) ≡ (qs, e) = ap (λ z. (z.0 ∷ s.0, s.1)) c.1 ∙ v in
+      (subst (λ (z : List MessageQuestion × ℕ). QuestionsAt b i z.0 z.1) same one, ap length (sym (ap (λ z. z.0) same)) ∙ ap suc rest.1))))
+
+  questions_given : (qs : List MessageQuestion) (i e : ℕ) → QuestionsAt b i qs e → several (message_question_at b) (length qs) i ≡ Some (qs, e)
+  unfolding several
+  questions_given [] i e h = ap (λ z. Some ([], z)) h
+  questions_given (q ∷ qs) i e h =
+      let j = h.0 in
+      let name = (name_at_computes b i q.qname j).1 h.1 in
+      let within = h.3.within in
+      let fits : nat_le (j + 4) (length b) ≡ true = le-leb (j + 4) (length b) (omega (arith, within)) in
+      let first : message_question_at b i ≡ Some (q, j + 4) =
+      then_is (question_after b) (name_at b i) (q.qname, j) (q, j + 4) name
+      (λ k. cond (fits k) (Some (record { qname = q.qname; qtype = (sym h.2.spelled) k; qclass = (sym h.3.spelled) k }, j + 4)) None) in
+      then_is (λ r. option_map (λ s. (r.0 ∷ s.0, s.1)) (several (message_question_at b) (length qs) r.1)) (message_question_at b i) (q, j + 4) (q ∷ qs, e) first
+      (ap (option_map (λ s. (q ∷ s.0, s.1))) (questions_given qs (j + 4) e h.4))
+
+  -- records
+  record_found : (i : ℕ) (r : MessageRecord) (e : ℕ) → message_record_at b i ≡ Some (r, e) → (j : ℕ) × (len : ℕ) × RecordAt b i r j len × (j + 10 + len ≡ e)
+  record_found i r e h =
+      option_and_then_some (record_after b) (name_at b i) (r, e) h (λ n w x. go n.0 n.1 ((name_at_computes b i n.0 n.1).0 w) (nat_le (n.1 + 10) (length b)) refl x)
+    where
+      go : (n : DomainName) (j : ℕ) → NameAt b i n j → (t : Bool) → nat_le (j + 10) (length b) ≡ t
+          → cond t (option_map (record_with b (n, j)) (data_at b (value_at b j 2) (value_at b (j + 2) 2) (j + 10) (j + 10 + value_at b (j + 8) 2))) None ≡ Some (r, e)
+          → (j : ℕ) × (len : ℕ) × RecordAt b i r j len × (j + 10 + len ≡ e)
+      go n j at false p x = absurd (none-some (r, e) x)
+      go n j at true p x =
+          let room = leb-true (j + 10) (length b) p in
+          let len = value_at b (j + 8) 2 in
+          map_some (record_with b (n, j)) (data_at b (value_at b j 2) (value_at b (j + 2) 2) (j + 10) (j + 10 + len)) (r, e) x (λ d u v.
+          let found : RecordAt b i (record { owner = n; rtype = value_at b j 2; rclass = value_at b (j + 2) 2; ttl = value_at b (j + 4) 4; rdata = d }) j len =
+          record {
+            owner = at;
+            rtype = number_is j 2 (omega (arith, room));
+            rclass = number_is (j + 2) 2 (omega (arith, room));
+            ttl = number_is (j + 4) 4 (omega (arith, room));
+            length = number_is (j + 8) 2 (omega (arith, room));
+            rdata = data_found (value_at b j 2) (value_at b (j + 2) 2) (j + 10) (j + 10 + len) d u;
+          } in
+          (j, len, subst (λ z. RecordAt b i z j len) (ap (λ z. z.0) v) found, ap (λ z. z.1) v))
+
+  record_given : (i : ℕ) (r : MessageRecord) (j len : ℕ) → RecordAt b i r j len → message_record_at b i ≡ Some (r, j + 10 + len)
+  record_given i r j len h =
+      let name = (name_at_computes b i r.owner j).1 h.owner in
+      let within = h.length.within in
+      let fits : nat_le (j + 10) (length b) ≡ true = le-leb (j + 10) (length b) (omega (arith, within)) in
+      let found = data_given r.rtype r.rclass (j + 10) (j + 10 + len) r.rdata h.rdata in
+      let t = sym h.rtype.spelled in
+      let c = sym h.rclass.spelled in
+      let l = sym h.length.spelled in
+      then_is (record_after b) (name_at b i) (r.owner, j) (r, j + 10 + len) name (
+      (λ k. cond (fits k) (option_map (λ d. (record { owner = r.owner; rtype = t k; rclass = c k; ttl = (sym h.ttl.spelled) k; rdata = d }, j + 10 + l k))
+      (data_at b (t k) (c k) (j + 10) (j + 10 + l k))) None)
+      ∙ ap (option_map (λ d. (record { owner = r.owner; rtype = r.rtype; rclass = r.rclass; ttl = r.ttl; rdata = d }, j + 10 + len))) found)
+
+  records_found : (k i : ℕ) (rs : List MessageRecord) (e : ℕ) → several (message_record_at b) k i ≡ Some (rs, e) → RecordsAt b i rs e × (length rs ≡ k)
+  unfolding several
+  records_found zero i rs e h =
+      let p = some_pair_parts [] rs i e h in
+      (subst (λ z. RecordsAt b i z e) p.0 p.1, ap length (sym p.0))
+  records_found (suc k) i rs e h =
+      option_and_then_some (λ r. option_map (λ s. (r.0 ∷ s.0, s.1)) (several (message_record_at b) k r.1)) (message_record_at b i) (rs, e) h (λ r p g.
+      map_some (λ s. (r.0 ∷ s.0, s.1)) (several (message_record_at b) k r.1) (rs, e) g (λ s u v.
+      let one = record_found i r.0 r.1 p in
+      let rest = records_found k r.1 s.0 s.1 u in
+      let whole : RecordsAt b i (r.0 ∷ s.0) s.1 = (one.0, one.1, one.2, subst (λ z. RecordsAt b z s.0 s.1) (sym one.3) rest.0) in
+      (subst (λ (z : List MessageRecord × ℕ). RecordsAt b i z.0 z.1) v whole, ap length (sym (ap (λ z. z.0) v)) ∙ ap suc rest.1)))
+
+  records_given : (rs : List MessageRecord) (i e : ℕ) → RecordsAt b i rs e → several (message_record_at b) (length rs) i ≡ Some (rs, e)
+  unfolding several
+  records_given [] i e h = ap (λ z. Some ([], z)) h
+  records_given (r ∷ rs) i e h =
+      then_is (λ r. option_map (λ s. (r.0 ∷ s.0, s.1)) (several (message_record_at b) (length rs) r.1)) (message_record_at b i) (r, h.0 + 10 + h.1) (r ∷ rs, e)
+      (record_given i r h.0 h.1 h.2) (ap (option_map (λ s. (r ∷ s.0, s.1))) (records_given rs (h.0 + 10 + h.1) e h.3))
+
+  -- the message
+  message_found : (m : DnsMessage) → message_at b ≡ Some m → Spells b m
+  unfolding message_at
+  message_found m h = go (nat_le 12 (length b)) refl h
+    where
+      go : (t : Bool) → nat_le 12 (length b) ≡ t
+          → cond t (option_and_then (from_answers b) (several (message_question_at b) (value_at b 4 2) 12)) None ≡ Some m → Spells b m
+      go false p g = absurd (none-some m g)
+      go true p g =
+          let room = leb-true 12 (length b) p in
+          option_and_then_some (from_answers b) (several (message_question_at b) (value_at b 4 2) 12) m g (λ q q-is g1.
+          option_and_then_some (from_authorities b q.0) (several (message_record_at b) (value_at b 6 2) q.1) m g1 (λ a a-is g2.
+          option_and_then_some (from_additionals b q.0 a.0) (several (message_record_at b) (value_at b 8 2) a.1) m g2 (λ n n-is g3.
+          option_and_then_some (last_section b q.0 a.0 n.0) (several (message_record_at b) (value_at b 10 2) n.1) m g3 (λ r r-is g4.
+          let whole : DnsMessage = record { header = record { id = value_at b 0 2; flags = value_at b 2 2 }; questions = q.0; answers = a.0; authorities = n.0; additionals = r.0 } in
+          let c = cond_some (r.1 == length b) whole m g4 in
+          let qs = questions_found (value_at b 4 2) 12 q.0 q.1 q-is in
+          let ans = records_found (value_at b 6 2) q.1 a.0 a.1 a-is in
+          let auth = records_found (value_at b 8 2) a.1 n.0 n.1 n-is in
+          let more = records_found (value_at b 10 2) n.1 r.0 r.1 r-is in
+          let spelled : Spells b whole = record {
+            id = number_is 0 2 (omega (arith, room));
+            flags = number_is 2 2 (omega (arith, room));
+            qdcount = record { within = omega (arith, room); spelled = qs.1 };
+            ancount = record { within = omega (arith, room); spelled = ans.1 };
+            nscount = record { within = omega (arith, room); spelled = auth.1 };
+            arcount = record { within = omega (arith, room); spelled = more.1 };
+            after_questions = q.1;
+            after_answers = a.1;
+            after_authorities = n.1;
+            questions = qs.0;
+            answers = ans.0;
+            authorities = auth.0;
+            additionals = subst (RecordsAt b n.1 r.0) (eqb-true r.1 (length b) c.0) more.0;
+          } in
+          subst (Spells b) c.1 spelled))))
+
+  message_given : (m : DnsMessage) → Spells b m → message_at b ≡ Some m
+  unfolding message_at
+  message_given m h =
+      let within = h.arcount.within in
+      let room : nat_le 12 (length b) ≡ true = le-leb 12 (length b) (omega (arith, within)) in
+      let count = λ (i : ℕ) (f : List MessageRecord) (s : NumberAt b i 2 (length f)) (p e : ℕ) (g : RecordsAt b p f e).
+      ap (λ k. several (message_record_at b) k p) (sym s.spelled) ∙ records_given f p e g in
+      let qs = ap (λ k. several (message_question_at b) k 12) (sym h.qdcount.spelled) ∙ questions_given m.questions 12 h.after_questions h.questions in
+      let last : last_section b m.questions m.answers m.authorities (m.additionals, length b) ≡ Some m =
+      λ k. cond (eq-eqb (length b) (length b) refl k) (Some (record {
+        header = record { id = (sym h.id.spelled) k; flags = (sym h.flags.spelled) k };
+        questions = m.questions;
+        answers = m.answers;
+        authorities = m.authorities;
+        additionals = m.additionals;
+      })) None in
+      ap (λ t. cond t (option_and_then (from_answers b) (several (message_question_at b) (value_at b 4 2) 12)) None) room
+      ∙ then_is (from_answers b) (several (message_question_at b) (value_at b 4 2) 12) (m.questions, h.after_questions) m qs
+      (then_is (from_authorities b m.questions) (several (message_record_at b) (value_at b 6 2) h.after_questions) (m.answers, h.after_answers) m (count 6 m.answers h.ancount h.after_questions h.after_answers h.answers)
+      (then_is (from_additionals b m.questions m.answers) (several (message_record_at b) (value_at b 8 2) h.after_answers) (m.authorities, h.after_authorities) m (count 8 m.authorities h.nscount h.after_answers h.after_authorities h.authorities)
+      (then_is (last_section b m.questions m.answers m.authorities) (several (message_record_at b) (value_at b 10 2) h.after_authorities) (m.additionals, length b) m (count 10 m.additionals h.arcount h.after_authorities (length b) h.additionals) last)))
+
+pub message_at_computes : (b : Octets) (m : DnsMessage) → (message_at b ≡ Some m) ↔ Spells b m
+message_at_computes b m = (message_found b m, message_given b m)

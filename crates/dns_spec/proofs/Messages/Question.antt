@@ -1,0 +1,36 @@
+-- A question ends by octet 271: directly after the header a name is written out.
+use Rattle.std.proofs.Common.{◌≡◌, ℕ, ◌+◌, ◌≤◌, eqb, nat_le, length, drop, Option, None, Some, refl, ap, ◌∙◌, arith, length-append, length-drop}
+use Rattle.std.proofs.lemmas.Bool.{and_parts, leb-true, eqb-true}
+use Rattle.std.proofs.lemmas.Option.{none-some, cond_some}
+use Rattle.std.proofs.lemmas.List.{length-take-le}
+use Rattle.std.specs.List.{list_all}
+use Rattle.dns_spec.specs.Names.{Octets, DomainName, wire, is_label}
+use Rattle.dns_spec.specs.Reading.{MessageQuestion, RunAt, NameAt}
+use Rattle.dns_spec.specs.ComputedReading.{name_at}
+use Rattle.dns_spec.specs.Reading.RunAt.{ends, goes_on, jumps}
+use Rattle.dns_spec.specs.Query.{field16, question_of, question_at}
+use Rattle.dns_spec.proofs.Messages.NameReading.{name_at_computes}
+
+-- a run that begins by the end of the header has no pointer: it ends after its own labels
+written_out : {b : Octets} {s i e : ℕ} {n : DomainName} → RunAt b s i n e → s ≤ 12 → e ≡ i + length (wire n)
+written_out (ends i at) h = refl
+written_out {b} (goes_on i k l n e at pos low inside is rest) h =
+    let here : length l ≡ k = ap length is ∙ length-take-le k (drop (i + 1) b) (omega (arith, length-drop (i + 1) b)) in
+    omega (arith, here, written_out rest h, length-append l (wire n))
+written_out (jumps i o o' p n e at top at' is from before rest) h = absurd (omega arith)
+
+pub name_at_12_ends : (d : Octets) (n : DomainName) (e : ℕ) → NameAt d 12 n e → e ≡ 12 + length (wire n)
+name_at_12_ends d n e h = written_out h.0 (omega arith)
+
+pub question_ends : (d : Octets) (q : MessageQuestion) → question_at d ≡ Some q → length d ≤ 271
+unfolding question_at
+question_ends d q h = go (name_at d 12) refl h
+  where
+    go : (x : Option (DomainName × ℕ)) → name_at d 12 ≡ x
+        → ◌≡◌ {A = Option MessageQuestion} (elim x [ None ↦ None | Some r ↦ question_of d r ]) (Some q) → length d ≤ 271
+    go None e f = absurd (none-some q f)
+    go (Some (n, e)) is f =
+        let c = cond_some (eqb (length d) (e + 4)) (record { qname = n; qtype = field16 d e; qclass = field16 d (e + 2) }) q f in
+        let at = (name_at_computes d 12 n e).0 is in
+        let short = leb-true (length (wire n)) 255 (and_parts (list_all is_label n) (nat_le (length (wire n)) 255) at.1).1 in
+        omega (arith, eqb-true (length d) (e + 4) c.0, name_at_12_ends d n e at, short)

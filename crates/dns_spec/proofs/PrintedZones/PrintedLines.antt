@@ -1,0 +1,196 @@
+-- The line of a record is read as the words of the record, and a line end.
+use Rattle.std.proofs.Common.{◌≡◌, ℕ, ◌<◌, Bool, true, false, ◌&&◌, ◌==◌, Some, None, Option, List, [], ◌∷◌, ◌++◌, map, length, nat_lt, refl, sym, ap, subst, arith, append_assoc, codes, decimal}
+use Rattle.std.proofs.lemmas.Bool.{and_parts, ltb-true}
+use Rattle.std.specs.Option.{option_map, unwrap_or}
+use Rattle.std.specs.List.{list_all, prefix_len, filter_map, join_with_byte}
+use Rattle.dns_spec.specs.Names.{Octets}
+use Rattle.dns_spec.specs.NameText.{name_text}
+use Rattle.dns_spec.specs.Data.{TypeRow, type_table, row_of}
+use Rattle.dns_spec.specs.TypeText.{numbered_type, type_text}
+use Rattle.dns_spec.specs.DataText.{Word}
+use Rattle.dns_spec.specs.WrittenText.{plain, word_text, written_words, data_text, is_bare, stands_alone}
+use Rattle.dns_spec.specs.Records.{ResourceRecord}
+use Rattle.dns_spec.specs.ZoneText.{Token, blank, word, quoted_string, line_end, is_blank, TokensThen, parenthesis, before_first, cut_entries, parentheses, word_of}
+use Rattle.dns_spec.specs.ZonePrinted.{IsReadRecord, record_line}
+use Rattle.dns_spec.proofs.Records.SortedOnce.{Each}
+use Rattle.dns_spec.proofs.DataWords.BareWords.{Bare, bare_append, bare_decimal}
+use Rattle.dns_spec.proofs.DataWords.StandingWords.{TakenWhole, Standing, bare_standing, decimal_standing, name_standing}
+use Rattle.dns_spec.proofs.DataWords.FormsAgain.{small_labels, some_labels}
+use Rattle.dns_spec.proofs.DataWords.SaidAgain.{entry_passes, words_alone, words_whole}
+use Rattle.dns_spec.proofs.ZoneTexts.ReadWords.{word_token, word_read, no_blank, blank_read, space_ends, line_ends}
+
+-- the words of a record's line
+abbrev pub first_words : ResourceRecord → List Word
+first_words r = plain (name_text r.owner) ∷ plain (decimal r.ttl) ∷ plain (codes "IN") ∷ plain (type_text r.rtype) ∷ []
+
+abbrev pub line_words : ResourceRecord → List Word
+line_words r = first_words r ++ written_words r.rtype r.rdata
+
+-- the tokens of words with a space between, and of a line end
+abbrev pub words_tokens : List Word → List Token
+words_tokens [] = line_end ∷ []
+words_tokens (w ∷ []) = word_token w ∷ line_end ∷ []
+words_tokens (w ∷ v ∷ ws) = word_token w ∷ blank ∷ words_tokens (v ∷ ws)
+
+-- words with a space after each, and then these tokens
+abbrev pub led : List Word → List Token → List Token
+led [] ps = ps
+led (w ∷ ws) ps = word_token w ∷ blank ∷ led ws ps
+
+abbrev pub line_tokens : ResourceRecord → List Token
+line_tokens r = led (first_words r) (words_tokens (written_words r.rtype r.rdata))
+
+-- words that are read whole
+record Read (w : Word) : Type 0 where
+  alone : stands_alone w ≡ true
+  whole : TakenWhole w
+
+standing_read : (w : Word) → Standing w → Read w
+standing_read w s = record { alone = s.alone; whole = s.whole }
+
+all_read : (ws : List Word) → list_all stands_alone ws ≡ true → Each TakenWhole ws → Each Read ws
+all_read [] alone whole = tt
+all_read (w ∷ ws) alone whole =
+    let p = and_parts (stands_alone w) (list_all stands_alone ws) alone in
+    (record { alone = p.0; whole = whole.0 }, all_read ws p.1 whole.1)
+
+-- what is read at a place that is no blank
+record Reads (text : Octets) (ps : List Token) (rest : Octets) : Type 0 where
+  tokens : TokensThen text ps rest
+  first : prefix_len is_blank text ≡ 0
+
+word_then : (w : Word) (ps : List Token) (text rest : Octets) → Read w → Reads text ps rest → Reads (word_text w ++ 32 ∷ text) (word_token w ∷ blank ∷ ps) rest
+word_then w ps text rest r more = record {
+  tokens = (32 ∷ text, word_read w 32 text r.alone r.whole (space_ends text), (text, blank_read text more.first, more.tokens));
+  first = no_blank w (32 ∷ text) r.alone;
+}
+
+words_then : (ws : List Word) (rest : Octets) → Each Read ws → Reads (join_with_byte 32 (map word_text ws) ++ 10 ∷ rest) (words_tokens ws) rest
+words_then [] rest reads = record { tokens = (rest, refl, refl); first = refl }
+words_then (w ∷ []) rest reads = record {
+  tokens = (10 ∷ rest, word_read w 10 rest reads.0.alone reads.0.whole (line_ends rest), (rest, refl, refl));
+  first = no_blank w (10 ∷ rest) reads.0.alone;
+}
+words_then (w ∷ v ∷ ws) rest reads =
+    let more = words_then (v ∷ ws) rest reads.1 in
+    let others = join_with_byte 32 (map word_text (v ∷ ws)) in
+    subst (λ t. Reads t (words_tokens (w ∷ v ∷ ws)) rest) (sym (append_assoc (word_text w) (32 ∷ others) (10 ∷ rest)))
+    (word_then w (words_tokens (v ∷ ws)) (others ++ 10 ∷ rest) rest reads.0 more)
+
+-- the first words of a line
+abbrev is_bare_text : Octets → Bool
+is_bare_text x = nat_lt 0 (length x) && list_all is_bare x
+
+bare_tested : (x : Octets) → list_all is_bare x ≡ true → Bare x
+bare_tested [] all = tt
+bare_tested (o ∷ x) all = let p = and_parts (is_bare o) (list_all is_bare x) all in (p.0, bare_tested x p.1)
+
+mnemonic_bare : (t : ℕ) (made : TypeRow) → row_of t ≡ Some made → is_bare_text made.mnemonic ≡ true
+mnemonic_bare t made e = entry_passes (λ (r : TypeRow). r.number == t) (λ (r : TypeRow). is_bare_text r.mnemonic) type_table made e refl
+
+type_standing : (t : ℕ) → t < 65536 → Standing (plain (type_text t))
+type_standing t small = go (row_of t) refl
+  where
+    go : (r : Option TypeRow) → row_of t ≡ r → Standing (plain (unwrap_or (option_map (λ (row : TypeRow). row.mnemonic) r) (numbered_type t)))
+    go None e = bare_standing (numbered_type t) (omega arith) (bare_append (codes "TYPE") (decimal t) (bare_tested (codes "TYPE") refl) (bare_decimal t (omega (arith, small))))
+    go (Some made) e =
+        let p = and_parts (nat_lt 0 (length made.mnemonic)) (list_all is_bare made.mnemonic) (mnemonic_bare t made e) in
+        bare_standing made.mnemonic (ltb-true 0 (length made.mnemonic) p.0) (bare_tested made.mnemonic p.1)
+
+first_read : (r : ResourceRecord) → IsReadRecord r → Each Read (first_words r)
+first_read r h = (
+  standing_read (plain (name_text r.owner)) (name_standing r.owner (small_labels r.owner h.owner_octets) (some_labels r.owner h.owner)),
+  (
+    standing_read (plain (decimal r.ttl)) (decimal_standing r.ttl (omega (arith, h.ttl))),
+    (
+      standing_read (plain (codes "IN")) (bare_standing (codes "IN") (omega arith) (refl, (refl, tt))),
+      (standing_read (plain (type_text r.rtype)) (type_standing r.rtype h.rtype), tt),
+    ),
+  ),
+)
+
+-- a line with a text after it
+line_split : (n t y d rest : Octets) → (n ++ codes " " ++ t ++ codes " IN " ++ y ++ codes " " ++ d ++ codes "\n") ++ rest
+    ≡ n ++ 32 ∷ (t ++ 32 ∷ (codes "IN" ++ 32 ∷ (y ++ 32 ∷ (d ++ 10 ∷ rest))))
+line_split n t y d rest = simp append_assoc
+
+line_read : (r : ResourceRecord) (rest : Octets) → IsReadRecord r → Reads (record_line r ++ rest) (line_tokens r) rest
+unfolding data_text
+line_read r rest h =
+    let ws = written_words r.rtype r.rdata in
+    let data_read = words_then ws rest (all_read ws (words_alone r.rtype r.rdata h.rdata_octets h.rdata) (words_whole r.rtype r.rdata h.rdata_octets h.rdata)) in
+    let firsts = first_read r h in
+    subst (λ t. Reads t (line_tokens r) rest) (sym (line_split (name_text r.owner) (decimal r.ttl) (type_text r.rtype) (data_text r.rtype r.rdata) rest))
+    (word_then (plain (name_text r.owner)) _ _ rest firsts.0
+    (word_then (plain (decimal r.ttl)) _ _ rest firsts.1.0
+    (word_then (plain (codes "IN")) _ _ rest firsts.1.1.0
+    (word_then (plain (type_text r.rtype)) _ _ rest firsts.1.1.1.0 data_read))))
+
+pub line_pieces_read : (r : ResourceRecord) (rest : Octets) → IsReadRecord r → TokensThen (record_line r ++ rest) (line_tokens r) rest
+line_pieces_read r rest h = (line_read r rest h).tokens
+
+-- a word's token is no parenthesis, and gives the word
+no_parenthesis : (w : Word) → parenthesis (word_token w) ≡ None
+no_parenthesis w = by w.raw w.is_quoted
+  where
+    by : (raw : Octets) (q : Bool) → parenthesis (word_token (record { raw = raw; is_quoted = q })) ≡ None
+    by raw true = refl
+    by raw false = refl
+
+token_word : (w : Word) → word_of (word_token w) ≡ Some w
+token_word w = by w.raw w.is_quoted
+  where
+    by : (raw : Octets) (q : Bool) → word_of (word_token (record { raw = raw; is_quoted = q })) ≡ Some (record { raw = raw; is_quoted = q })
+    by raw true = refl
+    by raw false = refl
+
+-- what the tokens after a line's words give
+cut_word : (w : Word) (ps e : List Token) (es : List (List Token)) → cut_entries false ps ≡ e ∷ es → cut_entries false (word_token w ∷ ps) ≡ (word_token w ∷ e) ∷ es
+cut_word w ps e es cut = by w.raw w.is_quoted
+  where
+    by : (raw : Octets) (q : Bool)
+        → cut_entries false (word_token (record { raw = raw; is_quoted = q }) ∷ ps) ≡ (word_token (record { raw = raw; is_quoted = q }) ∷ e) ∷ es
+    by raw true = ap (before_first (quoted_string raw)) cut
+    by raw false = ap (before_first (word raw)) cut
+
+cut_words : (ws : List Word) (ps : List Token) → cut_entries false (words_tokens ws ++ ps) ≡ words_tokens ws ∷ cut_entries false ps
+cut_words [] ps = refl
+cut_words (w ∷ []) ps = cut_word w (line_end ∷ ps) (line_end ∷ []) (cut_entries false ps) refl
+cut_words (w ∷ v ∷ ws) ps =
+    cut_word w (blank ∷ (words_tokens (v ∷ ws) ++ ps)) (blank ∷ words_tokens (v ∷ ws)) (cut_entries false ps)
+    (ap (before_first blank) (cut_words (v ∷ ws) ps))
+
+cut_led : (ws : List Word) (qs ps : List Token) → cut_entries false (qs ++ ps) ≡ qs ∷ cut_entries false ps
+    → cut_entries false (led ws qs ++ ps) ≡ led ws qs ∷ cut_entries false ps
+cut_led [] qs ps cut = cut
+cut_led (w ∷ ws) qs ps cut =
+    cut_word w (blank ∷ (led ws qs ++ ps)) (blank ∷ led ws qs) (cut_entries false ps) (ap (before_first blank) (cut_led ws qs ps cut))
+
+pub line_cut : (r : ResourceRecord) (ps : List Token) → cut_entries false (line_tokens r ++ ps) ≡ line_tokens r ∷ cut_entries false ps
+line_cut r ps =
+    let qs = words_tokens (written_words r.rtype r.rdata) in
+    cut_led (first_words r) qs ps (cut_words (written_words r.rtype r.rdata) ps)
+
+words_parentheses : (ws : List Word) → parentheses (words_tokens ws) ≡ []
+words_parentheses [] = refl
+words_parentheses (w ∷ []) = rw (no_parenthesis w) refl
+words_parentheses (w ∷ v ∷ ws) = rw (no_parenthesis w) (words_parentheses (v ∷ ws))
+
+led_parentheses : (ws : List Word) (ps : List Token) → parentheses ps ≡ [] → parentheses (led ws ps) ≡ []
+led_parentheses [] ps none = none
+led_parentheses (w ∷ ws) ps none = rw (no_parenthesis w) (led_parentheses ws ps none)
+
+pub line_parentheses : (r : ResourceRecord) → parentheses (line_tokens r) ≡ []
+line_parentheses r = led_parentheses (first_words r) (words_tokens (written_words r.rtype r.rdata)) (words_parentheses (written_words r.rtype r.rdata))
+
+words_again : (ws : List Word) → filter_map word_of (words_tokens ws) ≡ ws
+words_again [] = refl
+words_again (w ∷ []) = rw (token_word w) refl
+words_again (w ∷ v ∷ ws) = rw (token_word w) (ap (λ x. w ∷ x) (words_again (v ∷ ws)))
+
+led_again : (ws vs : List Word) (ps : List Token) → filter_map word_of ps ≡ vs → filter_map word_of (led ws ps) ≡ ws ++ vs
+led_again [] vs ps again = again
+led_again (w ∷ ws) vs ps again = rw (token_word w) (ap (λ x. w ∷ x) (led_again ws vs ps again))
+
+pub line_words_again : (r : ResourceRecord) → filter_map word_of (line_tokens r) ≡ line_words r
+line_words_again r = led_again (first_words r) (written_words r.rtype r.rdata) (words_tokens (written_words r.rtype r.rdata)) (words_again (written_words r.rtype r.rdata))

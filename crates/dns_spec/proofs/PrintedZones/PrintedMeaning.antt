@@ -1,0 +1,218 @@
+-- The text of records means these records.
+use Rattle.std.proofs.Common.{◌≡◌, ℕ, suc, ◌+◌, ◌<◌, ◌≤◌, ◌^◌, ◌⊎◌, inl, inr, Bool, true, false, cond, ◌||◌, ◌==◌, All, Some, None, Option, List, [], ◌∷◌, ◌++◌, map, length, take, refl, sym, ◌∙◌, ap, subst, arith, append_assoc, codes, decimal}
+use Rattle.std.proofs.lemmas.Bool.{false≢true, cases_Bool, eqb-true, lt-leb, le-ltb, le-leb, and_from}
+use Rattle.std.proofs.lemmas.List.{take_all}
+use Rattle.std.proofs.lemmas.Option.{none-some, same_Some}
+use Rattle.std.proofs.lemmas.Fmt.{decimal_is_IsNumeral, decimal_nonempty}
+use Rattle.std.proofs.lemmas.Str.Parse.{digit_from_value}
+use Rattle.std.specs.Prelude.{MatchOption, if◌then◌else◌}
+use Rattle.std.specs.Option.{option_map, unwrap_or}
+use Rattle.std.specs.List.{list_any, find, filter, flat_map}
+use Rattle.std.specs.Char.{is_ascii_graphic, is_ascii_digit}
+use Rattle.std.specs.Str.Parse.{AllDigits}
+use Rattle.dns_spec.specs.Names.{Octets, DomainName}
+use Rattle.dns_spec.specs.NameText.{SpellsName, is_special, octet_text, label_text, labels_text, name_text}
+use Rattle.dns_spec.specs.Data.{TypeRow, type_table, row_of}
+use Rattle.dns_spec.specs.TypeText.{text_in_lower_case, numbered_type, type_text, type_by_mnemonic, NamesType}
+use Rattle.dns_spec.specs.DataText.{Word, Says}
+use Rattle.dns_spec.specs.WrittenText.{plain, written_words}
+use Rattle.dns_spec.specs.Records.{ResourceRecord}
+use Rattle.dns_spec.specs.ZoneText.{Token, most_octets, TokensThen, take_turns, cut_entries, begins_with, Entry, Entries, ended, with_end, lexical_fault, whole_text, extent_by}
+use Rattle.dns_spec.specs.FileFaults.{bad_owner, bad_parenthesis}
+use Rattle.dns_spec.specs.Meaning.{faulty, gives, no_words, directive, owned, unowned, sort_by_words, sort_of, Fields, fields, is_ttl_word, directive_word, is_record, OriginIs, NameIs, IsRecord, most_records, RecordGives, SortGives, EntryGives, records, EntriesMean, Means}
+use Rattle.dns_spec.specs.ZonePrinted.{IsReadRecord, HasZoneType, record_line}
+use Rattle.dns_spec.proofs.Records.SortedOnce.{Each}
+use Rattle.dns_spec.proofs.NameTexts.WrittenNames.{name_spelled}
+use Rattle.dns_spec.proofs.DataWords.SaidAgain.{entry_passes, data_said}
+use Rattle.dns_spec.proofs.PrintedZones.PrintedLines.{line_tokens, line_pieces_read, line_cut, line_parentheses, line_words_again}
+use Rattle.dns_spec.proofs.WorkedExamples.ReadTexts.{record_given, given_then}
+
+-- the tokens of the lines, one line after the other
+lines_tokens : List ResourceRecord → List Token
+lines_tokens [] = []
+lines_tokens (r ∷ rs) = line_tokens r ++ lines_tokens rs
+
+tokens_then : (ps qs : List Token) (text middle rest : Octets) → TokensThen text ps middle → TokensThen middle qs rest → TokensThen text (ps ++ qs) rest
+tokens_then [] qs text middle rest h k = subst (λ t. TokensThen t qs rest) (sym h) k
+tokens_then (p ∷ ps) qs text middle rest (others, e, h) k = (others, e, tokens_then ps qs others middle rest h k)
+
+lines_read : (rs : List ResourceRecord) → Each IsReadRecord rs → TokensThen (flat_map record_line rs) (lines_tokens rs) []
+unfolding lines_tokens
+lines_read [] h = refl
+lines_read (r ∷ rs) h =
+    let rest = flat_map record_line rs in
+    tokens_then (line_tokens r) (lines_tokens rs) (record_line r ++ rest) rest [] (line_pieces_read r rest h.0) (lines_read rs h.1)
+
+abbrev line_entry : ResourceRecord → Entry
+line_entry r = ended (line_tokens r)
+
+-- an entry for each line, and nothing after the last
+abbrev lines_entries : List ResourceRecord → List Entry
+lines_entries rs = map line_entry rs ++ ended [] ∷ []
+
+lines_cut : (rs : List ResourceRecord) → cut_entries false (lines_tokens rs) ≡ map line_tokens rs ++ [] ∷ []
+unfolding lines_tokens
+lines_cut [] = refl
+lines_cut (r ∷ rs) = line_cut r (lines_tokens rs) ∙ ap (λ es. line_tokens r ∷ es) (lines_cut rs)
+
+lines_ended : (rs : List ResourceRecord) → with_end whole_text [] (map line_tokens rs ++ [] ∷ []) ≡ lines_entries rs
+lines_ended [] = refl
+lines_ended (r ∷ []) = refl
+lines_ended (r ∷ s ∷ rs) = ap (λ es. line_entry r ∷ es) (lines_ended (s ∷ rs))
+
+text_entries : (rs : List ResourceRecord) → Each IsReadRecord rs → length (flat_map record_line rs) ≤ most_octets
+    → Entries (flat_map record_line rs) (lines_entries rs)
+text_entries rs h short =
+    let text = flat_map record_line rs in
+    let within = ap (λ goes_on. with_end (extent_by goes_on) [] (cut_entries false (lines_tokens rs))) (le-ltb most_octets (length text) short) in
+    record {
+      tokens = lines_tokens rs;
+      rest = [];
+      spelled = subst (λ t. TokensThen t (lines_tokens rs) []) (sym (take_all most_octets text short)) (lines_read rs h);
+      at_end = refl;
+      entries = sym (within ∙ ap (with_end whole_text []) (lines_cut rs) ∙ lines_ended rs);
+    }
+
+-- the text of a name is no directive
+special_other : (x : ℕ) → is_special x ≡ false → (x == 36) ≡ false
+special_other x other = elim (cases_Bool (x == 36)) [
+  | inl e ↦ absurd (false≢true (sym other ∙ ap is_special (eqb-true x 36 e)))
+  | inr apart ↦ apart
+]
+
+octet_begins : (x : ℕ) (rest : Octets) → begins_with 36 (octet_text x ++ rest) ≡ false
+unfolding octet_text
+octet_begins x rest = by_cases (cases_Bool (is_special x)) (cases_Bool (is_ascii_graphic x))
+  where
+    by_cases : (is_special x ≡ true) ⊎ (is_special x ≡ false) → (is_ascii_graphic x ≡ true) ⊎ (is_ascii_graphic x ≡ false) → begins_with 36 (octet_text x ++ rest) ≡ false
+    by_cases (inl special) graphic = rw special refl
+    by_cases (inr other) (inl graphic) = rw (other, graphic) (special_other x other)
+    by_cases (inr other) (inr none) = rw (other, none) refl
+
+name_begins : (n : DomainName) → begins_with 36 (name_text n) ≡ false
+name_begins [] = refl
+name_begins ([] ∷ n) = refl
+name_begins ((x ∷ l) ∷ n) =
+    ap (begins_with 36) (append_assoc (label_text (x ∷ l)) (46 ∷ []) (labels_text n) ∙ append_assoc (octet_text x) (label_text l) (46 ∷ labels_text n))
+    ∙ octet_begins x (label_text l ++ 46 ∷ labels_text n)
+
+-- what the words of a line are
+abbrev words_after : ResourceRecord → List Word
+words_after r = plain (decimal r.ttl) ∷ plain (codes "IN") ∷ plain (type_text r.rtype) ∷ written_words r.rtype r.rdata
+
+line_sort : (r : ResourceRecord) → sort_of (line_entry r) ≡ owned (plain (name_text r.owner)) (words_after r)
+line_sort r =
+    ap (sort_by_words false) (line_words_again r)
+    ∙ ap (λ d. if d then directive (text_in_lower_case (name_text r.owner)) (words_after r) else owned (plain (name_text r.owner)) (words_after r)) (name_begins r.owner)
+
+digits_begin : (x : Octets) → 0 < length x → AllDigits 10 x → list_any is_ascii_digit (take 1 x) ≡ true
+digits_begin [] some digits = absurd (omega (arith, some))
+digits_begin (c ∷ x) some digits =
+    let range = digit_from_value c digits.0 in
+    ap (λ b. b || false) (and_from _ _ (le-leb 48 c range.0) (le-leb c 57 range.1))
+
+ttl_begins : (n : ℕ) → n < 2 ^ 64 → is_ttl_word (plain (decimal n)) ≡ true
+ttl_begins n small = digits_begin (decimal n) (decimal_nonempty n small) (decimal_is_IsNumeral n small).0.1
+
+abbrev line_fields : ResourceRecord → Fields
+line_fields r = record {
+  ttl = Some (plain (decimal r.ttl));
+  class = Some (plain (codes "IN"));
+  others = plain (type_text r.rtype) ∷ written_words r.rtype r.rdata;
+}
+
+fields_are : (r : ResourceRecord) → IsReadRecord r → fields (words_after r) ≡ line_fields r
+fields_are r h = rw (ttl_begins r.ttl (omega (arith, h.ttl))) refl
+
+line_faultless : (r : ResourceRecord) → lexical_fault (line_entry r) ≡ None
+line_faultless r = ap (λ marks. if take_turns false marks then None else Some bad_parenthesis) (line_parentheses r)
+
+-- a type's word names it
+found_passes : {X : Type 0} (p : X → Bool) (xs : List X) (x : X) → find p xs ≡ Some x → p x ≡ true
+found_passes p [] x e = absurd (none-some x e)
+found_passes p (y ∷ xs) x e = by_cases (cases_Bool (p y)) (found_passes p xs x)
+  where
+    by_cases : (p y ≡ true) ⊎ (p y ≡ false) → (find p xs ≡ Some x → p x ≡ true) → p x ≡ true
+    by_cases (inl here) after = let f : Some y ≡ Some x = rw here at e in ap p (sym (same_Some y x f)) ∙ here
+    by_cases (inr other) after = let f : find p xs ≡ Some x = rw other at e in after f
+
+abbrev is_number : Option ℕ → ℕ → Bool
+is_number None n = false
+is_number (Some m) n = m == n
+
+number_is : (o : Option ℕ) (n : ℕ) → is_number o n ≡ true → o ≡ Some n
+number_is None n h = absurd (false≢true h)
+number_is (Some m) n h = ap (λ x. Some x) (eqb-true m n h)
+
+type_named : (t : ℕ) → t < 65536 → NamesType (type_text t) t
+type_named t small = go (row_of t) refl
+  where
+    go : (r : Option TypeRow) → row_of t ≡ r → NamesType (unwrap_or (option_map (λ (row : TypeRow). row.mnemonic) r) (numbered_type t)) t
+    go None e = inr (small, refl)
+    go (Some made) e =
+        let found = found_passes (λ (row : TypeRow). row.number == t) type_table made e in
+        let named = entry_passes (λ (row : TypeRow). row.number == t) (λ (row : TypeRow). is_number (type_by_mnemonic row.mnemonic) row.number) type_table made e refl in
+        inl (number_is (type_by_mnemonic made.mnemonic) made.number named ∙ ap (λ x. Some x) (eqb-true made.number t found))
+
+-- where no entry before is `$ORIGIN`
+abbrev KeepsOrigin : Entry → Type 0
+KeepsOrigin e = directive_word (codes "$origin") (sort_of e) ≡ None
+
+origin_stays : (o : DomainName) (earlier : List Entry) → Each KeepsOrigin earlier → OriginIs o earlier o
+origin_stays o [] h = refl
+origin_stays o (e ∷ earlier) h =
+    subst (λ w. MatchOption w (OriginIs o earlier o) (λ v. (m : DomainName) × OriginIs o earlier m × SpellsName m v.raw o)) (sym h.0) (origin_stays o earlier h.1)
+
+line_record : (o : DomainName) (earlier : List Entry) (r : ResourceRecord) → OriginIs o earlier o → IsReadRecord r → HasZoneType r
+    → IsRecord o earlier (NameIs o earlier (plain (name_text r.owner))) (line_fields r) r
+line_record o earlier r origin h zone_type = record {
+  owner = (r.owner, (refl, (o, origin, name_spelled o r.owner h.owner_octets h.owner)), sym h.lower_owner);
+  ttl = (refl, refl, h.ttl);
+  rtype = (refl, type_named r.rtype h.rtype, zone_type);
+  rdata = (
+    r.rtype,
+    (refl, type_named r.rtype h.rtype, zone_type),
+    (o, origin, subst (Says r.rtype (written_words r.rtype r.rdata) o) h.lower_data (data_said r.rtype o r.rdata h.rdata_octets h.rdata)),
+  );
+}
+
+line_given : (o : DomainName) (earlier : List Entry) (r : ResourceRecord) → OriginIs o earlier o → IsReadRecord r → HasZoneType r
+    → length (filter is_record earlier) < most_records → EntryGives o earlier (line_entry r) (gives (r ∷ []))
+line_given o earlier r origin h zone_type few =
+    let answer = gives (r ∷ []) in
+    let Owner = NameIs o earlier (plain (name_text r.owner)) in
+    let given : RecordGives o earlier bad_owner Owner (line_fields r) answer =
+    record_given o earlier bad_owner Owner (line_fields r) r (line_record o earlier r origin h zone_type) refl (lt-leb most_records (length (filter is_record earlier)) few)
+    in
+    let by_words : SortGives o earlier (owned (plain (name_text r.owner)) (words_after r)) answer =
+    subst (λ f. RecordGives o earlier bad_owner Owner f answer) (sym (fields_are r h)) given
+    in
+    let by_sort : SortGives o earlier (sort_of (line_entry r)) answer = subst (λ s. SortGives o earlier s answer) (sym (line_sort r)) by_words in
+    subst (λ fault. MatchOption fault (SortGives o earlier (sort_of (line_entry r)) answer) (λ code. answer ≡ faulty code)) (sym (line_faultless r)) by_sort
+
+line_keeps_origin : (r : ResourceRecord) → KeepsOrigin (line_entry r)
+line_keeps_origin r = ap (directive_word (codes "$origin")) (line_sort r)
+
+line_counts : (r : ResourceRecord) (earlier : List Entry) → length (filter is_record (line_entry r ∷ earlier)) ≡ suc (length (filter is_record earlier))
+line_counts r earlier = ap (λ t. length (cond t (line_entry r ∷ filter is_record earlier) (filter is_record earlier))) counted
+  where
+    counted : is_record (line_entry r) ≡ true
+    counted = ap (λ s. elim s as (λ _. Bool) [ no_words ↦ false | directive n ws ↦ false | owned w ws ↦ true | unowned ws ↦ true ]) (line_sort r)
+
+lines_mean : (o : DomainName) (earlier : List Entry) (rs : List ResourceRecord) → Each KeepsOrigin earlier → Each IsReadRecord rs → Each HasZoneType rs
+    → length (filter is_record earlier) + length rs ≤ most_records → EntriesMean o earlier (lines_entries rs) (records rs)
+lines_mean o earlier [] keeps h types few = given_then o earlier (ended []) [] [] (records []) refl refl
+lines_mean o earlier (r ∷ rs) keeps h types few =
+    given_then o earlier (line_entry r) (lines_entries rs) (r ∷ []) (records rs)
+    (line_given o earlier r (origin_stays o earlier keeps) h.0 types.0 (omega (arith, few)))
+    (lines_mean o (line_entry r ∷ earlier) rs (line_keeps_origin r, keeps) h.1 types.1 (omega (arith, few, line_counts r earlier)))
+
+each_from_all : {X : Type 0} (P : X → Type 0) (xs : List X) → All P xs → Each P xs
+each_from_all P [] all = tt
+each_from_all P (x ∷ xs) all = (all 0 x (omega arith), each_from_all P xs (λ k d inside. all (suc k) d (omega arith)))
+
+pub printed_again : (o : DomainName) (rs : List ResourceRecord) → All IsReadRecord rs → All HasZoneType rs → length rs ≤ most_records
+    → length (flat_map record_line rs) ≤ most_octets → Means o (flat_map record_line rs) (records rs)
+printed_again o rs all types few short =
+    let each = each_from_all IsReadRecord rs all in
+    (lines_entries rs, text_entries rs each short, lines_mean o [] rs tt each (each_from_all HasZoneType rs types) (omega (arith, few)))

@@ -1,0 +1,201 @@
+-- The canonical order of records, and lists of records in it.
+use Rattle.std.proofs.Common.{◌≡◌, ℕ, zero, suc, Bool, true, false, ◌&&◌, cond, eqb, ◌⊎◌, inl, inr, List, [], ◌∷◌, reverse, refl, sym, ap, ap₂, ◌∙◌, arith, All, IsPermutation, is_eq, is_gt, nat_cmp, Ordering, Less, Equal, Greater}
+use Rattle.std.proofs.lemmas.Bool.{false≢true, and_parts, eqb-true}
+use Rattle.std.proofs.lemmas.Cmp.{nat_cmp_total, nat_list_cmp_total, on_total, then_total, tied_itself}
+use Rattle.std.proofs.lemmas.List.Elements.{All-head, All-tail, All-nil, All-cons}
+use Rattle.std.proofs.lemmas.List.Sorted.{All-permutation, Contains-permutation, IsPermutation-refl, IsPermutation-sym, IsPermutation-cons, IsPermutation-trans, IsPermutation-middle}
+use Rattle.std.proofs.lemmas.List.Kept.{IsStrictlySortedBy-dedup}
+use Rattle.std.specs.List.{Contains, AllByRecursion, dedup, dedup_from}
+use Rattle.std.specs.List.Sorted.{IsSorted, IsStrictlySortedBy}
+use Rattle.std.specs.Cmp.{IsTotalOrder}
+use Rattle.std.specs.Cmp.Lexicographic.{slice_cmp, lists_ties}
+use Rattle.std.specs.Ordering.{ordering_then, eq_by_cmp}
+use Rattle.dns_spec.specs.Names.{Octets, DomainName, folded, octets_equal, same, label_order, name_order}
+use Rattle.dns_spec.specs.Records.{ResourceRecord, zone_of, records_equal, distinct, insert_by, sort_by, data_order, record_order, ordered_zone}
+use Rattle.dns_spec.specs.Checks.{faults}
+use Rattle.dns_spec.proofs.DomainNames.NameLaws.{octets_equal-decides, names_equal-decides, same_tests}
+use Rattle.dns_spec.proofs.ZoneChecks.FaultOrder.{faults_in_any_order, nat_ties, name_order_total, name_tie, Lower, one_lower}
+use Rattle.dns_spec.proofs.Records.SortedOnce.{Each, Among, each_sort, each_distinct, apart_distinct, distinct_among, among_sort, sort_among, Rises, sort_rises, same_risen, among_distinct}
+
+pub record_order_total : IsTotalOrder record_order
+record_order_total =
+    then_total (on_total (λ (r : ResourceRecord). r.owner) name_order_total)
+    (then_total (on_total (λ (r : ResourceRecord). r.rtype) nat_cmp_total)
+    (then_total (on_total (λ (r : ResourceRecord). r.rdata) nat_list_cmp_total) (on_total (λ (r : ResourceRecord). r.ttl) nat_cmp_total)))
+
+equal_from : (o : Ordering) → is_eq o ≡ true → o ≡ Equal
+equal_from Less f = absurd (false≢true f)
+equal_from Equal f = refl
+equal_from Greater f = absurd (false≢true f)
+
+name_ties : (n m : DomainName) → same n m ≡ is_eq (name_order n m)
+name_ties n m =
+    same_tests (same n m) (is_eq (name_order n m))
+    (λ t. ap is_eq (ap (λ x. slice_cmp label_order (reverse x) (reverse (folded m))) ((names_equal-decides (folded n) (folded m)).0 t) ∙ tied_itself name_order_total m))
+    (λ t. name_tie n m (equal_from (name_order n m) t))
+
+then_ties : (a b : Ordering) → is_eq (ordering_then a b) ≡ (is_eq a && is_eq b)
+then_ties Less b = refl
+then_ties Equal b = refl
+then_ties Greater b = refl
+
+four_tests : (a b c d : Bool) → (a && b && c && d) ≡ (a && (b && (c && d)))
+four_tests true b c d = three b c d
+  where
+    three : (b c d : Bool) → (b && c && d) ≡ (b && (c && d))
+    three true c d = refl
+    three false c d = refl
+four_tests false b c d = refl
+
+-- records tie just where they are equal
+pub record_ties : (r s : ResourceRecord) → records_equal r s ≡ eq_by_cmp record_order r s
+record_ties r s =
+    let names = name_order r.owner s.owner in
+    let types = nat_cmp r.rtype s.rtype in
+    let octets = data_order r s in
+    let ttls = nat_cmp r.ttl s.ttl in
+    four_tests (same r.owner s.owner) (eqb r.rtype s.rtype) (octets_equal r.rdata s.rdata) (eqb r.ttl s.ttl)
+    ∙ ap₂ ◌&&◌ (name_ties r.owner s.owner) (ap₂ ◌&&◌ (nat_ties r.rtype s.rtype) (ap₂ ◌&&◌ (lists_ties nat_cmp nat_ties r.rdata s.rdata) (nat_ties r.ttl s.ttl)))
+    ∙ sym (then_ties names (ordering_then types (ordering_then octets ttls))
+    ∙ ap (λ b. is_eq names && b) (then_ties types (ordering_then octets ttls) ∙ ap (λ b. is_eq types && b) (then_ties octets ttls)))
+
+-- equal records whose owners are in lower case are one
+abbrev pub LowerOwner : ResourceRecord → Type 0
+LowerOwner r = Lower r.owner
+
+one_of_parts : (r s : ResourceRecord) → r.owner ≡ s.owner → r.ttl ≡ s.ttl → r.rtype ≡ s.rtype → r.rdata ≡ s.rdata → r ≡ s
+one_of_parts r s a b c d =
+    let whole : DomainName → ℕ → ℕ → Octets → ResourceRecord = λ n k t o. record { owner = n; ttl = k; rtype = t; rdata = o } in
+    ap (λ n. whole n r.ttl r.rtype r.rdata) a ∙ ap (λ k. whole s.owner k r.rtype r.rdata) b
+    ∙ ap (λ t. whole s.owner s.ttl t r.rdata) c ∙ ap (λ o. whole s.owner s.ttl s.rtype o) d
+
+pub one_record : (r s : ResourceRecord) → LowerOwner r → LowerOwner s → records_equal r s ≡ true → r ≡ s
+one_record r s low low' t =
+    let ttls = and_parts (same r.owner s.owner && eqb r.rtype s.rtype && octets_equal r.rdata s.rdata) (eqb r.ttl s.ttl) t in
+    let octets = and_parts (same r.owner s.owner && eqb r.rtype s.rtype) (octets_equal r.rdata s.rdata) ttls.0 in
+    let types = and_parts (same r.owner s.owner) (eqb r.rtype s.rtype) octets.0 in
+    one_of_parts r s (one_lower r.owner s.owner low low' types.0) (eqb-true r.ttl s.ttl ttls.1) (eqb-true r.rtype s.rtype types.1)
+    ((octets_equal-decides r.rdata s.rdata).0 octets.1)
+
+-- members, by places and by recursion
+pub contains_among : {X : Type 0} (a : X) (xs : List X) → Contains xs a → Among a xs
+contains_among a [] c = absurd (omega (arith, c.1))
+contains_among a (x ∷ xs) (zero, h, e) = inl (sym e)
+contains_among a (x ∷ xs) (suc k, h, e) = inr (contains_among a xs (k, omega arith, e))
+
+pub among_contains : {X : Type 0} (a : X) (xs : List X) → Among a xs → Contains xs a
+among_contains a [] m = absurd m
+among_contains a (x ∷ xs) (inl e) = (zero, omega arith, sym e)
+among_contains a (x ∷ xs) (inr m) = let c = among_contains a xs m in (suc c.0, omega (arith, c.1), c.2)
+
+pub among_permutation : {X : Type 0} (a : X) (xs ys : List X) → IsPermutation xs ys → Among a xs → Among a ys
+among_permutation a xs ys h m = contains_among a ys (Contains-permutation xs ys a h (among_contains a xs m))
+
+pub each_all : {X : Type 0} (P : X → Type 0) (xs : List X) → All P xs → Each P xs
+each_all P [] all = tt
+each_all P (x ∷ xs) all = (All-head P x xs all, each_all P xs (All-tail P x xs all))
+
+pub all_each : {X : Type 0} (P : X → Type 0) (xs : List X) → Each P xs → All P xs
+all_each P [] e = All-nil P
+all_each P (x ∷ xs) e = All-cons P x xs e.0 (all_each P xs e.1)
+
+-- what is left where each element that equals its neighbour is dropped
+module _ {X : Type 0} (eq : X → X → Bool) where
+  dedup_from_among : (a k : X) (xs : List X) → Among a (dedup_from eq k xs) → (a ≡ k) ⊎ Among a xs
+  dedup_from_among a k [] m = m
+  dedup_from_among a k (x ∷ xs) m = go (eq x k) m (dedup_from_among a k xs) (dedup_from_among a x xs)
+    where
+      go : (t : Bool) → Among a (cond t (dedup_from eq k xs) (k ∷ dedup_from eq x xs)) → (Among a (dedup_from eq k xs) → (a ≡ k) ⊎ Among a xs) → (Among a (dedup_from eq x xs) → (a ≡ x) ⊎ Among a xs)
+          → (a ≡ k) ⊎ ((a ≡ x) ⊎ Among a xs)
+      go true m f g = elim (f m) [ inl e ↦ inl e | inr n ↦ inr (inr n) ]
+      go false (inl e) f g = inl e
+      go false (inr n) f g = inr (g n)
+
+  dedup_among : (a : X) (xs : List X) → Among a (dedup eq xs) → Among a xs
+  dedup_among a [] m = m
+  dedup_among a (x ∷ xs) m = dedup_from_among a x xs m
+
+  module _ (D : X → Type 0) (one : (x y : X) → D x → D y → eq x y ≡ true → x ≡ y) where
+    among_dedup_from : (a k : X) (xs : List X) → D k → Each D xs → (a ≡ k) ⊎ Among a xs → Among a (dedup_from eq k xs)
+    among_dedup_from a k [] d e m = m
+    among_dedup_from a k (x ∷ xs) d e m = go (eq x k) refl m (among_dedup_from a k xs d e.1) (among_dedup_from a x xs e.0 e.1)
+      where
+        go : (t : Bool) → eq x k ≡ t → (a ≡ k) ⊎ ((a ≡ x) ⊎ Among a xs) → ((a ≡ k) ⊎ Among a xs → Among a (dedup_from eq k xs)) → ((a ≡ x) ⊎ Among a xs → Among a (dedup_from eq x xs))
+            → Among a (cond t (dedup_from eq k xs) (k ∷ dedup_from eq x xs))
+        go true q (inl p) f g = f (inl p)
+        go true q (inr (inl p)) f g = f (inl (p ∙ one x k e.0 d q))
+        go true q (inr (inr n)) f g = f (inr n)
+        go false q (inl p) f g = inl p
+        go false q (inr n) f g = inr (g n)
+
+    among_dedup : (a : X) (xs : List X) → Each D xs → Among a xs → Among a (dedup eq xs)
+    among_dedup a [] e m = m
+    among_dedup a (x ∷ xs) e m = among_dedup_from a x xs e.0 e.1 m
+
+rises_sorted : {X : Type 0} (cmp : X → X → Ordering) (xs : List X) → IsStrictlySortedBy cmp xs → Rises cmp xs
+unfolding IsStrictlySortedBy
+rises_sorted cmp [] h = tt
+rises_sorted cmp (x ∷ xs) h = (each_recursion (λ y. cmp x y ≡ Less) xs h.0, rises_sorted cmp xs h.1)
+  where
+    each_recursion : {X : Type 0} (P : X → Type 0) (xs : List X) → AllByRecursion P xs → Each P xs
+    each_recursion P [] h = tt
+    each_recursion P (x ∷ xs) h = (h.0, each_recursion P xs h.1)
+
+-- a list in which each element is before those after it is sorted
+pub sort_risen : {X : Type 0} (cmp : X → X → Ordering) (xs : List X) → Rises cmp xs → sort_by cmp xs ≡ xs
+sort_risen cmp [] r = refl
+sort_risen {X} cmp (x ∷ xs) r = ap (insert_by cmp x) (sort_risen cmp xs r.1) ∙ first x xs r.0
+  where
+    first : (x : X) (xs : List X) → Each (λ y. cmp x y ≡ Less) xs → insert_by cmp x xs ≡ x ∷ xs
+    first x [] e = refl
+    first x (y ∷ ys) e = ap (λ (o : Ordering). cond (is_gt o) (y ∷ insert_by cmp x ys) (x ∷ y ∷ ys)) e.0
+
+-- a sort moves elements
+permutation_insert : {X : Type 0} (cmp : X → X → Ordering) (x : X) (ys : List X) → IsPermutation (x ∷ ys) (insert_by cmp x ys)
+permutation_insert cmp x [] = IsPermutation-refl (x ∷ [])
+permutation_insert cmp x (y ∷ ys) = go (is_gt (cmp x y)) (permutation_insert cmp x ys)
+  where
+    go : (t : Bool) → IsPermutation (x ∷ ys) (insert_by cmp x ys) → IsPermutation (x ∷ y ∷ ys) (cond t (y ∷ insert_by cmp x ys) (x ∷ y ∷ ys))
+    go true h =
+        IsPermutation-trans (x ∷ y ∷ ys) (y ∷ x ∷ ys) (y ∷ insert_by cmp x ys)
+        (IsPermutation-sym (y ∷ x ∷ ys) (x ∷ y ∷ ys) (IsPermutation-middle (y ∷ []) x ys)) (IsPermutation-cons y (x ∷ ys) (insert_by cmp x ys) h)
+    go false h = IsPermutation-refl (x ∷ y ∷ ys)
+
+pub permutation_sort : {X : Type 0} (cmp : X → X → Ordering) (xs : List X) → IsPermutation xs (sort_by cmp xs)
+permutation_sort cmp [] = IsPermutation-refl []
+permutation_sort cmp (x ∷ xs) =
+    IsPermutation-trans (x ∷ xs) (x ∷ sort_by cmp xs) (sort_by cmp (x ∷ xs))
+    (IsPermutation-cons x xs (sort_by cmp xs) (permutation_sort cmp xs)) (permutation_insert cmp x (sort_by cmp xs))
+
+pub rises_canonical : (rs : List ResourceRecord) → Rises record_order (sort_by record_order (distinct records_equal rs))
+rises_canonical rs =
+    sort_rises record_order record_order_total records_equal (λ r s e. record_ties r s ∙ ap is_eq e) LowerOwner one_record (distinct records_equal rs)
+    (apart_distinct records_equal rs)
+
+-- Records sorted, without those that equal the one before them, are the canonical list.
+pub canonical_records : (rs xs : List ResourceRecord) → All LowerOwner rs → IsPermutation rs xs → IsSorted record_order xs
+    → dedup records_equal xs ≡ sort_by record_order (distinct records_equal rs)
+canonical_records rs xs low moved sorted =
+    let tie : (r s : ResourceRecord) → record_order r s ≡ Equal → records_equal r s ≡ true = λ r s e. record_ties r s ∙ ap is_eq e in
+    let low_there = each_all LowerOwner xs (All-permutation LowerOwner rs xs moved low) in
+    let low_here = each_all LowerOwner rs low in
+    same_risen record_order record_order_total records_equal tie LowerOwner one_record (dedup records_equal xs) (sort_by record_order (distinct records_equal rs))
+    (rises_sorted record_order (dedup records_equal xs) (IsStrictlySortedBy-dedup record_order_total record_ties xs sorted))
+    (rises_canonical rs)
+    (λ a m. among_sort record_order a (distinct records_equal rs)
+    (among_distinct record_order record_order_total records_equal tie LowerOwner one_record a rs low_here
+    (among_permutation a xs rs (IsPermutation-sym rs xs moved) (dedup_among records_equal a xs m))))
+    (λ a m. among_dedup records_equal LowerOwner one_record a xs low_there
+    (among_permutation a rs xs moved (distinct_among records_equal a rs (sort_among record_order a (distinct records_equal rs) m))))
+
+-- what holds of all records holds of those of the canonical list
+pub all_canonical : (P : ResourceRecord → Type 0) (rs : List ResourceRecord) → All P rs → All P (sort_by record_order (distinct records_equal rs))
+all_canonical P rs all =
+    all_each P (sort_by record_order (distinct records_equal rs))
+    (each_sort record_order P (distinct records_equal rs) (each_distinct P records_equal rs (each_all P rs all)))
+
+-- the canonical zone has the faults of the zone as it was read
+pub ordered_faults : (o : DomainName) (rs : List ResourceRecord) → faults (ordered_zone o rs) ≡ faults (zone_of o rs)
+ordered_faults o rs =
+    sym (faults_in_any_order (folded o) (distinct records_equal rs) (sort_by record_order (distinct records_equal rs))
+    (permutation_sort record_order (distinct records_equal rs)))

@@ -1,0 +1,225 @@
+-- A list sorted, with each element once, depends only on which elements there are.
+use Rattle.std.proofs.Common.{◌≡◌, suc, Bool, true, false, not, cond, ◌⊎◌, inl, inr, List, [], ◌∷◌, length, refl, sym, ap, ap₂, ◌∙◌, subst, filter, is_gt, is_lt, Ordering, Less, Equal, Greater}
+use Rattle.std.proofs.lemmas.Bool.{false≢true, not-true}
+use Rattle.std.proofs.lemmas.Cmp.{tied_itself}
+use Rattle.std.specs.Ordering.{ordering_reverse}
+use Rattle.std.specs.Cmp.{IsTotalOrder}
+use Rattle.dns_spec.specs.Records.{distinct, insert_by, sort_by}
+
+-- P holds of each element, and x is one of them
+abbrev pub Each : {X : Type 0} → (X → Type 0) → List X → Type 0
+Each P [] = Unit {0}
+Each P (x ∷ xs) = P x × Each P xs
+
+abbrev pub Among : {X : Type 0} → X → List X → Type 0
+Among x [] = ⊥
+Among x (y ∷ ys) = (x ≡ y) ⊎ Among x ys
+
+pub each_at : {X : Type 0} (P : X → Type 0) (a : X) (xs : List X) → Each P xs → Among a xs → P a
+each_at P a [] e m = absurd m
+each_at P a (x ∷ xs) e (inl p) = subst P (sym p) e.0
+each_at P a (x ∷ xs) e (inr m) = each_at P a xs e.1 m
+
+each_filter_one : {X : Type 0} (P : X → Type 0) (t : Bool) (x : X) (xs : List X) → P x → Each P xs → Each P (cond t (x ∷ xs) xs)
+each_filter_one P true x xs p e = (p, e)
+each_filter_one P false x xs p e = e
+
+pub each_filter : {X : Type 0} (P : X → Type 0) (p : X → Bool) (xs : List X) → Each P xs → Each P (filter p xs)
+each_filter P p [] e = tt
+each_filter P p (x ∷ xs) e = go (p x) (each_filter P p xs e.1)
+  where
+    go : (t : Bool) → Each P (filter p xs) → Each P (cond t (x ∷ filter p xs) (filter p xs))
+    go true f = (e.0, f)
+    go false f = f
+
+pub filter_each : {X : Type 0} (p : X → Bool) (xs : List X) → Each (λ x. p x ≡ true) (filter p xs)
+filter_each p [] = tt
+filter_each p (x ∷ xs) = go (p x) refl (filter_each p xs)
+  where
+    go : (t : Bool) → p x ≡ t → Each (λ x. p x ≡ true) (filter p xs) → Each (λ x. p x ≡ true) (cond t (x ∷ filter p xs) (filter p xs))
+    go true e f = (e, f)
+    go false e f = f
+
+pub each_weaker : {X : Type 0} (P Q : X → Type 0) (xs : List X) → ((x : X) → P x → Q x) → Each P xs → Each Q xs
+each_weaker P Q [] f e = tt
+each_weaker P Q (x ∷ xs) f e = (f x e.0, each_weaker P Q xs f e.1)
+
+pub among_filter : {X : Type 0} (p : X → Bool) (a : X) (xs : List X) → Among a (filter p xs) → Among a xs
+among_filter p a [] m = m
+among_filter p a (x ∷ xs) m = go (p x) m (among_filter p a xs)
+  where
+    go : (t : Bool) → Among a (cond t (x ∷ filter p xs) (filter p xs)) → (Among a (filter p xs) → Among a xs) → (a ≡ x) ⊎ Among a xs
+    go true (inl e) f = inl e
+    go true (inr n) f = inr (f n)
+    go false n f = inr (f n)
+
+pub filter_among : {X : Type 0} (p : X → Bool) (a : X) (xs : List X) → p a ≡ true → Among a xs → Among a (filter p xs)
+filter_among p a [] e m = m
+filter_among p a (x ∷ xs) e m = go (p x) refl m (filter_among p a xs e)
+  where
+    go : (t : Bool) → p x ≡ t → (a ≡ x) ⊎ Among a xs → (Among a xs → Among a (filter p xs)) → Among a (cond t (x ∷ filter p xs) (filter p xs))
+    go true q (inl r) f = inl r
+    go true q (inr n) f = inr (f n)
+    go false q (inl r) f = absurd (false≢true (sym q ∙ ap p (sym r) ∙ e))
+    go false q (inr n) f = f n
+
+-- each element once
+abbrev pub Apart : {X : Type 0} → (X → X → Bool) → List X → Type 0
+Apart eq [] = Unit {0}
+Apart eq (x ∷ xs) = Each (λ y. eq x y ≡ false) xs × Apart eq xs
+
+apart_filter : {X : Type 0} (eq : X → X → Bool) (p : X → Bool) (xs : List X) → Apart eq xs → Apart eq (filter p xs)
+apart_filter eq p [] a = tt
+apart_filter eq p (x ∷ xs) a = go (p x) (apart_filter eq p xs a.1)
+  where
+    go : (t : Bool) → Apart eq (filter p xs) → Apart eq (cond t (x ∷ filter p xs) (filter p xs))
+    go true f = (each_filter (λ y. eq x y ≡ false) p xs a.0, f)
+    go false f = f
+
+pub apart_distinct : {X : Type 0} (eq : X → X → Bool) (xs : List X) → Apart eq (distinct eq xs)
+apart_distinct eq [] = tt
+apart_distinct {X} eq (x ∷ xs) =
+    let p : X → Bool = λ y. not (eq x y) in (
+      each_weaker (λ y. not (eq x y) ≡ true) (λ y. eq x y ≡ false) (filter p (distinct eq xs)) (λ y e. not-true (eq x y) e) (filter_each p (distinct eq xs)),
+      apart_filter eq p (distinct eq xs) (apart_distinct eq xs),
+    )
+
+pub distinct_among : {X : Type 0} (eq : X → X → Bool) (a : X) (xs : List X) → Among a (distinct eq xs) → Among a xs
+distinct_among eq a [] m = m
+distinct_among eq a (x ∷ xs) (inl e) = inl e
+distinct_among eq a (x ∷ xs) (inr m) = inr (distinct_among eq a xs (among_filter (λ y. not (eq x y)) a (distinct eq xs) m))
+
+pub each_distinct : {X : Type 0} (P : X → Type 0) (eq : X → X → Bool) (xs : List X) → Each P xs → Each P (distinct eq xs)
+each_distinct P eq [] e = tt
+each_distinct P eq (x ∷ xs) e = (e.0, each_filter P (λ y. not (eq x y)) (distinct eq xs) (each_distinct P eq xs e.1))
+
+-- a sort keeps the elements
+module _ {X : Type 0} (cmp : X → X → Ordering) where
+  each_insert : (P : X → Type 0) (x : X) (ys : List X) → P x → Each P ys → Each P (insert_by cmp x ys)
+  each_insert P x [] p e = (p, tt)
+  each_insert P x (y ∷ ys) p e = go (is_gt (cmp x y)) (each_insert P x ys p e.1)
+    where
+      go : (t : Bool) → Each P (insert_by cmp x ys) → Each P (cond t (y ∷ insert_by cmp x ys) (x ∷ y ∷ ys))
+      go true f = (e.0, f)
+      go false f = (p, (e.0, e.1))
+
+  pub each_sort : (P : X → Type 0) (xs : List X) → Each P xs → Each P (sort_by cmp xs)
+  each_sort P [] e = tt
+  each_sort P (x ∷ xs) e = each_insert P x (sort_by cmp xs) e.0 (each_sort P xs e.1)
+
+  among_insert : (a x : X) (ys : List X) → (a ≡ x) ⊎ Among a ys → Among a (insert_by cmp x ys)
+  among_insert a x [] m = m
+  among_insert a x (y ∷ ys) m = go (is_gt (cmp x y)) m (among_insert a x ys)
+    where
+      go : (t : Bool) → (a ≡ x) ⊎ ((a ≡ y) ⊎ Among a ys) → ((a ≡ x) ⊎ Among a ys → Among a (insert_by cmp x ys)) → Among a (cond t (y ∷ insert_by cmp x ys) (x ∷ y ∷ ys))
+      go true (inl e) f = inr (f (inl e))
+      go true (inr (inl e)) f = inl e
+      go true (inr (inr n)) f = inr (f (inr n))
+      go false n f = n
+
+  insert_among : (a x : X) (ys : List X) → Among a (insert_by cmp x ys) → (a ≡ x) ⊎ Among a ys
+  insert_among a x [] m = m
+  insert_among a x (y ∷ ys) m = go (is_gt (cmp x y)) m (insert_among a x ys)
+    where
+      go : (t : Bool) → Among a (cond t (y ∷ insert_by cmp x ys) (x ∷ y ∷ ys)) → (Among a (insert_by cmp x ys) → (a ≡ x) ⊎ Among a ys) → (a ≡ x) ⊎ ((a ≡ y) ⊎ Among a ys)
+      go true (inl e) f = inr (inl e)
+      go true (inr n) f = elim (f n) [ inl e ↦ inl e | inr k ↦ inr (inr k) ]
+      go false n f = n
+
+  pub among_sort : (a : X) (xs : List X) → Among a xs → Among a (sort_by cmp xs)
+  among_sort a [] m = m
+  among_sort a (x ∷ xs) (inl e) = among_insert a x (sort_by cmp xs) (inl e)
+  among_sort a (x ∷ xs) (inr m) = among_insert a x (sort_by cmp xs) (inr (among_sort a xs m))
+
+  pub sort_among : (a : X) (xs : List X) → Among a (sort_by cmp xs) → Among a xs
+  sort_among a [] m = m
+  sort_among a (x ∷ xs) m = elim (insert_among a x (sort_by cmp xs) m) [ inl e ↦ inl e | inr k ↦ inr (sort_among a xs k) ]
+
+  length-insert : (x : X) (ys : List X) → length (insert_by cmp x ys) ≡ suc (length ys)
+  length-insert x [] = refl
+  length-insert x (y ∷ ys) = go (is_gt (cmp x y)) (length-insert x ys)
+    where
+      go : (t : Bool) → length (insert_by cmp x ys) ≡ suc (length ys) → length (cond t (y ∷ insert_by cmp x ys) (x ∷ y ∷ ys)) ≡ suc (suc (length ys))
+      go true e = ap suc e
+      go false e = refl
+
+  pub length-sort_by : (xs : List X) → length (sort_by cmp xs) ≡ length xs
+  length-sort_by [] = refl
+  length-sort_by (x ∷ xs) = length-insert x (sort_by cmp xs) ∙ ap suc (length-sort_by xs)
+
+  -- each element is before those after it
+  abbrev pub Rises : List X → Type 0
+  Rises [] = Unit {0}
+  Rises (x ∷ xs) = Each (λ y. cmp x y ≡ Less) xs × Rises xs
+
+turned : (c : Ordering) → ordering_reverse c ≡ Greater → c ≡ Less
+turned Less f = refl
+turned Equal f = absurd (false≢true (ap is_gt f))
+turned Greater f = absurd (false≢true (ap is_gt f))
+
+-- An order, and a test that ties pass and that holds of equal elements alone, where D holds of them.
+module _ {X : Type 0} (cmp : X → X → Ordering) (order : IsTotalOrder cmp) (eq : X → X → Bool) (tie : (x y : X) → cmp x y ≡ Equal → eq x y ≡ true)
+    (D : X → Type 0) (one : (x y : X) → D x → D y → eq x y ≡ true → x ≡ y) where
+  before_all : (x y : X) (ys : List X) → cmp x y ≡ Less → Each (λ z. cmp y z ≡ Less) ys → Each (λ z. cmp x z ≡ Less) ys
+  before_all x y [] p e = tt
+  before_all x y (z ∷ zs) p e = (order.trans x y z p e.0, before_all x y zs p e.1)
+
+  insert_rises : (x : X) (ys : List X) → Rises cmp ys → Each (λ y. eq x y ≡ false) ys → Rises cmp (insert_by cmp x ys)
+  insert_rises x [] r e = (tt, tt)
+  insert_rises x (y ∷ ys) r e = go (cmp x y) refl (insert_rises x ys r.1 e.1)
+    where
+      go : (c : Ordering) → cmp x y ≡ c → Rises cmp (insert_by cmp x ys) → Rises cmp (cond (is_gt c) (y ∷ insert_by cmp x ys) (x ∷ y ∷ ys))
+      go Less p f = ((p, before_all x y ys p r.0), r)
+      go Equal p f = absurd (false≢true (sym e.0 ∙ tie x y p))
+      go Greater p f = (each_insert cmp (λ z. cmp y z ≡ Less) x ys (turned (cmp y x) (sym (order.antisymm x y) ∙ p)) r.0, f)
+
+  pub sort_rises : (xs : List X) → Apart eq xs → Rises cmp (sort_by cmp xs)
+  sort_rises [] a = tt
+  sort_rises (x ∷ xs) a = insert_rises x (sort_by cmp xs) (sort_rises xs a.1) (each_sort cmp (λ y. eq x y ≡ false) xs a.0)
+
+  pub among_distinct : (a : X) (xs : List X) → Each D xs → Among a xs → Among a (distinct eq xs)
+  among_distinct a [] d m = m
+  among_distinct a (x ∷ xs) d (inl e) = inl e
+  among_distinct a (x ∷ xs) d (inr m) = go (eq x a) refl (among_distinct a xs d.1 m)
+    where
+      go : (t : Bool) → eq x a ≡ t → Among a (distinct eq xs) → (a ≡ x) ⊎ Among a (filter (λ y. not (eq x y)) (distinct eq xs))
+      go true e k = inl (sym (one x a d.0 (each_at D a xs d.1 m) e))
+      go false e k = inr (filter_among (λ y. not (eq x y)) a (distinct eq xs) (ap not e) k)
+
+  apart : (x : X) → cmp x x ≡ Less → ⊥
+  apart x p = false≢true (ap is_lt (sym (tied_itself order x) ∙ p))
+
+  neither : (x y : X) → cmp x y ≡ Less → cmp y x ≡ Less → ⊥
+  neither x y p q = apart x (order.trans x y x p q)
+
+  -- two lists that rise and have the same elements are one
+  pub same_risen : (xs ys : List X) → Rises cmp xs → Rises cmp ys → ((a : X) → Among a xs → Among a ys) → ((a : X) → Among a ys → Among a xs) → xs ≡ ys
+  same_risen [] [] r s f g = refl
+  same_risen [] (y ∷ ys) r s f g = absurd (g y (inl refl))
+  same_risen (x ∷ xs) [] r s f g = absurd (f x (inl refl))
+  same_risen (x ∷ xs) (y ∷ ys) r s f g =
+      let e = heads (f x (inl refl)) (g y (inl refl)) in
+      ap₂ (λ z zs. z ∷ zs) e (same_risen xs ys r.1 s.1
+      (λ a m. after_y a (f a (inr m)) (λ p. apart x (subst (λ z. cmp x z ≡ Less) (p ∙ sym e) (each_at (λ z. cmp x z ≡ Less) a xs r.0 m))))
+      (λ a m. after_x a (g a (inr m)) (λ p. apart y (subst (λ z. cmp y z ≡ Less) (p ∙ e) (each_at (λ z. cmp y z ≡ Less) a ys s.0 m)))))
+    where
+      heads : (x ≡ y) ⊎ Among x ys → (y ≡ x) ⊎ Among y xs → x ≡ y
+      heads (inl e) k = e
+      heads (inr m) (inl e) = sym e
+      heads (inr m) (inr k) = absurd (neither x y (each_at (λ z. cmp x z ≡ Less) y xs r.0 k) (each_at (λ z. cmp y z ≡ Less) x ys s.0 m))
+
+      after_y : (a : X) → (a ≡ y) ⊎ Among a ys → (a ≡ y → ⊥) → Among a ys
+      after_y a (inl p) n = absurd (n p)
+      after_y a (inr m) n = m
+
+      after_x : (a : X) → (a ≡ x) ⊎ Among a xs → (a ≡ x → ⊥) → Among a xs
+      after_x a (inl p) n = absurd (n p)
+      after_x a (inr m) n = m
+
+  pub same_sorted : (xs ys : List X) → Each D xs → Each D ys → ((a : X) → Among a xs → Among a ys) → ((a : X) → Among a ys → Among a xs)
+      → sort_by cmp (distinct eq xs) ≡ sort_by cmp (distinct eq ys)
+  same_sorted xs ys d d' f g =
+      same_risen (sort_by cmp (distinct eq xs)) (sort_by cmp (distinct eq ys))
+      (sort_rises (distinct eq xs) (apart_distinct eq xs)) (sort_rises (distinct eq ys) (apart_distinct eq ys))
+      (λ a m. among_sort cmp a (distinct eq ys) (among_distinct a ys d' (f a (distinct_among eq a xs (sort_among cmp a (distinct eq xs) m)))))
+      (λ a m. among_sort cmp a (distinct eq xs) (among_distinct a xs d (g a (distinct_among eq a ys (sort_among cmp a (distinct eq ys) m)))))

@@ -1,0 +1,9 @@
+-- Answers and replies: which sets they have, how many, and what they spell.
+pub mod ChainLength
+pub mod FewItems
+pub mod ItemSets
+pub mod RequiredItems
+pub mod WritableItems
+pub mod FirstOctets
+pub mod Kept
+pub mod ReplySpelled

@@ -1,0 +1,23 @@
+-- A chain of names sought has at most 17.
+use Rattle.std.proofs.Common.{ℕ, zero, suc, ◌≤◌, ◌+◌, Bool, true, false, cond, List, [], ◌∷◌, length, Option, None, Some, arith}
+use Rattle.dns_spec.specs.Names.{DomainName}
+use Rattle.dns_spec.specs.Records.{ZoneContents}
+use Rattle.dns_spec.specs.Answer.{follows_alias, next_sought, chain_from, chain}
+
+chain_from_short : (z : ZoneContents) (k : ℕ) (sought : List DomainName) (s : DomainName) → length (chain_from z k sought s) ≤ k + 1
+unfolding chain_from
+chain_from_short z zero sought s = omega arith
+chain_from_short z (suc k) sought s = go (next_sought z (s ∷ sought) s) (λ m. chain_from_short z k (s ∷ sought) m)
+  where
+    go : (o : Option DomainName) → ((m : DomainName) → length (chain_from z k (s ∷ sought) m) ≤ k + 1)
+        → suc (length (elim o as (λ _. List DomainName) [ None ↦ [] | Some m ↦ chain_from z k (s ∷ sought) m ])) ≤ suc k + 1
+    go None h = omega arith
+    go (Some m) h = let rest = h m in omega (arith, rest)
+
+pub chain_short : (z : ZoneContents) (q : DomainName) (t : ℕ) → length (chain z q t) ≤ 17
+unfolding chain
+chain_short z q t = go (follows_alias t)
+  where
+    go : (b : Bool) → length (cond b (chain_from z 16 [] q) (q ∷ [])) ≤ 17
+    go true = let short = chain_from_short z 16 [] q in omega (arith, short)
+    go false = omega arith

@@ -1,0 +1,280 @@
+-- An answer of a zone that passes has few targets and few sets, and visits few nodes for each name.
+use Rattle.std.proofs.Common.{◌≡◌, ℕ, suc, ◌+◌, ◌*◌, ◌≤◌, nat_lt, Bool, true, false, ◌&&◌, not, cond, ◌==◌, inl, List, [], ◌∷◌, ◌++◌, map, sum, length, Option, None, Some, option_map, All, filter, flat_map, refl, sym, ap, ap₂, ◌∙◌, subst, arith, append-nil, length-append}
+use Rattle.std.proofs.lemmas.Bool.{eqb-true, ltb-false}
+use Rattle.std.proofs.lemmas.Option.{none-some, same_Some}
+use Rattle.std.proofs.lemmas.Grind.{flat_map-append}
+use Rattle.std.proofs.lemmas.List.{length-map}
+use Rattle.std.proofs.lemmas.List.Elements.{filter_map-append}
+use Rattle.std.proofs.lemmas.List.Filters.{length-filter_both}
+use Rattle.std.specs.List.{filter_map, cons_option, fold}
+use Rattle.std.specs.Option.{option_to_list}
+use Rattle.dns_spec.specs.Names.{DomainName, is_name, folded, names_equal, same, at_or_below}
+use Rattle.dns_spec.specs.Data.{type_ns, type_cname, type_a, type_aaaa, qtype_any, target}
+use Rattle.dns_spec.specs.Records.{ResourceRecord, ZoneContents, data_order, at, of_type, rrset, with_owner}
+use Rattle.dns_spec.specs.Sets.{rising_types, of_first_type, of_lowest_type}
+use Rattle.dns_spec.specs.Tree.{exists, cut_of, source_of_synthesis, found}
+use Rattle.dns_spec.specs.Checks.{count, large_set, Passes}
+use Rattle.dns_spec.specs.Reading.{no_error}
+use Rattle.dns_spec.specs.Layout.{Section, answer, authority, additional, Item, records_of}
+use Rattle.dns_spec.specs.Answer.{item, follows_alias, alias_set, chain, last_sought, alias_items, asked_records, has_any, Outcome, negative, positive, referral_to, outcome_by, outcome_at, outcome, has_target_type, targets_of, targets_inside, targets_outside, targets, stands, address_set, address_sets, extra, main_items, items, nodes_to, targets_in_zone, most_visits, names_looked_up}
+use Rattle.dns_spec.proofs.DomainNames.NameLaws.{names_equal-decides, length-is_name}
+use Rattle.dns_spec.proofs.Records.SortedOnce.{Each, Among, each_filter, among_filter, length-sort_by}
+use Rattle.dns_spec.proofs.Replies.ItemSets.{any_false, filter_test}
+use Rattle.dns_spec.proofs.Replies.WritableItems.{Named, each_append, each_from_all, chain_named, named_target}
+use Rattle.dns_spec.proofs.ZoneChecks.PassedChecks.{checks_at}
+use Rattle.dns_spec.proofs.Replies.RequiredItems.{target_of, each_alias_item, no_targets}
+use Rattle.dns_spec.proofs.Replies.ChainLength.{chain_short}
+
+-- the records of items
+pub item_records : (s : Section) (rs : List ResourceRecord) → records_of (item s rs) ≡ rs
+item_records s [] = refl
+item_records s (r ∷ rs) = ap (λ xs. r ∷ xs) (append-nil rs)
+
+-- the targets of an answer are those of its last outcome: aliases have none
+pub targets_last : (z : ZoneContents) (q : DomainName) (t : ℕ) → targets (outcome z q t) ≡ targets (outcome_at z t (last_sought z q t))
+unfolding outcome
+targets_last z q t =
+    let front = alias_items z q t in
+    let last = outcome_at z t (last_sought z q t) in
+    ap (λ xs. xs ++ targets_inside last ++ targets_outside last)
+    (ap (filter_map target_of) (flat_map-append (λ (i : Item). i.records) front last.answers)
+    ∙ filter_map-append target_of (records_of front) (records_of last.answers)
+    ∙ ap (λ xs. xs ++ targets_of last.answers) (no_targets front (each_alias_item z q t)))
+
+-- lengths
+parted : {X : Type 0} (p : X → Bool) (xs : List X) → length (filter p xs) + length (filter (λ x. not (p x)) xs) ≡ length xs
+parted p xs = length-filter_both p (λ x. not (p x)) (λ x. refl) xs
+
+filtered_short : {X : Type 0} (p : X → Bool) (xs : List X) → length (filter p xs) ≤ length xs
+filtered_short p xs = let both = parted p xs in omega (arith, both)
+
+mapped_short : {X Y : Type 0} (f : X → Option Y) (xs : List X) → length (filter_map f xs) ≤ length xs
+mapped_short f [] = omega arith
+mapped_short {Y = Y} f (x ∷ xs) = go (f x) (mapped_short f xs)
+  where
+    go : (y : Option Y) → length (filter_map f xs) ≤ length xs → length (cons_option y (filter_map f xs)) ≤ suc (length xs)
+    go None h = omega (arith, h)
+    go (Some y) h = omega (arith, h)
+
+targets_short : (s : Section) (rs : List ResourceRecord) → length (targets_of (item s rs)) ≤ length rs
+targets_short s rs = subst (λ xs. length (filter_map target_of xs) ≤ length rs) (sym (item_records s rs)) (mapped_short target_of rs)
+
+typed_shown : (o : DomainName) (t : ℕ) (rs : List ResourceRecord)
+    → length (filter (λ (r : ResourceRecord). r.rtype == t) (with_owner o rs)) ≡ length (filter (λ (r : ResourceRecord). r.rtype == t) rs)
+typed_shown o t [] = refl
+typed_shown o t (r ∷ rs) = go (r.rtype == t) (typed_shown o t rs)
+  where
+    go : (b : Bool) → length (filter (λ (r : ResourceRecord). r.rtype == t) (with_owner o rs)) ≡ length (filter (λ (r : ResourceRecord). r.rtype == t) rs)
+        → length (cond b (record r { owner = o } ∷ filter (λ (r : ResourceRecord). r.rtype == t) (with_owner o rs)) (filter (λ (r : ResourceRecord). r.rtype == t) (with_owner o rs)))
+        ≡ length (cond b (r ∷ filter (λ (r : ResourceRecord). r.rtype == t) rs) (filter (λ (r : ResourceRecord). r.rtype == t) rs))
+    go true e = ap suc e
+    go false e = e
+
+module _ (z : ZoneContents) (origin : folded z.origin ≡ z.origin) (low : Each (λ (r : ResourceRecord). folded r.owner ≡ r.owner) z.records) (passes : Passes z) where
+  -- a limit of this project: a set has at most 64 records
+  pub count_few : (n : DomainName) (t : ℕ) → count z n t ≤ 64
+  count_few n t = go (filter (λ (r : ResourceRecord). r.rtype == t) (at z n)) refl
+    where
+      few : (r : ResourceRecord) → Among r (filter (λ (s : ResourceRecord). s.rtype == t) (at z n)) → count z n t ≤ 64
+      few r m =
+          let in_at = among_filter (λ (s : ResourceRecord). s.rtype == t) r (at z n) m in
+          let in_zone = among_filter (λ (s : ResourceRecord). same s.owner n) r z.records in_at in
+          let is_t : r.rtype ≡ t = eqb-true r.rtype t (filter_test (λ (s : ResourceRecord). s.rtype == t) r (at z n) m) in
+          let alike : folded r.owner ≡ folded n = (names_equal-decides (folded r.owner) (folded n)).0 (filter_test (λ (s : ResourceRecord). same s.owner n) r z.records in_at) in
+          let one_name : at z r.owner ≡ at z n = ap (λ (f : DomainName). filter (λ (s : ResourceRecord). names_equal (folded s.owner) f) z.records) alike in
+          let fine : large_set z r.owner ≡ false = (checks_at z origin low passes r in_zone).1.1.1.1.1.1.1.1.1.1.1.1.1.0 in
+          let one : nat_lt 64 (count z r.owner r.rtype) ≡ false =
+          any_false (λ (q : ResourceRecord). nat_lt 64 (count z r.owner q.rtype)) (at z r.owner) r fine (subst (Among r) (sym one_name) in_at)
+          in
+          let own : count z r.owner r.rtype ≡ count z n t =
+          ap (λ rs. length (filter (λ (s : ResourceRecord). s.rtype == r.rtype) rs)) one_name
+          ∙ ap (λ (u : ℕ). length (filter (λ (s : ResourceRecord). s.rtype == u) (at z n))) is_t
+          in
+          let bound = ltb-false 64 (count z r.owner r.rtype) one in
+          omega (arith, bound, own)
+
+      go : (rs : List ResourceRecord) → filter (λ (r : ResourceRecord). r.rtype == t) (at z n) ≡ rs → count z n t ≤ 64
+      go [] e = let none = ap length e in omega (arith, none)
+      go (r ∷ rs) e = few r (subst (Among r) (sym e) (inl refl))
+
+  shown_few : (o n : DomainName) (t : ℕ) → length (of_type t (with_owner o (at z n))) ≤ 64
+  shown_few o n t =
+      let a = length-sort_by data_order (filter (λ (r : ResourceRecord). r.rtype == t) (with_owner o (at z n))) in
+      let b = typed_shown o t (at z n) in
+      let c = count_few n t in
+      omega (arith, a, b, c)
+
+  asked_few : (o n : DomainName) (t : ℕ) → length (asked_records t (with_owner o (at z n))) ≤ 64
+  asked_few o n t = go (t == qtype_any)
+    where
+      lowest : (ts : List ℕ) → length (of_first_type ts (with_owner o (at z n))) ≤ 64
+      lowest [] = omega arith
+      lowest (u ∷ us) = shown_few o n u
+
+      go : (b : Bool) → length (cond b (of_lowest_type (with_owner o (at z n))) (of_type t (with_owner o (at z n)))) ≤ 64
+      go true = lowest (rising_types (with_owner o (at z n)))
+      go false = shown_few o n t
+
+  found_few : (s : DomainName) (rs : List ResourceRecord) (t : ℕ) → found z s ≡ Some rs → length (asked_records t rs) ≤ 64
+  found_few s rs t e = go (exists z s) e
+    where
+      is : (n : DomainName) → with_owner s (at z n) ≡ rs → length (asked_records t rs) ≤ 64
+      is n h = subst (λ xs. length (asked_records t xs) ≤ 64) h (asked_few s n t)
+
+      wild : (y : Option DomainName) → option_map (λ n. with_owner s (at z n)) y ≡ Some rs → length (asked_records t rs) ≤ 64
+      wild None e = absurd (none-some rs e)
+      wild (Some n) e = is n (same_Some (with_owner s (at z n)) rs e)
+
+      go : (b : Bool) → cond b (Some (with_owner s (at z s))) (option_map (λ n. with_owner s (at z n)) (source_of_synthesis z s)) ≡ Some rs → length (asked_records t rs) ≤ 64
+      go true e = is s (same_Some (with_owner s (at z s)) rs e)
+      go false e = wild (source_of_synthesis z s) e
+
+  outcome_few : (s : DomainName) (t : ℕ) (x : Option DomainName) (y : Option (List ResourceRecord)) → found z s ≡ y → length (targets (outcome_by z t x y)) ≤ 64
+  outcome_few s t (Some c) y e =
+      let o = referral_to z c in
+      let ts = targets_of o.authorities in
+      let in_c = filter (λ m. at_or_below m c) ts in
+      let out = filter (λ m. not (at_or_below m c)) ts in
+      let whole : targets o ≡ in_c ++ out = ap₂ (λ xs ys. xs ++ ys) (append-nil in_c) (append-nil out) in
+      let a = ap length whole ∙ length-append in_c out in
+      let b = parted (λ m. at_or_below m c) ts in
+      let d = targets_short authority (with_owner c (rrset z c type_ns)) in
+      let f = length-map (rrset z c type_ns) (λ (r : ResourceRecord). record r { owner = c }) in
+      let g = length-sort_by data_order (filter (λ (r : ResourceRecord). r.rtype == type_ns) (at z c)) in
+      let h = count_few c type_ns in
+      omega (arith, a, b, d, f, g, h)
+  outcome_few s t None None e = omega arith
+  outcome_few s t None (Some rs) e = go (follows_alias t && has_any (of_type type_cname rs)) (has_any (asked_records t rs))
+    where
+      go : (b c : Bool) → length (targets (cond b (positive []) (cond c (positive (item answer (asked_records t rs))) (negative z no_error)))) ≤ 64
+      go true c = omega arith
+      go false true =
+          let ts = targets_of (item answer (asked_records t rs)) in
+          let a = ap length (append-nil (ts ++ []) ∙ append-nil ts) in
+          let b = targets_short answer (asked_records t rs) in
+          let c = found_few s rs t e in
+          omega (arith, a, b, c)
+      go false false = omega arith
+
+  targets_few : (q : DomainName) (t : ℕ) → length (targets (outcome z q t)) ≤ 64
+  unfolding outcome_at
+  targets_few q t =
+      let s = last_sought z q t in
+      subst (λ ms. length ms ≤ 64) (sym (targets_last z q t)) (outcome_few s t (cut_of z s) (found z s) refl)
+
+-- sets
+item_one : (s : Section) (rs : List ResourceRecord) → length (item s rs) ≤ 1
+item_one s [] = omega arith
+item_one s (r ∷ rs) = omega arith
+
+main_one : (z : ZoneContents) (t : ℕ) (x : Option DomainName) (y : Option (List ResourceRecord)) → length (main_items (outcome_by z t x y)) ≤ 1
+main_one z t (Some c) y = item_one authority (with_owner c (rrset z c type_ns))
+main_one z t None None = item_one authority _
+main_one z t None (Some rs) = go (follows_alias t && has_any (of_type type_cname rs)) (has_any (asked_records t rs))
+  where
+    go : (b c : Bool) → length (main_items (cond b (positive []) (cond c (positive (item answer (asked_records t rs))) (negative z no_error)))) ≤ 1
+    go true c = omega arith
+    go false true = let a = item_one answer (asked_records t rs) in let b = length-append (item answer (asked_records t rs)) [] in omega (arith, a, b)
+    go false false = item_one authority _
+
+aliases_few : (z : ZoneContents) (ns : List DomainName) → length (flat_map (λ n. item answer (alias_set z n)) ns) ≤ length ns
+aliases_few z [] = omega arith
+aliases_few z (n ∷ ns) =
+    let a = length-append (item answer (alias_set z n)) (flat_map (λ n. item answer (alias_set z n)) ns) in
+    let b = item_one answer (alias_set z n) in
+    let c = aliases_few z ns in
+    omega (arith, a, b, c)
+
+alias_items_few : (z : ZoneContents) (q : DomainName) (t : ℕ) → length (alias_items z q t) ≤ 17
+alias_items_few z q t = go (follows_alias t) (aliases_few z (chain z q t)) (chain_short z q t)
+  where
+    go : (b : Bool) → length (flat_map (λ n. item answer (alias_set z n)) (chain z q t)) ≤ length (chain z q t) → length (chain z q t) ≤ 17
+        → length (cond b (flat_map (λ n. item answer (alias_set z n)) (chain z q t)) []) ≤ 17
+    go true a b = omega (arith, a, b)
+    go false a b = omega arith
+
+address_one : (z : ZoneContents) (earlier : List Item) (n : DomainName) (t : ℕ) → length (address_set z earlier n t) ≤ 1
+address_one z earlier n t = go (stands n t earlier)
+  where
+    go : (b : Bool) → length (cond b [] (item additional (rrset z n t))) ≤ 1
+    go true = omega arith
+    go false = item_one additional (rrset z n t)
+
+extra_few : (z : ZoneContents) (earlier : List Item) (ms : List DomainName) → length (extra z earlier ms) ≤ 2 * length ms
+unfolding extra
+extra_few z earlier [] = omega arith
+extra_few z earlier (m ∷ ms) =
+    let sets = address_sets z earlier m in
+    let a = length-append sets (extra z (earlier ++ sets) ms) in
+    let b = length-append (address_set z earlier m type_a) (address_set z earlier m type_aaaa) in
+    let c = address_one z earlier m type_a in
+    let d = address_one z earlier m type_aaaa in
+    let e = extra_few z (earlier ++ sets) ms in
+    omega (arith, a, b, c, d, e)
+
+module _ (z : ZoneContents) (origin : folded z.origin ≡ z.origin) (low : All (λ (r : ResourceRecord). folded r.owner ≡ r.owner) z.records) (passes : Passes z) (q : DomainName) (t : ℕ) where
+  pub few_targets : length (targets (outcome z q t)) ≤ 64
+  few_targets = targets_few z origin (each_from_all (λ (r : ResourceRecord). folded r.owner ≡ r.owner) z.records low) passes q t
+
+  pub few_items : length (items z q t) ≤ 146
+  unfolding items outcome outcome_at
+  few_items =
+      let o = outcome z q t in
+      let s = last_sought z q t in
+      let last = outcome_by z t (cut_of z s) (found z s) in
+      let a = length-append (main_items o) (extra z (main_items o) (targets o)) in
+      let b = length-append (alias_items z q t ++ last.answers) last.authorities in
+      let c = length-append (alias_items z q t) last.answers in
+      let d = length-append last.answers last.authorities in
+      let e = main_one z t (cut_of z s) (found z s) in
+      let f = alias_items_few z q t in
+      let g = extra_few z (main_items o) (targets o) in
+      let h = few_targets in
+      omega (arith, a, b, c, d, e, f, g, h)
+
+-- nodes
+fold_from : (k : ℕ) (xs : List ℕ) → fold ◌+◌ k xs ≡ k + sum xs
+fold_from k [] = omega arith
+fold_from k (x ∷ xs) = omega (arith, fold_from (k + x) xs, fold_from (0 + x) xs)
+
+pub sum_cons : (x : ℕ) (xs : List ℕ) → sum (x ∷ xs) ≡ x + sum xs
+sum_cons x xs = omega (arith, fold_from (0 + x) xs)
+
+nodes_few : (z : ZoneContents) (ns : List DomainName) → Each Named ns → sum (map (nodes_to z) ns) ≤ 128 * length ns
+nodes_few z [] e = omega arith
+nodes_few z (n ∷ ns) e =
+    let a = length-is_name n e.0 in
+    let b = sum_cons (nodes_to z n) (map (nodes_to z) ns) in
+    let c = nodes_few z ns e.1 in
+    omega (arith, a, b, c)
+
+targets_named : (rs : List ResourceRecord) → Each Named (filter_map target_of rs)
+targets_named [] = tt
+targets_named (r ∷ rs) = go (target_of r) refl (targets_named rs)
+  where
+    named : (m : DomainName) (b : Bool) → cond b (target r.rtype r.rdata) None ≡ Some m → Named m
+    named m true e = named_target r.rtype r.rdata m e
+    named m false e = absurd (none-some m e)
+
+    go : (y : Option DomainName) → target_of r ≡ y → Each Named (filter_map target_of rs) → Each Named (cons_option y (filter_map target_of rs))
+    go None e h = h
+    go (Some m) e h = (named m (has_target_type r) e, h)
+
+module _ (z : ZoneContents) (q : DomainName) (t : ℕ) (h : is_name q ≡ true) where
+  all_named : (o : Outcome) → Each Named (targets o)
+  all_named o =
+      each_append Named (targets_of o.answers ++ targets_inside o) (targets_outside o)
+      (each_append Named (targets_of o.answers) (targets_inside o) (targets_named (records_of o.answers)) (some (λ m c. at_or_below m c) o.referral))
+      (some (λ m c. not (at_or_below m c)) o.referral)
+    where
+      some : (p : DomainName → DomainName → Bool) (x : Option DomainName) → Each Named (flat_map (λ c. filter (λ m. p m c) (targets_of o.authorities)) (option_to_list x))
+      some p None = tt
+      some p (Some c) = subst (Each Named) (sym (append-nil (filter (λ m. p m c) (targets_of o.authorities)))) (each_filter Named (λ m. p m c) (targets_of o.authorities) (targets_named (records_of o.authorities)))
+
+  pub few_nodes : most_visits z q t ≤ 128 * names_looked_up z q t
+  few_nodes =
+      let ts = targets (outcome z q t) in
+      let a = nodes_few z (chain z q t) (chain_named z q t h) in
+      let b = nodes_few z (targets_in_zone z ts) (each_filter Named (λ m. at_or_below m z.origin) ts (all_named (outcome z q t))) in
+      let c = filtered_short (λ m. at_or_below m z.origin) ts in
+      omega (arith, a, b, c)

@@ -1,0 +1,278 @@
+-- In a zone that passes each item of a reply is the records of a set at an owner, with one TTL.
+use Rattle.std.proofs.Common.{◌≡◌, ℕ, ◌≤◌, min, Bool, true, false, ◌&&◌, not, cond, ◌==◌, ◌⊎◌, inl, inr, List, [], ◌∷◌, ◌++◌, map, length, Option, None, Some, is_some, option_map, unwrap_or, All, filter, flat_map, refl, sym, ap, ap₂, ◌∙◌, subst, arith}
+use Rattle.std.proofs.lemmas.Bool.{eqb-true, eq-eqb, false≢true, or_parts}
+use Rattle.std.proofs.lemmas.Option.{none-some, same_Some}
+use Rattle.std.specs.List.{list_any}
+use Rattle.dns_spec.specs.Names.{DomainName, folded, names_equal, same}
+use Rattle.dns_spec.specs.Data.{type_a, type_ns, type_cname, type_soa, type_aaaa, qtype_any, soa_minimum}
+use Rattle.dns_spec.specs.Records.{ResourceRecord, ZoneContents, data_order, at, of_type, rrset, with_owner}
+use Rattle.dns_spec.specs.Sets.{records_at, rising_types, of_first_type, of_lowest_type}
+use Rattle.dns_spec.specs.Tree.{exists, cut_of, source_of_synthesis, found}
+use Rattle.dns_spec.specs.Checks.{ttls_differ, Passes}
+use Rattle.dns_spec.specs.Layout.{Section, answer, authority, additional, Item}
+use Rattle.dns_spec.specs.Reading.{no_error}
+use Rattle.dns_spec.specs.Answer.{item, follows_alias, alias_set, chain, last_sought, alias_items, asked_records, negative_soa, negative, positive, has_any, outcome_by, outcome_at, outcome, targets, stands, address_set, address_sets, extra, main_items, items}
+use Rattle.dns_spec.specs.Laws.{IsSetAt}
+use Rattle.dns_spec.proofs.DomainNames.NameLaws.{names_equal-decides}
+use Rattle.dns_spec.proofs.Records.SortedOnce.{Each, Among, each_at, each_sort, among_filter}
+use Rattle.dns_spec.proofs.Replies.WritableItems.{each_append, each_flat_map, each_from_all, all_from_each}
+use Rattle.dns_spec.proofs.ZoneChecks.PassedChecks.{checks_at, few_soa, one_soa}
+
+-- records with one owner, one TTL and one type are those of a set
+pub record IsOf (o : DomainName) (k t : ℕ) (r : ResourceRecord) : Type 0 where
+  pub owner : r.owner ≡ o
+  pub ttl : r.ttl ≡ k
+  pub rtype : r.rtype ≡ t
+
+pub as_set : (o : DomainName) (k t : ℕ) (rs : List ResourceRecord) → Each (IsOf o k t) rs → rs ≡ records_at o k (record { rtype = t; ttl = k; rdata = map (λ (r : ResourceRecord). r.rdata) rs })
+as_set o k t [] e = refl
+as_set o k t (r ∷ rs) e =
+    let head : r ≡ record { owner = o; ttl = k; rtype = t; rdata = r.rdata } = λ i. record { owner = e.0.owner i; ttl = e.0.ttl i; rtype = e.0.rtype i; rdata = r.rdata } in
+    ap₂ (λ x xs. x ∷ xs) head (as_set o k t rs e.1)
+
+one_set : (o : DomainName) (k t : ℕ) (rs : List ResourceRecord) → Each (IsOf o k t) rs → IsSetAt rs
+one_set o k t rs e = record { owner = o; ttl = k; set = record { rtype = t; ttl = k; rdata = map (λ (r : ResourceRecord). r.rdata) rs }; records = as_set o k t rs e }
+
+one_record_set : (rs : List ResourceRecord) → length rs ≤ 1 → IsSetAt rs
+one_record_set [] h = one_set [] 0 0 [] tt
+one_record_set (r ∷ []) h = one_set r.owner r.ttl r.rtype (r ∷ []) (record { owner = refl; ttl = refl; rtype = refl }, tt)
+one_record_set (r ∷ s ∷ rs) h = absurd (omega arith)
+
+abbrev Sets : List Item → Type 0
+Sets = Each (λ (i : Item). IsSetAt i.records)
+
+item_set : (s : Section) (rs : List ResourceRecord) → IsSetAt rs → Sets (item s rs)
+item_set s [] h = tt
+item_set s (r ∷ rs) h = (h, tt)
+
+-- the TTL of the first record of a type
+pub first_ttl : ℕ → List ResourceRecord → ℕ
+first_ttl t [] = 0
+first_ttl t (r ∷ rs) = cond (r.rtype == t) r.ttl (first_ttl t rs)
+
+record FirstOf (t : ℕ) (rs : List ResourceRecord) : Type 0 where
+  first : ResourceRecord
+  among : Among first rs
+  typed : first.rtype ≡ t
+  ttl : first_ttl t rs ≡ first.ttl
+
+first_of_type : (t : ℕ) (rs : List ResourceRecord) (r : ResourceRecord) → Among r rs → r.rtype ≡ t → FirstOf t rs
+unfolding first_ttl
+first_of_type t [] r m e = absurd m
+first_of_type t (s ∷ rs) r m e = go (s.rtype == t) refl m (first_of_type t rs r)
+  where
+    go : (b : Bool) → (s.rtype == t) ≡ b → (r ≡ s) ⊎ Among r rs → (Among r rs → r.rtype ≡ t → FirstOf t rs) → FirstOf t (s ∷ rs)
+    go true p n f = record { first = s; among = inl refl; typed = eqb-true s.rtype t p; ttl = ap (λ b. cond b s.ttl (first_ttl t rs)) p }
+    go false p (inl q) f = absurd (false≢true (sym p ∙ eq-eqb s.rtype t (ap (λ (x : ResourceRecord). x.rtype) (sym q) ∙ e)))
+    go false p (inr n) f =
+        let g = f n e in
+        record { first = g.first; among = inr g.among; typed = g.typed; ttl = ap (λ b. cond b s.ttl (first_ttl t rs)) p ∙ g.ttl }
+
+pub any_false : {X : Type 0} (p : X → Bool) (xs : List X) (a : X) → list_any p xs ≡ false → Among a xs → p a ≡ false
+any_false p [] a e m = absurd m
+any_false p (x ∷ xs) a e (inl q) = ap p q ∙ (or_parts (p x) (list_any p xs) e).0
+any_false p (x ∷ xs) a e (inr m) = any_false p xs a (or_parts (p x) (list_any p xs) e).1 m
+
+pub each_among : {X : Type 0} (P : X → Type 0) (xs : List X) → ((x : X) → Among x xs → P x) → Each P xs
+each_among P [] f = tt
+each_among P (x ∷ xs) f = (f x (inl refl), each_among P xs (λ y m. f y (inr m)))
+
+pub filter_test : {X : Type 0} (p : X → Bool) (a : X) (xs : List X) → Among a (filter p xs) → p a ≡ true
+filter_test p a [] m = absurd m
+filter_test p a (x ∷ xs) m = go (p x) refl m (filter_test p a xs)
+  where
+    go : (t : Bool) → p x ≡ t → Among a (cond t (x ∷ filter p xs) (filter p xs)) → (Among a (filter p xs) → p a ≡ true) → p a ≡ true
+    go true q (inl e) f = ap p e ∙ q
+    go true q (inr n) f = f n
+    go false q n f = f n
+
+pub each_typed : (t : ℕ) (P : ResourceRecord → Type 0) (rs : List ResourceRecord) → Each P rs → Each (λ r. P r × (r.rtype ≡ t)) (of_type t rs)
+each_typed t P rs e =
+    each_sort data_order (λ r. P r × (r.rtype ≡ t)) (filter (λ (r : ResourceRecord). r.rtype == t) rs)
+    (each_among (λ r. P r × (r.rtype ≡ t)) (filter (λ (r : ResourceRecord). r.rtype == t) rs) (λ r m.
+    (each_at P r rs e (among_filter (λ (s : ResourceRecord). s.rtype == t) r rs m), eqb-true r.rtype t (filter_test (λ (s : ResourceRecord). s.rtype == t) r rs m))))
+
+owned : (o : DomainName) (P : ℕ → ℕ → Type 0) (rs : List ResourceRecord) → Each (λ (r : ResourceRecord). P r.ttl r.rtype) rs
+    → Each (λ (r : ResourceRecord). (r.owner ≡ o) × P r.ttl r.rtype) (with_owner o rs)
+owned o P [] e = tt
+owned o P (r ∷ rs) e = ((refl, e.0), owned o P rs e.1)
+
+module _ (z : ZoneContents) (origin : folded z.origin ≡ z.origin) (low : Each (λ (r : ResourceRecord). folded r.owner ≡ r.owner) z.records) (passes : Passes z) where
+  -- records at one name, of one type, have one TTL
+  same_ttl : (n : DomainName) (r s : ResourceRecord) → Among r (at z n) → Among s (at z n) → r.rtype ≡ s.rtype → r.ttl ≡ s.ttl
+  same_ttl n r s m k e =
+      let test = λ (x : ResourceRecord). same x.owner n in
+      let here = among_filter test r z.records m in
+      let alike : folded r.owner ≡ folded n = (names_equal-decides (folded r.owner) (folded n)).0 (filter_test test r z.records m) in
+      let xs : at z r.owner ≡ at z n = ap (λ f. filter (λ (x : ResourceRecord). names_equal (folded x.owner) f) z.records) alike in
+      let fine : ttls_differ z r.owner ≡ false = (checks_at z origin low passes r here).1.1.1.1.1.1.1.0 in
+      let inner = any_false (λ (x : ResourceRecord). list_any (λ (y : ResourceRecord). x.rtype == y.rtype && not (x.ttl == y.ttl)) (at z r.owner)) (at z r.owner) r fine (subst (Among r) (sym xs) m) in
+      let pair = any_false (λ (y : ResourceRecord). r.rtype == y.rtype && not (r.ttl == y.ttl)) (at z r.owner) s inner (subst (Among s) (sym xs) k) in
+      go (r.ttl == s.ttl) refl (ap (λ b. b && not (r.ttl == s.ttl)) (sym (eq-eqb r.rtype s.rtype e)) ∙ pair)
+    where
+      go : (b : Bool) → (r.ttl == s.ttl) ≡ b → not (r.ttl == s.ttl) ≡ false → r.ttl ≡ s.ttl
+      go true p q = eqb-true r.ttl s.ttl p
+      go false p q = absurd (false≢true (sym q ∙ ap not p))
+
+  abbrev HasTtl : DomainName → ℕ → ResourceRecord → Type 0
+  HasTtl n t r = r.rtype ≡ t → r.ttl ≡ first_ttl t (at z n)
+
+  at_ttl : (n : DomainName) (t : ℕ) → Each (HasTtl n t) (at z n)
+  at_ttl n t = each_among (HasTtl n t) (at z n) (λ r m e. first_is n t r m e (first_of_type t (at z n) r m e))
+    where
+      first_is : (n : DomainName) (t : ℕ) (r : ResourceRecord) → Among r (at z n) → r.rtype ≡ t → FirstOf t (at z n) → r.ttl ≡ first_ttl t (at z n)
+      first_is n t r m e f = same_ttl n r f.first m f.among (e ∙ sym f.typed) ∙ sym f.ttl
+
+  -- the set of a type at a name, shown with an owner
+  shown_set : (o n : DomainName) (t : ℕ) → IsSetAt (of_type t (with_owner o (at z n)))
+  shown_set o n t =
+      one_set o (first_ttl t (at z n)) t (of_type t (with_owner o (at z n)))
+      (each_weak (of_type t (with_owner o (at z n))) (each_typed t (λ r. (r.owner ≡ o) × HasTtl n t r) (with_owner o (at z n))
+      (owned o (λ k u. u ≡ t → k ≡ first_ttl t (at z n)) (at z n) (at_ttl n t))))
+    where
+      each_weak : (rs : List ResourceRecord) → Each (λ r. ((r.owner ≡ o) × HasTtl n t r) × (r.rtype ≡ t)) rs → Each (IsOf o (first_ttl t (at z n)) t) rs
+      each_weak [] e = tt
+      each_weak (r ∷ rs) e = (record { owner = e.0.0.0; ttl = e.0.0.1 e.0.1; rtype = e.0.1 }, each_weak rs e.1)
+
+  -- the records of a set, whose owner is the name in lower case
+  pub own_records : (n : DomainName) (t : ℕ) → Each (IsOf (folded n) (first_ttl t (at z n)) t) (rrset z n t)
+  own_records n t =
+      each_weak (rrset z n t) (each_typed t (λ r. (r.owner ≡ folded n) × HasTtl n t r) (at z n)
+      (each_among (λ r. (r.owner ≡ folded n) × HasTtl n t r) (at z n) (λ r m.
+      let test = λ (x : ResourceRecord). same x.owner n in (
+        sym (each_at (λ (x : ResourceRecord). folded x.owner ≡ x.owner) r z.records low (among_filter test r z.records m)) ∙ (names_equal-decides (folded r.owner) (folded n)).0 (filter_test test r z.records m),
+        each_at (HasTtl n t) r (at z n) (at_ttl n t) m,
+      ))))
+    where
+      each_weak : (rs : List ResourceRecord) → Each (λ r. ((r.owner ≡ folded n) × HasTtl n t r) × (r.rtype ≡ t)) rs → Each (IsOf (folded n) (first_ttl t (at z n)) t) rs
+      each_weak [] e = tt
+      each_weak (r ∷ rs) e = (record { owner = e.0.0.0; ttl = e.0.0.1 e.0.1; rtype = e.0.1 }, each_weak rs e.1)
+
+  own_set : (n : DomainName) (t : ℕ) → IsSetAt (rrset z n t)
+  own_set n t = one_set (folded n) (first_ttl t (at z n)) t (rrset z n t) (own_records n t)
+
+  referral_set : (c : DomainName) → IsSetAt (with_owner c (rrset z c type_ns))
+  referral_set c =
+      let k = first_ttl type_ns (at z c) in
+      one_set c k type_ns (with_owner c (rrset z c type_ns)) (shown (rrset z c type_ns) (each_typed type_ns (HasTtl c type_ns) (at z c) (at_ttl c type_ns)))
+    where
+      shown : (rs : List ResourceRecord) → Each (λ r. HasTtl c type_ns r × (r.rtype ≡ type_ns)) rs → Each (IsOf c (first_ttl type_ns (at z c)) type_ns) (with_owner c rs)
+      shown [] e = tt
+      shown (r ∷ rs) e = (record { owner = refl; ttl = e.0.0 e.0.1; rtype = e.0.1 }, shown rs e.1)
+
+  -- what is found for a name is what stands at a name, shown with it
+  record Shown (q : DomainName) (rs : List ResourceRecord) : Type 0 where
+    source : DomainName
+    whole : with_owner q (at z source) ≡ rs
+
+  found_shown : (q : DomainName) (rs : List ResourceRecord) → found z q ≡ Some rs → Shown q rs
+  found_shown q rs e = go (exists z q) e
+    where
+      wild : (y : Option DomainName) → option_map (λ n. with_owner q (at z n)) y ≡ Some rs → Shown q rs
+      wild None e = absurd (none-some rs e)
+      wild (Some n) e = record { source = n; whole = same_Some (with_owner q (at z n)) rs e }
+
+      go : (t : Bool) → cond t (Some (with_owner q (at z q))) (option_map (λ n. with_owner q (at z n)) (source_of_synthesis z q)) ≡ Some rs → Shown q rs
+      go true e = record { source = q; whole = same_Some (with_owner q (at z q)) rs e }
+      go false e = wild (source_of_synthesis z q) e
+
+  found_set : (q : DomainName) (rs : List ResourceRecord) (t : ℕ) → Shown q rs → IsSetAt (of_type t rs)
+  found_set q rs t s = subst (λ x. IsSetAt (of_type t x)) s.whole (shown_set q s.source t)
+
+  alias_is_set : (s : DomainName) → IsSetAt (alias_set z s)
+  alias_is_set s = go (is_some (cut_of z s)) (some (found z s) refl)
+    where
+      some : (y : Option (List ResourceRecord)) → found z s ≡ y → IsSetAt (unwrap_or (option_map (of_type type_cname) y) [])
+      some None e = one_record_set [] (omega arith)
+      some (Some rs) e = found_set s rs type_cname (found_shown s rs e)
+
+      go : (t : Bool) → IsSetAt (unwrap_or (option_map (of_type type_cname) (found z s)) [])
+          → IsSetAt (cond t [] (unwrap_or (option_map (of_type type_cname) (found z s)) []))
+      go true e = one_record_set [] (omega arith)
+      go false e = e
+
+  units : {X : Type 0} (xs : List X) → Each (λ _. Unit {0}) xs
+  units [] = tt
+  units (x ∷ xs) = (tt, units xs)
+
+  lowest_set : (q : DomainName) (rs : List ResourceRecord) → Shown q rs → IsSetAt (of_lowest_type rs)
+  lowest_set q rs s = go (rising_types rs)
+    where
+      go : (ts : List ℕ) → IsSetAt (of_first_type ts rs)
+      go [] = one_record_set [] (omega arith)
+      go (t ∷ ts) = found_set q rs t s
+
+  asked_is_set : (q : DomainName) (rs : List ResourceRecord) (t : ℕ) → Shown q rs → Sets (item answer (asked_records t rs))
+  asked_is_set q rs t s = go (t == qtype_any)
+    where
+      go : (b : Bool) → Sets (item answer (cond b (of_lowest_type rs) (of_type t rs)))
+      go true = item_set answer (of_lowest_type rs) (lowest_set q rs s)
+      go false = item_set answer (of_type t rs) (found_set q rs t s)
+
+  negative_set : Sets (negative_soa z)
+  negative_set =
+      let lowered = λ (rs : List ResourceRecord). map (λ (r : ResourceRecord). record r { ttl = min r.ttl (soa_minimum r.rdata) }) rs in
+      let plain = filter (λ (r : ResourceRecord). r.rtype == type_soa) (at z z.origin) in
+      item_set authority (lowered (rrset z z.origin type_soa))
+      (subst (λ rs. IsSetAt (lowered rs)) (sym (one_soa z origin passes)) (short plain (few_soa z origin passes)))
+    where
+      short : (rs : List ResourceRecord) → length rs ≤ 1 → IsSetAt (map (λ (r : ResourceRecord). record r { ttl = min r.ttl (soa_minimum r.rdata) }) rs)
+      short [] h = one_record_set [] (omega arith)
+      short (r ∷ []) h = one_record_set (record r { ttl = min r.ttl (soa_minimum r.rdata) } ∷ []) (omega arith)
+      short (r ∷ s ∷ rs) h = absurd (omega arith)
+
+  main_sets : (t : ℕ) (s : DomainName) (x : Option DomainName) (y : Option (List ResourceRecord)) → found z s ≡ y
+      → Sets (outcome_by z t x y).answers × Sets (outcome_by z t x y).authorities
+  main_sets t s (Some c) y e = (tt, item_set authority (with_owner c (rrset z c type_ns)) (referral_set c))
+  main_sets t s None None e = (tt, negative_set)
+  main_sets t s None (Some rs) e = go (follows_alias t && has_any (of_type type_cname rs)) (has_any (asked_records t rs))
+    where
+      go : (b c : Bool) → Sets (cond b (positive []) (cond c (positive (item answer (asked_records t rs))) (negative z no_error))).answers
+          × Sets (cond b (positive []) (cond c (positive (item answer (asked_records t rs))) (negative z no_error))).authorities
+      go true c = (tt, tt)
+      go false true = (asked_is_set s rs t (found_shown s rs e), tt)
+      go false false = (tt, negative_set)
+
+  alias_sets : (q : DomainName) (t : ℕ) → Sets (alias_items z q t)
+  alias_sets q t = go (follows_alias t)
+    where
+      go : (b : Bool) → Sets (cond b (flat_map (λ s. item answer (alias_set z s)) (chain z q t)) [])
+      go true =
+          each_flat_map (λ (i : Item). IsSetAt i.records) (λ _. Unit {0}) (λ s. item answer (alias_set z s)) (chain z q t)
+          (λ s _. item_set answer (alias_set z s) (alias_is_set s)) (units (chain z q t))
+      go false = tt
+
+  address_is_set : (earlier : List Item) (n : DomainName) (t : ℕ) → Sets (address_set z earlier n t)
+  address_is_set earlier n t = go (stands n t earlier)
+    where
+      go : (b : Bool) → Sets (cond b [] (item additional (rrset z n t)))
+      go true = tt
+      go false = item_set additional (rrset z n t) (own_set n t)
+
+  extra_sets : (earlier : List Item) (ms : List DomainName) → Sets (extra z earlier ms)
+  unfolding extra
+  extra_sets earlier [] = tt
+  extra_sets earlier (m ∷ ms) =
+      let P = λ (i : Item). IsSetAt i.records in
+      let sets = address_sets z earlier m in
+      each_append P sets (extra z (earlier ++ sets) ms)
+      (each_append P (address_set z earlier m type_a) (address_set z earlier m type_aaaa) (address_is_set earlier m type_a) (address_is_set earlier m type_aaaa))
+      (extra_sets (earlier ++ sets) ms)
+
+  items_sets : (q : DomainName) (t : ℕ) → Sets (items z q t)
+  unfolding items outcome outcome_at
+  items_sets q t =
+      let P = λ (i : Item). IsSetAt i.records in
+      let s = last_sought z q t in
+      let last = outcome_by z t (cut_of z s) (found z s) in
+      let main = main_sets t s (cut_of z s) (found z s) refl in
+      let o = outcome z q t in
+      each_append P (main_items o) (extra z (main_items o) (targets o))
+      (each_append P o.answers o.authorities (each_append P (alias_items z q t) last.answers (alias_sets q t) main.0) main.1)
+      (extra_sets (main_items o) (targets o))
+
+pub items_are_sets : (z : ZoneContents) → folded z.origin ≡ z.origin → All (λ (r : ResourceRecord). folded r.owner ≡ r.owner) z.records → Passes z
+    → (q : DomainName) (t : ℕ) → All (λ (i : Item). IsSetAt i.records) (items z q t)
+items_are_sets z origin low passes q t =
+    all_from_each (λ (i : Item). IsSetAt i.records) (items z q t)
+    (items_sets z origin (each_from_all (λ (r : ResourceRecord). folded r.owner ≡ r.owner) z.records low) passes q t)

@@ -1,0 +1,304 @@
+-- The octets of a reply, laid out plainly, spell it.
+use Rattle.std.proofs.Common.{◌≡◌, ℕ, ◌+◌, ◌/◌, ◌^◌, ◌<◌, ◌≤◌, Bool, true, false, not, cond, nat_le, ◌==◌, List, [], ◌∷◌, ◌++◌, length, take, drop, Option, None, Some, IfSome, All, refl, sym, ap, ◌∙◌, subst, arith, length-take, mod-lt, append-nil}
+use Rattle.std.proofs.lemmas.Bool.{cond_both, and_parts, leb-true}
+use Rattle.std.proofs.lemmas.Option.{none-some, same_Some, cond_some}
+use Rattle.std.proofs.lemmas.List.{take-append-le}
+use Rattle.std.proofs.lemmas.List.Elements.{All-nil, All-take, All-drop}
+use Rattle.std.specs.List.{list_all}
+use Rattle.dns_spec.specs.Names.{Octets, DomainName, wire, is_label, is_name, at_or_below}
+use Rattle.dns_spec.specs.Data.{class_in, number_of}
+use Rattle.dns_spec.specs.Records.{ResourceRecord, ZoneContents}
+use Rattle.dns_spec.specs.Reading.{Header, MessageQuestion, format_error, not_implemented, refused, Spells}
+use Rattle.dns_spec.specs.ComputedReading.{name_at}
+use Rattle.dns_spec.specs.Query.{field16, opcode, recursion_desired, bit, head_of, reply_head, refusal_head, question_of, question_at, counts_are_one_question, is_ignored, QueryRead, absent, refused_with, query, query_or_error, query_read}
+use Rattle.dns_spec.specs.Layout.{Item, greatest, records_of, asked_name, plain_records_size, plain_size, plain_layout, records_size, size, layout, message_of}
+use Rattle.dns_spec.specs.Answer.{outcome, main_items, extra, targets, items, is_authoritative}
+use Rattle.dns_spec.specs.Reply.{kept, truncated, Decision, silence, header_alone, question_alone, answered, is_meta_type, refusal, decide_question, decide_query, decide, Reply, answer_with, reply_of, reply_with, octets_by, reply_message, keep_plain, keep_longest, reply}
+use Rattle.dns_spec.specs.Laws.{sections_in_order, IsWritable, IsAskable, HasRoom, HasCounts, KeepsBeginning}
+use Rattle.dns_spec.proofs.Records.SortedOnce.{Each}
+use Rattle.dns_spec.proofs.Messages.NameReading.{name_at_computes}
+use Rattle.dns_spec.proofs.Layouts.PlainLayout.{length-question_octets, plain_spells}
+use Rattle.dns_spec.proofs.Layouts.LayoutSize.{length-layout, length-plain_layout}
+use Rattle.dns_spec.proofs.Layouts.SharedLayout.{counted, layout_spells}
+use Rattle.dns_spec.proofs.Replies.WritableItems.{each_from_all, items_in_order, items_writable, outcome_rcode}
+use Rattle.dns_spec.proofs.Replies.Kept.{greatest_bound, kept_fits}
+
+-- there are no more records than octets
+records_bound : (asked : DomainName) (rs : List ResourceRecord) → length rs ≤ plain_records_size asked rs
+records_bound asked [] = omega arith
+records_bound asked (r ∷ rs) = omega (arith, records_bound asked rs)
+
+plain_counts : (q : Option MessageQuestion) (is : List Item) → plain_size q is < 2 ^ 16 → HasCounts is
+unfolding plain_size
+plain_counts q is short = let b = records_bound (asked_name q) (records_of is) in counted is (omega (arith, b))
+
+-- a field of 16 bits of octets
+two_bound : (os : Octets) → length os ≤ 2 → Each (λ o. o < 256) os → number_of os < 2 ^ 16
+two_bound [] h e = omega arith
+two_bound (a ∷ []) h e = let p = e.0 in omega (arith, p)
+two_bound (a ∷ b ∷ []) h e = let p = e.0 in let q = e.1.0 in omega (arith, p, q)
+two_bound (a ∷ b ∷ c ∷ os) h e = absurd (omega arith)
+
+field_bound : (d : Octets) (i : ℕ) → All (λ o. o < 256) d → field16 d i < 2 ^ 16
+field_bound d i e =
+    two_bound (take 2 (drop i d)) (omega (arith, length-take 2 (drop i d)))
+    (each_from_all (λ o. o < 256) (take 2 (drop i d)) (All-take (λ o. o < 256) 2 (drop i d) (All-drop (λ o. o < 256) i d e)))
+
+-- the header of a reply fits its fields
+bit_bound : (b : Bool) → bit b ≤ 1
+bit_bound true = omega arith
+bit_bound false = omega arith
+
+flags_bound : (h : Header) (aa tc : Bool) (rcode : ℕ) → rcode < 16 → (reply_head h aa tc rcode).flags < 2 ^ 16
+flags_bound h aa tc rcode low =
+    let o : opcode h.flags < 16 = mod-lt (h.flags / 2 ^ 11) (omega arith) in
+    let r : recursion_desired h.flags < 2 = mod-lt (h.flags / 2 ^ 8) (omega arith) in
+    let a = bit_bound aa in
+    let t = bit_bound tc in
+    omega (arith, o, r, a, t)
+
+-- a question that was read fits its fields
+askable : (d : Octets) (q : MessageQuestion) → All (λ o. o < 256) d → question_at d ≡ Some q → IsAskable q
+unfolding question_at
+askable d q low h = go (name_at d 12) refl h
+  where
+    go : (x : Option (DomainName × ℕ)) → name_at d 12 ≡ x
+        → ◌≡◌ {A = Option MessageQuestion} (elim x [ None ↦ None | Some r ↦ question_of d r ]) (Some q) → IsAskable q
+    go None e f = absurd (none-some q f)
+    go (Some (n, e)) is f =
+        let c = cond_some (length d == e + 4) (record { qname = n; qtype = field16 d e; qclass = field16 d (e + 2) }) q f in
+        subst IsAskable c.1 (record { qname = ((name_at_computes d 12 n e).0 is).1; qtype = field_bound d e low; qclass = field_bound d (e + 2) low })
+
+-- a header of a refusal, with the RCODE that it has
+record Refuses (d : Octets) (h : Header) : Type 0 where
+  rcode : ℕ
+  low : rcode < 16
+  head : refusal_head (head_of d) rcode ≡ h
+
+-- what a query that was read says of its header and question
+abbrev IsReadAs : Octets → QueryRead → Type 0
+IsReadAs d absent = Unit {0}
+IsReadAs d (refused_with h) = Refuses d h
+IsReadAs d (query h q) = (question_at d ≡ Some q) × (head_of d ≡ h)
+
+read_or_error : (d : Octets) (y : Option MessageQuestion) → question_at d ≡ y → IsReadAs d (query_or_error (head_of d) y)
+read_or_error d None e = record { rcode = format_error; low = omega arith; head = refl }
+read_or_error d (Some q) e = (e, refl)
+
+read_as : (d : Octets) → IsReadAs d (query_read d)
+unfolding query_read
+read_as d =
+    let h = head_of d in
+    let asked = query_or_error h (question_at d) in
+    let other = refused_with (refusal_head h not_implemented) in
+    let many = refused_with (refusal_head h format_error) in
+    cond_both (is_ignored d) absent (cond (not (opcode (field16 d 2) == 0)) other (cond (not (counts_are_one_question d)) many asked))
+    (IsReadAs d) (λ _. tt) (λ _.
+    cond_both (not (opcode (field16 d 2) == 0)) other (cond (not (counts_are_one_question d)) many asked)
+    (IsReadAs d) (λ _. record { rcode = not_implemented; low = omega arith; head = refl }) (λ _.
+    cond_both (not (counts_are_one_question d)) many asked (IsReadAs d)
+    (λ _. record { rcode = format_error; low = omega arith; head = refl }) (λ _. read_or_error d (question_at d) refl)))
+
+-- and what a decision says
+abbrev Decided : Octets → Decision → Type 0
+Decided d silence = Unit {0}
+Decided d (header_alone h) = Refuses d h
+Decided d (question_alone h q) = (question_at d ≡ Some q) × Refuses d h
+Decided d (answered h q) = (question_at d ≡ Some q) × (head_of d ≡ h)
+
+refusal_low : (z : ZoneContents) (q : MessageQuestion) (rcode : ℕ) → refusal z q ≡ Some rcode → rcode < 16
+refusal_low z q rcode = go (not (q.qclass == class_in)) (is_meta_type q.qtype) (not (at_or_below q.qname z.origin))
+  where
+    go : (a b c : Bool) → cond a (Some refused) (cond b (Some not_implemented) (cond c (Some refused) None)) ≡ Some rcode → rcode < 16
+    go true b c e = let is = same_Some refused rcode e in omega (arith, is)
+    go false true c e = let is = same_Some not_implemented rcode e in omega (arith, is)
+    go false false true e = let is = same_Some refused rcode e in omega (arith, is)
+    go false false false e = absurd (none-some rcode e)
+
+decided_query : (z : ZoneContents) (d : Octets) (x : QueryRead) → IsReadAs d x → Decided d (decide_query z x)
+decided_query z d absent ok = tt
+decided_query z d (refused_with h) ok = ok
+decided_query z d (query h q) ok = go (refusal z q) refl
+  where
+    go : (y : Option ℕ) → refusal z q ≡ y → Decided d (decide_question h q y)
+    go None e = ok
+    go (Some rcode) e = (ok.0, record { rcode = rcode; low = refusal_low z q rcode e; head = ap (λ x. refusal_head x rcode) ok.1 })
+
+decided : (z : ZoneContents) (d : Octets) → Decided d (decide z d)
+unfolding decide
+decided z d = decided_query z d (query_read d) (read_as d)
+
+-- a question with sets that a message has room for
+roomy : (h : Header) (q : Option MessageQuestion) (is : List Item) → h.id < 2 ^ 16 → h.flags < 2 ^ 16 → IfSome q IsAskable → sections_in_order is ≡ true → HasRoom h q is
+roomy h q is id flags ok ordered = record { id = id; flags = flags; question = ok; in_order = ordered }
+
+bare_size : size None [] ≡ 12
+unfolding size records_size
+bare_size = refl
+
+bare_plain_size : plain_size None [] ≡ 12
+unfolding plain_size
+bare_plain_size = refl
+
+empty_size : (q : MessageQuestion) → is_name q.qname ≡ true → plain_size (Some q) [] ≤ 271
+unfolding plain_size
+empty_size q h =
+    let short = leb-true (length (wire q.qname)) 255 (and_parts (list_all is_label q.qname) (nat_le (length (wire q.qname)) 255) h).1 in
+    omega (arith, length-question_octets q, short)
+
+empty_shared_size : (q : MessageQuestion) → is_name q.qname ≡ true → size (Some q) [] ≤ 271
+unfolding size records_size
+empty_shared_size q h =
+    let short = leb-true (length (wire q.qname)) 255 (and_parts (list_all is_label q.qname) (nat_le (length (wire q.qname)) 255) h).1 in
+    omega (arith, length-question_octets q, short)
+
+-- a layout spells the message of a question and of sets, whatever header stands before them
+abbrev Laid : (Header → Option MessageQuestion → List Item → Octets) → Option MessageQuestion → List Item → Type 0
+Laid lay q is = (h : Header) → h.id < 2 ^ 16 → h.flags < 2 ^ 16 → Spells (lay h q is) (message_of h q is)
+
+-- then the octets of a reply spell the message that it is
+reply_laid : (lay : Header → Option MessageQuestion → List Item → Octets) (z : ZoneContents) (d : Octets) (keep : MessageQuestion → List Item) (r : Reply)
+    → All IsWritable z.records → All (λ o. o < 256) d → Laid lay None [] → ((q : MessageQuestion) → IsAskable q → Laid lay (Some q) [] × Laid lay (Some q) (keep q))
+    → reply_with keep z d ≡ Some r → Spells (octets_by lay r) (reply_message r)
+unfolding reply_with
+reply_laid lay z d keep r writable low bare lays e = go (decide z d) (decided z d) e
+  where
+    id : field16 d 0 < 2 ^ 16
+    id = field_bound d 0 low
+
+    replied : (x : Reply) → Spells (octets_by lay x) (reply_message x) → ◌≡◌ {A = Option Reply} (Some x) (Some r) → Spells (octets_by lay r) (reply_message r)
+    replied x s e = subst (λ y. Spells (octets_by lay y) (reply_message y)) (same_Some x r e) s
+
+    refusing : (h : Header) (q : Option MessageQuestion) → Refuses d h → Laid lay q [] → Spells (lay h q []) (message_of h q [])
+    refusing h q ok laid =
+        subst (λ x. Spells (lay x q []) (message_of x q [])) ok.head
+        (laid (refusal_head (head_of d) ok.rcode) id (flags_bound (head_of d) false false ok.rcode ok.low))
+
+    go : (x : Decision) → Decided d x → reply_of keep z x ≡ Some r → Spells (octets_by lay r) (reply_message r)
+    go silence ok e = absurd (none-some r e)
+    go (header_alone h) ok e = replied (record { header = h; question = None; sets = [] }) (refusing h None ok bare) e
+    go (question_alone h q) ok e =
+        replied (record { header = h; question = Some q; sets = [] }) (refusing h (Some q) ok.1 (lays q (askable d q low ok.0)).0) e
+    go (answered h q) ok e =
+        let may = askable d q low ok.0 in
+        let o = outcome z q.qname q.qtype in
+        let head = reply_head h (is_authoritative o) (truncated z q (keep q)) o.rcode in
+        let flags = flags_bound h (is_authoritative o) (truncated z q (keep q)) o.rcode (outcome_rcode z writable q.qname q.qtype may.qname) in
+        replied (answer_with z h q (keep q)) ((lays q may).1 head (subst (λ (x : Header). x.id < 2 ^ 16) ok.1 id) flags) e
+
+-- The octets of a reply, laid out plainly, spell the message that it is.
+pub reply_spells : (z : ZoneContents) (d : Octets) (keep : MessageQuestion → List Item) (r : Reply) → All IsWritable z.records → All (λ o. o < 256) d → KeepsBeginning z keep
+    → reply_with keep z d ≡ Some r → Spells (octets_by plain_layout r) (reply_message r)
+reply_spells z d keep r writable low keeps = reply_laid plain_layout z d keep r writable low (alone None tt) (λ q ok. (alone (Some q) ok, sets q ok))
+  where
+    alone : (q : Option MessageQuestion) → IfSome q IsAskable → Laid plain_layout q []
+    alone q ok h id flags = plain_spells h q [] (roomy h q [] id flags ok refl) (counted [] (omega arith)) (All-nil IsWritable)
+
+    sets : (q : MessageQuestion) → IsAskable q → Laid plain_layout (Some q) (keep q)
+    sets q ok h id flags =
+        let k = keeps q ok.qname in
+        let ordered = subst (λ is. sections_in_order is ≡ true) (sym k.1) (items_in_order z writable q.qname q.qtype ok.qname k.0) in
+        let all = subst (λ is. All IsWritable (records_of is)) (sym k.1) (items_writable z writable q.qname q.qtype ok.qname k.0) in
+        plain_spells h (Some q) (keep q) (roomy h (Some q) (keep q) id flags ok ordered) (plain_counts (Some q) (keep q) k.2) all
+
+-- The same of the layout in which names share suffixes, within a limit.
+pub shared_reply_spells : (z : ZoneContents) (d : Octets) (limit : ℕ) (r : Reply) → All IsWritable z.records → All (λ o. o < 256) d → 271 ≤ limit → limit ≤ 65535
+    → reply z d limit ≡ Some r → Spells (octets_by layout r) (reply_message r)
+unfolding reply
+shared_reply_spells z d limit r writable low from upto =
+    reply_laid layout z d (keep_longest z limit) r writable low bare (λ q ok. (alone q ok, sets q ok))
+  where
+    bare : Laid layout None []
+    bare h id flags = let small = bare_size in layout_spells h None [] (roomy h None [] id flags tt refl) (All-nil IsWritable) (omega (arith, small))
+
+    alone : (q : MessageQuestion) → IsAskable q → Laid layout (Some q) []
+    alone q ok h id flags =
+        let small = empty_shared_size q ok.qname in
+        layout_spells h (Some q) [] (roomy h (Some q) [] id flags ok refl) (All-nil IsWritable) (omega (arith, small))
+
+    sets : (q : MessageQuestion) → IsAskable q → Laid layout (Some q) (keep_longest z limit q)
+    sets q ok h id flags =
+        let all = items z q.qname q.qtype in
+        let k = greatest (λ n. nat_le (size (Some q) (take n all)) limit) (length all) in
+        let small = empty_shared_size q ok.qname in
+        let short = kept_fits (size (Some q)) limit all (omega (arith, small)) in
+        layout_spells h (Some q) (take k all)
+        (roomy h (Some q) (take k all) id flags ok (items_in_order z writable q.qname q.qtype ok.qname k))
+        (items_writable z writable q.qname q.qtype ok.qname k) (omega (arith, short, upto))
+
+-- What a server keeps by the size of the plain layout is such a beginning.
+front_kept : (q : MessageQuestion) (limit : ℕ) (front rest all : List Item) → all ≡ front ++ rest → is_name q.qname ≡ true → 271 ≤ limit → limit < 2 ^ 16
+    → (k : ℕ) × (kept (plain_size (Some q)) limit front ≡ take k all) × (plain_size (Some q) (kept (plain_size (Some q)) limit front) < 2 ^ 16)
+front_kept q limit front rest all split h from below =
+    let k = greatest (λ n. nat_le (plain_size (Some q) (take n front)) limit) (length front) in
+    let inside = greatest_bound (λ n. nat_le (plain_size (Some q) (take n front)) limit) (length front) in
+    let none = empty_size q h in
+    let short = kept_fits (plain_size (Some q)) limit front (omega (arith, none)) in
+    (k, sym (ap (take k) split ∙ take-append-le k front rest inside), omega (arith, short))
+
+pub keep_plain_begins : (z : ZoneContents) (limit : ℕ) → 271 ≤ limit → limit < 2 ^ 16 → KeepsBeginning z (keep_plain z limit)
+unfolding items
+keep_plain_begins z limit from below q h =
+    let o = outcome z q.qname q.qtype in
+    front_kept q limit (main_items o) (extra z (main_items o) (targets o)) (items z q.qname q.qtype) refl h from below
+
+-- all sets, as far as they fit
+pub keep_all_begins : (z : ZoneContents) (limit : ℕ) → 271 ≤ limit → limit < 2 ^ 16 → KeepsBeginning z (λ q. kept (plain_size (Some q)) limit (items z q.qname q.qtype))
+keep_all_begins z limit from below q h =
+    front_kept q limit (items z q.qname q.qtype) [] (items z q.qname q.qtype) (sym (append-nil (items z q.qname q.qtype))) h from below
+
+-- The octets of a reply are no more than its sets were kept for.
+named_question : (d : Octets) (q : MessageQuestion) → question_at d ≡ Some q → is_name q.qname ≡ true
+unfolding question_at
+named_question d q h = go (name_at d 12) refl h
+  where
+    go : (x : Option (DomainName × ℕ)) → name_at d 12 ≡ x
+        → ◌≡◌ {A = Option MessageQuestion} (elim x [ None ↦ None | Some r ↦ question_of d r ]) (Some q) → is_name q.qname ≡ true
+    go None e f = absurd (none-some q f)
+    go (Some (n, e)) is f =
+        let c = cond_some (length d == e + 4) (record { qname = n; qtype = field16 d e; qclass = field16 d (e + 2) }) q f in
+        subst (λ (x : MessageQuestion). is_name x.qname ≡ true) c.1 ((name_at_computes d 12 n e).0 is).1
+
+reply_sized : (lay : Header → Option MessageQuestion → List Item → Octets) (z : ZoneContents) (d : Octets) (keep : MessageQuestion → List Item) (limit : ℕ) (r : Reply) → ((h : Header) → length (lay h None []) ≤ limit)
+    → ((h : Header) (q : MessageQuestion) → is_name q.qname ≡ true → (length (lay h (Some q) []) ≤ limit) × (length (lay h (Some q) (keep q)) ≤ limit))
+    → reply_with keep z d ≡ Some r → length (octets_by lay r) ≤ limit
+unfolding reply_with
+reply_sized lay z d keep limit r room fits e = go (decide z d) (decided z d) e
+  where
+    replied : (x : Reply) → length (octets_by lay x) ≤ limit → ◌≡◌ {A = Option Reply} (Some x) (Some r) → length (octets_by lay r) ≤ limit
+    replied x s e = subst (λ y. length (octets_by lay y) ≤ limit) (same_Some x r e) s
+
+    go : (x : Decision) → Decided d x → reply_of keep z x ≡ Some r → length (octets_by lay r) ≤ limit
+    go silence ok e = absurd (none-some r e)
+    go (header_alone h) ok e = replied (record { header = h; question = None; sets = [] }) (room h) e
+    go (question_alone h q) ok e = replied (record { header = h; question = Some q; sets = [] }) (fits h q (named_question d q ok.0)).0 e
+    go (answered h q) ok e =
+        let o = outcome z q.qname q.qtype in
+        replied (answer_with z h q (keep q)) (fits (reply_head h (is_authoritative o) (truncated z q (keep q)) o.rcode) q (named_question d q ok.0)).1 e
+
+pub shared_reply_fits : (z : ZoneContents) (d : Octets) (limit : ℕ) (r : Reply) → 271 ≤ limit → reply z d limit ≡ Some r → length (octets_by layout r) ≤ limit
+unfolding reply
+shared_reply_fits z d limit r from = reply_sized layout z d (keep_longest z limit) limit r bare fits
+  where
+    bare : (h : Header) → length (layout h None []) ≤ limit
+    bare h = let small = bare_size in omega (arith, length-layout h None [], small)
+
+    fits : (h : Header) (q : MessageQuestion) → is_name q.qname ≡ true → (length (layout h (Some q) []) ≤ limit) × (length (layout h (Some q) (keep_longest z limit q)) ≤ limit)
+    fits h q name =
+        let small = empty_shared_size q name in (
+          omega (arith, length-layout h (Some q) [], small, from),
+          omega (arith, length-layout h (Some q) (keep_longest z limit q), kept_fits (size (Some q)) limit (items z q.qname q.qtype) (omega (arith, small, from))),
+        )
+
+pub plain_reply_fits : (z : ZoneContents) (d : Octets) (keep : MessageQuestion → List Item) (limit : ℕ) (r : Reply) → 271 ≤ limit
+    → ((q : MessageQuestion) → is_name q.qname ≡ true → plain_size (Some q) (keep q) ≤ limit) → reply_with keep z d ≡ Some r → length (octets_by plain_layout r) ≤ limit
+plain_reply_fits z d keep limit r from short = reply_sized plain_layout z d keep limit r bare fits
+  where
+    bare : (h : Header) → length (plain_layout h None []) ≤ limit
+    bare h = let small = bare_plain_size in omega (arith, length-plain_layout h None [], small)
+
+    fits : (h : Header) (q : MessageQuestion) → is_name q.qname ≡ true → (length (plain_layout h (Some q) []) ≤ limit) × (length (plain_layout h (Some q) (keep q)) ≤ limit)
+    fits h q name =
+        let small = empty_size q name in
+        let kept = short q name in
+        (omega (arith, length-plain_layout h (Some q) [], small, from), omega (arith, length-plain_layout h (Some q) (keep q), kept))

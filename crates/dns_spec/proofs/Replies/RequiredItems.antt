@@ -1,0 +1,139 @@
+-- The sets of a reply begin with those that it may not leave out.
+use Rattle.std.proofs.Common.{◌≡◌, ℕ, Bool, true, false, ◌&&◌, cond, ◌==◌, ◌⊎◌, inl, inr, List, [], ◌∷◌, ◌++◌, length, take, Option, None, Some, is_some, option_map, unwrap_or, filter, flat_map, refl, sym, ap, ◌∙◌, append_assoc, append-nil}
+use Rattle.std.proofs.lemmas.Bool.{eqb-true}
+use Rattle.std.proofs.lemmas.List.{take_at}
+use Rattle.std.specs.List.{filter_map}
+use Rattle.dns_spec.specs.Names.{DomainName}
+use Rattle.dns_spec.specs.Data.{type_cname, target}
+use Rattle.dns_spec.specs.Records.{ResourceRecord, ZoneContents, data_order, of_type}
+use Rattle.dns_spec.specs.Tree.{cut_of, found}
+use Rattle.dns_spec.specs.Layout.{Section, answer, Item, records_of}
+use Rattle.dns_spec.specs.Answer.{item, follows_alias, alias_set, chain, last_sought, alias_items, Outcome, positive, negative, has_any, outcome_by, outcome_at, outcome, has_target_type, targets_of, targets_inside, targets_outside, targets, address_sets, extra, main_items, items, required_items, asked_records}
+use Rattle.dns_spec.specs.Reading.{no_error}
+use Rattle.dns_spec.proofs.Records.SortedOnce.{Each, each_sort}
+use Rattle.dns_spec.proofs.Replies.WritableItems.{each_flat_map}
+
+-- what is added for targets after others
+pub extra_append : (z : ZoneContents) (earlier : List Item) (ms ns : List DomainName)
+    → extra z earlier (ms ++ ns) ≡ extra z earlier ms ++ extra z (earlier ++ extra z earlier ms) ns
+unfolding extra
+extra_append z earlier [] ns = ap (λ e. extra z e ns) (sym (append-nil earlier))
+extra_append z earlier (m ∷ ms) ns =
+    let sets = address_sets z earlier m in
+    let more = extra z (earlier ++ sets) ms in
+    ap (λ x. sets ++ x) (extra_append z (earlier ++ sets) ms ns)
+    ∙ sym (append_assoc sets more (extra z ((earlier ++ sets) ++ more) ns))
+    ∙ ap (λ e. (sets ++ more) ++ extra z e ns) (append_assoc earlier sets more)
+
+-- aliases have no targets
+abbrev pub IsAlias : ResourceRecord → Type 0
+IsAlias r = r.rtype ≡ type_cname
+
+pub each_of_type : (t : ℕ) (rs : List ResourceRecord) → Each (λ (r : ResourceRecord). r.rtype ≡ t) (of_type t rs)
+each_of_type t rs = each_sort data_order (λ (r : ResourceRecord). r.rtype ≡ t) (filter (λ (r : ResourceRecord). r.rtype == t) rs) (filtered rs)
+  where
+    filtered : (ss : List ResourceRecord) → Each (λ (r : ResourceRecord). r.rtype ≡ t) (filter (λ (r : ResourceRecord). r.rtype == t) ss)
+    filtered [] = tt
+    filtered (r ∷ ss) = go (r.rtype == t) refl (filtered ss)
+      where
+        go : (b : Bool) → (r.rtype == t) ≡ b → Each (λ (r : ResourceRecord). r.rtype ≡ t) (filter (λ (r : ResourceRecord). r.rtype == t) ss)
+            → Each (λ (r : ResourceRecord). r.rtype ≡ t) (cond b (r ∷ filter (λ (r : ResourceRecord). r.rtype == t) ss) (filter (λ (r : ResourceRecord). r.rtype == t) ss))
+        go true e h = (eqb-true r.rtype t e, h)
+        go false e h = h
+
+each_alias : (z : ZoneContents) (s : DomainName) → Each IsAlias (alias_set z s)
+each_alias z s = go (is_some (cut_of z s)) (some (found z s))
+  where
+    some : (y : Option (List ResourceRecord)) → Each IsAlias (unwrap_or (option_map (of_type type_cname) y) [])
+    some None = tt
+    some (Some rs) = each_of_type type_cname rs
+
+    go : (b : Bool) → Each IsAlias (unwrap_or (option_map (of_type type_cname) (found z s)) [])
+        → Each IsAlias (cond b [] (unwrap_or (option_map (of_type type_cname) (found z s)) []))
+    go true e = tt
+    go false e = e
+
+pub each_item : (P : ResourceRecord → Type 0) (s : Section) (rs : List ResourceRecord) → Each P rs → Each (λ (i : Item). Each P i.records) (item s rs)
+each_item P s [] e = tt
+each_item P s (r ∷ rs) e = (e, tt)
+
+pub each_alias_item : (z : ZoneContents) (q : DomainName) (t : ℕ) → Each (λ (i : Item). Each IsAlias i.records) (alias_items z q t)
+each_alias_item z q t = go (follows_alias t)
+  where
+    units : (ns : List DomainName) → Each (λ _. Unit {0}) ns
+    units [] = tt
+    units (n ∷ ns) = (tt, units ns)
+
+    go : (b : Bool) → Each (λ (i : Item). Each IsAlias i.records) (cond b (flat_map (λ s. item answer (alias_set z s)) (chain z q t)) [])
+    go true =
+        each_flat_map (λ (i : Item). Each IsAlias i.records) (λ _. Unit {0}) (λ s. item answer (alias_set z s)) (chain z q t)
+        (λ s _. each_item IsAlias answer (alias_set z s) (each_alias z s)) (units (chain z q t))
+    go false = tt
+
+abbrev pub target_of : ResourceRecord → Option DomainName
+target_of r = cond (has_target_type r) (target r.rtype r.rdata) None
+
+no_target : (rs : List ResourceRecord) → Each IsAlias rs → filter_map target_of rs ≡ []
+no_target [] e = refl
+no_target (r ∷ rs) e = let none : target_of r ≡ None = rw e.0 refl in rw none (no_target rs e.1)
+
+pub no_targets : (is : List Item) → Each (λ (i : Item). Each IsAlias i.records) is → targets_of is ≡ []
+no_targets is e =
+    no_target (records_of is)
+    (each_flat_map IsAlias (λ (i : Item). Each IsAlias i.records) (λ (i : Item). i.records) is (λ i h. h) e)
+
+-- a referral adds nothing to the answer, and nothing else refers
+record Refers (o : Outcome) : Type 0 where
+  cases : (o.referral ≡ None) ⊎ (o.answers ≡ [])
+
+refers : (z : ZoneContents) (t : ℕ) (x : Option DomainName) (y : Option (List ResourceRecord)) → Refers (outcome_by z t x y)
+refers z t (Some c) y = record { cases = inr refl }
+refers z t None None = record { cases = inl refl }
+refers z t None (Some rs) = go (follows_alias t && has_any (of_type type_cname rs)) (has_any (asked_records t rs))
+  where
+    go : (b c : Bool) → Refers (cond b (positive []) (cond c (positive (item answer (asked_records t rs))) (negative z no_error)))
+    go true c = record { cases = inl refl }
+    go false true = record { cases = inl refl }
+    go false false = record { cases = inl refl }
+
+begin : (z : ZoneContents) (o : Outcome) (ms ns : List DomainName) → targets o ≡ ms ++ ns → targets_inside o ≡ ms
+    → main_items o ++ extra z (main_items o) (targets o)
+    ≡ (main_items o ++ extra z (main_items o) (targets_inside o)) ++ extra z (main_items o ++ extra z (main_items o) ms) ns
+begin z o ms ns whole inside =
+    let main = main_items o in
+    let rest = extra z (main ++ extra z main ms) ns in
+    ap (λ x. main ++ extra z main x) whole ∙ ap (λ x. main ++ x) (extra_append z main ms ns)
+    ∙ sym (append_assoc main (extra z main ms) rest) ∙ ap (λ x. (main ++ extra z main x) ++ rest) (sym inside)
+
+module _ (z : ZoneContents) (q : DomainName) (t : ℕ) where
+  split : (ms : List DomainName) × (ns : List DomainName) × (targets (outcome z q t) ≡ ms ++ ns) × (targets_inside (outcome z q t) ≡ ms)
+  unfolding outcome outcome_at
+  split = go (refers z t (cut_of z s) (found z s)).cases
+    where
+      s : DomainName
+      s = last_sought z q t
+
+      o : Outcome
+      o = outcome z q t
+
+      last : Outcome
+      last = outcome_by z t (cut_of z s) (found z s)
+
+      go : (last.referral ≡ None) ⊎ (last.answers ≡ [])
+          → (ms : List DomainName) × (ns : List DomainName) × (targets (outcome z q t) ≡ ms ++ ns) × (targets_inside (outcome z q t) ≡ ms)
+      go (inl none) =
+          let inside : targets_inside o ≡ [] = rw none refl in
+          ([], targets o, refl, inside)
+      go (inr none) =
+          let answers : targets_of o.answers ≡ [] =
+          ap (λ x. targets_of (alias_items z q t ++ x)) none ∙ ap targets_of (append-nil (alias_items z q t)) ∙ no_targets (alias_items z q t) (each_alias_item z q t) in
+          (targets_inside o, targets_outside o, ap (λ x. x ++ targets_inside o ++ targets_outside o) answers, refl)
+
+  pub required_first : take (length (required_items z q t)) (items z q t) ≡ required_items z q t
+  unfolding items required_items
+  required_first =
+      let s = split in
+      let o = outcome z q t in
+      let front = main_items o ++ extra z (main_items o) (targets_inside o) in
+      let rest = extra z (main_items o ++ extra z (main_items o) s.0) s.1 in
+      ap (take (length front)) (begin z o s.0 s.1 s.2 s.3) ∙ take_at front rest (length front) refl

@@ -1,0 +1,362 @@
+-- The sets of an answer stand in the order of their sections, and their records fit a message where those of the zone do.
+use Rattle.std.proofs.Common.{◌≡◌, ℕ, zero, suc, ◌<◌, ◌≤◌, min, append_assoc, append-nil, Bool, true, false, ◌&&◌, not, cond, nat_le, ◌==◌, List, [], ◌∷◌, ◌++◌, map, reverse, take, Option, None, Some, is_some, option_map, unwrap_or, All, find, filter, flat_map, refl, sym, ap, subst, arith}
+use mathlib.Core.List.{reverse_aux}
+use Rattle.std.proofs.lemmas.Bool.{and_from, le-leb}
+use Rattle.std.proofs.lemmas.Option.{none-some, same_Some, cond_some, option_and_then_some}
+use Rattle.std.proofs.lemmas.List.Elements.{All-nil, All-cons, All-head, All-tail}
+use Rattle.std.specs.List.{list_all, list_any}
+use Rattle.dns_spec.specs.Names.{Octets, DomainName, is_name, folded, same, at_or_below, suffixes}
+use Rattle.dns_spec.specs.Data.{type_a, type_ns, type_cname, type_soa, type_aaaa, qtype_any, width, Piece, fixed, domain, string, strings, anything, pieces_of, Part, octets, name, piece_front, cut, first_name, target, soa_minimum}
+use Rattle.dns_spec.specs.Records.{ResourceRecord, ZoneContents, data_order, at, of_type, rrset, with_owner}
+use Rattle.dns_spec.specs.Sets.{rising_types, of_first_type, of_lowest_type}
+use Rattle.dns_spec.specs.Tree.{exists, is_cut, cut_of, source_of_synthesis, found}
+use Rattle.dns_spec.specs.Layout.{Section, answer, authority, additional, Item, records_of}
+use Rattle.dns_spec.specs.Reading.{name_error, no_error}
+use Rattle.dns_spec.specs.Answer.{item, follows_alias, alias_set, first_target, next_sought, chain_from, chain, last_of, last_sought, alias_items, Outcome, asked_records, negative, positive, has_any, outcome_by, outcome_at, outcome, targets, stands, address_set, address_sets, extra, main_items, items}
+use Rattle.dns_spec.specs.Laws.{section_rank, sections_in_order, IsWritable}
+use Rattle.dns_spec.proofs.DomainNames.NameLaws.{is_name-tail, is_name-folded}
+use Rattle.dns_spec.proofs.Records.SortedOnce.{Each, each_filter, each_sort}
+use Rattle.dns_spec.proofs.DataWords.WrittenData.{cut_into, name_part, octets_part, all_strings}
+
+pub each_append : {X : Type 0} (P : X → Type 0) (xs ys : List X) → Each P xs → Each P ys → Each P (xs ++ ys)
+each_append P [] ys e f = f
+each_append P (x ∷ xs) ys e f = (e.0, each_append P xs ys e.1 f)
+
+pub each_take : {X : Type 0} (P : X → Type 0) (k : ℕ) (xs : List X) → Each P xs → Each P (take k xs)
+each_take P zero xs e = tt
+each_take P (suc k) [] e = tt
+each_take P (suc k) (x ∷ xs) e = (e.0, each_take P k xs e.1)
+
+pub each_flat_map : {X Y : Type 0} (P : Y → Type 0) (Q : X → Type 0) (f : X → List Y) (xs : List X) → ((x : X) → Q x → Each P (f x)) → Each Q xs → Each P (flat_map f xs)
+each_flat_map P Q f [] g e = tt
+each_flat_map P Q f (x ∷ xs) g e = each_append P (f x) (flat_map f xs) (g x e.0) (each_flat_map P Q f xs g e.1)
+
+pub all_from_each : {X : Type 0} (P : X → Type 0) (xs : List X) → Each P xs → All P xs
+all_from_each P [] e = All-nil P
+all_from_each P (x ∷ xs) e = All-cons P x xs e.0 (all_from_each P xs e.1)
+
+pub each_from_all : {X : Type 0} (P : X → Type 0) (xs : List X) → All P xs → Each P xs
+each_from_all P [] a = tt
+each_from_all P (x ∷ xs) a = (All-head P x xs a, each_from_all P xs (All-tail P x xs a))
+
+each_reverse_onto : {X : Type 0} (P : X → Type 0) (xs ys : List X) → Each P xs → Each P ys → Each P (reverse_aux xs ys)
+each_reverse_onto P [] ys e f = f
+each_reverse_onto P (x ∷ xs) ys e f = each_reverse_onto P xs (x ∷ ys) e.1 (e.0, f)
+
+each_reverse : {X : Type 0} (P : X → Type 0) (xs : List X) → Each P xs → Each P (reverse xs)
+each_reverse P xs e = each_reverse_onto P xs [] e tt
+
+found_each : {X : Type 0} (P : X → Type 0) (test : X → Bool) (xs : List X) (y : X) → Each P xs → find test xs ≡ Some y → P y
+found_each P test [] y e h = absurd (none-some y h)
+found_each P test (x ∷ xs) y e h = go (test x) h (found_each P test xs y e.1)
+  where
+    go : (t : Bool) → cond t (Some x) (find test xs) ≡ Some y → (find test xs ≡ Some y → P y) → P y
+    go true q f = subst P (same_Some x y q) e.0
+    go false q f = f q
+
+-- names above a name, and in lower case
+abbrev pub Named : DomainName → Type 0
+Named n = is_name n ≡ true
+
+each_suffix : (n : DomainName) → Named n → Each Named (suffixes n)
+each_suffix [] h = (h, tt)
+each_suffix (l ∷ n) h = (h, each_suffix n (is_name-tail l n h))
+
+pub named_cut : (z : ZoneContents) (q c : DomainName) → Named q → cut_of z q ≡ Some c → Named c
+named_cut z q c h e = found_each Named (is_cut z) (reverse (suffixes (folded q))) c (each_reverse Named (suffixes (folded q)) (each_suffix (folded q) (is_name-folded q h))) e
+
+-- the names in data are names
+abbrev NamedPart : Part → Type 0
+NamedPart (octets o) = Unit {0}
+NamedPart (name n) = Named n
+
+octets_named : (o : Octets) (part : Part) → octets o ≡ part → NamedPart part
+octets_named o part e = subst NamedPart e tt
+
+named_front : (p : Piece) (os rest : Octets) (part : Part) → piece_front p os ≡ Some (part, rest) → NamedPart part
+named_front (fixed f) os rest part h = octets_named (take (width f) os) part (octets_part (width f) os rest part h)
+named_front domain os rest part h = let m = name_part os rest part h in subst NamedPart m.1 m.2
+named_front string [] rest part h = absurd (none-some (part, rest) h)
+named_front string (k ∷ os) rest part h = octets_named (k ∷ take k os) part (octets_part (suc k) (k ∷ os) rest part h)
+named_front strings os rest part h = octets_named os part (all_strings os rest part h).2
+named_front anything os rest part h = octets_named os part (ap (λ z. z.0) (same_Some (octets os, []) (part, rest) h))
+
+named_parts : (ps : List Piece) (os : Octets) (xs : List Part) → cut ps os ≡ Some xs → Each NamedPart xs
+unfolding cut
+named_parts [] [] xs h = subst (Each NamedPart) (same_Some [] xs h) tt
+named_parts [] (o ∷ os) xs h = absurd (none-some xs h)
+named_parts (p ∷ ps) os xs h =
+    let c = cut_into p ps os xs h in
+    subst (Each NamedPart) c.whole (named_front p os c.rest c.part c.front, named_parts ps c.rest c.others c.more)
+
+named_first : (xs : List Part) (m : DomainName) → Each NamedPart xs → first_name xs ≡ Some m → Named m
+named_first [] m e h = absurd (none-some m h)
+named_first (octets o ∷ xs) m e h = named_first xs m e.1 h
+named_first (name n ∷ xs) m e h = subst Named (same_Some n m h) e.0
+
+pub named_target : (t : ℕ) (d : Octets) (m : DomainName) → target t d ≡ Some m → Named m
+named_target t d m h = go (cut (pieces_of t) d) refl h
+  where
+    go : (y : Option (List Part)) → cut (pieces_of t) d ≡ y → first_name (unwrap_or y (octets d ∷ [])) ≡ Some m → Named m
+    go None e f = absurd (none-some m f)
+    go (Some xs) e f = named_first xs m (named_parts (pieces_of t) d xs e) f
+
+-- records taken from those of a zone
+abbrev Writable : List ResourceRecord → Type 0
+Writable = Each IsWritable
+
+at_writable : (z : ZoneContents) (n : DomainName) → Writable z.records → Writable (at z n)
+at_writable z n w = each_filter IsWritable (λ (r : ResourceRecord). same r.owner n) z.records w
+
+of_type_writable : (t : ℕ) (rs : List ResourceRecord) → Writable rs → Writable (of_type t rs)
+of_type_writable t rs w =
+    each_sort data_order IsWritable (filter (λ (r : ResourceRecord). r.rtype == t) rs) (each_filter IsWritable (λ (r : ResourceRecord). r.rtype == t) rs w)
+
+with_owner_writable : (n : DomainName) (rs : List ResourceRecord) → Named n → Writable rs → Writable (with_owner n rs)
+with_owner_writable n [] h w = tt
+with_owner_writable n (r ∷ rs) h w = (record { owner = h; rtype = w.0.rtype; ttl = w.0.ttl; rdata = w.0.rdata }, with_owner_writable n rs h w.1)
+
+-- The names sought are names.
+module _ (z : ZoneContents) where
+  first_target_named : (rs : List ResourceRecord) (m : DomainName) → first_target rs ≡ Some m → Named m
+  first_target_named [] m e = absurd (none-some m e)
+  first_target_named (r ∷ rs) m e = named_target r.rtype r.rdata m e
+
+  next_named : (sought : List DomainName) (s m : DomainName) → next_sought z sought s ≡ Some m → Named m
+  next_named sought s m e =
+      option_and_then_some (λ m. cond (at_or_below m z.origin && not (list_any (same m) sought)) (Some m) None) (first_target (alias_set z s)) m e (λ x p q.
+      let c = cond_some (at_or_below x z.origin && not (list_any (same x) sought)) x m q in
+      subst Named c.1 (first_target_named (alias_set z s) x p))
+
+  chain_from_named : (k : ℕ) (sought : List DomainName) (s : DomainName) → Named s → Each Named (chain_from z k sought s)
+  unfolding chain_from
+  chain_from_named zero sought s h = (h, tt)
+  chain_from_named (suc k) sought s h = (h, go (next_sought z (s ∷ sought) s) refl (λ m n. chain_from_named k (s ∷ sought) m n))
+    where
+      go : (y : Option DomainName) → next_sought z (s ∷ sought) s ≡ y → ((m : DomainName) → Named m → Each Named (chain_from z k (s ∷ sought) m))
+          → Each Named (elim y [ None ↦ [] | Some m ↦ chain_from z k (s ∷ sought) m ])
+      go None e f = tt
+      go (Some m) e f = f m (next_named (s ∷ sought) s m e)
+
+  pub chain_named : (q : DomainName) (t : ℕ) → Named q → Each Named (chain z q t)
+  unfolding chain
+  chain_named q t h = go (follows_alias t) (chain_from_named 16 [] q h)
+    where
+      go : (b : Bool) → Each Named (chain_from z 16 [] q) → Each Named (cond b (chain_from z 16 [] q) (q ∷ []))
+      go true e = e
+      go false e = (h, tt)
+
+-- Over a zone whose records fit a message.
+module _ (z : ZoneContents) (w : Writable z.records) where
+  found_writable : (q : DomainName) (rs : List ResourceRecord) → Named q → found z q ≡ Some rs → Writable rs
+  found_writable q rs h e = go (exists z q) e
+    where
+      own : Writable (with_owner q (at z q))
+      own = with_owner_writable q (at z q) h (at_writable z q w)
+
+      wild : (y : Option DomainName) → option_map (λ n. with_owner q (at z n)) y ≡ Some rs → Writable rs
+      wild None e = absurd (none-some rs e)
+      wild (Some n) e = subst Writable (same_Some (with_owner q (at z n)) rs e) (with_owner_writable q (at z n) h (at_writable z n w))
+
+      go : (t : Bool) → cond t (Some (with_owner q (at z q))) (option_map (λ n. with_owner q (at z n)) (source_of_synthesis z q)) ≡ Some rs → Writable rs
+      go true e = subst Writable (same_Some (with_owner q (at z q)) rs e) own
+      go false e = wild (source_of_synthesis z q) e
+
+  alias_set_writable : (s : DomainName) → Named s → Writable (alias_set z s)
+  alias_set_writable s h = go (is_some (cut_of z s)) (some (found z s) refl)
+    where
+      some : (y : Option (List ResourceRecord)) → found z s ≡ y → Writable (unwrap_or (option_map (of_type type_cname) y) [])
+      some None e = tt
+      some (Some rs) e = of_type_writable type_cname rs (found_writable s rs h e)
+
+      go : (t : Bool) → Writable (unwrap_or (option_map (of_type type_cname) (found z s)) [])
+          → Writable (cond t [] (unwrap_or (option_map (of_type type_cname) (found z s)) []))
+      go true e = tt
+      go false e = e
+
+  last_named : (s : DomainName) (ms : List DomainName) → Named s → Each Named ms → Named (last_of s ms)
+  last_named s [] h e = h
+  last_named s (m ∷ ms) h e = last_named m ms e.0 e.1
+
+-- sets of a section whose records fit a message
+abbrev Stood : Section → Item → Type 0
+Stood s i = (i.section ≡ s) × Writable i.records
+
+item_stood : (s : Section) (rs : List ResourceRecord) → Writable rs → Each (Stood s) (item s rs)
+item_stood s [] w = tt
+item_stood s (r ∷ rs) w = ((refl, w), tt)
+
+abbrev Negative : ResourceRecord → ResourceRecord
+Negative r = record r { ttl = min r.ttl (soa_minimum r.rdata) }
+
+negative_writable : (rs : List ResourceRecord) → Writable rs → Writable (map Negative rs)
+negative_writable [] w = tt
+negative_writable (r ∷ rs) w =
+    (record { owner = w.0.owner; rtype = w.0.rtype; ttl = let low = w.0.ttl in omega (arith, low); rdata = w.0.rdata }, negative_writable rs w.1)
+
+module _ (z : ZoneContents) (w : Writable z.records) where
+  rrset_writable : (n : DomainName) (t : ℕ) → Writable (rrset z n t)
+  rrset_writable n t = of_type_writable t (at z n) (at_writable z n w)
+
+  -- the outcome of the last name sought
+  record Right (o : Outcome) : Type 0 where
+    rcode : o.rcode < 16
+    answers : Each (Stood answer) o.answers
+    authorities : Each (Stood authority) o.authorities
+
+  negative_right : (rcode : ℕ) → rcode < 16 → Right (negative z rcode)
+  negative_right rcode low = record {
+    rcode = low;
+    answers = tt;
+    authorities = item_stood authority (map Negative (rrset z z.origin type_soa)) (negative_writable (rrset z z.origin type_soa) (rrset_writable z.origin type_soa));
+  }
+
+  lowest_writable : (rs : List ResourceRecord) → Writable rs → Writable (of_lowest_type rs)
+  lowest_writable rs v = go (rising_types rs)
+    where
+      go : (ts : List ℕ) → Writable (of_first_type ts rs)
+      go [] = tt
+      go (t ∷ ts) = of_type_writable t rs v
+
+  asked_stood : (t : ℕ) (rs : List ResourceRecord) → Writable rs → Each (Stood answer) (item answer (asked_records t rs))
+  asked_stood t rs v = go (t == qtype_any)
+    where
+      go : (b : Bool) → Each (Stood answer) (item answer (cond b (of_lowest_type rs) (of_type t rs)))
+      go true = item_stood answer (of_lowest_type rs) (lowest_writable rs v)
+      go false = item_stood answer (of_type t rs) (of_type_writable t rs v)
+
+  answer_from_right : (t : ℕ) (rs : List ResourceRecord) → Writable rs → Right (outcome_by z t None (Some rs))
+  answer_from_right t rs v = go (follows_alias t && has_any (of_type type_cname rs)) (has_any (asked_records t rs))
+    where
+      go : (b c : Bool) → Right (cond b (positive []) (cond c (positive (item answer (asked_records t rs))) (negative z no_error)))
+      go true c = record { rcode = omega arith; answers = tt; authorities = tt }
+      go false true = record { rcode = omega arith; answers = asked_stood t rs v; authorities = tt }
+      go false false = negative_right no_error (omega arith)
+
+  outcome_at_right : (t : ℕ) (s : DomainName) → Named s → Right (outcome_at z t s)
+  unfolding outcome_at
+  outcome_at_right t s h = go (cut_of z s) (found z s) refl refl
+    where
+      go : (x : Option DomainName) (y : Option (List ResourceRecord)) → cut_of z s ≡ x → found z s ≡ y → Right (outcome_by z t x y)
+      go (Some c) y e f = record {
+        rcode = omega arith;
+        answers = tt;
+        authorities = item_stood authority (with_owner c (rrset z c type_ns)) (with_owner_writable c (rrset z c type_ns) (named_cut z s c h e) (rrset_writable c type_ns));
+      }
+      go None None e f = negative_right name_error (omega arith)
+      go None (Some rs) e f = answer_from_right t rs (found_writable z w s rs h f)
+
+  alias_items_stood : (q : DomainName) (t : ℕ) → Named q → Each (Stood answer) (alias_items z q t)
+  alias_items_stood q t h = go (follows_alias t)
+    where
+      go : (b : Bool) → Each (Stood answer) (cond b (flat_map (λ s. item answer (alias_set z s)) (chain z q t)) [])
+      go true = each_flat_map (Stood answer) Named (λ s. item answer (alias_set z s)) (chain z q t) (λ s n. item_stood answer (alias_set z s) (alias_set_writable z w s n)) (chain_named z q t h)
+      go false = tt
+
+  outcome_right : (q : DomainName) (t : ℕ) → Named q → Right (outcome z q t)
+  unfolding outcome
+  outcome_right q t h =
+      let s = last_sought z q t in
+      let o = outcome_at_right t s (last_named z w q (chain z q t) h (chain_named z q t h)) in
+      record {
+        rcode = o.rcode;
+        answers = each_append (Stood answer) (alias_items z q t) (outcome_at z t s).answers (alias_items_stood q t h) o.answers;
+        authorities = o.authorities;
+      }
+
+  address_set_stood : (earlier : List Item) (n : DomainName) (t : ℕ) → Each (Stood additional) (address_set z earlier n t)
+  address_set_stood earlier n t = go (stands n t earlier)
+    where
+      go : (b : Bool) → Each (Stood additional) (cond b [] (item additional (rrset z n t)))
+      go true = tt
+      go false = item_stood additional (rrset z n t) (rrset_writable n t)
+
+  extra_stood : (earlier : List Item) (ms : List DomainName) → Each (Stood additional) (extra z earlier ms)
+  unfolding extra
+  extra_stood earlier [] = tt
+  extra_stood earlier (m ∷ ms) =
+      let sets = address_sets z earlier m in
+      each_append (Stood additional) sets (extra z (earlier ++ sets) ms)
+      (each_append (Stood additional) (address_set z earlier m type_a) (address_set z earlier m type_aaaa) (address_set_stood earlier m type_a) (address_set_stood earlier m type_aaaa))
+      (extra_stood (earlier ++ sets) ms)
+
+-- sets in the order of their sections
+abbrev Ordered : List Item → Type 0
+Ordered [] = Unit {0}
+Ordered (i ∷ is) = Each (λ (j : Item). section_rank i.section ≤ section_rank j.section) is × Ordered is
+
+ordered_take : (k : ℕ) (is : List Item) → Ordered is → Ordered (take k is)
+ordered_take zero is o = tt
+ordered_take (suc k) [] o = tt
+ordered_take (suc k) (i ∷ is) o = (each_take (λ (j : Item). section_rank i.section ≤ section_rank j.section) k is o.0, ordered_take k is o.1)
+
+abbrev NotBefore : Section → Item → Type 0
+NotBefore s j = section_rank s ≤ section_rank j.section
+
+not_before : (s s' : Section) (js : List Item) → section_rank s ≤ section_rank s' → Each (Stood s') js → Each (NotBefore s) js
+not_before s s' [] h g = tt
+not_before s s' (j ∷ js) h g = (let e = ap section_rank g.0.0 in omega (arith, e), not_before s s' js h g.1)
+
+-- sets of one section in front of sets of none before it
+ordered_front : (s : Section) (xs ys : List Item) → Each (Stood s) xs → Each (NotBefore s) ys → Ordered ys → Ordered (xs ++ ys)
+ordered_front s [] ys e f o = o
+ordered_front s (x ∷ xs) ys e f o =
+    (subst (λ r. Each (NotBefore r) (xs ++ ys)) (sym e.0.0) (each_append (NotBefore s) xs ys (not_before s s xs (omega arith) e.1) f), ordered_front s xs ys e.1 f o)
+
+ordered_one : (s : Section) (is : List Item) → Each (Stood s) is → Ordered is
+ordered_one s is e = subst Ordered (append-nil is) (ordered_front s is [] e tt tt)
+
+tested : (i : Item) (is : List Item) → Each (λ (j : Item). section_rank i.section ≤ section_rank j.section) is
+    → list_all (λ (j : Item). nat_le (section_rank i.section) (section_rank j.section)) is ≡ true
+tested i [] e = refl
+tested i (j ∷ js) e =
+    and_from (nat_le (section_rank i.section) (section_rank j.section)) (list_all (λ (j : Item). nat_le (section_rank i.section) (section_rank j.section)) js)
+    (le-leb (section_rank i.section) (section_rank j.section) e.0) (tested i js e.1)
+
+in_order : (is : List Item) → Ordered is → sections_in_order is ≡ true
+in_order [] o = refl
+in_order (i ∷ is) o =
+    and_from (list_all (λ (j : Item). nat_le (section_rank i.section) (section_rank j.section)) is) (sections_in_order is) (tested i is o.0) (in_order is o.1)
+
+stood_records : (s : Section) (is : List Item) → Each (Stood s) is → Each (λ (i : Item). Writable i.records) is
+stood_records s [] e = tt
+stood_records s (i ∷ is) e = (e.0.1, stood_records s is e.1)
+
+records_writable : (is : List Item) → Each (λ (i : Item). Writable i.records) is → Writable (records_of is)
+records_writable [] e = tt
+records_writable (i ∷ is) e = each_append IsWritable i.records (records_of is) e.0 (records_writable is e.1)
+
+module _ (z : ZoneContents) (w : All IsWritable z.records) (q : DomainName) (t : ℕ) (h : is_name q ≡ true) where
+  fits : Writable z.records
+  fits = each_from_all IsWritable z.records w
+
+  pub outcome_rcode : (outcome z q t).rcode < 16
+  outcome_rcode = (outcome_right z fits q t h).rcode
+
+  -- the sets of an answer, all of them or a beginning
+  pub items_in_order : (k : ℕ) → sections_in_order (take k (items z q t)) ≡ true
+  unfolding items
+  items_in_order k =
+      let o = outcome z q t in
+      let r = outcome_right z fits q t h in
+      let more = extra z (main_items o) (targets o) in
+      let e = extra_stood z fits (main_items o) (targets o) in
+      let later : Ordered (o.authorities ++ more) =
+      ordered_front authority o.authorities more r.authorities (not_before authority additional more (omega arith) e) (ordered_one additional more e) in
+      let all : Ordered (o.answers ++ (o.authorities ++ more)) =
+      ordered_front answer o.answers (o.authorities ++ more) r.answers
+      (each_append (NotBefore answer) o.authorities more (not_before answer authority o.authorities (omega arith) r.authorities) (not_before answer additional more (omega arith) e)) later in
+      in_order (take k (items z q t)) (ordered_take k (items z q t) (subst Ordered (sym (append_assoc o.answers o.authorities more)) all))
+
+  pub items_writable : (k : ℕ) → All IsWritable (records_of (take k (items z q t)))
+  unfolding items
+  items_writable k =
+      let o = outcome z q t in
+      let r = outcome_right z fits q t h in
+      let more = extra z (main_items o) (targets o) in
+      let e = extra_stood z fits (main_items o) (targets o) in
+      let W : Item → Type 0 = λ (i : Item). Writable i.records in
+      let all = each_append W (main_items o) more
+      (each_append W o.answers o.authorities (stood_records answer o.answers r.answers) (stood_records authority o.authorities r.authorities))
+      (stood_records additional more e) in
+      all_from_each IsWritable (records_of (take k (items z q t))) (records_writable (take k (items z q t)) (each_take W k (items z q t) all))

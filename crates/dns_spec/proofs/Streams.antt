@@ -1,0 +1,2 @@
+-- Streams: their frames and the rest.
+pub mod StreamFrames

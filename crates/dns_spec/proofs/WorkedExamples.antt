@@ -1,0 +1,27 @@
+-- Worked examples, computed from the definitions. Zones has what they are asked of.
+pub mod Zones
+pub mod ReadTexts
+pub mod AnswerRows
+pub mod CheckRows
+pub mod DataRows
+pub mod FileRows
+pub mod LayoutRows
+pub mod LimitRows
+pub mod LongRows
+pub mod MeaningRows
+pub mod MessageRows
+pub mod NameRows
+pub mod ParenthesisRows
+pub mod PlainRows
+pub mod PrintedRows
+pub mod QueryRows
+pub mod ReadingRows
+pub mod ReportRows
+pub mod Rows
+pub mod StreamRows
+pub mod TakenOverRows
+pub mod TextRows
+pub mod TokenRows
+pub mod TypeRows
+pub mod WordRows
+pub mod ZoneRows

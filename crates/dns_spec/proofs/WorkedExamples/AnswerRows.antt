@@ -1,0 +1,175 @@
+-- Which sets answer a question, in the corners of its cases, computed from the definitions.
+use Rattle.std.specs.Prelude.{◌≡◌, ℕ, Bool, true, false, List, [], ◌∷◌, ◌++◌, map, length, codes}
+use Rattle.std.specs.Int.{bytes_high_first}
+use mathlib.Core.Path.{refl}
+use Rattle.dns_spec.specs.Names.{Octets, DomainName, wire, labels_from}
+use Rattle.dns_spec.specs.Data.{type_cname, type_mx, cut}
+use Rattle.dns_spec.specs.Records.{ResourceRecord, ZoneContents}
+use Rattle.dns_spec.specs.Checks.{faults}
+use Rattle.dns_spec.specs.Layout.{Section, answer, authority, additional, Item}
+use Rattle.dns_spec.specs.Answer.{chain_from, chain, outcome_at, outcome, extra, items, required_items, is_authoritative}
+use Rattle.dns_spec.proofs.WorkedExamples.Zones.{dotted, under, entry, in_zone, address, alias, server, net_192, small_zone_with}
+
+abbrev exchange : ℕ → Octets → Octets
+exchange k to = bytes_high_first 2 k ++ wire (under to)
+
+-- aliases to below a cut, to nothing and to outside; wildcards; exchanges; a cut with a server below it and one elsewhere
+abbrev zone : ZoneContents
+zone =
+    small_zone_with (
+    alias (codes "far") (codes "h.sub")
+    ∷ alias (codes "gone") (codes "nowhere")
+    ∷ entry (under (codes "out")) type_cname (wire (dotted (codes "www.other")))
+    ∷ address (codes "a.*.v") (net_192 21)
+    ∷ address (codes "*.e") (net_192 22)
+    ∷ address (codes "b.c.e") (net_192 23)
+    ∷ alias (codes "*.k") (codes "www")
+    ∷ in_zone (codes "self") type_mx (exchange 10 (codes "self"))
+    ∷ address (codes "self") (net_192 24)
+    ∷ in_zone (codes "mm") type_mx (exchange 10 (codes "www"))
+    ∷ in_zone (codes "mm") type_mx (exchange 20 (codes "ns"))
+    ∷ in_zone (codes "twice") type_mx (exchange 10 (codes "www"))
+    ∷ in_zone (codes "twice") type_mx (exchange 20 (codes "www"))
+    ∷ server (under (codes "two")) (codes "ns")
+    ∷ server (under (codes "two")) (codes "z.two")
+    ∷ address (codes "z.two") (net_192 25)
+    ∷ [])
+
+zone_passes : faults zone ≡ []
+unfolding faults labels_from cut
+zone_passes = refl
+
+-- a set by its section, its owner's text, its type and how many records it has
+record Row : Type 0 where
+  section : Section
+  owner : DomainName
+  rtype : ℕ
+  records : ℕ
+
+abbrev set : Section → Octets → ℕ → ℕ → Row
+set s cs t k = record { section = s; owner = dotted cs; rtype = t; records = k }
+
+abbrev row_of : Section → List ResourceRecord → Row
+row_of s [] = record { section = s; owner = []; rtype = 0; records = 0 }
+row_of s (r ∷ rs) = record { section = s; owner = r.owner; rtype = r.rtype; records = length (r ∷ rs) }
+
+-- the RCODE, whether the server speaks for the zone, how many sets may not be left out, and the sets
+record Summary : Type 0 where
+  rcode : ℕ
+  authoritative : Bool
+  needed : ℕ
+  sets : List Row
+
+unfoldable summary : Octets → ℕ → Summary
+unfolding labels_from cut chain_from chain outcome_at outcome extra items required_items
+summary cs t = record {
+  rcode = (outcome zone (dotted cs) t).rcode;
+  authoritative = is_authoritative (outcome zone (dotted cs) t);
+  needed = length (required_items zone (dotted cs) t);
+  sets = map (λ (i : Item). row_of i.section i.records) (items zone (dotted cs) t);
+}
+
+-- an alias of a name below a cut ends in a referral, which the server still speaks for
+alias_below_cut : summary (codes "far.example") 1 ≡ record { rcode = 0; authoritative = true; needed = 3; sets = set answer (codes "far.example") 5 1 ∷ set authority (codes "sub.example") 2 1 ∷ set additional (codes "ns.sub.example") 1 1 ∷ [] }
+unfolding summary labels_from cut chain_from chain outcome_at outcome extra items required_items
+alias_below_cut = refl
+
+-- an alias of a name that does not exist is a name error
+alias_of_nothing : summary (codes "gone.example") 1 ≡ record { rcode = 3; authoritative = true; needed = 2; sets = set answer (codes "gone.example") 5 1 ∷ set authority (codes "example") 6 1 ∷ [] }
+unfolding summary labels_from cut chain_from chain outcome_at outcome extra items required_items
+alias_of_nothing = refl
+
+-- an alias of a name of another zone ends there
+alias_to_outside : summary (codes "out.example") 1 ≡ record { rcode = 0; authoritative = true; needed = 1; sets = set answer (codes "out.example") 5 1 ∷ [] }
+unfolding summary labels_from cut chain_from chain outcome_at outcome extra items required_items
+alias_to_outside = refl
+
+-- a wildcard that only has names below it answers that there is nothing
+wildcard_without_records : summary (codes "q.v.example") 1 ≡ record { rcode = 0; authoritative = true; needed = 1; sets = set authority (codes "example") 6 1 ∷ [] }
+unfolding summary labels_from cut chain_from chain outcome_at outcome extra items required_items
+wildcard_without_records = refl
+
+-- a wildcard does not answer below a name that exists
+closer_encloser : summary (codes "z.c.e.example") 1 ≡ record { rcode = 3; authoritative = true; needed = 1; sets = set authority (codes "example") 6 1 ∷ [] }
+unfolding summary labels_from cut chain_from chain outcome_at outcome extra items required_items
+closer_encloser = refl
+
+-- and does elsewhere
+wildcard_address : summary (codes "z.e.example") 1 ≡ record { rcode = 0; authoritative = true; needed = 1; sets = set answer (codes "z.e.example") 1 1 ∷ [] }
+unfolding summary labels_from cut chain_from chain outcome_at outcome extra items required_items
+wildcard_address = refl
+
+-- also for a name of several labels
+wildcard_deeper : summary (codes "y.z.e.example") 1 ≡ record { rcode = 0; authoritative = true; needed = 1; sets = set answer (codes "y.z.e.example") 1 1 ∷ [] }
+unfolding summary labels_from cut chain_from chain outcome_at outcome extra items required_items
+wildcard_deeper = refl
+
+-- an alias by a wildcard
+wildcard_alias : summary (codes "q.k.example") 1 ≡ record { rcode = 0; authoritative = true; needed = 2; sets = set answer (codes "q.k.example") 5 1 ∷ set answer (codes "www.example") 1 1 ∷ [] }
+unfolding summary labels_from cut chain_from chain outcome_at outcome extra items required_items
+wildcard_alias = refl
+
+-- a wildcard asked for by its own name
+wildcard_itself : summary (codes "*.k.example") 1 ≡ record { rcode = 0; authoritative = true; needed = 2; sets = set answer (codes "*.k.example") 5 1 ∷ set answer (codes "www.example") 1 1 ∷ [] }
+unfolding summary labels_from cut chain_from chain outcome_at outcome extra items required_items
+wildcard_itself = refl
+
+-- an alias that is asked for is not followed
+alias_asked : summary (codes "alias.example") 5 ≡ record { rcode = 0; authoritative = true; needed = 1; sets = set answer (codes "alias.example") 5 1 ∷ [] }
+unfolding summary labels_from cut chain_from chain outcome_at outcome extra items required_items
+alias_asked = refl
+
+-- nor where all is asked for
+alias_any : summary (codes "alias.example") 255 ≡ record { rcode = 0; authoritative = true; needed = 1; sets = set answer (codes "alias.example") 5 1 ∷ [] }
+unfolding summary labels_from cut chain_from chain outcome_at outcome extra items required_items
+alias_any = refl
+
+-- glue is no answer
+glue_asked : summary (codes "ns.sub.example") 1 ≡ record { rcode = 0; authoritative = false; needed = 2; sets = set authority (codes "sub.example") 2 1 ∷ set additional (codes "ns.sub.example") 1 1 ∷ [] }
+unfolding summary labels_from cut chain_from chain outcome_at outcome extra items required_items
+glue_asked = refl
+
+-- nor are the servers at a cut
+cut_asked : summary (codes "sub.example") 2 ≡ record { rcode = 0; authoritative = false; needed = 2; sets = set authority (codes "sub.example") 2 1 ∷ set additional (codes "ns.sub.example") 1 1 ∷ [] }
+unfolding summary labels_from cut chain_from chain outcome_at outcome extra items required_items
+cut_asked = refl
+
+-- also where all is asked for
+cut_any : summary (codes "sub.example") 255 ≡ record { rcode = 0; authoritative = false; needed = 2; sets = set authority (codes "sub.example") 2 1 ∷ set additional (codes "ns.sub.example") 1 1 ∷ [] }
+unfolding summary labels_from cut chain_from chain outcome_at outcome extra items required_items
+cut_any = refl
+
+-- where all is asked for, one set is the answer, that of the lowest type number: addresses have no targets
+lowest_any : summary (codes "self.example") 255 ≡ record { rcode = 0; authoritative = true; needed = 1; sets = set answer (codes "self.example") 1 1 ∷ [] }
+unfolding summary labels_from cut chain_from chain outcome_at outcome extra items required_items
+lowest_any = refl
+
+-- an address set of two targets is not repeated
+stands_already : summary (codes "twice.example") 15 ≡ record { rcode = 0; authoritative = true; needed = 1; sets = set answer (codes "twice.example") 15 2 ∷ set additional (codes "www.example") 1 1 ∷ [] }
+unfolding summary labels_from cut chain_from chain outcome_at outcome extra items required_items
+stands_already = refl
+
+-- a name without the type asked for
+other_type : summary (codes "www.example") 16 ≡ record { rcode = 0; authoritative = true; needed = 1; sets = set authority (codes "example") 6 1 ∷ [] }
+unfolding summary labels_from cut chain_from chain outcome_at outcome extra items required_items
+other_type = refl
+
+-- the NS set of the origin stands before its SOA
+origin_any : summary (codes "example") 255 ≡ record { rcode = 0; authoritative = true; needed = 1; sets = set answer (codes "example") 2 1 ∷ set additional (codes "ns.example") 1 1 ∷ [] }
+unfolding summary labels_from cut chain_from chain outcome_at outcome extra items required_items
+origin_any = refl
+
+-- nothing is found where only names below own records
+above_any : summary (codes "w.example") 255 ≡ record { rcode = 0; authoritative = true; needed = 1; sets = set authority (codes "example") 6 1 ∷ [] }
+unfolding summary labels_from cut chain_from chain outcome_at outcome extra items required_items
+above_any = refl
+
+-- additional addresses in the order of their targets
+targets_in_order : summary (codes "mm.example") 15 ≡ record { rcode = 0; authoritative = true; needed = 1; sets = set answer (codes "mm.example") 15 2 ∷ set additional (codes "www.example") 1 1 ∷ set additional (codes "ns.example") 1 1 ∷ [] }
+unfolding summary labels_from cut chain_from chain outcome_at outcome extra items required_items
+targets_in_order = refl
+
+-- the glue of a referral comes first, and alone may not be left out
+glue_first : summary (codes "x.two.example") 1 ≡ record { rcode = 0; authoritative = false; needed = 2; sets = set authority (codes "two.example") 2 2 ∷ set additional (codes "z.two.example") 1 1 ∷ set additional (codes "ns.example") 1 1 ∷ [] }
+unfolding summary labels_from cut chain_from chain outcome_at outcome extra items required_items
+glue_first = refl

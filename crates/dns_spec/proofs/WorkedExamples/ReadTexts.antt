@@ -1,0 +1,140 @@
+-- Texts whose tokens are computed, words that spell themselves, and what makes a record of them.
+use Rattle.std.proofs.Common.{◌≡◌, ◌≢◌, ℕ, zero, suc, inl, inr, Bool, true, false, ◌&&◌, not, ◌==◌, List, [], ◌∷◌, Option, Some, None, refl, sym, ◌∙◌, ap, subst, length, nat_lt, take, drop, reverse, get_or, IsTrue}
+use Rattle.std.specs.Prelude.{MatchOption}
+use Rattle.std.specs.List.{list_all}
+use Rattle.std.specs.Option.{is_none}
+use Rattle.std.proofs.lemmas.Bool.{and_parts, false≢true, eq-eqb}
+use Rattle.dns_spec.specs.Names.{Octets, DomainName, is_name}
+use Rattle.dns_spec.specs.NameText.{SpellsOctet, LabelThen, SpellsName}
+use Rattle.dns_spec.specs.DataText.{Word, SpellsString}
+use Rattle.dns_spec.specs.Records.{ResourceRecord}
+use Rattle.dns_spec.specs.ZoneText.{Token, most_octets, token_front, TokensThen, Entry, ended, cut_entries, with_end, whole_text, extent_by}
+use Rattle.dns_spec.specs.FileFaults.{too_many_records, FileFault}
+use Rattle.dns_spec.specs.Meaning.{EntryMeaning, gives, Lowest, IsRecord, Fields, TtlIs, TtlSays, IsNoTtl, is_other_class, are_too_many, RecordGives, EntryGives, Meaning, after, EntriesMean, Means}
+use Rattle.dns_spec.proofs.WorkedExamples.Zones.{example}
+
+-- at most n tokens of a text, and what is after them
+abbrev pub before : Option (Token × Octets) → (Octets → List Token × Octets) → Octets → List Token × Octets
+before None more text = ([], text)
+before (Some r) more text = (r.0 ∷ (more r.1).0, (more r.1).1)
+
+unfoldable pub tokens_in : ℕ → Octets → List Token × Octets
+tokens_in zero text = ([], text)
+tokens_in (suc n) text = before (token_front text) (tokens_in n) text
+
+pub tokens_spelled : (n : ℕ) (text : Octets) → TokensThen text (tokens_in n text).0 (tokens_in n text).1
+unfolding tokens_in
+tokens_spelled zero text = refl
+tokens_spelled (suc n) text = by_front (token_front text) refl (λ r. tokens_spelled n r.1)
+  where
+    by_front : (front : Option (Token × Octets)) → token_front text ≡ front
+        → ((r : Token × Octets) → TokensThen r.1 (tokens_in n r.1).0 (tokens_in n r.1).1)
+        → TokensThen text (before front (tokens_in n) text).0 (before front (tokens_in n) text).1
+    by_front None e more = refl
+    by_front (Some r) e more = (r.1, e, more r)
+
+-- A text within its limit that has at most 99 tokens means what its entries mean.
+abbrev pub entries_of : Octets → List Entry
+entries_of text = with_end whole_text (tokens_in 99 text).1 (cut_entries false (tokens_in 99 text).0)
+
+-- the entry of a text after so many, those before it, the nearest first, and those from it on
+abbrev pub entry_in : Octets → ℕ → Entry
+entry_in text k = get_or (entries_of text) k (ended [])
+
+abbrev pub earlier_in : Octets → ℕ → List Entry
+earlier_in text k = reverse (take k (entries_of text))
+
+abbrev pub left_in : Octets → ℕ → List Entry
+left_in text k = drop k (entries_of text)
+
+pub means : (text : Octets) (m : Meaning) → take most_octets text ≡ text → nat_lt most_octets (length text) ≡ false → token_front (tokens_in 99 text).1 ≡ None
+    → EntriesMean example [] (entries_of text) m → Means example text m
+means text m all within at_end h = (
+  entries_of text,
+  record {
+    tokens = (tokens_in 99 text).0;
+    rest = (tokens_in 99 text).1;
+    spelled = subst (λ t. TokensThen t (tokens_in 99 text).0 (tokens_in 99 text).1) (sym all) (tokens_spelled 99 text);
+    at_end = at_end;
+    entries = ap (λ b. with_end (extent_by b) (tokens_in 99 text).1 (cut_entries false (tokens_in 99 text).0)) (sym within);
+  },
+  h,
+)
+
+-- octets that spell themselves, in a name and in a string
+unfoldable pub is_plain : ℕ → Bool
+is_plain c = not (c == 46) && not (c == 92) && not (c == 64)
+
+pub plain_octet : (c : ℕ) → is_plain c ≡ true → SpellsOctet (c ∷ []) c
+unfolding is_plain
+plain_octet c h =
+    let parts = and_parts (not (c == 46) && not (c == 92)) _ h in
+    let both = and_parts (not (c == 46)) _ parts.0 in
+    (refl, other_than c 46 both.0, other_than c 92 both.1)
+  where
+    other_than : (c k : ℕ) → not (c == k) ≡ true → c ≢ k
+    other_than c k h e = false≢true (sym (ap not (eq-eqb c k e)) ∙ h)
+
+pub plain_label : (cs : Octets) → list_all is_plain cs ≡ true → LabelThen cs cs []
+plain_label [] h = refl
+plain_label (c ∷ cs) h =
+    let parts = and_parts (is_plain c) _ h in
+    (c ∷ [], cs, refl, plain_octet c parts.0, plain_label cs parts.1)
+
+pub plain_string : (cs : Octets) → list_all is_plain cs ≡ true → SpellsString cs cs
+plain_string [] h = refl
+plain_string (c ∷ cs) h =
+    let parts = and_parts (is_plain c) _ h in
+    (c ∷ [], cs, refl, inl (plain_octet c parts.0), plain_string cs parts.1)
+
+-- a word of such octets, relative to the origin
+pub plain_name : (origin : DomainName) (cs : Octets) → list_all is_plain cs ≡ true → nat_lt 0 (length cs) ≡ true → is_name (cs ∷ origin) ≡ true
+    → SpellsName origin cs (cs ∷ origin)
+unfolding is_plain
+plain_name origin cs plain some short = record {
+  spelled =
+      inr (inr (λ e. false≢true (sym (ap (list_all is_plain) e) ∙ plain), λ e. false≢true (sym (ap (λ t. nat_lt 0 (length t)) e) ∙ some), inl (plain_label cs plain, refl)));
+  is_name = short;
+}
+
+-- a record that is one is given, where no code of a fault stands before it
+ttl_stated : (earlier : List Entry) (stated : Option Word) (n : ℕ) → TtlIs earlier stated n → IsNoTtl stated → ⊥
+ttl_stated earlier None n h none = none
+ttl_stated earlier (Some w) n h none = none n h
+
+ttl_known : (o : Option Word) (n : ℕ) → MatchOption o ⊥ (λ w. TtlSays w n) → IsTrue (is_none o) → ⊥
+ttl_known None n h none = h
+ttl_known (Some w) n h none = false≢true none
+
+-- a record is one but for how many there are
+pub record_but_count : (o : DomainName) (earlier : List Entry) (code : FileFault) (Owner : DomainName → Type 0) (f : Fields) (r : ResourceRecord) (answer : EntryMeaning)
+    → IsRecord o earlier Owner f r → is_other_class f.class ≡ false
+    → Lowest ((too_many_records, IsTrue (are_too_many earlier)) ∷ []) (λ a. (s : ResourceRecord) × IsRecord o earlier Owner f s × (a ≡ gives (s ∷ []))) answer
+    → RecordGives o earlier code Owner f answer
+record_but_count o earlier code Owner f r answer h class rest =
+    inr (
+      λ none. none h.owner.0 h.owner.1,
+      inr (
+        ttl_stated earlier f.ttl r.ttl h.ttl,
+        inr (
+          λ e. false≢true (sym class ∙ e),
+          inr (
+            λ none. none r.rtype h.rtype,
+            inr (
+              ttl_known _ r.ttl h.ttl,
+              inr (λ none. none r.rdata h.rdata, rest),
+            ),
+          ),
+        ),
+      ),
+    )
+
+pub record_given : (o : DomainName) (earlier : List Entry) (code : FileFault) (Owner : DomainName → Type 0) (f : Fields) (r : ResourceRecord)
+    → IsRecord o earlier Owner f r → is_other_class f.class ≡ false → are_too_many earlier ≡ false → RecordGives o earlier code Owner f (gives (r ∷ []))
+record_given o earlier code Owner f r h class few =
+    record_but_count o earlier code Owner f r (gives (r ∷ [])) h class (inr (λ e. false≢true (sym few ∙ e), (r, h, refl)))
+
+-- an entry gives records, and those after it mean what they mean
+pub given_then : (o : DomainName) (earlier : List Entry) (e : Entry) (es : List Entry) (rs : List ResourceRecord) (later : Meaning) → EntryGives o earlier e (gives rs)
+    → EntriesMean o (e ∷ earlier) es later → EntriesMean o earlier (e ∷ es) (after rs later)
+given_then o earlier e es rs later given more = (gives rs, given, (later, more, refl))

@@ -1,0 +1,160 @@
+-- The zones and queries of the worked examples, written as a person writes them.
+use Rattle.std.specs.Prelude.{ℕ, zero, suc, ◌+◌, ◌*◌, ◌/◌, ◌%◌, List, [], ◌∷◌, ◌++◌, length, replicate, nat_lt, ◌==◌, if◌then◌else◌, codes}
+use Rattle.std.specs.List.{flat_map}
+use Rattle.std.specs.Int.{bytes_high_first}
+use Rattle.std.specs.Char.{digit_value}
+use Rattle.dns_spec.specs.Names.{Octets, DomainName, wire}
+use Rattle.dns_spec.specs.Data.{type_a, type_ns, type_cname, type_soa, type_mx, type_txt, type_srv}
+use Rattle.dns_spec.specs.Records.{ResourceRecord, ZoneContents, zone_of}
+
+-- `www.example` is the list of the labels `www` and `example`
+abbrev pub with_letter : ℕ → DomainName → DomainName
+with_letter c [] = (c ∷ []) ∷ []
+with_letter c (l ∷ n) = (c ∷ l) ∷ n
+
+abbrev pub dotted : Octets → DomainName
+dotted [] = []
+dotted (c ∷ []) = (c ∷ []) ∷ []
+dotted (c ∷ d ∷ cs) = if c == 46 then [] ∷ dotted (d ∷ cs) else with_letter c (dotted (d ∷ cs))
+
+-- octets by their digits, with spaces between as one likes
+abbrev pub hex_digits : Octets → Octets
+hex_digits [] = []
+hex_digits (c ∷ cs) = if c == 32 then hex_digits cs else digit_value c ∷ hex_digits cs
+
+abbrev pub paired : Octets → Octets
+paired [] = []
+paired (h ∷ []) = []
+paired (h ∷ l ∷ ds) = (16 * h + l) ∷ paired ds
+
+abbrev pub hex : Octets → Octets
+hex cs = paired (hex_digits cs)
+
+-- names by their text, the last ones relative to `example.`
+abbrev pub named : Octets → DomainName
+named cs = dotted cs
+
+abbrev pub example : DomainName
+example = dotted (codes "example")
+
+abbrev pub under : Octets → DomainName
+under cs = dotted cs ++ example
+
+abbrev pub entry : DomainName → ℕ → Octets → ResourceRecord
+entry n t d = record { owner = n; ttl = 3600; rtype = t; rdata = d }
+
+abbrev pub in_zone : Octets → ℕ → Octets → ResourceRecord
+in_zone cs t d = entry (under cs) t d
+
+abbrev pub address : Octets → Octets → ResourceRecord
+address cs a = in_zone cs type_a a
+
+abbrev pub alias : Octets → Octets → ResourceRecord
+alias cs to = in_zone cs type_cname (wire (under to))
+
+abbrev pub server : DomainName → Octets → ResourceRecord
+server n to = entry n type_ns (wire (under to))
+
+-- one or more strings, each after its length
+abbrev pub strings_data : List Octets → Octets
+strings_data = flat_map (λ s. length s ∷ s)
+
+abbrev pub net_192 : ℕ → Octets
+net_192 k = 192 ∷ 0 ∷ 2 ∷ k ∷ []
+
+abbrev pub soa_of : DomainName → DomainName → ℕ → ℕ → ℕ → ℕ → ℕ → Octets
+soa_of m r serial refresh retry expire minimum =
+    wire m ++ wire r ++ flat_map (bytes_high_first 4) (serial ∷ refresh ∷ retry ∷ expire ∷ minimum ∷ [])
+
+abbrev pub example_soa : ResourceRecord
+example_soa = entry example type_soa (soa_of (under (codes "ns")) (under (codes "hostmaster")) 1 7200 900 1209600 300)
+
+-- ns, www, alias, *.w, a.b.ent, and the cut sub with its server below it
+abbrev pub small_records : List ResourceRecord
+small_records =
+    example_soa
+    ∷ server example (codes "ns")
+    ∷ address (codes "ns") (net_192 1)
+    ∷ address (codes "www") (net_192 10)
+    ∷ alias (codes "alias") (codes "www")
+    ∷ in_zone (codes "*.w") type_txt (strings_data (codes "any" ∷ []))
+    ∷ address (codes "a.b.ent") (net_192 11)
+    ∷ server (under (codes "sub")) (codes "ns.sub")
+    ∷ address (codes "ns.sub") (net_192 53)
+    ∷ []
+
+abbrev pub small_zone : ZoneContents
+small_zone = zone_of example small_records
+
+abbrev pub small_zone_with : List ResourceRecord → ZoneContents
+small_zone_with rs = zone_of example (small_records ++ rs)
+
+-- 198.51.100.1 up to so many
+abbrev pub addresses : ℕ → Octets → List ResourceRecord
+addresses zero cs = []
+addresses (suc k) cs = addresses k cs ++ address cs (198 ∷ 51 ∷ 100 ∷ suc k ∷ []) ∷ []
+
+-- the decimal digits of a number below 100
+abbrev pub decimal : ℕ → Octets
+decimal k = if nat_lt k 10 then (48 + k) ∷ [] else (48 + k / 10) ∷ (48 + k % 10) ∷ []
+
+-- c1 to ck, each an alias of the next
+abbrev pub aliases : ℕ → List ResourceRecord
+aliases zero = []
+aliases (suc k) = aliases k ++ alias (codes "c" ++ decimal (suc k)) (codes "c" ++ decimal (suc (suc k))) ∷ []
+
+abbrev pub letters : ℕ → Octets
+letters k = replicate k 97
+
+-- sets at the limits of a reply, a ring of aliases, a chain of 17, a cut with 64 addresses as glue
+abbrev pub large_zone : ZoneContents
+large_zone =
+    small_zone_with (
+    in_zone (codes "t") type_txt (strings_data (letters 255 ∷ letters 216 ∷ []))
+    ∷ in_zone (codes "u") type_txt (strings_data (letters 255 ∷ letters 217 ∷ []))
+    ∷ alias (codes "r1") (codes "r2")
+    ∷ alias (codes "r2") (codes "r1")
+    ∷ aliases 17
+    ++ address (codes "c18") (net_192 18)
+    ∷ in_zone (codes "m") type_mx (bytes_high_first 2 10 ++ wire (under (codes "big")))
+    ∷ addresses 64 (codes "big")
+    ++ server (under (codes "cut")) (codes "big.cut")
+    ∷ addresses 64 (codes "big.cut")
+    ++ in_zone (codes "_s._tcp") type_srv (hex (codes "000100020035") ++ wire (under (codes "ns")))
+    ∷ [])
+
+-- the root zone with a name of 127 labels, which is its server
+abbrev pub deep_name : DomainName
+deep_name = replicate 127 (letters 1)
+
+abbrev pub deep_zone : ZoneContents
+deep_zone =
+    zone_of [] (
+    entry [] type_soa (soa_of deep_name deep_name 1 2 3 4 5)
+    ∷ entry deep_name type_a (net_192 2)
+    ∷ entry [] type_ns (wire deep_name)
+    ∷ [])
+
+-- a list of SOA, NS and A records
+abbrev pub plain_zone : ZoneContents
+plain_zone =
+    zone_of example (
+    example_soa
+    ∷ server example (codes "ns")
+    ∷ address (codes "ns") (net_192 1)
+    ∷ address (codes "a.b.ent") (net_192 11)
+    ∷ address (codes "www") (net_192 10)
+    ∷ [])
+
+-- a query: its header and one question of class IN
+abbrev pub query_header : Octets
+query_header = hex (codes "123400000001000000000000")
+
+abbrev pub asks : DomainName → ℕ → Octets
+asks n t = query_header ++ wire n ++ bytes_high_first 2 t ++ bytes_high_first 2 1
+
+abbrev pub query : Octets → ℕ → Octets
+query cs t = asks (dotted cs) t
+
+abbrev pub www_query : Octets
+www_query = hex (codes "12340000000100000000000003777777076578616d706c650000010001")

@@ -1,0 +1,312 @@
+-- The faults of a list of records do not depend on its order.
+use Rattle.std.proofs.Common.{◌≡◌, ℕ, suc, Bool, true, false, ◌&&◌, ◌||◌, not, cond, eqb, nat_lt, ◌==◌, ◌⊎◌, inl, inr, List, [], ◌∷◌, map, reverse, length, refl, sym, ap, ap₂, ◌∙◌, arith, filter, flat_map, IsPermutation, is_eq, nat_cmp, Less, Equal, Greater}
+use Rattle.std.proofs.lemmas.Bool.{false≢true, lt-ltb, eqb-true, eq-eqb, ne_eqb, ltb-true}
+use Rattle.std.proofs.lemmas.List.{reverse-reverse}
+use Rattle.std.proofs.lemmas.List.Sums.{length-filter}
+use Rattle.std.proofs.lemmas.List.Sorted.{sum_by-IsPermutation}
+use Rattle.std.proofs.lemmas.Cmp.{nat_cmp_total, nat_list_cmp_total, lists_total, on_total}
+use Rattle.std.proofs.lemmas.Str.Ascii.{lowercase-lowercase}
+use Rattle.std.specs.List.{list_any}
+use Rattle.std.specs.Option.{option_map_or}
+use Rattle.std.specs.Cmp.{IsTotalOrder}
+use Rattle.std.specs.Cmp.Lexicographic.{lists_ties}
+use Rattle.std.specs.Char.{to_ascii_lowercase}
+use Rattle.dns_spec.specs.Names.{Octets, DomainName, folded, same, names_equal, at_or_below, below, suffixes, label_order, name_order}
+use Rattle.dns_spec.specs.Data.{type_a, type_ns, type_cname, type_soa, type_mx, type_aaaa, type_srv, target}
+use Rattle.dns_spec.specs.Records.{ResourceRecord, ZoneContents, at, owns, distinct}
+use Rattle.dns_spec.specs.Tree.{is_cut, without_first}
+use Rattle.dns_spec.specs.Checks.{Check, count, has_target, at_or_below_cut, below_cut, has_address, is_address_type, no_soa, many_soa, soa_elsewhere, no_ns, outside, cname_and_other, many_cname, ttls_differ, ns_target_alias, lacks_address, ns_target_lost, mx_target_alias, data_at_cut, first_is_asterisk, wildcard_ns, large_set, many_sets, checks, Fault, faults_at, checked_names, faults}
+use Rattle.dns_spec.proofs.DomainNames.NameLaws.{names_equal-decides}
+use Rattle.dns_spec.proofs.Records.SortedOnce.{Each, Among, length-sort_by, same_sorted}
+
+-- two lists of which each test passes as many
+abbrev SameCounts : {X : Type 0} → List X → List X → Type 0
+SameCounts {X} xs ys = (p : X → Bool) → length (filter p xs) ≡ length (filter p ys)
+
+from_permutation : {X : Type 0} (xs ys : List X) → IsPermutation xs ys → SameCounts xs ys
+from_permutation xs ys h p =
+    length-filter p xs ∙ sym (sum_by-IsPermutation (λ x. cond (p x) 1 0) xs ys h) ∙ sym (length-filter p ys)
+
+pub any_counted : {X : Type 0} (p : X → Bool) (xs : List X) → list_any p xs ≡ nat_lt 0 (length (filter p xs))
+any_counted p [] = refl
+any_counted p (x ∷ xs) = go (p x) (any_counted p xs)
+  where
+    go : (t : Bool) → list_any p xs ≡ nat_lt 0 (length (filter p xs)) → (t || list_any p xs) ≡ nat_lt 0 (length (cond t (x ∷ filter p xs) (filter p xs)))
+    go true e = sym (lt-ltb 0 (suc (length (filter p xs))) (omega arith))
+    go false e = e
+
+same_any : {X : Type 0} (p : X → Bool) (xs ys : List X) → SameCounts xs ys → list_any p xs ≡ list_any p ys
+same_any p xs ys c = any_counted p xs ∙ ap (nat_lt 0) (c p) ∙ sym (any_counted p ys)
+
+filter_twice : {X : Type 0} (p q : X → Bool) (xs : List X) → filter q (filter p xs) ≡ filter (λ x. p x && q x) xs
+filter_twice p q [] = refl
+filter_twice p q (x ∷ xs) = go (p x) (filter_twice p q xs)
+  where
+    go : (t : Bool) → filter q (filter p xs) ≡ filter (λ x. p x && q x) xs
+        → filter q (cond t (x ∷ filter p xs) (filter p xs)) ≡ cond (t && q x) (x ∷ filter (λ x. p x && q x) xs) (filter (λ x. p x && q x) xs)
+    go true e = ap (λ zs. cond (q x) (x ∷ zs) zs) e
+    go false e = e
+
+same_filter : {X : Type 0} (p : X → Bool) (xs ys : List X) → SameCounts xs ys → SameCounts (filter p xs) (filter p ys)
+same_filter p xs ys c q = ap length (filter_twice p q xs) ∙ c (λ x. p x && q x) ∙ sym (ap length (filter_twice p q ys))
+
+-- the values of a function on such lists are the same
+module _ {X Y : Type 0} (f : X → Y) (eq : Y → Y → Bool) (decides : (a b : Y) → (eq a b ≡ true → a ≡ b) × (a ≡ b → eq a b ≡ true)) where
+  any_value : (a : Y) (xs : List X) → Among a (map f xs) → list_any (λ x. eq a (f x)) xs ≡ true
+  any_value a [] m = absurd m
+  any_value a (x ∷ xs) (inl e) = ap (λ t. t || list_any (λ x. eq a (f x)) xs) ((decides a (f x)).1 e)
+  any_value a (x ∷ xs) (inr m) = go (eq a (f x)) (any_value a xs m)
+    where
+      go : (t : Bool) → list_any (λ x. eq a (f x)) xs ≡ true → (t || list_any (λ x. eq a (f x)) xs) ≡ true
+      go true e = refl
+      go false e = e
+
+  value_any : (a : Y) (xs : List X) → list_any (λ x. eq a (f x)) xs ≡ true → Among a (map f xs)
+  value_any a [] e = absurd (false≢true e)
+  value_any a (x ∷ xs) e = go (eq a (f x)) refl e (value_any a xs)
+    where
+      go : (t : Bool) → eq a (f x) ≡ t → (t || list_any (λ x. eq a (f x)) xs) ≡ true → (list_any (λ x. eq a (f x)) xs ≡ true → Among a (map f xs)) → (a ≡ f x) ⊎ Among a (map f xs)
+      go true p q r = inl ((decides a (f x)).0 p)
+      go false p q r = inr (r q)
+
+  same_values : (xs ys : List X) → SameCounts xs ys → (a : Y) → Among a (map f xs) → Among a (map f ys)
+  same_values xs ys c a m = value_any a ys (sym (same_any (λ x. eq a (f x)) xs ys c) ∙ any_value a xs m)
+
+pub each_any : {X : Type 0} (xs : List X) → Each (λ _. Unit {0}) xs
+each_any [] = tt
+each_any (x ∷ xs) = (tt, each_any xs)
+
+eqb_decides : (a b : ℕ) → (eqb a b ≡ true → a ≡ b) × (a ≡ b → eqb a b ≡ true)
+eqb_decides a b = (eqb-true a b, eq-eqb a b)
+
+pub nat_ties : (x y : ℕ) → eqb x y ≡ is_eq (nat_cmp x y)
+nat_ties x y = go (nat_lt x y) refl
+  where
+    level : (s : Bool) → s ≡ is_eq (cond s Equal Greater)
+    level true = refl
+    level false = refl
+
+    go : (t : Bool) → nat_lt x y ≡ t → eqb x y ≡ is_eq (cond t Less (cond (eqb x y) Equal Greater))
+    go true e = ne_eqb x y (λ h. let below = ltb-true x y e in omega arith)
+    go false e = level (eqb x y)
+
+pub nat_tie : (x y : ℕ) → nat_cmp x y ≡ Equal → eqb x y ≡ true
+nat_tie x y e = nat_ties x y ∙ ap is_eq e
+
+-- how many types records have
+same_type_count : (xs ys : List ResourceRecord) → SameCounts xs ys
+    → length (distinct ◌==◌ (map (λ (r : ResourceRecord). r.rtype) xs)) ≡ length (distinct ◌==◌ (map (λ (r : ResourceRecord). r.rtype) ys))
+same_type_count xs ys c =
+    let f : ResourceRecord → ℕ = λ (r : ResourceRecord). r.rtype in
+    let back : SameCounts ys xs = λ p. sym (c p) in
+    sym (length-sort_by nat_cmp (distinct ◌==◌ (map f xs)))
+    ∙ ap length (same_sorted nat_cmp nat_cmp_total ◌==◌ nat_tie (λ _. Unit {0}) (λ x y d e t. eqb-true x y t) (map f xs) (map f ys) (each_any (map f xs)) (each_any (map f ys))
+    (same_values f eqb eqb_decides xs ys c) (same_values f eqb eqb_decides ys xs back))
+    ∙ length-sort_by nat_cmp (distinct ◌==◌ (map f ys))
+
+filter_alike : {X : Type 0} (p q : X → Bool) (xs : List X) → Each (λ x. p x ≡ q x) xs → filter p xs ≡ filter q xs
+filter_alike p q [] e = refl
+filter_alike p q (x ∷ xs) e = ap₂ (λ t zs. cond t (x ∷ zs) zs) e.0 (filter_alike p q xs e.1)
+
+-- names in lower case are told apart by their order
+lower_twice : (os : Octets) → map to_ascii_lowercase (map to_ascii_lowercase os) ≡ map to_ascii_lowercase os
+lower_twice [] = refl
+lower_twice (o ∷ os) = ap₂ (λ x xs. x ∷ xs) (lowercase-lowercase o) (lower_twice os)
+
+pub folded_folded : (n : DomainName) → folded (folded n) ≡ folded n
+folded_folded [] = refl
+folded_folded (l ∷ n) = ap₂ (λ x xs. x ∷ xs) (lower_twice l) (folded_folded n)
+
+abbrev pub Lower : DomainName → Type 0
+Lower n = folded n ≡ n
+
+pub each_lower : (xs : List ResourceRecord) → Each Lower (map (λ (r : ResourceRecord). folded r.owner) xs)
+each_lower [] = tt
+each_lower (r ∷ xs) = (folded_folded r.owner, each_lower xs)
+
+pub one_lower : (n m : DomainName) → Lower n → Lower m → same n m ≡ true → n ≡ m
+one_lower n m d e t = sym d ∙ (names_equal-decides (folded n) (folded m)).0 t ∙ e
+
+pub name_order_total : IsTotalOrder name_order
+name_order_total = on_total (λ n. reverse (folded n)) (lists_total nat_list_cmp_total)
+
+pub name_tie : (n m : DomainName) → name_order n m ≡ Equal → same n m ≡ true
+name_tie n m e =
+    let a = reverse (folded n) in
+    let b = reverse (folded m) in
+    let t : names_equal a b ≡ true = lists_ties label_order (lists_ties nat_cmp nat_ties) a b ∙ ap is_eq e in
+    let back : folded n ≡ folded m = sym (reverse-reverse (folded n)) ∙ ap reverse ((names_equal-decides a b).0 t) ∙ reverse-reverse (folded m) in
+    (names_equal-decides (folded n) (folded m)).1 back
+
+in_rest : {A B C : Type 0} → A ⊎ B → (B → C) → A ⊎ C
+in_rest (inl e) f = inl e
+in_rest (inr m) f = inr (f m)
+
+-- each check, over one origin and two such lists
+module _ (o : DomainName) (xs ys : List ResourceRecord) (c : SameCounts xs ys) where
+  z : ZoneContents
+  z = record { origin = o; records = xs }
+
+  z' : ZoneContents
+  z' = record { origin = o; records = ys }
+
+  abbrev Kept : Check → Type 0
+  Kept check = (n : DomainName) → check z n ≡ check z' n
+
+  same_at : (n : DomainName) → SameCounts (at z n) (at z' n)
+  unfolding z z'
+  same_at n = same_filter (λ (r : ResourceRecord). same r.owner n) xs ys c
+
+  any_at : (n : DomainName) (p : ResourceRecord → Bool) → list_any p (at z n) ≡ list_any p (at z' n)
+  any_at n p = same_any p (at z n) (at z' n) (same_at n)
+
+  owns_kept : (n : DomainName) (t : ℕ) → owns z n t ≡ owns z' n t
+  unfolding z z'
+  owns_kept n t = same_any (λ (r : ResourceRecord). same r.owner n && r.rtype == t) xs ys c
+
+  count_kept : (n : DomainName) (t : ℕ) → count z n t ≡ count z' n t
+  count_kept n t = same_at n (λ (r : ResourceRecord). r.rtype == t)
+
+  cut_kept : Kept is_cut
+  unfolding z z'
+  cut_kept n = ap (λ b. below n o && b) (owns_kept n type_ns)
+
+  target_kept : (n : DomainName) (type : ℕ → Bool) (p q : DomainName → Bool) → ((m : DomainName) → p m ≡ q m) → has_target z n type p ≡ has_target z' n type q
+  unfolding z z'
+  target_kept n type p q e =
+      ap (λ (h : DomainName → Bool). has_target z n type h) (λ k m. e m k)
+      ∙ any_at n (λ (r : ResourceRecord). type r.rtype && option_map_or (λ m. at_or_below m o && q m) (target r.rtype r.rdata) false)
+
+  at_or_below_cut_kept : Kept at_or_below_cut
+  at_or_below_cut_kept n = ap (λ (h : DomainName → Bool). list_any h (suffixes n)) (λ k m. cut_kept m k)
+
+  below_cut_kept : Kept below_cut
+  below_cut_kept n = ap (λ (h : DomainName → Bool). list_any h (without_first (suffixes n))) (λ k m. cut_kept m k)
+
+  has_address_kept : Kept has_address
+  has_address_kept n = ap₂ ◌||◌ (owns_kept n type_a) (owns_kept n type_aaaa)
+
+  lacks_kept : (n m : DomainName) → lacks_address z n m ≡ lacks_address z' n m
+  lacks_kept n m =
+      ap₂ (λ a b. not a && b) (has_address_kept m)
+      (ap₂ (λ a b. not a || (b && at_or_below m n)) (at_or_below_cut_kept m) (cut_kept n))
+
+  no_soa_kept : Kept no_soa
+  unfolding z z'
+  no_soa_kept n = ap (λ b. same n o && not b) (owns_kept n type_soa)
+
+  many_soa_kept : Kept many_soa
+  unfolding z z'
+  many_soa_kept n = ap (λ k. same n o && nat_lt 1 k) (count_kept n type_soa)
+
+  soa_elsewhere_kept : Kept soa_elsewhere
+  unfolding z z'
+  soa_elsewhere_kept n = ap (λ b. not (same n o) && b) (owns_kept n type_soa)
+
+  no_ns_kept : Kept no_ns
+  unfolding z z'
+  no_ns_kept n = ap (λ b. same n o && not b) (owns_kept n type_ns)
+
+  outside_kept : Kept outside
+  unfolding z z'
+  outside_kept n = ap (λ k. nat_lt 0 k && not (at_or_below n o)) (c (λ (r : ResourceRecord). same r.owner n))
+
+  cname_and_other_kept : Kept cname_and_other
+  cname_and_other_kept n = ap₂ ◌&&◌ (owns_kept n type_cname) (any_at n (λ (r : ResourceRecord). not (r.rtype == type_cname)))
+
+  many_cname_kept : Kept many_cname
+  many_cname_kept n = ap (nat_lt 1) (count_kept n type_cname)
+
+  ttls_differ_kept : Kept ttls_differ
+  ttls_differ_kept n =
+      ap (λ (h : ResourceRecord → Bool). list_any h (at z n)) (λ k r. any_at n (λ (s : ResourceRecord). r.rtype == s.rtype && not (r.ttl == s.ttl)) k)
+      ∙ any_at n (λ (r : ResourceRecord). list_any (λ (s : ResourceRecord). r.rtype == s.rtype && not (r.ttl == s.ttl)) (at z' n))
+
+  ns_target_alias_kept : Kept ns_target_alias
+  ns_target_alias_kept n = target_kept n (λ t. t == type_ns) (λ m. owns z m type_cname) (λ m. owns z' m type_cname) (λ m. owns_kept m type_cname)
+
+  ns_target_lost_kept : Kept ns_target_lost
+  ns_target_lost_kept n = target_kept n (λ t. t == type_ns) (lacks_address z n) (lacks_address z' n) (lacks_kept n)
+
+  mx_target_alias_kept : Kept mx_target_alias
+  mx_target_alias_kept n = target_kept n (λ t. t == type_mx || t == type_srv) (λ m. owns z m type_cname) (λ m. owns z' m type_cname) (λ m. owns_kept m type_cname)
+
+  data_at_cut_kept : Kept data_at_cut
+  data_at_cut_kept n =
+      ap₂ ◌||◌ (ap₂ ◌&&◌ (cut_kept n) (any_at n (λ (r : ResourceRecord). not (r.rtype == type_ns || is_address_type r.rtype))))
+      (ap₂ ◌&&◌ (below_cut_kept n) (any_at n (λ (r : ResourceRecord). not (is_address_type r.rtype))))
+
+  wildcard_ns_kept : Kept wildcard_ns
+  wildcard_ns_kept n = ap (λ b. first_is_asterisk n && b) (owns_kept n type_ns)
+
+  large_set_kept : Kept large_set
+  large_set_kept n =
+      ap (λ (h : ResourceRecord → Bool). list_any h (at z n)) (λ k r. nat_lt 64 (count_kept n r.rtype k))
+      ∙ any_at n (λ (r : ResourceRecord). nat_lt 64 (count z' n r.rtype))
+
+  many_sets_kept : Kept many_sets
+  many_sets_kept n = ap (nat_lt 32) (same_type_count (at z n) (at z' n) (same_at n))
+
+  faults_at_kept : (n : DomainName) → faults_at z n ≡ faults_at z' n
+  faults_at_kept n =
+      ap (map (λ (k : ℕ × Check). record { owner = n; code = k.0 }))
+      (filter_alike (λ k. k.1 z n) (λ k. k.1 z' n) checks (
+        no_soa_kept n,
+        (
+          many_soa_kept n,
+          (
+            soa_elsewhere_kept n,
+            (
+              no_ns_kept n,
+              (
+                outside_kept n,
+                (
+                  cname_and_other_kept n,
+                  (
+                    many_cname_kept n,
+                    (
+                      ttls_differ_kept n,
+                      (
+                        ns_target_alias_kept n,
+                        (
+                          ns_target_lost_kept n,
+                          (
+                            mx_target_alias_kept n,
+                            (
+                              data_at_cut_kept n,
+                              (
+                                wildcard_ns_kept n,
+                                (large_set_kept n, (many_sets_kept n, tt)),
+                              ),
+                            ),
+                          ),
+                        ),
+                      ),
+                    ),
+                  ),
+                ),
+              ),
+            ),
+          ),
+        ),
+      ))
+
+  checked_names_kept : checked_names z ≡ checked_names z'
+  unfolding z z'
+  checked_names_kept =
+      let f : ResourceRecord → DomainName = λ (r : ResourceRecord). folded r.owner in
+      let back : SameCounts ys xs = λ p. sym (c p) in
+      same_sorted name_order name_order_total same name_tie Lower one_lower (folded o ∷ map f xs) (folded o ∷ map f ys)
+      (folded_folded o, each_lower xs) (folded_folded o, each_lower ys)
+      (λ a m. in_rest m (same_values f names_equal names_equal-decides xs ys c a))
+      (λ a m. in_rest m (same_values f names_equal names_equal-decides ys xs back a))
+
+  faults_kept : faults z ≡ faults z'
+  unfolding faults
+  faults_kept = ap (λ (h : DomainName → List Fault). flat_map h (checked_names z)) (λ k n. faults_at_kept n k) ∙ ap (flat_map (faults_at z')) checked_names_kept
+
+-- The faults of a list of records do not depend on its order.
+pub faults_in_any_order : (o : DomainName) (xs ys : List ResourceRecord) → IsPermutation xs ys
+    → faults (record { origin = o; records = xs }) ≡ faults (record { origin = o; records = ys })
+unfolding z z'
+faults_in_any_order o xs ys h = faults_kept o xs ys (from_permutation xs ys h)

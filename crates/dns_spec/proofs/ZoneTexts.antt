@@ -1,0 +1,10 @@
+-- Texts of zone files: their tokens and entries, and that each text means one thing.
+pub mod TextTokens
+pub mod ReadTokens
+pub mod ReadOctets
+pub mod ReadRecords
+pub mod ReadWords
+pub mod OneMeaning
+pub mod SomeMeaning
+pub mod Beginnings
+pub mod BeginningsMean

@@ -1,0 +1,295 @@
+-- A text that goes on begins with the tokens of its beginning, but for the last of them, which may go on too.
+use Rattle.std.proofs.Common.{◌≡◌, ℕ, zero, suc, ◌+◌, ◌⊎◌, inl, inr, Bool, true, false, cond, not, ◌&&◌, ◌||◌, ◌==◌, Option, Some, None, [], ◌∷◌, ◌++◌, length, take, drop, refl, sym, ◌∙◌, ap, ap₂, subst, arith}
+use Rattle.std.specs.Prelude.{if◌then◌else◌}
+use Rattle.std.proofs.lemmas.Bool.{and_parts, or_cases, eqb-true, true≢false, false≢true}
+use Rattle.std.proofs.lemmas.Option.{none-some}
+use Rattle.std.specs.List.{prefix_len}
+use Rattle.std.specs.Char.{is_ascii_digit}
+use Rattle.dns_spec.specs.Names.{Octets}
+use Rattle.dns_spec.specs.NameText.{is_printable}
+use Rattle.dns_spec.specs.ZoneText.{Token, blank, comment, word, line_end, is_blank, is_word_octet, is_string_octet, escape_length, unit_left, run_length, word_length, string_length, closed, quoted_front, unquoted_front, line_feed_front, token_front, parenthesis, is_line_end, is_cut_short}
+use Rattle.dns_spec.proofs.ZoneTexts.ReadWords.{front_taken}
+use Rattle.dns_spec.proofs.NameTexts.Escapes.{counted_digits, counted_escape, escape-counted}
+
+first_false : (x y : Bool) → (x || y) ≡ false → x ≡ false
+first_false true y h = h
+first_false false y h = refl
+
+and_false : (x y : Bool) → x ≡ false → (x && y) ≡ false
+and_false true y h = absurd (true≢false h)
+and_false false y h = refl
+
+-- what is not cut short is not where the text goes on
+pub uncut : (place more : Octets) → is_cut_short place ≡ false → is_cut_short (place ++ more) ≡ false
+uncut [] more h = absurd (true≢false h)
+uncut (o ∷ []) [] h = h
+uncut (o ∷ []) (c ∷ []) h = and_false (o == 92) (is_ascii_digit c) (first_false (o == 92) (o == 13) h)
+uncut (o ∷ []) (c ∷ d ∷ []) h =
+    and_false (o == 92 && is_ascii_digit c) (is_ascii_digit d)
+    (and_false (o == 92) (is_ascii_digit c) (first_false (o == 92) (o == 13) h))
+uncut (o ∷ []) (c ∷ d ∷ e ∷ more) h = refl
+uncut (o ∷ a ∷ []) [] h = h
+uncut (o ∷ a ∷ []) (c ∷ []) h = and_false (o == 92 && is_ascii_digit a) (is_ascii_digit c) h
+uncut (o ∷ a ∷ []) (c ∷ d ∷ more) h = refl
+uncut (o ∷ a ∷ b ∷ []) [] h = h
+uncut (o ∷ a ∷ b ∷ []) (c ∷ more) h = refl
+uncut (o ∷ a ∷ b ∷ c ∷ place) more h = refl
+
+-- an escape, or none, that no more octets can change
+one_digit : (d p : Bool) (n : ℕ) → (cond {A = ℕ} d 0 (cond p 1 0) ≡ 0 → d ≡ false) → cond {A = ℕ} d n (cond p 1 0) ≡ cond d 0 (cond p 1 0)
+one_digit true p n h = absurd (true≢false (h refl))
+one_digit false p n h = refl
+
+two_digits : (d e p x y : Bool) → (cond {A = ℕ} d 0 (cond p 1 0) ≡ 0 → (d && e) ≡ false)
+    → cond {A = ℕ} d (cond (d && e && x && y) 3 0) (cond p 1 0) ≡ cond d 0 (cond p 1 0)
+two_digits true true p x y h = absurd (true≢false (h refl))
+two_digits true false p x y h = refl
+two_digits false e p x y h = refl
+
+counted_more : (text more : Octets) → (counted_escape text ≡ 0 → is_cut_short (92 ∷ text) ≡ false)
+    → counted_escape (text ++ more) ≡ counted_escape text
+counted_more [] more h = absurd (true≢false (h refl))
+counted_more (a ∷ []) [] h = refl
+counted_more (a ∷ []) (b ∷ more) h = one_digit (is_ascii_digit a) (is_printable a) (counted_digits (a ∷ b ∷ more)) h
+counted_more (a ∷ b ∷ []) [] h = refl
+counted_more (a ∷ b ∷ []) (c ∷ more) h =
+    two_digits (is_ascii_digit a) (is_ascii_digit b) (is_printable a) (is_ascii_digit c) _ h
+counted_more (a ∷ b ∷ c ∷ text) more h = refl
+
+length_more : (text more : Octets) → (escape_length text ≡ 0 → is_cut_short (92 ∷ text) ≡ false)
+    → escape_length (text ++ more) ≡ escape_length text
+length_more text more h =
+    escape-counted (text ++ more) ∙ counted_more text more (λ z. h (escape-counted text ∙ z)) ∙ sym (escape-counted text)
+
+abbrev left_by : ℕ → Option ℕ
+left_by k = if k == 0 then None else Some k
+
+drop_one : (n o : ℕ) (text : Octets) → drop (1 + n) (o ∷ text) ≡ drop n text
+drop_one n o text = let next : 1 + n ≡ suc n = omega arith in ap (λ m. drop m (o ∷ text)) next
+
+module _ (by : ℕ → Bool) where
+  escape_more : (text more : Octets) → (unit_left by 92 text ≡ None → is_cut_short (92 ∷ text) ≡ false)
+      → unit_left by 92 (text ++ more) ≡ unit_left by 92 text
+  escape_more text more h = ap left_by (length_more text more (λ z. h (ap left_by z)))
+
+  unit_more : (o : ℕ) (text more : Octets) → (unit_left by o text ≡ None → is_cut_short (o ∷ text) ≡ false)
+      → unit_left by o (text ++ more) ≡ unit_left by o text
+  unit_more o text more h = go (o == 92) refl
+    where
+      go : (slash : Bool) → (o == 92) ≡ slash → unit_left by o (text ++ more) ≡ unit_left by o text
+      go true e =
+          subst (λ c. (unit_left by c text ≡ None → is_cut_short (c ∷ text) ≡ false) → unit_left by c (text ++ more) ≡ unit_left by c text)
+          (sym (eqb-true o 92 e)) (escape_more text more) h
+      go false e = rw e refl
+
+  -- a run that ends where the text is not cut short ends there too where the text goes on
+  pub run_more : (k : ℕ) (text more : Octets) → is_cut_short (drop (run_length by k text) text) ≡ false
+      → run_length by k (text ++ more) ≡ run_length by k text
+  unfolding run_length
+  run_more zero [] more h = absurd (true≢false h)
+  run_more (suc k) [] more h = absurd (true≢false h)
+  run_more (suc k) (o ∷ text) more h =
+      ap (λ n. 1 + n) (run_more k text more (ap is_cut_short (sym (drop_one (run_length by k text) o text)) ∙ h))
+  run_more zero (o ∷ text) more h = go (unit_left by o text) refl (λ k. run_more k text more) h
+    where
+      Length : Octets → Option ℕ → ℕ
+      Length t u = elim u as (λ _. ℕ) [ None ↦ 0 | Some k ↦ 1 + run_length by k t ]
+
+      go : (u : Option ℕ) → unit_left by o text ≡ u
+          → ((k : ℕ) → is_cut_short (drop (run_length by k text) text) ≡ false → run_length by k (text ++ more) ≡ run_length by k text)
+          → is_cut_short (drop (elim u as (λ _. ℕ) [ None ↦ 0 | Some k ↦ 1 + run_length by k text ]) (o ∷ text)) ≡ false
+          → elim (unit_left by o (text ++ more)) as (λ _. ℕ) [ None ↦ 0 | Some k ↦ 1 + run_length by k (text ++ more) ]
+          ≡ elim u as (λ _. ℕ) [ None ↦ 0 | Some k ↦ 1 + run_length by k text ]
+      go None e later h =
+          ap (λ u. elim u as (λ _. ℕ) [ None ↦ 0 | Some k ↦ 1 + run_length by k (text ++ more) ]) (unit_more o text more (λ _. h) ∙ e)
+      go (Some k) e later h =
+          ap (λ u. elim u as (λ _. ℕ) [ None ↦ 0 | Some k ↦ 1 + run_length by k (text ++ more) ])
+          (unit_more o text more (λ none. absurd (none-some k (sym none ∙ e))) ∙ e)
+          ∙ ap (λ n. 1 + n) (later k (ap is_cut_short (sym (drop_one (run_length by k text) o text)) ∙ h))
+
+-- what comes first, and what comes after, where more comes after that
+pub dropped_more : (n : ℕ) (text more : Octets) (x : ℕ) (xs : Octets) → drop n text ≡ x ∷ xs → drop n (text ++ more) ≡ x ∷ (xs ++ more)
+dropped_more zero text more x xs e = ap (λ t. t ++ more) e
+dropped_more (suc n) [] more x xs e = absurd (omega (arith, ap length e))
+dropped_more (suc n) (o ∷ text) more x xs e = dropped_more n text more x xs e
+
+pub taken_more : (n : ℕ) (text more : Octets) (x : ℕ) (xs : Octets) → drop n text ≡ x ∷ xs → take n (text ++ more) ≡ take n text
+taken_more zero text more x xs e = refl
+taken_more (suc n) [] more x xs e = absurd (omega (arith, ap length e))
+taken_more (suc n) (o ∷ text) more x xs e = ap (λ t. o ∷ t) (taken_more n text more x xs e)
+
+prefix_more : (p : ℕ → Bool) (text more : Octets) (x : ℕ) (xs : Octets) → drop (prefix_len p text) text ≡ x ∷ xs
+    → prefix_len p (text ++ more) ≡ prefix_len p text
+prefix_more p [] more x xs e = absurd (omega (arith, ap length e))
+prefix_more p (o ∷ text) more x xs e = go (p o) e (prefix_more p text more x xs)
+  where
+    go : (b : Bool) → drop (cond b (1 + prefix_len p text) 0) (o ∷ text) ≡ x ∷ xs
+        → (drop (prefix_len p text) text ≡ x ∷ xs → prefix_len p (text ++ more) ≡ prefix_len p text)
+        → cond b (1 + prefix_len p (text ++ more)) 0 ≡ cond b (1 + prefix_len p text) 0
+    go true e later = ap (λ n. 1 + n) (later (sym (drop_one (prefix_len p text) o text) ∙ e))
+    go false e later = refl
+
+-- a token that may go on
+pub record Loose (t : Token) : Type 0 where
+  pub unmarked : parenthesis t ≡ None
+  pub inside : is_line_end t ≡ false
+
+-- where the text can't go on, if no token begins
+abbrev pub stop_place : ℕ → Octets → Octets
+stop_place o text = if o == 34 then drop (string_length text) text else o ∷ text
+
+module _ (more : Octets) where
+  -- what a text and one that goes on begin with: the same token, or one that may go on; or none, where it is not cut short
+  Keeps : Octets → Option (Token × Octets) → Option (Token × Octets) → Type 0
+  Keeps place None longer = is_cut_short place ≡ false → longer ≡ None
+  Keeps place (Some r) longer = (longer ≡ Some (r.0, r.1 ++ more)) ⊎ ((is_cut_short r.1 ≡ true) × Loose r.0)
+
+  choose : (place : Octets) (b : Bool) (x y x' y' : Option (Token × Octets)) → (b ≡ true → Keeps place x x') → (b ≡ false → Keeps place y y')
+      → Keeps place (if b then x else y) (if b then x' else y')
+  choose place true x y x' y' h k = h refl
+  choose place false x y x' y' h k = k refl
+
+  -- a token up to where octets of its kind end
+  up_to : (place : Octets) (t : Token) (p : ℕ → Bool) (text : Octets) → Loose t
+      → Keeps place (Some (t, drop (prefix_len p text) text)) (Some (t, drop (prefix_len p (text ++ more)) (text ++ more)))
+  unfolding Keeps
+  up_to place t p text loose = go (drop (prefix_len p text) text) refl
+    where
+      go : (others : Octets) → drop (prefix_len p text) text ≡ others
+          → Keeps place (Some (t, drop (prefix_len p text) text)) (Some (t, drop (prefix_len p (text ++ more)) (text ++ more)))
+      go [] e = inr (ap is_cut_short e, loose)
+      go (x ∷ xs) e =
+          inl (ap (λ others. Some (t, others))
+          (ap (λ n. drop n (text ++ more)) (prefix_more p text more x xs e) ∙ dropped_more (prefix_len p text) text more x xs e
+          ∙ ap (λ others. others ++ more) (sym e)))
+
+  pub mark_uncut : (rest : Octets) → is_cut_short (34 ∷ rest) ≡ false
+  mark_uncut [] = refl
+  mark_uncut (a ∷ []) = refl
+  mark_uncut (a ∷ b ∷ []) = refl
+  mark_uncut (a ∷ b ∷ c ∷ rest) = refl
+
+  quoted_keeps : (text : Octets) → Keeps (drop (string_length text) text) (quoted_front text) (quoted_front (text ++ more))
+  unfolding Keeps
+  quoted_keeps text = go (drop (string_length text) text) refl
+    where
+      raw : Octets
+      raw = take (string_length text) text
+
+      longer : (x : ℕ) (xs : Octets) → drop (string_length text) text ≡ x ∷ xs → is_cut_short (x ∷ xs) ≡ false
+          → quoted_front (text ++ more) ≡ closed (take (string_length text) text) (x ∷ (xs ++ more))
+      longer x xs e whole =
+          let same : string_length (text ++ more) ≡ string_length text = run_more is_string_octet 0 text more (ap is_cut_short e ∙ whole) in
+          ap (λ n. closed (take n (text ++ more)) (drop n (text ++ more))) same
+          ∙ ap₂ closed (taken_more (string_length text) text more x xs e) (dropped_more (string_length text) text more x xs e)
+
+      closes : (x : ℕ) (xs : Octets) (b : Bool) → (x == 34) ≡ b → drop (string_length text) text ≡ x ∷ xs
+          → Keeps (x ∷ xs) (closed (take (string_length text) text) (x ∷ xs)) (quoted_front (text ++ more))
+      closes x xs true is e =
+          let mark : is_cut_short (x ∷ xs) ≡ false = ap (λ o. is_cut_short (o ∷ xs)) (eqb-true x 34 is) ∙ mark_uncut xs in
+          rw is (inl (longer x xs e mark ∙ rw is refl))
+      closes x xs false other e = rw other (λ whole. longer x xs e whole ∙ rw other refl)
+
+      go : (others : Octets) → drop (string_length text) text ≡ others
+          → Keeps (drop (string_length text) text) (quoted_front text) (quoted_front (text ++ more))
+      go [] e =
+          subst (λ others. Keeps others (closed (take (string_length text) text) others) (quoted_front (text ++ more))) (sym e)
+          (λ whole. absurd (true≢false whole))
+      go (x ∷ xs) e =
+          subst (λ others. Keeps others (closed (take (string_length text) text) others) (quoted_front (text ++ more))) (sym e)
+          (closes x xs (x == 34) refl e)
+
+  cr_cut : (o : ℕ) → (o == 13) ≡ true → (o == 92 || o == 13) ≡ true
+  cr_cut o e = ap (λ c. c == 92 || c == 13) (eqb-true o 13 e)
+
+  line_feed_keeps : (o : ℕ) (text : Octets) → (o == 13) ≡ true → Keeps (o ∷ text) (line_feed_front text) (line_feed_front (text ++ more))
+  unfolding Keeps
+  line_feed_keeps o [] e = λ whole. absurd (false≢true (sym whole ∙ cr_cut o e))
+  line_feed_keeps o (c ∷ text) e =
+      choose (o ∷ c ∷ text) (c == 10) (Some (line_end, text)) None (Some (line_end, text ++ more)) None (λ _. inl refl) (λ _ whole. refl)
+
+  taken_keeps : (n : ℕ) (text : Octets) → word_length text ≡ suc n
+      → Keeps text (Some (word (take (suc n) text), drop (suc n) text)) (unquoted_front (text ++ more))
+  unfolding Keeps
+  taken_keeps n text e = go (drop (suc n) text) (is_cut_short (drop (suc n) text)) refl refl
+    where
+      go : (others : Octets) (cut : Bool) → drop (suc n) text ≡ others → is_cut_short (drop (suc n) text) ≡ cut
+          → Keeps text (Some (word (take (suc n) text), drop (suc n) text)) (unquoted_front (text ++ more))
+      go others true shape cut = inr (cut, record { unmarked = refl; inside = refl })
+      go [] false shape cut = absurd (false≢true (sym cut ∙ ap is_cut_short shape))
+      go (x ∷ xs) false shape cut =
+          let same : word_length (text ++ more) ≡ suc n = run_more is_word_octet 0 text more (ap (λ k. is_cut_short (drop k text)) e ∙ cut) ∙ e in
+          inl (front_taken n (text ++ more) same
+          ∙ ap (λ raw. Some (word raw, drop (suc n) (text ++ more))) (taken_more (suc n) text more x xs shape)
+          ∙ ap (λ others. Some (word (take (suc n) text), others))
+          (dropped_more (suc n) text more x xs shape ∙ ap (λ others. others ++ more) (sym shape)))
+
+  word_keeps : (o : ℕ) (text : Octets) → Keeps (o ∷ text) (unquoted_front (o ∷ text)) (unquoted_front (o ∷ (text ++ more)))
+  unfolding Keeps
+  word_keeps o text = go (word_length (o ∷ text)) refl
+    where
+      go : (n : ℕ) → word_length (o ∷ text) ≡ n → Keeps (o ∷ text) (unquoted_front (o ∷ text)) (unquoted_front (o ∷ (text ++ more)))
+      go zero e =
+          subst (λ n. Keeps (o ∷ text) (if n == 0 then None else Some (word (take n (o ∷ text)), drop n (o ∷ text))) (unquoted_front (o ∷ (text ++ more)))) (sym e)
+          (λ uncut.
+          (let same : word_length (o ∷ (text ++ more)) ≡ 0 = run_more is_word_octet 0 (o ∷ text) more (ap (λ n. is_cut_short (drop n (o ∷ text))) e ∙ uncut) ∙ e in
+          ap (λ n. if n == 0 then None else Some (word (take n (o ∷ (text ++ more))), drop n (o ∷ (text ++ more)))) same))
+      go (suc n) e =
+          subst (λ front. Keeps (o ∷ text) front (unquoted_front (o ∷ (text ++ more)))) (sym (front_taken n (o ∷ text) e)) (taken_keeps n (o ∷ text) e)
+
+  front_keeps : (o : ℕ) (text : Octets) → Keeps (stop_place o text) (token_front (o ∷ text)) (token_front (o ∷ (text ++ more)))
+  unfolding Keeps
+  front_keeps o text =
+      choose place (is_blank o) _ _ _ _ (λ _. up_to place blank is_blank text (record { unmarked = refl; inside = refl })) (λ _.
+      choose place (o == 59) _ _ _ _ (λ _. up_to place comment (λ x. not (x == 10)) text (record { unmarked = refl; inside = refl })) (λ _.
+      choose place (o == 34) _ _ _ _
+      (λ e. subst (λ p. Keeps p (quoted_front text) (quoted_front (text ++ more))) (sym (by_mark true e)) (quoted_keeps text)) (λ e.
+      choose place (o == 40) _ _ _ _ (λ _. inl refl) (λ _.
+      choose place (o == 41) _ _ _ _ (λ _. inl refl) (λ _.
+      choose place (o == 10) _ _ _ _ (λ _. inl refl) (λ _.
+      choose place (o == 13) _ _ _ _
+      (λ cr. subst (λ p. Keeps p (line_feed_front text) (line_feed_front (text ++ more))) (sym (by_mark false e)) (line_feed_keeps o text cr))
+      (λ _. subst (λ p. Keeps p (unquoted_front (o ∷ text)) (unquoted_front (o ∷ (text ++ more)))) (sym (by_mark false e)) (word_keeps o text))))))))
+    where
+      place : Octets
+      place = stop_place o text
+
+      by_mark : (b : Bool) → (o == 34) ≡ b → place ≡ (if b then drop (string_length text) text else o ∷ text)
+      by_mark b e = ap (λ b. if b then drop (string_length text) text else o ∷ text) e
+
+  pub front_kept : (text : Octets) (t : Token) (others : Octets) → token_front text ≡ Some (t, others)
+      → (token_front (text ++ more) ≡ Some (t, others ++ more)) ⊎ ((is_cut_short others ≡ true) × Loose t)
+  unfolding Keeps
+  front_kept [] t others e = absurd (none-some (t, others) e)
+  front_kept (o ∷ text) t others e = subst (λ x. Keeps (stop_place o text) x (token_front (o ∷ (text ++ more)))) e (front_keeps o text)
+
+  pub none_kept : (o : ℕ) (text : Octets) → token_front (o ∷ text) ≡ None → is_cut_short (stop_place o text) ≡ false
+      → token_front (o ∷ (text ++ more)) ≡ None
+  unfolding Keeps
+  none_kept o text e = subst (λ x. Keeps (stop_place o text) x (token_front (o ∷ (text ++ more)))) e (front_keeps o text)
+
+-- where a text is cut short no token begins
+slash_none : (text : Octets) → counted_escape text ≡ 0 → token_front (92 ∷ text) ≡ None
+unfolding run_length
+slash_none text none =
+    let length : run_length is_word_octet 0 (92 ∷ text) ≡ 0 =
+    ap (λ u. elim u as (λ _. ℕ) [ None ↦ 0 | Some k ↦ 1 + run_length is_word_octet k text ]) (ap left_by (escape-counted text ∙ none)) in
+    ap (λ n. if n == 0 then None else Some (word (take n (92 ∷ text)), drop n (92 ∷ text))) length
+
+at_slash : (o : ℕ) (text : Octets) → (o == 92) ≡ true → counted_escape text ≡ 0 → token_front (o ∷ text) ≡ None
+at_slash o text slash none = ap (λ c. token_front (c ∷ text)) (eqb-true o 92 slash) ∙ slash_none text none
+
+pub cut_none : (text : Octets) → is_cut_short text ≡ true → token_front text ≡ None
+cut_none [] cut = refl
+cut_none (o ∷ []) cut = elim (or_cases (o == 92) (o == 13) cut) [
+  | inl slash ↦ at_slash o [] slash refl
+  | inr cr ↦ ap (λ c. token_front (c ∷ [])) (eqb-true o 13 cr)
+]
+cut_none (o ∷ a ∷ []) cut =
+    let p = and_parts (o == 92) (is_ascii_digit a) cut in
+    at_slash o (a ∷ []) p.0 (rw p.1 refl)
+cut_none (o ∷ a ∷ b ∷ []) cut =
+    let p = and_parts (o == 92 && is_ascii_digit a) (is_ascii_digit b) cut in
+    let q = and_parts (o == 92) (is_ascii_digit a) p.0 in
+    at_slash o (a ∷ b ∷ []) q.0 (rw q.1 refl)
+cut_none (o ∷ a ∷ b ∷ c ∷ text) cut = absurd (false≢true cut)

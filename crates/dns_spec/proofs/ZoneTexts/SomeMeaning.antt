@@ -1,0 +1,211 @@
+-- No text is without a meaning.
+--
+-- What is shown of a question is that it can't be without an answer; so which answer it has need not be found.
+use Rattle.std.proofs.Common.{◌≡◌, ℕ, ◌⊎◌, inl, inr, Bool, true, false, List, [], ◌∷◌, Option, Some, None, refl, sym, ◌∙◌, ap, subst, codes, IsTrue, take}
+use Rattle.std.specs.Prelude.{MatchOption, if◌then◌else◌}
+use Rattle.std.specs.Bool.{MatchBool}
+use Rattle.std.specs.Option.{is_none, option_or}
+use Rattle.std.proofs.lemmas.Bool.{false≢true}
+use Rattle.std.proofs.lemmas.Option.{none-some, same_Some}
+use Rattle.dns_spec.specs.Names.{Octets, DomainName, folded, octets_equal}
+use Rattle.dns_spec.specs.DataText.{Word}
+use Rattle.dns_spec.specs.Records.{ResourceRecord}
+use Rattle.dns_spec.specs.FileFaults.{FileFault, unknown_directive, directive_words, bad_owner, no_owner, bad_ttl}
+use Rattle.dns_spec.specs.ZoneText.{most_octets, Extent, extent_of, Entry, with_end, cut_entries, lexical_fault}
+use Rattle.dns_spec.specs.Meaning.{EntryMeaning, faulty, gives, Nothing, Lowest, Sort, no_words, directive, owned, unowned, sort_of, nearest, directive_word, ttl_word, NameIs, OwnerBefore, TtlSays, ttl_in_force, IsRecord, Fields, fields, IsNoTtl, record_faults, RecordGives, OneWord, DirectiveSays, DirectiveGives, SortGives, EntryGives, Meaning, records, fault_at, after, line_after, EntriesMean, OctetsMean, Means}
+use Rattle.dns_spec.proofs.ZoneTexts.TextTokens.{has_tokens}
+use Rattle.dns_spec.proofs.DomainNames.NameLaws.{octets_equal-decides}
+
+-- it can't be that there is none
+abbrev Sure : Type 0 → Type 0
+Sure A = (A → ⊥) → ⊥
+
+sure : {A : Type 0} → A → Sure A
+sure a none = none a
+
+and_so : {A B : Type 0} → Sure A → (A → Sure B) → Sure B
+and_so a f none = a (λ x. f x none)
+
+either_way : (A : Type 0) → Sure (A ⊎ (A → ⊥))
+either_way A none = none (inr (λ a. none (inl a)))
+
+-- what is not nothing is there
+some_there : {A : Type 0} {P : A → Type 0} → (Nothing P → ⊥) → Sure ((v : A) × P v)
+some_there not_none none = not_none (λ v p. none (v, p))
+
+-- the conditions of faults, none of which holds
+abbrev NoneHolds : List (FileFault × Type 0) → Type 0
+NoneHolds [] = Unit {0}
+NoneHolds ((fault, Condition) ∷ higher) = (Condition → ⊥) × NoneHolds higher
+
+lowest_sure : (faults : List (FileFault × Type 0)) (Faultless : EntryMeaning → Type 0)
+    → (NoneHolds faults → Sure ((given : EntryMeaning) × Faultless given)) → Sure ((given : EntryMeaning) × Lowest faults Faultless given)
+lowest_sure [] Faultless given = given tt
+lowest_sure ((fault, Condition) ∷ higher) Faultless given =
+    and_so (either_way Condition) (by_cases (λ none. lowest_sure higher Faultless (λ others. given (none, others))))
+  where
+    by_cases : ((Condition → ⊥) → Sure ((given : EntryMeaning) × Lowest higher Faultless given)) → Condition ⊎ (Condition → ⊥)
+        → Sure ((given : EntryMeaning) × Lowest ((fault, Condition) ∷ higher) Faultless given)
+    by_cases later (inl holds) = sure (faulty fault, inl (holds, refl))
+    by_cases later (inr none) = and_so (later none) (λ found. sure (found.0, inr (none, found.1)))
+
+says_sure : {A : Type 0} (P : A → Word → Type 0) (ws : List Word) → Sure ((given : EntryMeaning) × DirectiveSays P ws given)
+says_sure {A} P ws =
+    lowest_sure ((directive_words, Nothing (λ (v : A). OneWord (P v) ws)) ∷ []) (λ given. given ≡ gives []) (λ none. sure (gives [], refl))
+
+-- a word that says a TTL
+abbrev SaysTtl : Word → Type 0
+SaysTtl w = Sure ((n : ℕ) × TtlSays w n)
+
+-- where there is a word, it says a TTL
+abbrev EachSays : Option Word → Type 0
+EachSays stated = (w : Word) → stated ≡ Some w → SaysTtl w
+
+either_says : (x y : Option Word) → EachSays x → EachSays y → EachSays (option_or x y)
+either_says None y first second w e = second w e
+either_says (Some v) y first second w e = first w e
+
+stated_says : (stated : Option Word) → (IsNoTtl stated → ⊥) → EachSays stated
+stated_says None stated w e = absurd (none-some w e)
+stated_says (Some v) stated w e = subst SaysTtl (same_Some v w e) (some_there stated)
+
+-- the words of a TTL that entries without fault hand on
+record Known (earlier : List Entry) : Type 0 where
+  default : EachSays (nearest (directive_word (codes "$ttl")) earlier)
+  stated : EachSays (nearest ttl_word earlier)
+
+is_faulty : EntryMeaning → Bool
+is_faulty (faulty fault) = true
+is_faulty (gives rs) = false
+
+faultless : (rs : List ResourceRecord) (fault : FileFault) → gives rs ≡ faulty fault → ⊥
+unfolding is_faulty
+faultless rs fault e = false≢true (ap is_faulty e)
+
+module _ (o : DomainName) (earlier : List Entry) where
+  one_says : (v : Word) (ws : List Word) (n : ℕ) → OneWord (λ w. TtlSays w n) (v ∷ ws) → TtlSays v n
+  one_says v [] n h = h
+  one_says v (u ∷ ws) n h = absurd h
+
+  directive_says : (rs : List ResourceRecord) (name : Octets) (v : Word) (ws : List Word) → DirectiveGives o earlier name (v ∷ ws) (gives rs)
+      → EachSays (if octets_equal name (codes "$ttl") then Some v else None)
+  directive_says rs name v ws h w = go (octets_equal name (codes "$origin")) (octets_equal name (codes "$ttl")) refl refl h
+    where
+      go : (a b : Bool) → octets_equal name (codes "$origin") ≡ a → octets_equal name (codes "$ttl") ≡ b
+          → MatchBool a (DirectiveSays (λ n w. NameIs o earlier w n) (v ∷ ws) (gives rs))
+          (MatchBool b (DirectiveSays (λ n w. TtlSays w n) (v ∷ ws) (gives rs)) (gives rs ≡ faulty unknown_directive))
+          → (if b then Some v else None) ≡ Some w → SaysTtl w
+      go a false one two h e = absurd (none-some w e)
+      go true true one two h e =
+          let origin = (octets_equal-decides name (codes "$origin")).0 one in
+          let ttl = (octets_equal-decides name (codes "$ttl")).0 two in
+          absurd (false≢true ((octets_equal-decides (codes "$origin") (codes "$ttl")).1 (sym origin ∙ ttl)))
+      go false true one two (inl (none, is)) e = absurd (faultless rs directive_words is)
+      go false true one two (inr (some, is)) e =
+          subst SaysTtl (same_Some v w e) (and_so (some_there some) (λ found. sure (found.0, one_says v ws found.0 found.1)))
+
+  -- what an entry without fault says of TTLs
+  default_says : (rs : List ResourceRecord) (s : Sort) → SortGives o earlier s (gives rs) → EachSays (directive_word (codes "$ttl") s)
+  default_says rs no_words h w e = absurd (none-some w e)
+  default_says rs (directive name []) h w e = absurd (none-some w e)
+  default_says rs (directive name (v ∷ ws)) h w e = directive_says rs name v ws h w e
+  default_says rs (owned v ws) h w e = absurd (none-some w e)
+  default_says rs (unowned ws) h w e = absurd (none-some w e)
+
+  record_says : (rs : List ResourceRecord) (owner_fault : FileFault) (Owner : DomainName → Type 0) (f : Fields)
+      → RecordGives o earlier owner_fault Owner f (gives rs) → EachSays f.ttl
+  record_says rs owner_fault Owner f (inl (none, is)) = absurd (faultless rs owner_fault is)
+  record_says rs owner_fault Owner f (inr (some, inl (none, is))) = absurd (faultless rs bad_ttl is)
+  record_says rs owner_fault Owner f (inr (some, inr (stated, more))) = stated_says f.ttl stated
+
+  record_ttl_says : (rs : List ResourceRecord) (s : Sort) → SortGives o earlier s (gives rs) → EachSays (ttl_word s)
+  record_ttl_says rs no_words h w e = absurd (none-some w e)
+  record_ttl_says rs (directive name ws) h w e = absurd (none-some w e)
+  record_ttl_says rs (owned v ws) h w e = record_says rs bad_owner (NameIs o earlier v) (fields ws) h w e
+  record_ttl_says rs (unowned ws) h w e = record_says rs no_owner (OwnerBefore o earlier) (fields ws) h w e
+
+  known_more : (rs : List ResourceRecord) (e : Entry) → Known earlier → SortGives o earlier (sort_of e) (gives rs) → Known (e ∷ earlier)
+  known_more rs e known h = record {
+    default = either_says (directive_word (codes "$ttl") (sort_of e)) (nearest (directive_word (codes "$ttl")) earlier) (default_says rs (sort_of e) h) known.default;
+    stated = either_says (ttl_word (sort_of e)) (nearest ttl_word earlier) (record_ttl_says rs (sort_of e) h) known.stated;
+  }
+
+  sort_given : (rs : List ResourceRecord) (e : Entry) → EntryGives o earlier e (gives rs) → SortGives o earlier (sort_of e) (gives rs)
+  sort_given rs e = go (lexical_fault e)
+    where
+      go : (fault : Option FileFault) → MatchOption fault (SortGives o earlier (sort_of e) (gives rs)) (λ f. gives rs ≡ faulty f)
+          → SortGives o earlier (sort_of e) (gives rs)
+      go None h = h
+      go (Some f) h = absurd (faultless rs f h)
+
+  -- a record has a TTL, since one is known
+  ttl_sure : (stated : Option Word) → EachSays stated → (IsTrue (is_none stated) → ⊥) → Sure ((n : ℕ) × MatchOption stated ⊥ (λ w. TtlSays w n))
+  ttl_sure None says some = absurd (some refl)
+  ttl_sure (Some w) says some = says w refl
+
+  record_sure : (owner_fault : FileFault) (Owner : DomainName → Type 0) (f : Fields) → Known earlier
+      → Sure ((given : EntryMeaning) × RecordGives o earlier owner_fault Owner f given)
+  record_sure owner_fault Owner f known =
+      lowest_sure (record_faults o earlier owner_fault Owner f)
+      (λ given. (r : ResourceRecord) × IsRecord o earlier Owner f r × (given ≡ gives (r ∷ []))) whole
+    where
+      whole : NoneHolds (record_faults o earlier owner_fault Owner f)
+          → Sure ((given : EntryMeaning) × ((r : ResourceRecord) × IsRecord o earlier Owner f r × (given ≡ gives (r ∷ []))))
+      whole (owner, (stated, (class, (type, (known_ttl, (rdata, few)))))) =
+          and_so (some_there owner) (λ n.
+          and_so (ttl_sure (ttl_in_force earlier f.ttl)
+          (either_says f.ttl _ (stated_says f.ttl stated) (either_says _ _ known.default known.stated)) known_ttl) (λ k.
+          and_so (some_there type) (λ t.
+          and_so (some_there rdata) (λ d.
+          sure (
+            gives (record { owner = folded n.0; ttl = k.0; rtype = t.0; rdata = d.0 } ∷ []),
+            (
+              record { owner = folded n.0; ttl = k.0; rtype = t.0; rdata = d.0 },
+              record { owner = (n.0, n.1, refl); ttl = k.1; rtype = t.1; rdata = d.1 },
+              refl,
+            ),
+          )))))
+
+  sort_sure : (s : Sort) → Known earlier → Sure ((given : EntryMeaning) × SortGives o earlier s given)
+  sort_sure no_words known = sure (gives [], refl)
+  sort_sure (directive name ws) known = go (octets_equal name (codes "$origin")) (octets_equal name (codes "$ttl"))
+    where
+      go : (a b : Bool) → Sure ((given : EntryMeaning) × MatchBool a (DirectiveSays (λ n w. NameIs o earlier w n) ws given)
+          (MatchBool b (DirectiveSays (λ n w. TtlSays w n) ws given) (given ≡ faulty unknown_directive)))
+      go true b = says_sure (λ n w. NameIs o earlier w n) ws
+      go false true = says_sure (λ n w. TtlSays w n) ws
+      go false false = sure (faulty unknown_directive, refl)
+  sort_sure (owned w ws) known = record_sure bad_owner (NameIs o earlier w) (fields ws) known
+  sort_sure (unowned ws) known = record_sure no_owner (OwnerBefore o earlier) (fields ws) known
+
+  entry_sure : (e : Entry) → Known earlier → Sure ((given : EntryMeaning) × EntryGives o earlier e given)
+  entry_sure e known = go (lexical_fault e)
+    where
+      go : (fault : Option FileFault) → Sure ((given : EntryMeaning) × MatchOption fault (SortGives o earlier (sort_of e) given) (λ f. given ≡ faulty f))
+      go None = sort_sure (sort_of e) known
+      go (Some f) = sure (faulty f, refl)
+
+entries_sure : (o : DomainName) (earlier es : List Entry) → Known earlier → Sure ((m : Meaning) × EntriesMean o earlier es m)
+entries_sure o earlier [] known = sure (records [], refl)
+entries_sure o earlier (e ∷ es) known =
+    and_so (entry_sure o earlier e known) (λ found. by_given found.0 found.1 (λ k. entries_sure o (e ∷ earlier) es k))
+  where
+    by_given : (given : EntryMeaning) → EntryGives o earlier e given → (Known (e ∷ earlier) → Sure ((m : Meaning) × EntriesMean o (e ∷ earlier) es m))
+        → Sure ((m : Meaning) × EntriesMean o earlier (e ∷ es) m)
+    by_given (faulty f) given later = sure (fault_at f (line_after earlier), (faulty f, given, refl))
+    by_given (gives rs) given later =
+        and_so (later (known_more o earlier rs e known (sort_given o earlier rs e given)))
+        (λ more. sure (after rs more.0, (gives rs, given, (more.0, more.1, refl))))
+
+nothing_known : Known []
+nothing_known = record { default = λ w e. absurd (none-some w e); stated = λ w e. absurd (none-some w e) }
+
+octets_sure : (o : DomainName) (extent : Extent) (octets : Octets) → Sure ((m : Meaning) × OctetsMean o [] extent octets m)
+octets_sure o extent octets =
+    let h = has_tokens octets in
+    let es = with_end extent h.rest (cut_entries false h.tokens) in
+    and_so (entries_sure o [] es nothing_known)
+    (λ found. sure (found.0, (es, record { tokens = h.tokens; rest = h.rest; spelled = h.spelled; at_end = h.at_end; entries = refl }, found.1)))
+
+pub no_text_without_meaning : (o : DomainName) (text : Octets) → Nothing (Means o text) → ⊥
+no_text_without_meaning o text none = octets_sure o (extent_of text) (take most_octets text) (λ found. none found.0 found.1)

@@ -1,0 +1,123 @@
+-- The keys of names in lower case stand in the order of the names.
+use Rattle.std.proofs.Common.{rules, ◌≡◌, ℕ, ◌+◌, ◌<◌, ◌≤◌, cond, ◌⊎◌, inl, inr, List, [], ◌∷◌, ◌++◌, length, drop, get_or, map, reverse, refl, sym, ap, ap₂, ◌∙◌, Ordering, Less, Equal, Greater, nat_cmp, arith}
+use Rattle.std.proofs.lemmas.Bool.{cases_order, cases_lt, lt-ltb, le-ltb}
+use Rattle.std.proofs.lemmas.List.{reverse-append, map_push, length-map, length-append, flat_map_more}
+use Rattle.std.proofs.lemmas.List.Concat.{flat_map-cons}
+use Rattle.std.proofs.lemmas.Str.Ascii.{lowercase_is}
+use Rattle.std.specs.Char.{to_ascii_lowercase}
+use Rattle.std.specs.Cmp.{nat_cmp_is}
+use Rattle.std.specs.Cmp.Lexicographic.{slice_cmp}
+use Rattle.std.specs.List.{flat_map}
+use Rattle.std.specs.Ordering.{ordering_then}
+use Rattle.dns_spec.specs.Names.{Octets, DomainName, folded, label_order, name_order, wire}
+use Rattle.dns_zone.specs.KeyForm.{raised, ended, name_key}
+
+-- an octet of a name in lower case
+abbrev IsLow : ℕ → Type 0
+IsLow o = (o < 65) ⊎ (90 < o)
+
+low_octet : (o : ℕ) → to_ascii_lowercase o ≡ o → IsLow o
+low_octet o e = go (cases_lt o 65) (cases_lt 90 o)
+  where
+    go : (o < 65) ⊎ (65 ≤ o) → (90 < o) ⊎ (o ≤ 90) → IsLow o
+    go (inl a) b = inl a
+    go (inr a) (inl b) = inr b
+    go (inr a) (inr b) =
+        let moved : to_ascii_lowercase o ≡ o + 32 = (lowercase_is o).0 (search rules) in
+        absurd (omega (arith, e, moved))
+
+-- where an octet is raised to
+abbrev IsRaised : ℕ → Type 0
+IsRaised o = ((o < 65) × (raised o ≡ o + 1)) ⊎ ((65 ≤ o) × (raised o ≡ o))
+
+raised_is : (o : ℕ) → IsRaised o
+raised_is o = go (cases_lt o 65)
+  where
+    go : (o < 65) ⊎ (65 ≤ o) → IsRaised o
+    go (inl a) = inl (a, ap (λ b. cond b (o + 1) o) (lt-ltb o 65 a))
+    go (inr a) = inr (a, ap (λ b. cond b (o + 1) o) (le-ltb o 65 a))
+
+raised_some : (o : ℕ) → 0 < raised o
+raised_some o = go (raised_is o)
+  where
+    go : IsRaised o → 0 < raised o
+    go (inl (a, e)) = omega (arith, e)
+    go (inr (a, e)) = omega (arith, a, e)
+
+raised_less : (x y : ℕ) → IsLow x → IsLow y → x < y → raised x < raised y
+raised_less x y p q l = go p q (raised_is x) (raised_is y)
+  where
+    go : IsLow x → IsLow y → IsRaised x → IsRaised y → raised x < raised y
+    go p (inl q) (inl (a, e)) (inl (b, f)) = omega (arith, l, e, f)
+    go p (inr q) (inl (a, e)) (inl (b, f)) = omega (arith, l, e, f)
+    go p (inl q) (inl (a, e)) (inr (b, f)) = absurd (omega (arith, q, b))
+    go p (inr q) (inl (a, e)) (inr (b, f)) = omega (arith, a, q, e, f)
+    go p q (inr (a, e)) (inl (b, f)) = absurd (omega (arith, a, b, l))
+    go p q (inr (a, e)) (inr (b, f)) = omega (arith, l, e, f)
+
+raised_order : (x y : ℕ) → IsLow x → IsLow y → nat_cmp (raised x) (raised y) ≡ nat_cmp x y
+raised_order x y p q = go (cases_order x y)
+  where
+    go : (x ≡ y) ⊎ ((x < y) ⊎ (y < x)) → nat_cmp (raised x) (raised y) ≡ nat_cmp x y
+    go (inl e) = sym (nat_cmp_is (raised x) (raised y) Equal (ap raised e)) ∙ nat_cmp_is x y Equal e
+    go (inr (inl l)) = sym (nat_cmp_is (raised x) (raised y) Less (raised_less x y p q l)) ∙ nat_cmp_is x y Less l
+    go (inr (inr l)) = sym (nat_cmp_is (raised x) (raised y) Greater (raised_less y x q p l)) ∙ nat_cmp_is x y Greater l
+
+then_of_then : (a b c : Ordering) → ordering_then a (ordering_then b c) ≡ ordering_then (ordering_then a b) c
+then_of_then Less b c = refl
+then_of_then Equal b c = refl
+then_of_then Greater b c = refl
+
+-- ended labels are compared as the labels, and what stands after them after that
+ended_order : (xs ys us vs : Octets) → map to_ascii_lowercase xs ≡ xs → map to_ascii_lowercase ys ≡ ys
+    → slice_cmp nat_cmp (ended xs ++ us) (ended ys ++ vs) ≡ ordering_then (label_order xs ys) (slice_cmp nat_cmp us vs)
+ended_order [] [] us vs p q = refl
+ended_order [] (y ∷ ys) us vs p q = ap (λ o. ordering_then o (slice_cmp nat_cmp us (ended ys ++ vs))) (sym (nat_cmp_is 0 (raised y) Less (raised_some y)))
+ended_order (x ∷ xs) [] us vs p q = ap (λ o. ordering_then o (slice_cmp nat_cmp (ended xs ++ us) vs)) (sym (nat_cmp_is (raised x) 0 Greater (raised_some x)))
+ended_order (x ∷ xs) (y ∷ ys) us vs p q =
+    ap₂ ordering_then (raised_order x y (low_octet x (ap (λ l. get_or l 0 0) p)) (low_octet y (ap (λ l. get_or l 0 0) q)))
+    (ended_order xs ys us vs (ap (drop 1) p) (ap (drop 1) q))
+    ∙ then_of_then (nat_cmp x y) (label_order xs ys) (slice_cmp nat_cmp us vs)
+
+ended_first : (l us : Octets) → slice_cmp nat_cmp [] (ended l ++ us) ≡ Less
+ended_first [] us = refl
+ended_first (o ∷ l) us = refl
+
+ended_last : (l us : Octets) → slice_cmp nat_cmp (ended l ++ us) [] ≡ Greater
+ended_last [] us = refl
+ended_last (o ∷ l) us = refl
+
+ended_names : (n m : DomainName) → folded n ≡ n → folded m ≡ m → slice_cmp nat_cmp (flat_map ended n) (flat_map ended m) ≡ slice_cmp label_order n m
+ended_names [] [] p q = refl
+ended_names [] (k ∷ m) p q = ap (slice_cmp nat_cmp []) (flat_map-cons ended k m) ∙ ended_first k (flat_map ended m)
+ended_names (l ∷ n) [] p q = ap (λ xs. slice_cmp nat_cmp xs []) (flat_map-cons ended l n) ∙ ended_last l (flat_map ended n)
+ended_names (l ∷ n) (k ∷ m) p q =
+    ap₂ (slice_cmp nat_cmp) (flat_map-cons ended l n) (flat_map-cons ended k m)
+    ∙ ended_order l k (flat_map ended n) (flat_map ended m) (ap (λ ls. get_or ls 0 []) p) (ap (λ ls. get_or ls 0 []) q)
+    ∙ ap (ordering_then (label_order l k)) (ended_names n m (ap (drop 1) p) (ap (drop 1) q))
+
+key_flat : (n : DomainName) → name_key n ≡ flat_map ended (reverse n)
+key_flat [] = refl
+key_flat (l ∷ n) =
+    ap (λ xs. xs ++ ended l) (key_flat n) ∙ flat_map_more ended [] (reverse n) l ∙ ap (flat_map ended) (sym (reverse-append (l ∷ []) n))
+
+map_reverse : {X Y : Type 0} (f : X → Y) (xs : List X) → map f (reverse xs) ≡ reverse (map f xs)
+map_reverse f [] = refl
+map_reverse f (x ∷ xs) =
+    ap (map f) (reverse-append (x ∷ []) xs) ∙ map_push f (reverse xs) x ∙ ap (λ ys. ys ++ f x ∷ []) (map_reverse f xs)
+    ∙ sym (reverse-append (f x ∷ []) (map f xs))
+
+pub key_order : (n m : DomainName) → folded n ≡ n → folded m ≡ m → slice_cmp nat_cmp (name_key n) (name_key m) ≡ name_order n m
+key_order n m p q =
+    let low : (k : DomainName) → folded k ≡ k → folded (reverse k) ≡ reverse k = λ k e. map_reverse (map to_ascii_lowercase) k ∙ ap reverse e in
+    ap₂ (slice_cmp nat_cmp) (key_flat n) (key_flat m) ∙ ended_names (reverse n) (reverse m) (low n p) (low m q)
+    ∙ ap₂ (λ a b. slice_cmp label_order (reverse a) (reverse b)) (sym p) (sym q)
+
+-- a key is an octet shorter than the wire form
+pub key_length : (n : DomainName) → length (name_key n) + 1 ≡ length (wire n)
+key_length [] = refl
+key_length (l ∷ n) =
+    let front : length (name_key n ++ ended l) ≡ length (name_key n) + length (ended l) = length-append (name_key n) (ended l) in
+    let own : length (ended l) ≡ length l + 1 = length-append (map raised l) (0 ∷ []) ∙ ap (λ k. k + 1) (length-map l raised) in
+    let rest : length (l ++ wire n) ≡ length l + length (wire n) = length-append l (wire n) in
+    omega (arith, front, own, rest, key_length n)

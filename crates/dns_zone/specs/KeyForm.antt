@@ -1,0 +1,27 @@
+-- What a reader learns here: octets that stand in the order of names, by which names are sorted and found.
+use Rattle.std.specs.Prelude.{ℕ, ◌+◌, Bool, false, List, [], ◌∷◌, ◌++◌, map, nat_lt, if◌then◌else◌}
+use Rattle.dns_spec.specs.Names.{Octets, DomainName, names_equal}
+use Rattle.dns_spec.specs.Records.{ResourceRecord}
+
+-- An octet of a name in lower case, where 65 to 90 do not stand: those below are one more, so that 0 is left to end a label.
+abbrev pub raised : ℕ → ℕ
+raised o = if nat_lt o 65 then o + 1 else o
+
+-- a label, and its end, which comes before all octets
+abbrev pub ended : Octets → Octets
+ended l = map raised l ++ 0 ∷ []
+
+-- the labels of a name from the right, each ended
+abbrev pub name_key : DomainName → Octets
+name_key [] = []
+name_key (l ∷ n) = name_key n ++ ended l
+
+-- the next record has the same owner, so that one key serves both
+abbrev pub shares_key : ResourceRecord → List ResourceRecord → Bool
+shares_key r [] = false
+shares_key r (s ∷ ss) = names_equal r.owner s.owner
+
+-- the keys of owners, each once where records of one owner stand side by side
+abbrev pub keys_left : List ResourceRecord → Octets
+keys_left [] = []
+keys_left (r ∷ rs) = if shares_key r rs then keys_left rs else name_key r.owner ++ keys_left rs

@@ -1,0 +1,90 @@
+//! Keys of names: octets whose plain order is the canonical order of the names.
+ghost use Rattle.std.specs.Prelude.{◌≡◌, ◌+◌, ◌≤◌, ◌++◌, map, take, length};
+ghost use Rattle.arrayvec.specs.ArrayVec.{array_vec_len};
+ghost use Rattle.dns_name.specs.WireForm.{labels_of, IsWireForm};
+ghost use Rattle.dns_zone.specs.KeyForm.{raised, ended, name_key};
+
+use arrayvec::ArrayVec;
+use dns_name::{Name, first_label};
+use std::marker::Model;
+
+const MAX_OCTETS: usize = 255;
+
+/// The key of a name in lower case. Keys are compared octet by octet, and stand in the canonical order (RFC 4034 6.1).
+#[derive(Drop)]
+pub(crate) struct Key {
+    octets: ArrayVec<u8, MAX_OCTETS>,
+}
+
+impl Model for Key {
+    ghost use Rattle.dns_spec.specs.Names.{Octets};
+
+    ghost Value = { Octets };
+
+    ghost view = { λ k. k.octets.items };
+}
+
+impl Key {
+    /// The key of the root, of no octets, to be made that of other names.
+    pub(crate) fn new() -> Key {
+        Key {
+            octets: ArrayVec::new(),
+        }
+    }
+
+    /// The key of a name: its labels from the right, each ended, so that one which begins another comes first.
+    pub(crate) fn of(name: &Name) -> Key
+        ensures { result ≡ name_key name.now }
+    {
+        let mut key = Key::new();
+        key.make_that_of(name);
+        key
+    }
+
+    /// Makes it the key of a name. Where many are made in turn, that moves no octets but theirs.
+    pub(crate) fn make_that_of(&mut self, name: &Name)
+        ensures { self.new ≡ name_key name.now }
+    {
+        self.octets.clear();
+        append_labels(name.octets(), &mut self.octets);
+    }
+
+    /// Its octets, one fewer than the wire form of the name has.
+    pub(crate) fn octets(&self) -> &[u8]
+        ensures { result.now ≡ self.now }
+    {
+        self.octets.as_slice()
+    }
+}
+
+// Appends the labels of a name in wire form, from the right.
+fn append_labels(octets: &[u8], key: &mut ArrayVec<u8, MAX_OCTETS>)
+    requires wire { IsWireForm octets.now }
+    requires room { array_vec_len key.old + length octets.now ≤ 256 }
+    ensures key { key.new.items ≡ key.old.items ++ name_key (labels_of octets.now) }
+    ensures room { array_vec_len key.new + 1 ≡ array_vec_len key.old + length octets.now }
+{
+    if let Some((label, rest)) = first_label(octets) {
+        append_labels(rest, key);
+        append_label(label.octets(), key);
+    }
+}
+
+// Appends a label and its end.
+fn append_label(label: &[u8], key: &mut ArrayVec<u8, MAX_OCTETS>)
+    requires { array_vec_len key.old + length label.now ≤ 254 }
+    ensures key { key.new.items ≡ key.old.items ++ ended label.now }
+    ensures room { array_vec_len key.new ≡ array_vec_len key.old + (length label.now + 1) }
+{
+    'octets: for octet in label {
+        key.push(raised(*octet));
+    }
+    key.push(0);
+}
+
+// An octet of a name in lower case, where 65 to 90 do not stand: those below are one more, so that 0 is left to end a label.
+fn raised(octet: u8) -> u8
+    ensures { result ≡ raised octet }
+{
+    if octet < 65 { octet + 1 } else { octet }
+}

@@ -1,0 +1,125 @@
+//! Records beside the keys of their owners, to be found by these.
+ghost use Rattle.std.specs.Prelude.{◌≡◌, ◌∷◌, ◌++◌, IfOk, OnOk};
+ghost use Rattle.dns_spec.specs.Names.{folded, name_order};
+ghost use Rattle.dns_zone.specs.KeyForm.{name_key, shares_key, keys_left};
+
+use crate::key::Key;
+use dns_master::Record;
+use dns_name::Name;
+use std::alloc::{AllocError, Global};
+use std::cmp::Ordering;
+use std::marker::Model;
+
+/// A record, and the key of its owner.
+#[derive(Drop)]
+pub(crate) struct Keyed<'a> {
+    key: &'a [u8],
+    listed: &'a Record,
+}
+
+impl<'a> Model for Keyed<'a> {
+    ghost use Rattle.std.specs.Prelude.{◌≡◌};
+    ghost use Rattle.dns_spec.specs.Names.{folded};
+    ghost use Rattle.dns_spec.specs.Records.{ResourceRecord};
+    ghost use Rattle.dns_zone.specs.KeyForm.{name_key};
+
+    ghost Value = { ResourceRecord };
+
+    ghost view = { λ k. k.listed.now };
+
+    ghost invariant = { λ k. (k.key.now ≡ name_key k.listed.now.owner)
+        × (folded k.listed.now.owner ≡ k.listed.now.owner) };
+}
+
+impl<'a> Keyed<'a> {
+    /// The record itself.
+    pub(crate) fn listed(&self) -> &'a Record
+        ensures { result.now ≡ self.now }
+    {
+        self.listed
+    }
+
+    /// How the owner stands to a name in lower case, whose key this is.
+    pub(crate) fn order(&self, name: &Name, key: &Key) -> Ordering
+        requires lower { folded name.now ≡ name.now }
+        requires key { key.now ≡ name_key name.now }
+        ensures { result ≡ name_order self.now.owner name.now }
+    {
+        self.key.cmp(key.octets())
+    }
+}
+
+/// The keys of the owners of records, one after another, those of neighbours of one owner once.
+pub(crate) fn keys_of(alloc: Global, records: &[Record]) -> Result<Vec<u8>, AllocError>
+    ensures { IfOk result (λ keys. keys.items ≡ keys_left records.now) }
+{
+    let mut keys = Vec::new(alloc);
+    let mut key = Key::new();
+    let mut rest = records;
+    'records: while let Some((first, others)) = rest.split_first() {
+        add_key(first, others, &mut key, &mut keys)?;
+        rest = others;
+    }
+    Ok(keys)
+}
+
+// Adds the key of a record's owner, where it is not that of the next. `key` is room to make it in.
+fn add_key(
+    first: &Record,
+    others: &[Record],
+    key: &mut Key,
+    keys: &mut Vec<u8>,
+) -> Result<(), AllocError>
+    ensures { OnOk result (keys.new.items ++ keys_left others.now
+        ≡ keys.old.items ++ keys_left (first.now ∷ others.now)) }
+{
+    if shares_key(first, others) {
+        return Ok(());
+    }
+    key.make_that_of(&first.owner);
+    keys.extend_from_slice(key.octets())
+}
+
+// Whether the next record has the same owner.
+fn shares_key(first: &Record, others: &[Record]) -> bool
+    ensures { result ≡ shares_key first.now others.now }
+{
+    match others.first() {
+        Some(next) => first.owner == next.owner,
+        None => false,
+    }
+}
+
+/// Records beside their keys. Memory is taken for 24 octets for each record.
+pub(crate) fn beside_keys<'a>(
+    alloc: Global,
+    records: &'a [Record],
+    keys: &'a [u8],
+) -> Result<Vec<Keyed<'a>>, AllocError>
+    requires { keys.now ≡ keys_left records.now }
+    ensures { IfOk result (λ keyed. keyed.items ≡ records.now) }
+{
+    let mut keyed = Vec::with_capacity(alloc, records.len())?;
+    let mut rest = records;
+    let mut left = keys;
+    'records: while let Some((listed, others)) = rest.split_first() {
+        let (key, after) = left.split_at(listed.owner.octets().len() - 1);
+        keyed.push(Keyed { key, listed })?;
+        left = later_keys(listed, others, left, after);
+        rest = others;
+    }
+    Ok(keyed)
+}
+
+// The keys that are left after a record: all where the next record has its owner, else those after its own.
+fn later_keys<'a>(first: &Record, others: &[Record], keys: &'a [u8], after: &'a [u8]) -> &'a [u8]
+    requires keys { keys.now ≡ keys_left (first.now ∷ others.now) }
+    requires after { keys.now ≡ name_key first.now.owner ++ after.now }
+    ensures { result.now ≡ keys_left others.now }
+{
+    if shares_key(first, others) {
+        keys
+    } else {
+        after
+    }
+}
