@@ -7,8 +7,8 @@ ghost use Rattle.std.specs.Io.KnownBytes.{Appends};
 ghost use Rattle.dns_spec.specs.DataText.{hex_octets};
 ghost use Rattle.dns_spec.specs.Names.{Octets};
 ghost use Rattle.dns_spec.specs.WrittenText.{hex_text};
-ghost use Rattle.dns_spec.specs.Lines.{message_answer, reply_line};
-ghost use Rattle.dns_tools.specs.Exchanges.{Begun, EndsLine, IsFresh, KeepsOctet, Passes, Progress, kept_as, kept_message, reply_within};
+ghost use Rattle.dns_spec.specs.Lines.{are_messages, line_answers, lines, message_answer, reply_line};
+ghost use Rattle.dns_tools.specs.Exchanges.{Begun, EndsLine, IsFresh, KeepsOctet, LinesAnswered, Passes, Progress, kept_as, kept_message, reply_within};
 ghost use Rattle.dns_name.specs.Counted.{AppendsBeginning, failures_after};
 ghost use Rattle.dns_tools.specs.Stops.{source_failures_after, sink_failures_after};
 ghost use Rattle.dns_answer.specs.Limits.{limit_of};
@@ -57,6 +57,14 @@ pub fn run_once<R: Read, W: Write>(
     requires sink { sink.old.failures < 2 ^ 64 - 1 }
     ensures source { source.new.failures ≡ source_failures_after source.old.failures result }
     ensures sink { sink.new.failures ≡ sink_failures_after sink.old.failures result }
+    ensures lines { LinesAnswered (reply_within limit zone.now)
+        (record {
+          unread = R.remaining source.old.device;
+          left = R.remaining source.new.device;
+          held = W.contents sink.old.device;
+          holds = W.contents sink.new.device;
+        })
+        result }
 
     // Without memory nothing was read and nothing was written.
     ensures unread { result ≡ Err Stop.Memory → source.new ≡ source.old }
@@ -114,8 +122,18 @@ impl<'z> Exchange<'z> {
         requires source { source.old.failures < 2 ^ 64 - 1 }
         requires sink { sink.old.failures < 2 ^ 64 - 1 }
         requires piece { 0 < length piece.old }
+        requires fresh { IsFresh (kept_as self.old.line.items self.old.is_overlong
+            self.old.answers.items self.old.are_all_messages) }
         ensures source { source.new.failures ≡ source_failures_after source.old.failures result }
         ensures sink { sink.new.failures ≡ sink_failures_after sink.old.failures result }
+        ensures lines { LinesAnswered (reply_within self.old.limit self.old.zone.now)
+            (record {
+              unread = R.remaining source.old.device;
+              left = R.remaining source.new.device;
+              held = W.contents sink.old.device;
+              holds = W.contents sink.new.device;
+            })
+            result }
         ensures memory { IfErr result (λ stop. stop ≢ Stop.Memory) }
     {
         let mut left = u64::MAX;
@@ -129,9 +147,48 @@ impl<'z> Exchange<'z> {
             self.take(&piece[..count], sink)?;
             left -= count as u64;
         }
-        if !self.line.is_empty() {
-            self.end_line(sink)?;
+        Ok(self.finish(sink)?)
+    }
+
+    // Answers the line that nothing ends, where there is one, and writes the answers that are due.
+    fn finish<W: Write>(&mut self, sink: &mut Tally<W>) -> Result<bool, SinkFailed>
+        requires { sink.old.failures < 2 ^ 64 - 1 }
+        ensures counted { sink.new.failures ≡ failures_after sink.old.failures result }
+        ensures written { (held : Option Octets) (x : Octets)
+            → Progress (reply_within self.old.limit self.old.zone.now) held
+            (W.contents sink.old.device) x (kept_as self.old.line.items self.old.is_overlong
+            self.old.answers.items self.old.are_all_messages)
+            → OnOk result (Appends held (W.contents sink.new.device)
+            (line_answers (reply_within self.old.limit self.old.zone.now) (lines x))) }
+        ensures passes { (held : Option Octets) (x : Octets)
+            → Progress (reply_within self.old.limit self.old.zone.now) held
+            (W.contents sink.old.device) x (kept_as self.old.line.items self.old.is_overlong
+            self.old.answers.items self.old.are_all_messages)
+            → IfOk result (λ passes. passes ≡ are_messages (lines x)) }
+        ensures begun { (held : Option Octets) (x : Octets)
+            → Progress (reply_within self.old.limit self.old.zone.now) held
+            (W.contents sink.old.device) x (kept_as self.old.line.items self.old.is_overlong
+            self.old.answers.items self.old.are_all_messages)
+            → OnErr result (AppendsBeginning held (W.contents sink.new.device)
+            (line_answers (reply_within self.old.limit self.old.zone.now) (lines x))) }
+    {
+        if self.line.is_empty() {
+            return self.conclude(sink);
         }
+        self.end_line(sink)?;
+        self.conclude(sink)
+    }
+
+    // Writes the answers that are due, and tells whether each line was a message.
+    fn conclude<W: Write>(&mut self, sink: &mut Tally<W>) -> Result<bool, SinkFailed>
+        requires { sink.old.failures < 2 ^ 64 - 1 }
+        ensures counted { sink.new.failures ≡ failures_after sink.old.failures result }
+        ensures passes { IfOk result (λ passes. passes ≡ self.old.are_all_messages) }
+        ensures written { OnOk result (Appends (W.contents sink.old.device)
+            (W.contents sink.new.device) self.old.answers.items) }
+        ensures begun { OnErr result (AppendsBeginning (W.contents sink.old.device)
+            (W.contents sink.new.device) self.old.answers.items) }
+    {
         self.flush(sink)?;
         Ok(self.are_all_messages)
     }
