@@ -6,3 +6,4 @@ pub mod Words
 pub mod Checked
 pub mod Sockets
 pub mod Exchanges
+pub mod ExchangeForm

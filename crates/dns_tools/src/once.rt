@@ -8,7 +8,7 @@ ghost use Rattle.dns_spec.specs.DataText.{hex_octets};
 ghost use Rattle.dns_spec.specs.Names.{Octets};
 ghost use Rattle.dns_spec.specs.WrittenText.{hex_text};
 ghost use Rattle.dns_spec.specs.Lines.{are_messages, line_answers, lines, message_answer, reply_line};
-ghost use Rattle.dns_tools.specs.Exchanges.{Begun, EndsLine, IsFresh, KeepsOctet, LinesAnswered, Passes, Progress, kept_as, kept_message, reply_within};
+ghost use Rattle.dns_tools.specs.Exchanges.{Begun, EndsLine, IsFresh, KeepsOctet, LinesAnswered, Passes, Progress, kept_message, reply_within};
 ghost use Rattle.dns_name.specs.Counted.{AppendsBeginning, failures_after};
 ghost use Rattle.dns_tools.specs.Stops.{source_failures_after, sink_failures_after};
 ghost use Rattle.dns_answer.specs.Limits.{limit_of};
@@ -97,9 +97,11 @@ struct Exchange<'z> {
 }
 
 impl<'z> Exchange<'z> {
+    ghost use Rattle.dns_tools.specs.ExchangeForm.{kept_of, reply_of};
+
     fn new(alloc: Global, zone: &'z Zone, limit: Limit) -> Result<Self, AllocError>
-        ensures fresh { IfOk result (λ e. IsFresh (kept_as e.line.items e.is_overlong e.answers.items e.are_all_messages)) }
-        ensures task { IfOk result (λ e. reply_within e.limit e.zone.now ≡ reply_within limit zone.now) }
+        ensures fresh { IfOk result (λ e. IsFresh (kept_of e)) }
+        ensures task { IfOk result (λ e. reply_of e ≡ reply_within limit zone.now) }
     {
         Ok(Exchange {
             zone,
@@ -122,11 +124,10 @@ impl<'z> Exchange<'z> {
         requires source { source.old.failures < 2 ^ 64 - 1 }
         requires sink { sink.old.failures < 2 ^ 64 - 1 }
         requires piece { 0 < length piece.old }
-        requires fresh { IsFresh (kept_as self.old.line.items self.old.is_overlong
-            self.old.answers.items self.old.are_all_messages) }
+        requires fresh { IsFresh (kept_of self.old) }
         ensures source { source.new.failures ≡ source_failures_after source.old.failures result }
         ensures sink { sink.new.failures ≡ sink_failures_after sink.old.failures result }
-        ensures lines { LinesAnswered (reply_within self.old.limit self.old.zone.now)
+        ensures lines { LinesAnswered (reply_of self.old)
             (record {
               unread = R.remaining source.old.device;
               left = R.remaining source.new.device;
@@ -155,22 +156,16 @@ impl<'z> Exchange<'z> {
         requires { sink.old.failures < 2 ^ 64 - 1 }
         ensures counted { sink.new.failures ≡ failures_after sink.old.failures result }
         ensures written { (held : Option Octets) (x : Octets)
-            → Progress (reply_within self.old.limit self.old.zone.now) held
-            (W.contents sink.old.device) x (kept_as self.old.line.items self.old.is_overlong
-            self.old.answers.items self.old.are_all_messages)
+            → Progress (reply_of self.old) held (W.contents sink.old.device) x (kept_of self.old)
             → OnOk result (Appends held (W.contents sink.new.device)
-            (line_answers (reply_within self.old.limit self.old.zone.now) (lines x))) }
+            (line_answers (reply_of self.old) (lines x))) }
         ensures passes { (held : Option Octets) (x : Octets)
-            → Progress (reply_within self.old.limit self.old.zone.now) held
-            (W.contents sink.old.device) x (kept_as self.old.line.items self.old.is_overlong
-            self.old.answers.items self.old.are_all_messages)
+            → Progress (reply_of self.old) held (W.contents sink.old.device) x (kept_of self.old)
             → IfOk result (λ passes. passes ≡ are_messages (lines x)) }
         ensures begun { (held : Option Octets) (x : Octets)
-            → Progress (reply_within self.old.limit self.old.zone.now) held
-            (W.contents sink.old.device) x (kept_as self.old.line.items self.old.is_overlong
-            self.old.answers.items self.old.are_all_messages)
+            → Progress (reply_of self.old) held (W.contents sink.old.device) x (kept_of self.old)
             → OnErr result (AppendsBeginning held (W.contents sink.new.device)
-            (line_answers (reply_within self.old.limit self.old.zone.now) (lines x))) }
+            (line_answers (reply_of self.old) (lines x))) }
     {
         if self.line.is_empty() {
             return self.conclude(sink);
@@ -197,15 +192,14 @@ impl<'z> Exchange<'z> {
     fn take<W: Write>(&mut self, octets: &[u8], sink: &mut Tally<W>) -> Result<(), SinkFailed>
         requires { sink.old.failures < 2 ^ 64 - 1 }
         ensures counted { sink.new.failures ≡ failures_after sink.old.failures result }
-        ensures task { OnOk result (reply_within self.new.limit self.new.zone.now
-            ≡ reply_within self.old.limit self.old.zone.now) }
+        ensures task { OnOk result (reply_of self.new ≡ reply_of self.old) }
         ensures taken { (held : Option Octets) (x : Octets)
-            → Progress (reply_within self.old.limit self.old.zone.now) held (W.contents sink.old.device) x (kept_as self.old.line.items self.old.is_overlong self.old.answers.items self.old.are_all_messages)
-            → OnOk result (Progress (reply_within self.old.limit self.old.zone.now) held (W.contents sink.new.device)
-            (x ++ octets.now) (kept_as self.new.line.items self.new.is_overlong self.new.answers.items self.new.are_all_messages)) }
+            → Progress (reply_of self.old) held (W.contents sink.old.device) x (kept_of self.old)
+            → OnOk result (Progress (reply_of self.old) held (W.contents sink.new.device)
+            (x ++ octets.now) (kept_of self.new)) }
         ensures begun { (held : Option Octets) (x : Octets)
-            → Progress (reply_within self.old.limit self.old.zone.now) held (W.contents sink.old.device) x (kept_as self.old.line.items self.old.is_overlong self.old.answers.items self.old.are_all_messages)
-            → OnErr result (Begun (reply_within self.old.limit self.old.zone.now) held (W.contents sink.new.device)
+            → Progress (reply_of self.old) held (W.contents sink.old.device) x (kept_of self.old)
+            → OnErr result (Begun (reply_of self.old) held (W.contents sink.new.device)
             (x ++ octets.now)) }
     {
         'octets: for octet in octets {
@@ -218,14 +212,11 @@ impl<'z> Exchange<'z> {
     fn take_octet<W: Write>(&mut self, octet: u8, sink: &mut Tally<W>) -> Result<(), SinkFailed>
         requires { sink.old.failures < 2 ^ 64 - 1 }
         ensures counted { sink.new.failures ≡ failures_after sink.old.failures result }
-        ensures task { OnOk result (reply_within self.new.limit self.new.zone.now
-            ≡ reply_within self.old.limit self.old.zone.now) }
+        ensures task { OnOk result (reply_of self.new ≡ reply_of self.old) }
         ensures taken { (held : Option Octets) (x : Octets)
-            → Progress (reply_within self.old.limit self.old.zone.now) held (W.contents sink.old.device) x
-            (kept_as self.old.line.items self.old.is_overlong self.old.answers.items self.old.are_all_messages)
-            → OnOk result (Progress (reply_within self.old.limit self.old.zone.now) held
-            (W.contents sink.new.device) (x ++ octet ∷ [])
-            (kept_as self.new.line.items self.new.is_overlong self.new.answers.items self.new.are_all_messages)) }
+            → Progress (reply_of self.old) held (W.contents sink.old.device) x (kept_of self.old)
+            → OnOk result (Progress (reply_of self.old) held (W.contents sink.new.device)
+            (x ++ octet ∷ []) (kept_of self.new)) }
         ensures begun { OnErr result (AppendsBeginning (W.contents sink.old.device)
             (W.contents sink.new.device) self.old.answers.items) }
     {
@@ -238,9 +229,8 @@ impl<'z> Exchange<'z> {
 
     // Keeps the next octet of the line, as long as the line may be a message.
     fn keep(&mut self, octet: u8)
-        ensures kept { KeepsOctet (kept_as self.old.line.items self.old.is_overlong self.old.answers.items self.old.are_all_messages) (kept_as self.new.line.items self.new.is_overlong self.new.answers.items self.new.are_all_messages) octet }
-        ensures task { reply_within self.new.limit self.new.zone.now
-            ≡ reply_within self.old.limit self.old.zone.now }
+        ensures kept { KeepsOctet (kept_of self.old) (kept_of self.new) octet }
+        ensures task { reply_of self.new ≡ reply_of self.old }
     {
         if self.line.len() < MOST_DIGITS {
             self.line.push_reserved(octet);
@@ -253,10 +243,9 @@ impl<'z> Exchange<'z> {
     fn end_line<W: Write>(&mut self, sink: &mut Tally<W>) -> Result<(), SinkFailed>
         requires { sink.old.failures < 2 ^ 64 - 1 }
         ensures counted { sink.new.failures ≡ failures_after sink.old.failures result }
-        ensures task { OnOk result (reply_within self.new.limit self.new.zone.now
-            ≡ reply_within self.old.limit self.old.zone.now) }
-        ensures ended { OnOk result (EndsLine (reply_within self.old.limit self.old.zone.now) (W.contents sink.old.device)
-            (W.contents sink.new.device) (kept_as self.old.line.items self.old.is_overlong self.old.answers.items self.old.are_all_messages) (kept_as self.new.line.items self.new.is_overlong self.new.answers.items self.new.are_all_messages)) }
+        ensures task { OnOk result (reply_of self.new ≡ reply_of self.old) }
+        ensures ended { OnOk result (EndsLine (reply_of self.old) (W.contents sink.old.device)
+            (W.contents sink.new.device) (kept_of self.old) (kept_of self.new)) }
         ensures begun { OnErr result (AppendsBeginning (W.contents sink.old.device)
             (W.contents sink.new.device) self.old.answers.items) }
     {
@@ -279,8 +268,7 @@ impl<'z> Exchange<'z> {
         ensures line { self.new.line.items ≡ self.old.line.items }
         ensures overlong { self.new.is_overlong ≡ self.old.is_overlong }
         ensures passes { self.new.are_all_messages ≡ self.old.are_all_messages }
-        ensures task { reply_within self.new.limit self.new.zone.now
-            ≡ reply_within self.old.limit self.old.zone.now }
+        ensures task { reply_of self.new ≡ reply_of self.old }
     {
         if ANSWERS - self.answers.len() < MOST_ANSWER {
             return self.flush(sink);
@@ -292,12 +280,11 @@ impl<'z> Exchange<'z> {
     fn answer_line(&mut self)
         requires { vec_len self.old.answers + MOST_ANSWER ≤ ANSWERS }
         ensures answers { self.new.answers.items ≡ self.old.answers.items
-            ++ message_answer (reply_within self.old.limit self.old.zone.now)
+            ++ message_answer (reply_of self.old)
             (kept_message self.old.line.items self.old.is_overlong) }
         ensures passes { self.new.are_all_messages ≡ (self.old.are_all_messages
             && is_some (kept_message self.old.line.items self.old.is_overlong)) }
-        ensures task { reply_within self.new.limit self.new.zone.now
-            ≡ reply_within self.old.limit self.old.zone.now }
+        ensures task { reply_of self.new ≡ reply_of self.old }
     {
         if self.is_overlong {
             self.refuse_line();
@@ -323,8 +310,7 @@ impl<'z> Exchange<'z> {
         requires { vec_len self.old.answers + MOST_ANSWER ≤ ANSWERS }
         ensures answers { self.new.answers.items ≡ self.old.answers.items ++ codes "bad hex\n" }
         ensures passes { self.new.are_all_messages ≡ false }
-        ensures task { reply_within self.new.limit self.new.zone.now
-            ≡ reply_within self.old.limit self.old.zone.now }
+        ensures task { reply_of self.new ≡ reply_of self.old }
     {
         self.are_all_messages = false;
         put(&mut self.answers, b"bad hex\n");
@@ -343,8 +329,7 @@ impl<'z> Exchange<'z> {
         ensures line { self.new.line.items ≡ self.old.line.items }
         ensures overlong { self.new.is_overlong ≡ self.old.is_overlong }
         ensures passes { self.new.are_all_messages ≡ self.old.are_all_messages }
-        ensures task { reply_within self.new.limit self.new.zone.now
-            ≡ reply_within self.old.limit self.old.zone.now }
+        ensures task { reply_of self.new ≡ reply_of self.old }
     {
         sink.write_all(self.answers.as_slice())?;
         self.answers.clear();

@@ -1,7 +1,7 @@
 use Rattle.std.proofs.Common.{arith, rules, ◌≡◌, ◌<◌, ◌≤◌, ◌∙◌, [], length, refl, subst, sym, take}
 use Rattle.std.specs.Io.KnownBytes.{Consumes}
 use Rattle.std.proofs.lemmas.List.{take-append-le}
-use Rattle.dns_tools.specs.Exchanges.{kept_as, reply_within}
+use Rattle.dns_tools.specs.ExchangeForm.{kept_of, reply_of}
 use Rattle.dns_tools.proofs.LineReads.{AllRead, reading_none, reading_flush, reading_take, reading_begun, taking_begun, reading_failed, all_read, all_given, all_answered, all_begun, sink_stopped, source_stopped}
 use Rattle.dns_tools.proofs.once.Exchange.run.Goals as goal
 use Rattle.dns_tools.proofs.once.Exchange.run.Goals.{else-pieces-test, then-pieces-test+in_ok-flush+in_ok-count+then-count-eq0}
@@ -51,9 +51,9 @@ pub returns-in_err-finish-clause-lines : goal.returns-in_err-finish-clause-lines
 returns-in_err-finish-clause-lines g c =
     let r = c.args.self.now in
     let s = c.pieces-test.self in
-    let all : AllRead (reply_within r.limit r.zone.now) (reply_within s.limit s.zone.now) (g.R.Read.remaining c.args.source.now.device)
+    let all : AllRead (reply_of r) (reply_of s) (g.R.Read.remaining c.args.source.now.device)
     (g.R.Read.remaining c.pieces-test.source.device) (g.W.Write.contents c.args.sink.now.device) (g.W.Write.contents c.pieces-test.sink.device)
-    (kept_as s.line.items s.is_overlong s.answers.items s.are_all_messages) = elim c.pieces-test.branch [
+    (kept_of s) = elim c.pieces-test.branch [
       | else-pieces-test w ↦ rw (w.self-is, w.source-is, w.sink-is)
           (all_read _ _ _ _ _ _ c.pieces.left _ c.pieces.invariant.task (omega (arith, w.pieces-test.false)) c.pieces.invariant.reading)
       | then-pieces-test+in_ok-flush+in_ok-count+then-count-eq0 w ↦
@@ -75,9 +75,9 @@ pub returns-clause-lines : goal.returns-clause-lines
 returns-clause-lines g c =
     let r = c.args.self.now in
     let s = c.pieces-test.self in
-    let all : AllRead (reply_within r.limit r.zone.now) (reply_within s.limit s.zone.now) (g.R.Read.remaining c.args.source.now.device)
+    let all : AllRead (reply_of r) (reply_of s) (g.R.Read.remaining c.args.source.now.device)
     (g.R.Read.remaining c.pieces-test.source.device) (g.W.Write.contents c.args.sink.now.device) (g.W.Write.contents c.pieces-test.sink.device)
-    (kept_as s.line.items s.is_overlong s.answers.items s.are_all_messages) = elim c.pieces-test.branch [
+    (kept_of s) = elim c.pieces-test.branch [
       | else-pieces-test w ↦ rw (w.self-is, w.source-is, w.sink-is)
           (all_read _ _ _ _ _ _ c.pieces.left _ c.pieces.invariant.task (omega (arith, w.pieces-test.false)) c.pieces.invariant.reading)
       | then-pieces-test+in_ok-flush+in_ok-count+then-count-eq0 w ↦
