@@ -55,7 +55,8 @@ impl From<PrintFault> for Stop {
     }
 }
 
-/// The status of a program: 0 where its engine answers true, 1 where it answers false, 2 where it stopped.
+/// The status of a program: 0 where its engine answers true, 1 where it answers false, 2 where it
+/// stopped.
 pub fn exit_status(outcome: &Result<bool, Stop>) -> u8
     ensures { result ≡ status_of outcome.now }
 {
@@ -66,7 +67,8 @@ pub fn exit_status(outcome: &Result<bool, Stop>) -> u8
     }
 }
 
-/// What a program says on standard error where it can't do what it was asked for. The texts are what it prints.
+/// What a program says on standard error where it can't do what it was asked for. The texts are
+/// what it prints.
 #[derive(Clone, Copy, Debug, PartialEq, Eq, Error)]
 pub enum FaultWord {
     /// The words are not those that the program takes.
@@ -133,7 +135,8 @@ impl From<clap::Error> for FaultWord {
     }
 }
 
-/// What a server says on standard error of a turn that ended before its time. The texts are what it prints.
+/// What a server says on standard error of a turn that ended before its time. The texts are what it
+/// prints.
 #[derive(Clone, Copy, Debug, PartialEq, Eq, Error)]
 pub enum TurnWord {
     /// No datagram was received.

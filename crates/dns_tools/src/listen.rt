@@ -14,12 +14,12 @@ use std::time::Duration;
 // How many messages of one connection are answered.
 const MOST_MESSAGES: u32 = 1_000_000;
 
-// For how many seconds a peer may say nothing, or take nothing: connections are served one after another, and a silent peer
-// must not hold the server (a limit of this project).
+// For how many seconds a peer may say nothing, or take nothing: connections are served one after
+// another, and a silent peer must not hold the server (a limit of this project).
 const PATIENCE: u64 = 10;
 
-/// Answers so many datagrams at an address, and tells whether standard error had each word that was due: `U1` where no
-/// datagram was received, `U2` where a reply was not sent. Such a turn counts.
+/// Answers so many datagrams at an address, and tells whether standard error had each word that was
+/// due: `U1` where no datagram was received, `U2` where a reply was not sent. Such a turn counts.
 ///
 /// `bind` where the address can't be had.
 pub fn serve_datagrams<R: Net + Eprint>(
@@ -60,9 +60,10 @@ fn say_of_turn(rt: &impl Eprint, are_said: bool, word: TurnWord) -> bool {
     are_said && rt.eprintln(word).is_ok()
 }
 
-/// Serves so many connections at an address, one after another, and tells whether standard error had each word that was
-/// due: `accept` where none was accepted, `S1` where a stream could not be read, or no octet came for ten seconds, `S2`
-/// where it could not be written, or none was taken for ten seconds, `S3` where it ended inside a message. Such a turn counts.
+/// Serves so many connections at an address, one after another, and tells whether standard error
+/// had each word that was due: `accept` where none was accepted, `S1` where a stream could not be
+/// read, or no octet came for ten seconds, `S2` where it could not be written, or none was taken
+/// for ten seconds, `S3` where it ended inside a message. Such a turn counts.
 ///
 /// `bind` where the address can't be had.
 pub fn serve_connections<R>(
@@ -106,7 +107,8 @@ fn serve_next(alloc: Global, zone: &Zone, listener: &TcpListener) -> Result<(), 
     if stream.set_write_timeout(Some(patience)).is_err() {
         return Err(TurnWord::StreamNotWritten);
     }
-    // Questions that come together are read together. Where there is no memory for that, the stream is read as it is.
+    // Questions that come together are read together. Where there is no memory for that, the stream
+    // is read as it is.
     match BufReader::new(alloc, &stream) {
         Ok(source) => serve_session(zone, source, &stream),
         Err(_) => serve_session(zone, &stream, &stream),

@@ -1,5 +1,7 @@
 //! Messages that come as lines of hexadecimal digits, and the lines that answer them.
-ghost use Rattle.std.specs.Prelude.{◌≡◌, ◌+◌, ◌-◌, ◌*◌, ◌^◌, ◌<◌, ◌≤◌, ◌++◌, ◌∷◌, ◌&&◌, [], false, length, codes, vec_len, vec_capacity, Option, Some, Err, OnOk, OnErr, IfOk, IfErr, IfSome, IfNone, IsErr, Ok, take, ◌≢◌};
+ghost use Rattle.std.specs.Prelude.{◌≡◌, ◌≢◌, ◌+◌, ◌-◌, ◌*◌, ◌^◌, ◌<◌, ◌≤◌, ◌++◌, ◌∷◌, ◌&&◌};
+ghost use Rattle.std.specs.Prelude.{[], false, length, codes, take, vec_len, vec_capacity, Option};
+ghost use Rattle.std.specs.Prelude.{Some, Ok, Err, OnOk, OnErr, IfOk, IfErr, IfSome, IfNone, IsErr};
 ghost use Rattle.hex.specs.Hex.{decode_of};
 ghost use Rattle.std.specs.Bool.{OnTrue, OnFalse};
 ghost use Rattle.std.specs.Option.{is_some};
@@ -7,12 +9,15 @@ ghost use Rattle.std.specs.Io.KnownBytes.{Appends};
 ghost use Rattle.dns_spec.specs.DataText.{hex_octets};
 ghost use Rattle.dns_spec.specs.Names.{Octets};
 ghost use Rattle.dns_spec.specs.WrittenText.{hex_text};
-ghost use Rattle.dns_spec.specs.Lines.{are_messages, line_answers, lines, message_answer, reply_line};
-ghost use Rattle.dns_tools.specs.Exchanges.{Begun, EndsLine, IsFresh, KeepsOctet, LinesAnswered, Passes, Progress, kept_message, reply_within};
+ghost use Rattle.dns_spec.specs.Lines.{are_messages, line_answers, lines};
+ghost use Rattle.dns_spec.specs.Lines.{message_answer, reply_line};
+ghost use Rattle.dns_tools.specs.Exchanges.{Begun, EndsLine, IsFresh, KeepsOctet, LinesAnswered};
+ghost use Rattle.dns_tools.specs.Exchanges.{Passes, Progress, kept_message, reply_within};
 ghost use Rattle.dns_name.specs.Counted.{AppendsBeginning, failures_after};
 ghost use Rattle.dns_tools.specs.Stops.{source_failures_after, sink_failures_after};
 ghost use Rattle.dns_answer.specs.Limits.{limit_of};
-ghost use Rattle.dns_tools.specs.declared.once.TheConstants.{MOST_DIGITS, MOST_OCTETS, MOST_ANSWER, ANSWERS, DIGITS};
+ghost use Rattle.dns_tools.specs.declared.once.TheConstants.{MOST_DIGITS, MOST_OCTETS};
+ghost use Rattle.dns_tools.specs.declared.once.TheConstants.{MOST_ANSWER, ANSWERS, DIGITS};
 
 use crate::fault::Stop;
 use dns_answer::{Limit, respond};
@@ -37,15 +42,17 @@ pub(crate) const PIECE: usize = 65_536;
 // How many digits are spelled at once.
 const DIGITS: usize = 128;
 
-/// Answers each line of the source by one line of the sink, and tells whether each line was a message.
+/// Answers each line of the source by one line of the sink, and tells whether each line was a
+/// message.
 ///
-/// A line is a message in hexadecimal digits of either case, at most 131,070 of them; after the last LF there is a
-/// line only where octets follow. Its answer is the reply in lower case digits, or `none` where there is no reply. A
-/// line that is no such message is answered by `bad hex`. At most 18,446,744,073,709,551,615 octets are read, and the
-/// source counts as ended there. All answers that are due are written before the source is asked for more.
+/// A line is a message in hexadecimal digits of either case, at most 131,070 of them; after the
+/// last LF there is a line only where octets follow. Its answer is the reply in lower case digits,
+/// or `none` where there is no reply. A line that is no such message is answered by `bad hex`. At
+/// most 18,446,744,073,709,551,615 octets are read, and the source counts as ended there. All
+/// answers that are due are written before the source is asked for more.
 ///
-/// Where it stops, the sink has a beginning of the answers, and no device is used after its failure. Memory is taken
-/// before the first octet is read, and none afterwards.
+/// Where it stops, the sink has a beginning of the answers, and no device is used after its
+/// failure. Memory is taken before the first octet is read, and none afterwards.
 pub fn run_once<R: Read, W: Write>(
     alloc: Global,
     zone: &Zone,
@@ -337,8 +344,8 @@ impl<'z> Exchange<'z> {
     }
 }
 
-// Answers a line that is a message, with room for its octets and for those of the reply. False, with nothing answered,
-// where it is none.
+// Answers a line that is a message, with room for its octets and for those of the reply. False,
+// with nothing answered, where it is none.
 fn answer(
     zone: &Zone,
     limit: Limit,
@@ -367,7 +374,8 @@ fn answer(
     true
 }
 
-/// Spells the octets of a message in front of the buffer, and answers how many they are. `None` for other lines.
+/// Spells the octets of a message in front of the buffer, and answers how many they are. `None` for
+/// other lines.
 pub(crate) fn octets_of(line: &[u8], datagram: &mut [u8]) -> Option<usize>
     requires { length line.now ≤ 2 * length datagram.old + 1 }
     ensures some { IfSome result (λ len. decode_of line.now ≡ Ok (take len datagram.new)) }
