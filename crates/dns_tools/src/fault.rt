@@ -9,7 +9,7 @@ use clap::error::ErrorKind;
 use dns_name::{NameFault, SinkFailed, SourceFailed};
 use dns_serve::{StreamFault, TurnFault};
 use dns_zone::PrintFault;
-use std::alloc::AllocError;
+use std::alloc::{AllocError, AllocFailed};
 use thiserror::Error;
 
 /// Why an engine gave up before the end of its input.
@@ -110,6 +110,14 @@ impl From<AllocError> for FaultWord {
     ghost from_gives = { λ _ word. word ≡ NoMemory };
 
     fn from(_error: AllocError) -> FaultWord {
+        FaultWord::NoMemory
+    }
+}
+
+impl<T: Drop> From<AllocFailed<T>> for FaultWord {
+    ghost from_gives = { λ _ word. word ≡ NoMemory };
+
+    fn from(_refused: AllocFailed<T>) -> FaultWord {
         FaultWord::NoMemory
     }
 }

@@ -18,7 +18,7 @@ pub fn given_words<R: Env + AllocGlobal>(rt: &R) -> Result<Vec<String>, FaultWor
     let given = given.map_err(|error| word_or_no_memory(&error, FaultWord::Usage))?;
     let mut words = Vec::new(rt.alloc());
     for word in given {
-        words.push(word).map_err(|_| FaultWord::NoMemory)?;
+        words.push(word)?;
     }
     Ok(words)
 }

@@ -1,10 +1,11 @@
 //! A server on its address: turns over UDP, and connections over TCP, one after another.
-ghost use Rattle.std.specs.Prelude.{◌≡◌, ◌⊎◌, Err, IfErr};
+ghost use Rattle.std.specs.Prelude.{◌≡◌, ◌⊎◌, ◌+◌, ◌^◌, ◌<◌, Err, IfErr};
+ghost use Rattle.dns_tools.specs.Turns.{TakesTurns};
 
 use crate::fault::{FaultWord, TurnWord};
 use crate::socket::Socket;
 use dns_name::Tally;
-use dns_serve::{serve_stream, udp_turn};
+use dns_serve::{Datagrams, serve_stream, udp_turn};
 use dns_zone::Zone;
 use std::alloc::Global;
 use std::io::{self, BufReader, Read, Write};
@@ -34,13 +35,32 @@ pub fn serve_datagrams<R: Net + Eprint>(
         return Err(FaultWord::NotBound);
     };
     let mut socket = Socket::new(socket);
+    Ok(take_turns(rt, zone, &mut socket, turns))
+}
+
+// Takes so many turns at a device, one after another, and tells whether standard error had each
+// word that was due.
+fn take_turns<E: Eprint, D: Datagrams>(rt: &E, zone: &Zone, device: &mut D, turns: u32) -> bool
+    requires { D.count device.old + turns < 2 ^ 64 }
+    ensures { TakesTurns zone.now turns
+        (record {
+          received = D.received device.old;
+          sent = D.sent device.old;
+          failures = D.count device.old;
+        })
+        (record {
+          received = D.received device.new;
+          sent = D.sent device.new;
+          failures = D.count device.new;
+        }) }
+{
     let mut are_said = true;
     'turns: for _ in 0..turns {
-        if let Err(fault) = udp_turn(zone, &mut socket) {
+        if let Err(fault) = udp_turn(zone, device) {
             are_said = say_of_turn(rt, are_said, TurnWord::from(fault));
         }
     }
-    Ok(are_said)
+    are_said
 }
 
 fn bound<R: Net>(rt: &R, address: &str) -> io::Result<UdpSocket> {
@@ -80,7 +100,7 @@ where
         return Err(FaultWord::NotBound);
     };
     let mut are_said = true;
-    'turns: for _ in 0..turns {
+    'connections: for _ in 0..turns {
         if let Err(word) = serve_next(rt.alloc(), zone, &listener) {
             are_said = say_of_turn(rt, are_said, word);
         }
