@@ -1,5 +1,5 @@
 //! A server on its address: turns over UDP, and connections over TCP, one after another.
-ghost use Rattle.std.specs.Prelude.{◌≡◌, ◌⊎◌, ◌+◌, ◌^◌, ◌<◌, Err, IfErr};
+ghost use Rattle.std.specs.Prelude.{◌≡◌, ◌⊎◌, ◌+◌, ◌-◌, ◌^◌, ◌<◌, Err, IfErr};
 ghost use Rattle.dns_tools.specs.Turns.{TakesTurns};
 
 use crate::fault::{FaultWord, TurnWord};
@@ -99,13 +99,8 @@ where
     let Ok(listener) = listening(rt, address) else {
         return Err(FaultWord::NotBound);
     };
-    let mut are_said = true;
-    'connections: for _ in 0..turns {
-        if let Err(word) = serve_next(rt.alloc(), zone, &listener) {
-            are_said = say_of_turn(rt, are_said, word);
-        }
-    }
-    Ok(are_said)
+    let mut connections = Connections { listener, asked: 0 };
+    Ok(take_connections(rt, zone, &mut connections, turns))
 }
 
 fn listening<R: Net<Listener = TcpListener, Stream = TcpStream>>(
@@ -115,11 +110,49 @@ fn listening<R: Net<Listener = TcpListener, Stream = TcpStream>>(
     TcpListener::bind(rt, socket_address(address)?)
 }
 
-// Accepts a connection, and answers its messages.
-fn serve_next(alloc: Global, zone: &Zone, listener: &TcpListener) -> Result<(), TurnWord> {
-    let Ok((stream, _)) = listener.accept() else {
-        return Err(TurnWord::NotAccepted);
-    };
+// A listener, with the count of the connections that it was asked for.
+#[derive(Drop)]
+struct Connections {
+    listener: TcpListener,
+    asked: u64,
+}
+
+// Serves so many connections, one after another, and tells whether standard error had each word
+// that was due.
+fn take_connections<R: Eprint + AllocGlobal>(
+    rt: &R,
+    zone: &Zone,
+    connections: &mut Connections,
+    turns: u32,
+) -> bool
+    requires { connections.old.asked + turns < 2 ^ 64 }
+    ensures { connections.new.asked ≡ connections.old.asked + turns }
+{
+    let mut are_said = true;
+    'connections: for _ in 0..turns {
+        if let Err(word) = connections.serve_next(rt.alloc(), zone) {
+            are_said = say_of_turn(rt, are_said, word);
+        }
+    }
+    are_said
+}
+
+impl Connections {
+    // Asks for a connection, and answers its messages.
+    fn serve_next(&mut self, alloc: Global, zone: &Zone) -> Result<(), TurnWord>
+        requires { self.old.asked < 2 ^ 64 - 1 }
+        ensures { self.new.asked ≡ self.old.asked + 1 }
+    {
+        self.asked += 1;
+        let Ok((stream, _)) = self.listener.accept() else {
+            return Err(TurnWord::NotAccepted);
+        };
+        serve_peer(alloc, zone, &stream)
+    }
+}
+
+// Answers the messages of a connection, with a peer that keeps within the time.
+fn serve_peer(alloc: Global, zone: &Zone, stream: &TcpStream) -> Result<(), TurnWord> {
     let patience = Duration::from_secs(PATIENCE);
     if stream.set_read_timeout(Some(patience)).is_err() {
         return Err(TurnWord::StreamNotRead);
@@ -129,9 +162,9 @@ fn serve_next(alloc: Global, zone: &Zone, listener: &TcpListener) -> Result<(), 
     }
     // Questions that come together are read together. Where there is no memory for that, the stream
     // is read as it is.
-    match BufReader::new(alloc, &stream) {
-        Ok(source) => serve_session(zone, source, &stream),
-        Err(_) => serve_session(zone, &stream, &stream),
+    match BufReader::new(alloc, stream) {
+        Ok(source) => serve_session(zone, source, stream),
+        Err(_) => serve_session(zone, stream, stream),
     }
 }
 
