@@ -12,7 +12,6 @@ use Rattle.dns_master.specs.declared.fault.ReadCode.{ReadCode}
 use Rattle.dns_master.specs.declared.fault.ReadCode.TheVariants.{SourceFailed, NoMemory}
 use Rattle.dns_master.specs.declared.fault.ReadFault.{ReadFault}
 use Rattle.dns_master.specs.Codes.{fault_of}
-use Rattle.dns_tools.specs.declared.fault.Stop.{Stop}
 use Rattle.dns_tools.specs.declared.fault.Stop.TheVariants.{Memory, Source, Sink}
 use Rattle.dns_tools.specs.declared.load.Refusal.{Refusal}
 use Rattle.dns_tools.specs.declared.load.Refusal.TheVariants.{File, Zone}
