@@ -1,5 +1,7 @@
--- What a reader learns here: what a source gives to a reader that asks for so many octets, in one call or more.
-use Rattle.std.specs.Prelude.{◌≡◌, ℕ, ◌≤◌, ◌<◌, [], ◌++◌, ◌^◌, length, take, Option, None, Some, Result, Ok, Err}
+-- What a reader learns here: what a source gives to a reader that asks for so many octets, in one
+-- call or more.
+use Rattle.std.specs.Prelude.{◌≡◌, ℕ, ◌≤◌, ◌<◌, [], ◌++◌, ◌^◌, length, take}
+use Rattle.std.specs.Prelude.{Option, None, Some, Result, Ok, Err}
 use Rattle.std.specs.Io.KnownBytes.{Consumes, IsAtEnd}
 use Rattle.dns_spec.specs.Names.{Octets}
 use Rattle.dns_spec.specs.Layout.{octets16}
@@ -58,8 +60,10 @@ pub record GivesBeginning (old new : Option Octets) : Type 0 where
   pub consumed : Consumes old new given
   pub no_frame : first_frame given ≡ None
 
--- what was read where a message is due: one, of which so many octets are kept; none at the end; or why there is none
-abbrev pub MessageRead : Option Octets → Option Octets → Octets → Result (Option ℕ) StreamFault → Type 0
+-- what was read where a message is due: one, of which so many octets are kept; none at the end; or
+-- why there is none
+abbrev pub MessageRead : Option Octets → Option Octets → Octets → Result (Option ℕ) StreamFault
+    → Type 0
 MessageRead old new buf (Ok None) = GivesNothing old new
 MessageRead old new buf (Ok (Some n)) = GivesMessage old new (take n buf)
 MessageRead old new buf (Err SourceFailed) = GivesBeginning old new

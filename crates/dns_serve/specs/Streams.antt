@@ -1,5 +1,7 @@
--- What a reader learns here: what a session over a stream has read and written, where it ends and where it fails.
-use Rattle.std.specs.Prelude.{⊤, ◌≡◌, ℕ, ◌+◌, ◌≤◌, ◌<◌, ◌^◌, ◌⊎◌, All, List, [], ◌∷◌, ◌++◌, length, take, MatchOption, Option, Result, Ok, Err, Bool, true, false}
+-- What a reader learns here: what a session over a stream has read and written, where it ends and
+-- where it fails.
+use Rattle.std.specs.Prelude.{⊤, ◌≡◌, ℕ, ◌+◌, ◌≤◌, ◌<◌, ◌^◌, ◌⊎◌, List, [], ◌∷◌, ◌++◌, length, take}
+use Rattle.std.specs.Prelude.{MatchOption, Option, Result, Ok, Err, Bool, true, false}
 use Rattle.std.specs.List.{flat_map}
 use Rattle.std.specs.Io.KnownBytes.{Appends, Consumes, IsAtEnd}
 use Rattle.dns_spec.specs.Names.{Octets}
@@ -15,7 +17,8 @@ use Rattle.dns_serve.specs.declared.fault.StreamFault.TheVariants.{SourceFailed,
 abbrev pub reply_over_tcp : ZoneContents → Octets → Option Octets
 reply_over_tcp z m = octets_of z m 65535
 
--- A session: what its source has still to give and what its sink holds, before and after, where those are known.
+-- A session: what its source has still to give and what its sink holds, before and after, where
+-- those are known.
 pub record Session : Type 0 where
   pub unread : Option Octets
   pub left : Option Octets
@@ -26,9 +29,10 @@ pub record Session : Type 0 where
 abbrev pub AreFrames : Option Octets → ℕ → List Octets → Type 0
 AreFrames known most ms = MatchOption known ⊤ (λ x. ms ≡ frames most x)
 
--- RFC 1035 4.2.2: all frames were read, as many as were asked for or to the end of the source, and the replies to their
--- messages were written.
-pub record HasServed (reply : Octets → Option Octets) (most : ℕ) (s : Session) (n : ℕ) : Type 0 where
+-- RFC 1035 4.2.2: all frames were read, as many as were asked for or to the end of the source, and
+-- the replies to their messages were written.
+pub record HasServed (reply : Octets → Option Octets) (most : ℕ) (s : Session) (n : ℕ)
+    : Type 0 where
   pub messages : List Octets
   pub are_frames : AreFrames s.unread most messages
   pub count : length messages ≡ n
@@ -36,7 +40,8 @@ pub record HasServed (reply : Octets → Option Octets) (most : ℕ) (s : Sessio
   pub written : Appends s.held s.holds (replies reply messages)
   pub over : (n ≡ most) ⊎ IsAtEnd s.left
 
--- The source ended inside a frame, when fewer messages were read than asked for. The replies to them were written.
+-- The source ended inside a frame, when fewer messages were read than asked for. The replies to
+-- them were written.
 pub record WasCut (reply : Octets → Option Octets) (most : ℕ) (s : Session) : Type 0 where
   pub messages : List Octets
   pub part : Octets
@@ -56,8 +61,8 @@ pub record WasBroken (reply : Octets → Option Octets) (most : ℕ) (s : Sessio
   pub read : Consumes s.unread s.left given
   pub written : Appends s.held s.holds (replies reply messages)
 
--- The sink failed. The replies to all messages that were read but the last were written, and a beginning of the reply to
--- that one; nothing after it was read.
+-- The sink failed. The replies to all messages that were read but the last were written, and a
+-- beginning of the reply to that one; nothing after it was read.
 pub record WasRefused (reply : Octets → Option Octets) (most : ℕ) (s : Session) : Type 0 where
   pub earlier : List Octets
   pub message : Octets
@@ -65,7 +70,8 @@ pub record WasRefused (reply : Octets → Option Octets) (most : ℕ) (s : Sessi
   pub are_frames : AreFrames s.unread (length earlier + 1) (earlier ++ message ∷ [])
   pub within : length earlier + 1 ≤ most
   pub read : Consumes s.unread s.left (flat_map frame (earlier ++ message ∷ []))
-  pub written : Appends s.held s.holds (replies reply earlier ++ take taken (reply_frame (reply message)))
+  pub written : Appends s.held s.holds
+      (replies reply earlier ++ take taken (reply_frame (reply message)))
 
 -- what a session has done, by its answer
 abbrev pub SessionOf : (Octets → Option Octets) → ℕ → Session → Result ℕ StreamFault → Type 0
@@ -74,7 +80,8 @@ SessionOf reply most s (Err SourceFailed) = WasBroken reply most s
 SessionOf reply most s (Err SinkFailed) = WasRefused reply most s
 SessionOf reply most s (Err Cut) = WasCut reply most s
 
--- the failures of the source and of the sink after a session: one more exactly where a call of that device failed
+-- the failures of the source and of the sink after a session: one more exactly where a call of that
+-- device failed
 abbrev pub source_failures_after : {A : Type 0} → ℕ → Result A StreamFault → ℕ
 source_failures_after count (Ok a) = count
 source_failures_after count (Err SourceFailed) = count + 1
@@ -102,7 +109,8 @@ pub record HasBegun (reply : Octets → Option Octets) (s : Session) : Type 0 wh
   pub taken : ℕ
   pub written : Appends s.held s.holds (take taken (reply_frame (reply message)))
 
--- what the next message of a session has done: its source was at its end (false), it was answered (true), or it failed
+-- what the next message of a session has done: its source was at its end (false), it was answered
+-- (true), or it failed
 abbrev pub StepOf : (Octets → Option Octets) → Session → Result Bool StreamFault → Type 0
 StepOf reply s (Ok false) = GivesNothing s.unread s.left × Appends s.held s.holds []
 StepOf reply s (Ok true) = HasAnswered reply s

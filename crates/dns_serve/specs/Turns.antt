@@ -1,5 +1,7 @@
--- What a reader learns here: what one datagram received and one sent do to the lists that a device tells, and what a turn is.
-use Rattle.std.specs.Prelude.{⊤, ◌≡◌, ℕ, ◌+◌, ◌≤◌, List, [], ◌∷◌, ◌++◌, length, take, Option, None, Some, Result, Ok, Err, Bool, true, false}
+-- What a reader learns here: what one datagram received and one sent do to the lists that a device
+-- tells, and what a turn is.
+use Rattle.std.specs.Prelude.{⊤, ◌≡◌, ℕ, ◌+◌, ◌≤◌, List, [], ◌∷◌, ◌++◌, length, take}
+use Rattle.std.specs.Prelude.{Option, None, Some, Result, Ok, Err, Bool, true, false}
 use Rattle.std.specs.Option.{is_some}
 use Rattle.dns_spec.specs.Names.{Octets}
 use Rattle.dns_spec.specs.Records.{ZoneContents}
@@ -17,19 +19,22 @@ Grows (Some xs) (Some ys) ds = ys ≡ xs ++ ds
 abbrev pub KeepsAll : Option (List Octets) → Option (List Octets) → Type 0
 KeepsAll old new = Grows old new []
 
--- RFC 1035 4.2.1: a datagram was handed out, of which the buffer has the first 512 octets; or none, where the call failed
+-- RFC 1035 4.2.1: a datagram was handed out, of which the buffer has the first 512 octets; or none,
+-- where the call failed
 pub record IsHanded (old new : Option (List Octets)) (n : ℕ) (buf : Octets) : Type 0 where
   pub datagram : Octets
   pub handed : Grows old new (datagram ∷ [])
   pub kept : take n buf ≡ take 512 datagram
   pub within : n ≤ 512
 
-abbrev pub Hands : {E : Type 0} → Option (List Octets) → Option (List Octets) → Result ℕ E → Octets → Type 0
+abbrev pub Hands : {E : Type 0} → Option (List Octets) → Option (List Octets) → Result ℕ E → Octets
+    → Type 0
 Hands old new (Ok n) buf = IsHanded old new n buf
 Hands old new (Err e) buf = KeepsAll old new
 
 -- a datagram was sent; where the call failed nothing is said
-abbrev pub Sends : {A E : Type 0} → Option (List Octets) → Option (List Octets) → Result A E → Octets → Type 0
+abbrev pub Sends : {A E : Type 0} → Option (List Octets) → Option (List Octets) → Result A E
+    → Octets → Type 0
 Sends old new (Ok a) reply = Grows old new (reply ∷ [])
 Sends old new (Err e) reply = ⊤
 

@@ -8,11 +8,12 @@ ghost use Rattle.dns_serve.specs.Turns.{Hands, Sends, KeepsAll};
 #[derive(Clone, Copy, Debug, PartialEq, Eq)]
 pub struct Failed;
 
-/// A device that hands out one datagram after another, and sends replies to the sender of the last one.
+/// A device that hands out one datagram after another, and sends replies to the sender of the last
+/// one.
 ///
-/// It counts its failures: one more exactly where a call fails. Each call asks that the count is below the greatest
-/// `u64`. A device over memory tells the datagrams that it has handed out and those that it has sent; one over a socket
-/// tells neither.
+/// It counts its failures: one more exactly where a call fails. Each call asks that the count is
+/// below the greatest `u64`. A device over memory tells the datagrams that it has handed out and
+/// those that it has sent; one over a socket tells neither.
 pub trait Datagrams {
     /// The datagrams handed out so far, where they are reported.
     ghost received: { Self → Option (List Octets) };
@@ -26,8 +27,8 @@ pub trait Datagrams {
     /// Whether there is somebody to send to.
     ghost has_sender: { Self → Bool };
 
-    /// Receives one datagram, whose first 512 octets go to the front of `buf`, and answers how many these are. What a
-    /// datagram has beyond them is lost.
+    /// Receives one datagram, whose first 512 octets go to the front of `buf`, and answers how many
+    /// these are. What a datagram has beyond them is lost.
     fn receive(&mut self, buf: &mut [u8; 512]) -> Result<usize, Failed>
         requires { count self.old < 2 ^ 64 - 1 }
         ensures datagram { Hands (received self.old) (received self.new) result buf.new }

@@ -17,9 +17,11 @@ pub enum TurnFault {
 pub enum StreamFault {
     /// The source failed (`S1`). The replies to all messages that it gave whole are written.
     SourceFailed,
-    /// The sink failed (`S2`). The replies to all messages but the last one read are written, and a beginning of that one's.
+    /// The sink failed (`S2`). The replies to all messages but the last one read are written, and a
+    /// beginning of that one's.
     SinkFailed,
-    /// The source ended inside a length or a message (`S3`). The replies to all messages before are written.
+    /// The source ended inside a length or a message (`S3`). The replies to all messages before are
+    /// written.
     Cut,
 }
 

@@ -1,4 +1,5 @@
-//! What a server does with its transport: one datagram and its reply, and the messages of a stream with theirs.
+//! What a server does with its transport: one datagram and its reply, and the messages of a stream
+//! with theirs.
 #![tactic(auto)]
 
 mod datagrams;

@@ -12,8 +12,11 @@ pub(crate) fn read_full<R: Read>(
     buf: &mut [u8],
 ) -> Result<usize, SourceFailed>
     requires { source.old.failures < 2 ^ 64 - 1 }
-    ensures ok { IfOk result (λ count. Gives (R.remaining source.old.device) (R.remaining source.new.device) (length buf.new) count (take count buf.new)) }
-    ensures err { OnErr result (GivesFewer (R.remaining source.old.device) (R.remaining source.new.device) (length buf.new)) }
+    ensures ok { IfOk result (λ count.
+        Gives (R.remaining source.old.device) (R.remaining source.new.device)
+        (length buf.new) count (take count buf.new)) }
+    ensures err { OnErr result (GivesFewer (R.remaining source.old.device)
+        (R.remaining source.new.device) (length buf.new)) }
     ensures counted { source.new.failures ≡ failures_after source.old.failures result }
 {
     let mut count = 0;
@@ -28,8 +31,8 @@ pub(crate) fn read_full<R: Read>(
     Ok(count)
 }
 
-/// Reads so many octets, which are let go, and answers how many came: fewer only at the end of the source. `room` is
-/// where they pass through.
+/// Reads so many octets, which are let go, and answers how many came: fewer only at the end of the
+/// source. `room` is where they pass through.
 pub(crate) fn skip<R: Read>(
     source: &mut Tally<R>,
     room: &mut [u8],
@@ -37,8 +40,10 @@ pub(crate) fn skip<R: Read>(
 ) -> Result<usize, SourceFailed>
     requires count { source.old.failures < 2 ^ 64 - 1 }
     requires room { 0 < length room.old }
-    ensures ok { IfOk result (λ count. GivesSome (R.remaining source.old.device) (R.remaining source.new.device) most count) }
-    ensures err { OnErr result (GivesFewer (R.remaining source.old.device) (R.remaining source.new.device) most) }
+    ensures ok { IfOk result (λ count.
+        GivesSome (R.remaining source.old.device) (R.remaining source.new.device) most count) }
+    ensures err { OnErr result (GivesFewer (R.remaining source.old.device)
+        (R.remaining source.new.device) most) }
     ensures counted { source.new.failures ≡ failures_after source.old.failures result }
 {
     let mut count = 0;

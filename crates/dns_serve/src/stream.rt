@@ -1,4 +1,5 @@
-//! A session over a stream: messages, each after its length in two octets, and their replies (RFC 1035 4.2.2).
+//! A session over a stream: messages, each after its length in two octets, and their replies
+//! (RFC 1035 4.2.2).
 ghost use Rattle.std.specs.Prelude.{◌≡◌, ℕ, ◌+◌, ◌-◌, ◌^◌, ◌<◌, ◌≤◌, length, take, IfOk, IfSome};
 ghost use Rattle.dns_name.specs.Counted.{Writes};
 ghost use Rattle.dns_spec.specs.Layout.{octets16};
@@ -20,13 +21,15 @@ const MOST_KEPT: usize = 512;
 // A reply after its length.
 const MOST_FRAME: usize = 65_537;
 
-/// Reads messages, each after its length in two octets, until `most` are read or the source ends between two, and
-/// answers how many. The reply to each is written after its length; a message that gets no reply has nothing written.
+/// Reads messages, each after its length in two octets, until `most` are read or the source ends
+/// between two, and answers how many. The reply to each is written after its length; a message that
+/// gets no reply has nothing written.
 ///
-/// `SourceFailed` and `Cut`, where the source fails or ends inside a length or a message: the replies to all messages
-/// before are written. `SinkFailed`: the replies before that to the last message read are written, and a beginning of
-/// that one; nothing after that message is read. Of a message the first 512 octets are kept, the rest is read and let
-/// go. Nothing is tried again, and no memory is taken.
+/// `SourceFailed` and `Cut`, where the source fails or ends inside a length or a message: the
+/// replies to all messages before are written. `SinkFailed`: the replies before that to the last
+/// message read are written, and a beginning of that one; nothing after that message is read. Of a
+/// message the first 512 octets are kept, the rest is read and let go. Nothing is tried again, and
+/// no memory is taken.
 pub fn serve_stream<R: Read, W: Write>(
     zone: &Zone,
     source: &mut Tally<R>,
@@ -36,7 +39,12 @@ pub fn serve_stream<R: Read, W: Write>(
     requires source { source.old.failures < 2 ^ 64 - 1 }
     requires sink { sink.old.failures < 2 ^ 64 - 1 }
     ensures session { SessionOf (reply_over_tcp zone.now) most
-        (record { unread = R.remaining source.old.device; left = R.remaining source.new.device; held = W.contents sink.old.device; holds = W.contents sink.new.device })
+        (record {
+          unread = R.remaining source.old.device;
+          left = R.remaining source.new.device;
+          held = W.contents sink.old.device;
+          holds = W.contents sink.new.device;
+        })
         result }
     ensures source { source.new.failures ≡ source_failures_after source.old.failures result }
     ensures sink { sink.new.failures ≡ sink_failures_after sink.old.failures result }
@@ -78,7 +86,12 @@ fn serve_message<R: Read, W: Write>(
     requires source { source.old.failures < 2 ^ 64 - 1 }
     requires sink { sink.old.failures < 2 ^ 64 - 1 }
     ensures step { StepOf (reply_over_tcp zone.now)
-        (record { unread = R.remaining source.old.device; left = R.remaining source.new.device; held = W.contents sink.old.device; holds = W.contents sink.new.device })
+        (record {
+          unread = R.remaining source.old.device;
+          left = R.remaining source.new.device;
+          held = W.contents sink.old.device;
+          holds = W.contents sink.new.device;
+        })
         result }
     ensures source { source.new.failures ≡ source_failures_after source.old.failures result }
     ensures sink { sink.new.failures ≡ sink_failures_after sink.old.failures result }
@@ -91,7 +104,8 @@ fn serve_message<R: Read, W: Write>(
     Ok(true)
 }
 
-// Reads a message after its length, and answers how many of its octets are kept: its first 512, at the front of `message`.
+// Reads a message after its length, and answers how many of its octets are kept: its first 512, at
+// the front of `message`.
 fn read_message<R: Read>(
     source: &mut Tally<R>,
     message: &mut [u8],
@@ -100,7 +114,8 @@ fn read_message<R: Read>(
     requires source { source.old.failures < 2 ^ 64 - 1 }
     requires message { length message.old ≡ 512 }
     requires room { 0 < length room.old }
-    ensures read { MessageRead (R.remaining source.old.device) (R.remaining source.new.device) message.new result }
+    ensures read { MessageRead (R.remaining source.old.device) (R.remaining source.new.device)
+        message.new result }
     ensures kept { IfOk result (λ kept. IfSome kept (λ k. k ≤ 512)) }
     ensures source { source.new.failures ≡ source_failures_after source.old.failures result }
 {
@@ -119,7 +134,8 @@ fn read_length<R: Read>(
 ) -> Result<Option<usize>, StreamFault>
     requires source { source.old.failures < 2 ^ 64 - 1 }
     requires room { length room.old ≡ 2 }
-    ensures read { LengthRead (R.remaining source.old.device) (R.remaining source.new.device) result }
+    ensures read { LengthRead (R.remaining source.old.device) (R.remaining source.new.device)
+        result }
     ensures source { source.new.failures ≡ source_failures_after source.old.failures result }
 {
     let count = read_full(source, room)?;
@@ -150,7 +166,8 @@ fn read_body<R: Read>(
     requires source { source.old.failures < 2 ^ 64 - 1 }
     requires message { length message.old ≡ 512 }
     requires room { 0 < length room.old }
-    ensures read { BodyRead (R.remaining source.old.device) (R.remaining source.new.device) count message.new result }
+    ensures read { BodyRead (R.remaining source.old.device) (R.remaining source.new.device)
+        count message.new result }
     ensures kept { IfOk result (λ kept. kept ≤ 512) }
     ensures source { source.new.failures ≡ source_failures_after source.old.failures result }
 {
@@ -165,7 +182,8 @@ fn read_body<R: Read>(
     Ok(kept)
 }
 
-// Writes the reply to a message after its length, in one call where the sink takes it, or nothing where it gets none.
+// Writes the reply to a message after its length, in one call where the sink takes it, or nothing
+// where it gets none.
 fn write_reply<W: Write>(
     zone: &Zone,
     message: &[u8],
@@ -174,7 +192,8 @@ fn write_reply<W: Write>(
 ) -> Result<(), SinkFailed>
     requires sink { sink.old.failures < 2 ^ 64 - 1 }
     requires room { length room.old ≡ 65537 }
-    ensures { Writes W.contents sink.old sink.new result (reply_frame (reply_over_tcp zone.now message.now)) }
+    ensures { Writes W.contents sink.old sink.new result
+        (reply_frame (reply_over_tcp zone.now message.now)) }
 {
     let (length, reply) = room.split_at_mut(2);
     let mut steps = Steps::new(zone);

@@ -11,14 +11,20 @@ use dns_zone::{Steps, Zone};
 // The octets that are kept of a datagram, and those that a reply has at most.
 const MOST_OCTETS: usize = 512;
 
-/// Receives one datagram, and sends its reply to its sender: true where one was sent, false where none is owed.
+/// Receives one datagram, and sends its reply to its sender: true where one was sent, false where
+/// none is owed.
 ///
-/// `ReceiveFailed` where the device failed before, with nothing sent; `SendFailed` where it failed then. Nothing is
-/// tried again, and no memory is taken.
+/// `ReceiveFailed` where the device failed before, with nothing sent; `SendFailed` where it failed
+/// then. Nothing is tried again, and no memory is taken.
 pub fn udp_turn<D: Datagrams>(zone: &Zone, device: &mut D) -> Result<bool, TurnFault>
     requires { D.count device.old < 2 ^ 64 - 1 }
     ensures turn { TurnOf zone.now
-        (record { had = D.received device.old; has = D.received device.new; sent = D.sent device.old; has_sent = D.sent device.new })
+        (record {
+          had = D.received device.old;
+          has = D.received device.new;
+          sent = D.sent device.old;
+          has_sent = D.sent device.new;
+        })
         result }
     ensures counted { D.count device.new ≡ failures_after (D.count device.old) result }
 {

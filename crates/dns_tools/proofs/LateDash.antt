@@ -1,8 +1,8 @@
 -- Where the options end, any word that begins with `-` stands after them.
-use Rattle.std.proofs.Common.{◌≡◌, ℕ, ◌||◌, Bool, true, false, List, [], ◌∷◌, map, refl, ap, codes, ◌∙◌, sym}
+use Rattle.std.proofs.Common.{◌≡◌, ℕ, ◌||◌, Bool, true, false, List, [], ◌∷◌, map, refl, ap, codes}
 use Rattle.std.specs.List.{list_any}
 use Rattle.dns_spec.specs.Names.{octets_equal}
-use Rattle.dns_tools.specs.Words.{is_dashed, is_option, has_late_dash, after_option, after_first, has_dashed_value}
+use Rattle.dns_tools.specs.Words.{is_dashed, is_option, has_late_dash, after_option, has_dashed_value}
 
 pub any_text : {X : Type 0} (f : X → List ℕ) (xs : List X) → list_any (λ x. is_dashed (f x)) xs ≡ list_any is_dashed (map f xs)
 any_text f [] = refl

@@ -1,5 +1,5 @@
 -- What a run over lines has done once its input is read, or once a device has failed.
-use Rattle.std.proofs.Common.{◌≡◌, ◌≢◌, ℕ, zero, suc, ◌+◌, ◌-◌, ◌^◌, ◌<◌, ◌≤◌, Bool, ◌&&◌, ◌⊎◌, inl, inr, List, [], ◌∷◌, ◌++◌, length, take, Option, Some, None, refl, sym, ap, ap₂, ◌∙◌, subst, arith, append_assoc, append-nil, length-append}
+use Rattle.std.proofs.Common.{◌≡◌, ◌≢◌, ℕ, ◌+◌, ◌-◌, ◌^◌, ◌<◌, ◌≤◌, Bool, ◌&&◌, ◌⊎◌, inl, inr, [], ◌∷◌, ◌++◌, length, take, Option, Some, None, Result, Ok, Err, IsErrAnd, refl, sym, ap, ap₂, ◌∙◌, subst, arith, append_assoc, append-nil, length-append}
 use Rattle.std.specs.Option.{is_some}
 use Rattle.std.proofs.lemmas.List.{take_all, take-append-le, length-take-le}
 use Rattle.std.proofs.lemmas.Bool.{cases_lt}
@@ -11,8 +11,10 @@ use Rattle.dns_spec.specs.Lines.{lines, line_ends, ended_lines, message_answer, 
 use Rattle.dns_name.specs.Counted.{AppendsBeginning}
 use Rattle.dns_name.proofs.WritesLemmas.{beginning_of_second}
 use Rattle.dns_serve.specs.Streams.{Session}
-use Rattle.dns_tools.specs.Exchanges.{Kept, EndsLine, IsFresh, Progress, Begun, IsInput, HasAnsweredLines, HasAnsweredEnded, HasBegunAnswers, kept_message}
-use Rattle.dns_tools.proofs.LineRuns.{line_alone, lines_nil, kept_says, one_answer, one_flag, begun_flush}
+use Rattle.dns_tools.specs.Exchanges.{Kept, EndsLine, IsFresh, Progress, Begun, IsInput, LinesAnswered, HasAnsweredLines, HasAnsweredEnded, HasBegunAnswers, kept_message}
+use Rattle.dns_tools.specs.declared.fault.Stop.{Stop}
+use Rattle.dns_tools.specs.declared.fault.Stop.TheVariants.{Source, Sink}
+use Rattle.dns_tools.proofs.LineRuns.{line_alone, lines_nil, kept_says, one_answer, one_flag, begun_flush, progress_none, progress_flush}
 
 -- so much was read, and so many octets more may be
 pub record Reading (reply : Octets → Option Octets) (a b x y : Option Octets) (left : ℕ) (k : Kept) : Type 0 where
@@ -101,25 +103,17 @@ begun_answers reply a b x y given read within begun =
     let rest = rest_of a b given read within in
     record { input = given ++ rest.0; is_input = rest.1; written = begun rest.0 }
 
--- the last answers were written
-pub finished_all : (reply : Octets → Option Octets) (a b x y z : Option Octets) (input : Octets) (k : Kept) (passes : Bool) → IsInput a input → Consumes a b input
-    → Finished reply x y input k → Appends y z k.answers → passes ≡ k.passes
-    → HasAnsweredLines reply (record { unread = a; left = b; held = x; holds = z }) passes
-finished_all reply a b x y z input k passes is read f written same = record {
-  input = input;
-  is_input = is;
-  read = read;
-  written = subst (Appends x z) f.answered (Appends-trans x y z f.sent k.answers f.written written);
-  passes_is = same ∙ f.passes_is;
-}
+-- the last answers were written, or a beginning of them
+pub finished_written : (reply : Octets → Option Octets) (x y z : Option Octets) (input : Octets) (k : Kept) → Finished reply x y input k → Appends y z k.answers
+    → Appends x z (line_answers reply (lines input))
+finished_written reply x y z input k f written = subst (Appends x z) f.answered (Appends-trans x y z f.sent k.answers f.written written)
 
-pub finished_begun : (reply : Octets → Option Octets) (a b x y z : Option Octets) (input : Octets) (k : Kept) → IsInput a input
-    → Finished reply x y input k → AppendsBeginning y z k.answers → HasBegunAnswers reply (record { unread = a; left = b; held = x; holds = z })
-finished_begun reply a b x y z input k is f begun = record {
-  input = input;
-  is_input = is;
-  written = subst (AppendsBeginning x z) f.answered (beginning_of_second x y z f.sent k.answers f.written begun);
-}
+pub finished_begun : (reply : Octets → Option Octets) (x y z : Option Octets) (input : Octets) (k : Kept) → Finished reply x y input k → AppendsBeginning y z k.answers
+    → AppendsBeginning x z (line_answers reply (lines input))
+finished_begun reply x y z input k f begun = subst (AppendsBeginning x z) f.answered (beginning_of_second x y z f.sent k.answers f.written begun)
+
+pub begun_whole : (reply : Octets → Option Octets) (x y : Option Octets) (input : Octets) → Begun reply x y input → AppendsBeginning x y (line_answers reply (lines input))
+begun_whole reply x y input b = subst (λ z. AppendsBeginning x y (line_answers reply (lines z))) (append-nil input) (b [])
 
 -- the source failed, when all answers that were due were written
 pub ended_answered : (reply : Octets → Option Octets) (a b c x y : Option Octets) (given : Octets) (k : Kept) → length given < 2 ^ 64 - 1 → Consumes a b given → Keeps b c
@@ -137,3 +131,125 @@ ended_answered reply a b c x y given k fewer read keeps none p =
       read = Consumes-kept a b c given read keeps;
       written = subst (Appends x y) sent p.written;
     }
+
+-- ---- what a run says where it starts, goes on, ends, and stops
+
+pub reading_none : (reply : Octets → Option Octets) (a x : Option Octets) (k : Kept) → IsFresh k → Reading reply a a x x (2 ^ 64 - 1) k
+reading_none reply a x k fresh = record {
+  given = [];
+  count = refl;
+  read = Consumes-nil a;
+  progress = progress_none reply x k fresh.line fresh.overlong fresh.answers fresh.passes;
+}
+
+pub reading_flush : (reply : Octets → Option Octets) (a b x y z : Option Octets) (left : ℕ) (k n : Kept) → Appends y z k.answers → n.answers ≡ []
+    → n.line ≡ k.line → n.is_overlong ≡ k.is_overlong → n.passes ≡ k.passes → Reading reply a b x y left k → Reading reply a b x z left n
+reading_flush reply a b x y z left k n written answers line overlong passes r = record {
+  given = r.given;
+  count = r.count;
+  read = r.read;
+  progress = progress_flush reply x y z r.given k n written answers line overlong passes r.progress;
+}
+
+-- octets that were read are taken
+pub reading_take : (r s : Octets → Option Octets) (a b c x y z : Option Octets) (left count : ℕ) (octets front : Octets) (k n : Kept) → s ≡ r → octets ≡ front
+    → length front ≡ count → count ≤ left → Consumes b c front
+    → ((h : Option Octets) (i : Octets) → Progress s h y i k → Progress s h z (i ++ octets) n)
+    → Reading r a b x y left k → Reading r a c x z (left - count) n
+reading_take r s a b c x y z left count octets front k n same is len within more step reading =
+    let here = subst (λ q. (h : Option Octets) (i : Octets) → Progress q h y i k → Progress q h z (i ++ octets) n) same step in
+    record {
+      given = reading.given ++ front;
+      count = omega (arith, reading.count, len, within, length-append reading.given front);
+      read = Consumes-trans a b c reading.given front reading.read more;
+      progress = subst (λ o. Progress r x z (reading.given ++ o) n) is (here x reading.given reading.progress);
+    }
+
+-- the sink failed when answers that were due were written
+pub reading_begun : (reply : Octets → Option Octets) (a b x y z : Option Octets) (left : ℕ) (k : Kept) → AppendsBeginning y z k.answers
+    → Reading reply a b x y left k → HasBegunAnswers reply (record { unread = a; left = b; held = x; holds = z })
+reading_begun reply a b x y z left k begun r =
+    begun_answers reply a b x z r.given r.read (omega (arith, r.count)) (begun_flush reply x y z r.given k begun r.progress)
+
+-- the sink failed when octets that were read were taken
+pub taking_begun : (r s : Octets → Option Octets) (a b c x y z : Option Octets) (left count : ℕ) (octets front : Octets) (k : Kept) → s ≡ r → octets ≡ front
+    → length front ≡ count → count ≤ left → Consumes b c front
+    → ((h : Option Octets) (i : Octets) → Progress s h y i k → Begun s h z (i ++ octets))
+    → Reading r a b x y left k → HasBegunAnswers r (record { unread = a; left = c; held = x; holds = z })
+taking_begun r s a b c x y z left count octets front k same is len within more step reading =
+    let here = subst (λ q. (h : Option Octets) (i : Octets) → Progress q h y i k → Begun q h z (i ++ octets)) same step in
+    let begun : Begun r x z (reading.given ++ front) = subst (λ o. Begun r x z (reading.given ++ o)) is (here x reading.given reading.progress) in
+    let few : length (reading.given ++ front) ≤ 2 ^ 64 - 1 = omega (arith, reading.count, len, within, length-append reading.given front) in
+    begun_answers r a c x z (reading.given ++ front) (Consumes-trans a b c reading.given front reading.read more) few begun
+
+-- the source failed
+pub reading_failed : (reply : Octets → Option Octets) (a b c x y : Option Octets) (left : ℕ) (k : Kept) → k.answers ≡ [] → 0 < left → Keeps b c
+    → Reading reply a b x y left k → HasAnsweredEnded reply (record { unread = a; left = c; held = x; holds = y })
+reading_failed reply a b c x y left k none some keeps r =
+    ended_answered reply a b c x y r.given k (omega (arith, r.count, some)) r.read keeps none r.progress
+
+-- the input was read, and is still to be answered as far as it is kept
+pub record AllRead (r s : Octets → Option Octets) (a b x y : Option Octets) (k : Kept) : Type 0 where
+  pub task : s ≡ r
+  pub input : Octets
+  pub is_input : IsInput a input
+  pub read : Consumes a b input
+  pub progress : Progress s x y input k
+
+-- so many octets were read that no more may be
+pub all_read : (r s : Octets → Option Octets) (a b x y : Option Octets) (left : ℕ) (k : Kept) → s ≡ r → left ≡ 0 → Reading r a b x y left k → AllRead r s a b x y k
+all_read r s a b x y left k task none reading = record {
+  task = task;
+  input = reading.given;
+  is_input = input_of a b reading.given left reading.count reading.read (inl none);
+  read = reading.read;
+  progress = subst (λ q. Progress q x y reading.given k) (sym task) reading.progress;
+}
+
+-- a read gave nothing more
+pub all_given : (r s : Octets → Option Octets) (a b c x y : Option Octets) (left : ℕ) (k : Kept) → s ≡ r → Consumes b c [] → IsAtEnd c
+    → Reading r a b x y left k → AllRead r s a c x y k
+all_given r s a b c x y left k task none end reading =
+    let read : Consumes a c reading.given =
+    subst (Consumes a c) (append-nil reading.given) (Consumes-trans a b c reading.given [] reading.read none)
+    in
+    record {
+      task = task;
+      input = reading.given;
+      is_input = input_of a c reading.given left reading.count read (inr end);
+      read = read;
+      progress = subst (λ q. Progress q x y reading.given k) (sym task) reading.progress;
+    }
+
+-- the last answers were written, or a beginning of them
+pub all_answered : (r s : Octets → Option Octets) (a b x y z : Option Octets) (k : Kept) (passes : Bool)
+    → ((h : Option Octets) (i : Octets) → Progress s h y i k → Appends h z (line_answers s (lines i)))
+    → ((h : Option Octets) (i : Octets) → Progress s h y i k → passes ≡ are_messages (lines i))
+    → AllRead r s a b x y k → HasAnsweredLines r (record { unread = a; left = b; held = x; holds = z }) passes
+all_answered r s a b x y z k passes written same all = record {
+  input = all.input;
+  is_input = all.is_input;
+  read = all.read;
+  written = subst (λ q. Appends x z (line_answers q (lines all.input))) all.task (written x all.input all.progress);
+  passes_is = same x all.input all.progress;
+}
+
+pub all_begun : (r s : Octets → Option Octets) (a b x y z : Option Octets) (k : Kept)
+    → ((h : Option Octets) (i : Octets) → Progress s h y i k → AppendsBeginning h z (line_answers s (lines i)))
+    → AllRead r s a b x y k → HasBegunAnswers r (record { unread = a; left = b; held = x; holds = z })
+all_begun r s a b x y z k begun all = record {
+  input = all.input;
+  is_input = all.is_input;
+  written = subst (λ q. AppendsBeginning x z (line_answers q (lines all.input))) all.task (begun x all.input all.progress);
+}
+
+-- a device failed, and the run said so
+pub sink_stopped : (reply : Octets → Option Octets) (s : Session) (result : Result Bool Stop) → IsErrAnd result (λ stop. stop ≡ Sink) → HasBegunAnswers reply s
+    → LinesAnswered reply s result
+sink_stopped reply s (Ok passes) h b = absurd h
+sink_stopped reply s (Err stop) h b = subst (λ e. LinesAnswered reply s (Err e)) (sym h) b
+
+pub source_stopped : (reply : Octets → Option Octets) (s : Session) (result : Result Bool Stop) → IsErrAnd result (λ stop. stop ≡ Source) → HasAnsweredEnded reply s
+    → LinesAnswered reply s result
+source_stopped reply s (Ok passes) h b = absurd h
+source_stopped reply s (Err stop) h b = subst (λ e. LinesAnswered reply s (Err e)) (sym h) b

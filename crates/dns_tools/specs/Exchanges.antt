@@ -1,5 +1,6 @@
 -- What a reader learns here: what a run over lines has read and written, at its end and on its way.
-use Rattle.std.specs.Prelude.{⊤, ◌≡◌, ℕ, ◌^◌, ◌-◌, ◌<◌, ◌≤◌, Bool, false, true, ◌&&◌, List, [], ◌∷◌, ◌++◌, length, take, nat_lt, if◌then◌else◌}
+use Rattle.std.specs.Prelude.{⊤, ◌≡◌, ℕ, ◌^◌, ◌-◌, ◌<◌, ◌≤◌, Bool, false, true, ◌&&◌}
+use Rattle.std.specs.Prelude.{List, [], ◌∷◌, ◌++◌, length, take, nat_lt, if◌then◌else◌}
 use Rattle.std.specs.Prelude.{MatchOption, Option, None, Result, Ok, Err}
 use Rattle.std.specs.Option.{is_some}
 use Rattle.std.specs.Io.KnownBytes.{Appends, Consumes}
@@ -7,7 +8,8 @@ use Rattle.dns_spec.specs.Names.{Octets}
 use Rattle.dns_spec.specs.DataText.{hex_octets}
 use Rattle.dns_spec.specs.Records.{ZoneContents}
 use Rattle.dns_spec.specs.Reply.{octets_of}
-use Rattle.dns_spec.specs.Lines.{lines, line_ends, ended_lines, message_answer, line_answers, are_messages}
+use Rattle.dns_spec.specs.Lines.{lines, line_ends, ended_lines}
+use Rattle.dns_spec.specs.Lines.{message_answer, line_answers, are_messages}
 use Rattle.dns_name.specs.Counted.{AppendsBeginning}
 use Rattle.dns_answer.specs.declared.reply.Limit.{Limit}
 use Rattle.dns_answer.specs.Limits.{limit_of}
@@ -24,7 +26,8 @@ abbrev pub IsInput : Option Octets → Octets → Type 0
 IsInput known x = MatchOption known ⊤ (λ all. x ≡ take (2 ^ 64 - 1) all)
 
 -- The input was read, and each of its lines answered.
-pub record HasAnsweredLines (reply : Octets → Option Octets) (s : Session) (passes : Bool) : Type 0 where
+pub record HasAnsweredLines (reply : Octets → Option Octets) (s : Session) (passes : Bool)
+    : Type 0 where
   pub input : Octets
   pub is_input : IsInput s.unread input
   pub read : Consumes s.unread s.left input
@@ -64,7 +67,12 @@ pub record Kept : Type 0 where
   pub passes : Bool
 
 abbrev pub kept_as : Octets → Bool → Octets → Bool → Kept
-kept_as line is_overlong answers passes = record { line = line; is_overlong = is_overlong; answers = answers; passes = passes }
+kept_as line is_overlong answers passes = record {
+  line = line;
+  is_overlong = is_overlong;
+  answers = answers;
+  passes = passes;
+}
 
 -- nothing was read
 pub record IsFresh (k : Kept) : Type 0 where
@@ -75,13 +83,15 @@ pub record IsFresh (k : Kept) : Type 0 where
 
 -- The next octet of a line is kept, as long as the line may be a message.
 pub record KeepsOctet (old new : Kept) (o : ℕ) : Type 0 where
-  pub line : length old.line < 131070 → (new.line ≡ old.line ++ o ∷ []) × (new.is_overlong ≡ old.is_overlong)
+  pub line : length old.line < 131070
+      → (new.line ≡ old.line ++ o ∷ []) × (new.is_overlong ≡ old.is_overlong)
   pub full : 131070 ≤ length old.line → (new.line ≡ old.line) × (new.is_overlong ≡ true)
   pub answers : new.answers ≡ old.answers
   pub passes : new.passes ≡ old.passes
 
 -- The lines that are ended in the input so far are answered, and the front of the next is kept.
-pub record Progress (reply : Octets → Option Octets) (held holds : Option Octets) (x : Octets) (k : Kept) : Type 0 where
+pub record Progress (reply : Octets → Option Octets) (held holds : Option Octets) (x : Octets)
+    (k : Kept) : Type 0 where
   pub ended : List Octets
   pub front : Octets
   pub sent : Octets
@@ -106,8 +116,10 @@ pub record Passes (old new : Option Octets) (due due_now text : Octets) : Type 0
   pub rest : gone ++ due_now ≡ due ++ text
 
 -- A line was ended, and is answered.
-pub record EndsLine (reply : Octets → Option Octets) (old new : Option Octets) (k n : Kept) : Type 0 where
-  pub passed : Passes old new k.answers n.answers (message_answer reply (kept_message k.line k.is_overlong))
+pub record EndsLine (reply : Octets → Option Octets) (old new : Option Octets) (k n : Kept)
+    : Type 0 where
+  pub passed : Passes old new k.answers n.answers
+      (message_answer reply (kept_message k.line k.is_overlong))
   pub line : n.line ≡ []
   pub overlong : n.is_overlong ≡ false
   pub passes : n.passes ≡ (k.passes && is_some (kept_message k.line k.is_overlong))

@@ -5,4 +5,6 @@ pub mod Stops
 pub mod Words
 pub mod Checked
 pub mod Sockets
+pub mod Turns
 pub mod Exchanges
+pub mod ExchangeForm

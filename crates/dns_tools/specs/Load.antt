@@ -1,5 +1,5 @@
--- What a reader learns here: which zone a file gives, what is written of a file that gives none, and which refusal of the
--- loader is owed to its source.
+-- What a reader learns here: which zone a file gives, what is written of a file that gives none,
+-- and which refusal of the loader is owed to its source.
 use Rattle.std.specs.Prelude.{⊤, ◌≡◌, ◌≢◌, ℕ, ◌+◌, List, [], Option, Result, Ok, Err}
 use Rattle.std.specs.List.{flat_map}
 use Rattle.dns_spec.specs.Names.{Octets, DomainName, folded}
@@ -12,24 +12,24 @@ use Rattle.dns_master.specs.declared.fault.ReadCode.{ReadCode}
 use Rattle.dns_master.specs.declared.fault.ReadCode.TheVariants.{SourceFailed, NoMemory}
 use Rattle.dns_master.specs.declared.fault.ReadFault.{ReadFault}
 use Rattle.dns_master.specs.Codes.{fault_of}
-use Rattle.dns_tools.specs.declared.fault.Stop.{Stop}
 use Rattle.dns_tools.specs.declared.fault.Stop.TheVariants.{Memory, Source, Sink}
 use Rattle.dns_tools.specs.declared.load.Refusal.{Refusal}
 use Rattle.dns_tools.specs.declared.load.Refusal.TheVariants.{File, Zone}
 use Rattle.dns_tools.specs.declared.load.LoadFault.{LoadFault}
 use Rattle.dns_tools.specs.declared.load.LoadFault.TheVariants.{Refused, Stopped}
 
--- What was loaded for an origin from a file, where its octets are known: the zone of the records that they mean, which has no
--- fault; else the faults of that zone, one at least, or the fault that the octets mean. Nothing is said of memory and of a
--- failing source.
+-- What was loaded for an origin from a file, where its octets are known: the zone of the records
+-- that they mean, which has no fault; else the faults of that zone, one at least, or the fault that
+-- the octets mean. Nothing is said of memory and of a failing source.
 abbrev pub LoadedAs : Option Octets → DomainName → Result ZoneContents LoadFault → Type 0
 LoadedAs known o (Ok zone) =
-    (rs : List ResourceRecord) × GivesMeaning known (folded o) (records rs) × (faults (zone_of (folded o) rs) ≡ [])
-    × (zone ≡ ordered_zone (folded o) rs)
+    (rs : List ResourceRecord) × GivesMeaning known (folded o) (records rs)
+    × (faults (zone_of (folded o) rs) ≡ []) × (zone ≡ ordered_zone (folded o) rs)
 LoadedAs known o (Err (Refused (Zone found))) =
-    (rs : List ResourceRecord) × GivesMeaning known (folded o) (records rs) × (found.items ≡ faults (zone_of (folded o) rs))
-    × (faults (zone_of (folded o) rs) ≢ [])
-LoadedAs known o (Err (Refused (File fault))) = GivesMeaning known (folded o) (fault_at (fault_of fault.code) fault.line)
+    (rs : List ResourceRecord) × GivesMeaning known (folded o) (records rs)
+    × (found.items ≡ faults (zone_of (folded o) rs)) × (faults (zone_of (folded o) rs) ≢ [])
+LoadedAs known o (Err (Refused (File fault))) =
+    GivesMeaning known (folded o) (fault_at (fault_of fault.code) fault.line)
 LoadedAs known o (Err (Stopped stop)) = ⊤
 
 -- what a fault of a file is to a loader, by its code
@@ -46,7 +46,8 @@ abbrev pub refusal_report : Refusal → Octets
 refusal_report (File fault) = line_report (fault_of fault.code) fault.line
 refusal_report (Zone found) = flat_map fault_report found.items
 
--- the failures of the source after a load: one more exactly where that stopped since its source failed
+-- the failures of the source after a load: one more exactly where that stopped since its source
+-- failed
 abbrev pub failures_after_load : {A : Type 0} → ℕ → Result A LoadFault → ℕ
 failures_after_load count (Ok zone) = count
 failures_after_load count (Err (Refused refusal)) = count

@@ -7,11 +7,16 @@ use Rattle.dns_serve.specs.declared.fault.TurnFault.TheVariants.{ReceiveFailed, 
 use Rattle.dns_serve.specs.declared.fault.StreamFault.{StreamFault}
 use Rattle.dns_serve.specs.declared.fault.StreamFault.TheVariants.{SourceFailed, SinkFailed, Cut}
 use Rattle.dns_tools.specs.declared.fault.TurnWord.{TurnWord}
-use Rattle.dns_tools.specs.declared.fault.TurnWord.TheVariants.{NoDatagram, NotSent, StreamNotRead, StreamNotWritten, StreamCut}
+use Rattle.dns_tools.specs.declared.fault.TurnWord.TheVariants.{NoDatagram, NotSent}
+use Rattle.dns_tools.specs.declared.fault.TurnWord.TheVariants.{StreamNotRead, StreamNotWritten}
+use Rattle.dns_tools.specs.declared.fault.TurnWord.TheVariants.{StreamCut}
 use Rattle.dns_tools.specs.declared.fault.FaultWord.{FaultWord}
-use Rattle.dns_tools.specs.declared.fault.FaultWord.TheVariants.{NoMemory, SourceFailed as FileFailed, SinkFailed as NotWritten}
+use Rattle.dns_tools.specs.declared.fault.FaultWord.TheVariants.{NoMemory}
+use Rattle.dns_tools.specs.declared.fault.FaultWord.TheVariants.{SourceFailed as FileFailed}
+use Rattle.dns_tools.specs.declared.fault.FaultWord.TheVariants.{SinkFailed as NotWritten}
 
--- 0 where all was as it should be, 1 where the input was at fault, 2 where the program could not finish
+-- 0 where all was as it should be, 1 where the input was at fault, 2 where the program could not
+-- finish
 abbrev pub status_of : {E : Type 0} → Result Bool E → ℕ
 status_of (Ok true) = 0
 status_of (Ok false) = 1

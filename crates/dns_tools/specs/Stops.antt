@@ -1,4 +1,5 @@
--- What a reader learns here: which device an engine's stop is owed to, by the counts of their failures.
+-- What a reader learns here: which device an engine's stop is owed to, by the counts of their
+-- failures.
 use Rattle.std.specs.Prelude.{ℕ, ◌+◌, Result, Ok, Err}
 use Rattle.dns_tools.specs.declared.fault.Stop.{Stop}
 use Rattle.dns_tools.specs.declared.fault.Stop.TheVariants.{Memory, Source, Sink}

@@ -3,7 +3,8 @@ use Rattle.std.specs.Prelude.{ℕ, Bool, true, false, ◌||◌, ◌==◌, List, 
 use Rattle.std.specs.List.{list_any}
 use Rattle.dns_spec.specs.Names.{octets_equal}
 use Rattle.dns_tools.specs.declared.fault.FaultWord.{FaultWord}
-use Rattle.dns_tools.specs.declared.fault.FaultWord.TheVariants.{Usage, BadOrigin, NoMemory, SourceFailed, SinkFailed, NotBound}
+use Rattle.dns_tools.specs.declared.fault.FaultWord.TheVariants.{Usage, BadOrigin, NoMemory}
+use Rattle.dns_tools.specs.declared.fault.FaultWord.TheVariants.{SourceFailed, SinkFailed, NotBound}
 
 -- the word begins with `-`
 abbrev pub is_dashed : List ℕ → Bool
@@ -17,7 +18,8 @@ is_option word = octets_equal word (codes "--quiet") || octets_equal word (codes
 -- after the options a word begins with `-`
 abbrev pub has_late_dash : List (List ℕ) → Bool
 has_late_dash [] = false
-has_late_dash (word ∷ rest) = if is_option word then has_late_dash rest else list_any is_dashed (word ∷ rest)
+has_late_dash (word ∷ rest) =
+    if is_option word then has_late_dash rest else list_any is_dashed (word ∷ rest)
 
 -- the words after `--tcp`, where it is the first
 abbrev pub after_option : List (List ℕ) → List (List ℕ)
@@ -29,7 +31,8 @@ abbrev pub after_first : List (List ℕ) → List (List ℕ)
 after_first [] = []
 after_first (word ∷ rest) = rest
 
--- a word of the server that may not begin with `-` does: any but the option of `once`, and the address of `udp` and `tcp`
+-- a word of the server that may not begin with `-` does: any but the option of `once`, and the
+-- address of `udp` and `tcp`
 abbrev pub has_dashed_value : List (List ℕ) → Bool
 has_dashed_value [] = false
 has_dashed_value (word ∷ rest) =

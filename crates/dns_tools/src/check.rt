@@ -23,12 +23,12 @@ pub struct Flags {
     pub print: bool,
 }
 
-/// Checks the zone of an origin in the file that the source gives (RFC 1035 section 5), and writes the report: whether the
-/// zone passes is the answer.
+/// Checks the zone of an origin in the file that the source gives (RFC 1035 section 5), and writes
+/// the report: whether the zone passes is the answer.
 ///
-/// A fault of the file is reported by its line and code, each fault of the zone by its owner and code on a line of its own, by
-/// owner, then by code. A zone that passes is reported by its name and serial, or printed in its canonical text. With `quiet`
-/// alone nothing is written.
+/// A fault of the file is reported by its line and code, each fault of the zone by its owner and
+/// code on a line of its own, by owner, then by code. A zone that passes is reported by its name
+/// and serial, or printed in its canonical text. With `quiet` alone nothing is written.
 ///
 /// `Memory` and `Source` come with nothing written, `Sink` with a beginning of the report.
 pub fn check_zone<R: Read, W: Write>(
@@ -40,7 +40,8 @@ pub fn check_zone<R: Read, W: Write>(
 ) -> Result<bool, Stop>
     requires source { source.old.failures < 2 ^ 64 - 1 }
     requires sink { sink.old.failures < 2 ^ 64 - 1 }
-    ensures report { CheckedAs (R.remaining source.old.device) origin.now (options_of flags) result (W.contents sink.old.device) (W.contents sink.new.device) }
+    ensures report { CheckedAs (R.remaining source.old.device) origin.now (options_of flags) result
+        (W.contents sink.old.device) (W.contents sink.new.device) }
     ensures source { source.new.failures ≡ source_failures_after source.old.failures result }
     ensures sink { sink.new.failures ≡ sink_failures_after sink.old.failures result }
 {
@@ -69,7 +70,9 @@ fn report_read_fault<W: Write>(
     sink: &mut Tally<W>,
 ) -> Result<bool, Stop>
     requires { sink.old.failures < 2 ^ 64 - 1 }
-    ensures written { WrittenAs (failing (options_of flags) (line_report (fault_of fault.now.code) fault.now.line)) result (W.contents sink.old.device) (W.contents sink.new.device) }
+    ensures written { WrittenAs
+        (failing (options_of flags) (line_report (fault_of fault.now.code) fault.now.line))
+        result (W.contents sink.old.device) (W.contents sink.new.device) }
     ensures sink { sink.new.failures ≡ sink_failures_after sink.old.failures result }
 {
     if !is_silent(flags) {
@@ -85,7 +88,8 @@ fn report_check_faults<W: Write>(
     sink: &mut Tally<W>,
 ) -> Result<bool, Stop>
     requires { sink.old.failures < 2 ^ 64 - 1 }
-    ensures written { WrittenAs (failing (options_of flags) (flat_map fault_report faults.now)) result (W.contents sink.old.device) (W.contents sink.new.device) }
+    ensures written { WrittenAs (failing (options_of flags) (flat_map fault_report faults.now))
+        result (W.contents sink.old.device) (W.contents sink.new.device) }
     ensures sink { sink.new.failures ≡ sink_failures_after sink.old.failures result }
 {
     if !is_silent(flags) {
@@ -97,7 +101,8 @@ fn report_check_faults<W: Write>(
 // Reports a zone that passes.
 fn report_zone<W: Write>(flags: Flags, zone: &Zone, sink: &mut Tally<W>) -> Result<bool, Stop>
     requires { sink.old.failures < 2 ^ 64 - 1 }
-    ensures written { WrittenAs (passing (options_of flags) zone.now) result (W.contents sink.old.device) (W.contents sink.new.device) }
+    ensures written { WrittenAs (passing (options_of flags) zone.now) result
+        (W.contents sink.old.device) (W.contents sink.new.device) }
     ensures sink { sink.new.failures ≡ sink_failures_after sink.old.failures result }
 {
     if flags.print {

@@ -9,7 +9,7 @@ use clap::error::ErrorKind;
 use dns_name::{NameFault, SinkFailed, SourceFailed};
 use dns_serve::{StreamFault, TurnFault};
 use dns_zone::PrintFault;
-use std::alloc::AllocError;
+use std::alloc::{AllocError, AllocFailed};
 use thiserror::Error;
 
 /// Why an engine gave up before the end of its input.
@@ -55,7 +55,8 @@ impl From<PrintFault> for Stop {
     }
 }
 
-/// The status of a program: 0 where its engine answers true, 1 where it answers false, 2 where it stopped.
+/// The status of a program: 0 where its engine answers true, 1 where it answers false, 2 where it
+/// stopped.
 pub fn exit_status(outcome: &Result<bool, Stop>) -> u8
     ensures { result ≡ status_of outcome.now }
 {
@@ -66,7 +67,8 @@ pub fn exit_status(outcome: &Result<bool, Stop>) -> u8
     }
 }
 
-/// What a program says on standard error where it can't do what it was asked for. The texts are what it prints.
+/// What a program says on standard error where it can't do what it was asked for. The texts are
+/// what it prints.
 #[derive(Clone, Copy, Debug, PartialEq, Eq, Error)]
 pub enum FaultWord {
     /// The words are not those that the program takes.
@@ -112,6 +114,14 @@ impl From<AllocError> for FaultWord {
     }
 }
 
+impl<T: Drop> From<AllocFailed<T>> for FaultWord {
+    ghost from_gives = { λ _ word. word ≡ NoMemory };
+
+    fn from(_refused: AllocFailed<T>) -> FaultWord {
+        FaultWord::NoMemory
+    }
+}
+
 /// ORIGIN is no name, whatever its fault.
 impl From<NameFault> for FaultWord {
     ghost from_gives = { λ _ word. word ≡ BadOrigin };
@@ -133,7 +143,8 @@ impl From<clap::Error> for FaultWord {
     }
 }
 
-/// What a server says on standard error of a turn that ended before its time. The texts are what it prints.
+/// What a server says on standard error of a turn that ended before its time. The texts are what it
+/// prints.
 #[derive(Clone, Copy, Debug, PartialEq, Eq, Error)]
 pub enum TurnWord {
     /// No datagram was received.

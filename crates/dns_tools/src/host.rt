@@ -1,4 +1,5 @@
-//! What the programs' mains do alike: their words, their zone file, and what they say where they stop.
+//! What the programs' mains do alike: their words, their zone file, and what they say where they
+//! stop.
 ghost use Rattle.std.specs.Prelude.{◌≡◌, ◌⊎◌, Ok, Err, IfOk, IfErr};
 
 use crate::fault::{FAULT_STATUS, FaultWord, Stop};
@@ -8,8 +9,8 @@ use std::io::{BufWriter, Error, ErrorKind, Write};
 use std::rt::{Env, Files};
 use std::{env, fs};
 
-/// The words after the program's own name, which is not looked at. Words that are no text are none that a program
-/// takes: `usage`.
+/// The words after the program's own name, which is not looked at. Words that are no text are none
+/// that a program takes: `usage`.
 pub fn given_words<R: Env + AllocGlobal>(rt: &R) -> Result<Vec<String>, FaultWord>
     ensures { IfErr result (λ fault. (fault ≡ FaultWord.Usage) ⊎ (fault ≡ FaultWord.NoMemory)) }
 {
@@ -17,7 +18,7 @@ pub fn given_words<R: Env + AllocGlobal>(rt: &R) -> Result<Vec<String>, FaultWor
     let given = given.map_err(|error| word_or_no_memory(&error, FaultWord::Usage))?;
     let mut words = Vec::new(rt.alloc());
     for word in given {
-        words.push(word).map_err(|_| FaultWord::NoMemory)?;
+        words.push(word)?;
     }
     Ok(words)
 }
@@ -47,12 +48,14 @@ impl<R: Env> Env for Words<'_, R> {
 
 /// The file of a path, to be read: `R16` where it can't be opened.
 pub fn open_file<R: Files>(rt: &R, path: &str) -> Result<R::File, FaultWord>
-    ensures { IfErr result (λ fault. (fault ≡ FaultWord.SourceFailed) ⊎ (fault ≡ FaultWord.NoMemory)) }
+    ensures { IfErr result (λ fault. (fault ≡ FaultWord.SourceFailed)
+        ⊎ (fault ≡ FaultWord.NoMemory)) }
 {
     fs::open(rt, path).map_err(|error| word_or_no_memory(&error, FaultWord::SourceFailed))
 }
 
-/// Writes what the buffer still holds of a report, where its engine came to its end, and lets the buffer go.
+/// Writes what the buffer still holds of a report, where its engine came to its end, and lets the
+/// buffer go.
 ///
 /// The buffer is taken apart: dropped as it is, it would write once more after a failure.
 pub fn finish<W: Write + Drop>(
@@ -74,7 +77,8 @@ pub fn finish<W: Write + Drop>(
     }
 }
 
-/// Says on standard error why a program stops, and gives the status for it, 2, also where that can't be written.
+/// Says on standard error why a program stops, and gives the status for it, 2, also where that
+/// can't be written.
 pub fn say(rt: &impl Eprint, word: FaultWord) -> u8
     ensures { result ≡ 2 }
 {

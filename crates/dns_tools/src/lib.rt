@@ -1,4 +1,5 @@
-//! What the programs do, after their `main`s: their words, how a zone is loaded, and how queries are answered.
+//! What the programs do, after their `main`s: their words, how a zone is loaded, and how queries
+//! are answered.
 #![tactic(auto)]
 
 mod check;

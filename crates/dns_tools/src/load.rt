@@ -41,10 +41,11 @@ impl From<ReadFault> for LoadFault {
     }
 }
 
-/// Loads the zone of the origin from the source of its file (RFC 1035 section 5), by the checks of the checker.
+/// Loads the zone of the origin from the source of its file (RFC 1035 section 5), by the checks of
+/// the checker.
 ///
-/// The file is read relative to the origin in lower case. Its first faulty entry decides; else all faults of the zone are
-/// its refusal. Nothing is read again after a failure.
+/// The file is read relative to the origin in lower case. Its first faulty entry decides; else all
+/// faults of the zone are its refusal. Nothing is read again after a failure.
 pub fn load<R: Read>(alloc: Global, origin: &Name, source: &mut Tally<R>) -> Result<Zone, LoadFault>
     requires { source.old.failures < 2 ^ 64 - 1 }
     ensures counted { source.new.failures ≡ failures_after_load source.old.failures result }

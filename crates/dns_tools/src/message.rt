@@ -13,14 +13,15 @@ use itoa::Buffer;
 use std::alloc::{AllocError, Global};
 use std::io::{Read, Write};
 
-/// Prints the message that the first line of the source is, in hexadecimal digits of either case, at most 131,070 of
-/// them. Where the source has no line, the empty one is taken.
+/// Prints the message that the first line of the source is, in hexadecimal digits of either case,
+/// at most 131,070 of them. Where the source has no line, the empty one is taken.
 ///
-/// A header, its questions and its records are a line each, and the answer is true. It is false where the line is no
-/// message: `fault 3` tells a message that is broken, with the number of its fault, and `bad hex` a line that is none.
+/// A header, its questions and its records are a line each, and the answer is true. It is false
+/// where the line is no message: `fault 3` tells a message that is broken, with the number of its
+/// fault, and `bad hex` a line that is none.
 ///
-/// Where it stops, the sink has a beginning of these lines, and no device is used after its failure. All memory is
-/// taken before the first octet is written.
+/// Where it stops, the sink has a beginning of these lines, and no device is used after its
+/// failure. All memory is taken before the first octet is written.
 pub fn run_message<R: Read, W: Write>(
     alloc: Global,
     source: &mut Tally<R>,
@@ -201,7 +202,8 @@ fn write_message<W: Write>(message: &Message, sink: &mut Tally<W>) -> Result<(),
     write_records(b"additional", message.additionals.as_slice(), sink)
 }
 
-// ID and flags in hexadecimal digits, and how many questions and records there are: `header 1234 8400 1 1 0 0`.
+// ID and flags in hexadecimal digits, and how many questions and records there are: `header 1234
+// 8400 1 1 0 0`.
 fn write_header<W: Write>(message: &Message, sink: &mut Tally<W>) -> Result<(), SinkFailed>
     requires { sink.old.failures < 2 ^ 64 - 1 }
     ensures { sink.new.failures ≡ failures_after sink.old.failures result }

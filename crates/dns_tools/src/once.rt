@@ -1,5 +1,7 @@
 //! Messages that come as lines of hexadecimal digits, and the lines that answer them.
-ghost use Rattle.std.specs.Prelude.{◌≡◌, ◌+◌, ◌-◌, ◌*◌, ◌^◌, ◌<◌, ◌≤◌, ◌++◌, ◌∷◌, ◌&&◌, [], false, length, codes, vec_len, vec_capacity, Option, Some, Err, OnOk, OnErr, IfOk, IfErr, IfSome, IfNone, IsErr, Ok, take, ◌≢◌};
+ghost use Rattle.std.specs.Prelude.{◌≡◌, ◌≢◌, ◌+◌, ◌-◌, ◌*◌, ◌^◌, ◌<◌, ◌≤◌, ◌++◌, ◌∷◌, ◌&&◌};
+ghost use Rattle.std.specs.Prelude.{[], false, length, codes, take, vec_len, vec_capacity, Option};
+ghost use Rattle.std.specs.Prelude.{Some, Ok, Err, OnOk, OnErr, IfOk, IfErr, IfSome, IfNone, IsErr};
 ghost use Rattle.hex.specs.Hex.{decode_of};
 ghost use Rattle.std.specs.Bool.{OnTrue, OnFalse};
 ghost use Rattle.std.specs.Option.{is_some};
@@ -7,12 +9,15 @@ ghost use Rattle.std.specs.Io.KnownBytes.{Appends};
 ghost use Rattle.dns_spec.specs.DataText.{hex_octets};
 ghost use Rattle.dns_spec.specs.Names.{Octets};
 ghost use Rattle.dns_spec.specs.WrittenText.{hex_text};
+ghost use Rattle.dns_spec.specs.Lines.{are_messages, line_answers, lines};
 ghost use Rattle.dns_spec.specs.Lines.{message_answer, reply_line};
-ghost use Rattle.dns_tools.specs.Exchanges.{Begun, EndsLine, IsFresh, KeepsOctet, Passes, Progress, kept_as, kept_message, reply_within};
+ghost use Rattle.dns_tools.specs.Exchanges.{Begun, EndsLine, IsFresh, KeepsOctet, LinesAnswered};
+ghost use Rattle.dns_tools.specs.Exchanges.{Passes, Progress, kept_message, reply_within};
 ghost use Rattle.dns_name.specs.Counted.{AppendsBeginning, failures_after};
 ghost use Rattle.dns_tools.specs.Stops.{source_failures_after, sink_failures_after};
 ghost use Rattle.dns_answer.specs.Limits.{limit_of};
-ghost use Rattle.dns_tools.specs.declared.once.TheConstants.{MOST_DIGITS, MOST_OCTETS, MOST_ANSWER, ANSWERS, DIGITS};
+ghost use Rattle.dns_tools.specs.declared.once.TheConstants.{MOST_DIGITS, MOST_OCTETS};
+ghost use Rattle.dns_tools.specs.declared.once.TheConstants.{MOST_ANSWER, ANSWERS, DIGITS};
 
 use crate::fault::Stop;
 use dns_answer::{Limit, respond};
@@ -37,15 +42,17 @@ pub(crate) const PIECE: usize = 65_536;
 // How many digits are spelled at once.
 const DIGITS: usize = 128;
 
-/// Answers each line of the source by one line of the sink, and tells whether each line was a message.
+/// Answers each line of the source by one line of the sink, and tells whether each line was a
+/// message.
 ///
-/// A line is a message in hexadecimal digits of either case, at most 131,070 of them; after the last LF there is a
-/// line only where octets follow. Its answer is the reply in lower case digits, or `none` where there is no reply. A
-/// line that is no such message is answered by `bad hex`. At most 18,446,744,073,709,551,615 octets are read, and the
-/// source counts as ended there. All answers that are due are written before the source is asked for more.
+/// A line is a message in hexadecimal digits of either case, at most 131,070 of them; after the
+/// last LF there is a line only where octets follow. Its answer is the reply in lower case digits,
+/// or `none` where there is no reply. A line that is no such message is answered by `bad hex`. At
+/// most 18,446,744,073,709,551,615 octets are read, and the source counts as ended there. All
+/// answers that are due are written before the source is asked for more.
 ///
-/// Where it stops, the sink has a beginning of the answers, and no device is used after its failure. Memory is taken
-/// before the first octet is read, and none afterwards.
+/// Where it stops, the sink has a beginning of the answers, and no device is used after its
+/// failure. Memory is taken before the first octet is read, and none afterwards.
 pub fn run_once<R: Read, W: Write>(
     alloc: Global,
     zone: &Zone,
@@ -57,6 +64,14 @@ pub fn run_once<R: Read, W: Write>(
     requires sink { sink.old.failures < 2 ^ 64 - 1 }
     ensures source { source.new.failures ≡ source_failures_after source.old.failures result }
     ensures sink { sink.new.failures ≡ sink_failures_after sink.old.failures result }
+    ensures lines { LinesAnswered (reply_within limit zone.now)
+        (record {
+          unread = R.remaining source.old.device;
+          left = R.remaining source.new.device;
+          held = W.contents sink.old.device;
+          holds = W.contents sink.new.device;
+        })
+        result }
 
     // Without memory nothing was read and nothing was written.
     ensures unread { result ≡ Err Stop.Memory → source.new ≡ source.old }
@@ -89,9 +104,11 @@ struct Exchange<'z> {
 }
 
 impl<'z> Exchange<'z> {
+    ghost use Rattle.dns_tools.specs.ExchangeForm.{kept_of, reply_of};
+
     fn new(alloc: Global, zone: &'z Zone, limit: Limit) -> Result<Self, AllocError>
-        ensures fresh { IfOk result (λ e. IsFresh (kept_as e.line.items e.is_overlong e.answers.items e.are_all_messages)) }
-        ensures task { IfOk result (λ e. reply_within e.limit e.zone.now ≡ reply_within limit zone.now) }
+        ensures fresh { IfOk result (λ e. IsFresh (kept_of e)) }
+        ensures task { IfOk result (λ e. reply_of e ≡ reply_within limit zone.now) }
     {
         Ok(Exchange {
             zone,
@@ -114,8 +131,17 @@ impl<'z> Exchange<'z> {
         requires source { source.old.failures < 2 ^ 64 - 1 }
         requires sink { sink.old.failures < 2 ^ 64 - 1 }
         requires piece { 0 < length piece.old }
+        requires fresh { IsFresh (kept_of self.old) }
         ensures source { source.new.failures ≡ source_failures_after source.old.failures result }
         ensures sink { sink.new.failures ≡ sink_failures_after sink.old.failures result }
+        ensures lines { LinesAnswered (reply_of self.old)
+            (record {
+              unread = R.remaining source.old.device;
+              left = R.remaining source.new.device;
+              held = W.contents sink.old.device;
+              holds = W.contents sink.new.device;
+            })
+            result }
         ensures memory { IfErr result (λ stop. stop ≢ Stop.Memory) }
     {
         let mut left = u64::MAX;
@@ -129,9 +155,42 @@ impl<'z> Exchange<'z> {
             self.take(&piece[..count], sink)?;
             left -= count as u64;
         }
-        if !self.line.is_empty() {
-            self.end_line(sink)?;
+        Ok(self.finish(sink)?)
+    }
+
+    // Answers the line that nothing ends, where there is one, and writes the answers that are due.
+    fn finish<W: Write>(&mut self, sink: &mut Tally<W>) -> Result<bool, SinkFailed>
+        requires { sink.old.failures < 2 ^ 64 - 1 }
+        ensures counted { sink.new.failures ≡ failures_after sink.old.failures result }
+        ensures written { (held : Option Octets) (x : Octets)
+            → Progress (reply_of self.old) held (W.contents sink.old.device) x (kept_of self.old)
+            → OnOk result (Appends held (W.contents sink.new.device)
+            (line_answers (reply_of self.old) (lines x))) }
+        ensures passes { (held : Option Octets) (x : Octets)
+            → Progress (reply_of self.old) held (W.contents sink.old.device) x (kept_of self.old)
+            → IfOk result (λ passes. passes ≡ are_messages (lines x)) }
+        ensures begun { (held : Option Octets) (x : Octets)
+            → Progress (reply_of self.old) held (W.contents sink.old.device) x (kept_of self.old)
+            → OnErr result (AppendsBeginning held (W.contents sink.new.device)
+            (line_answers (reply_of self.old) (lines x))) }
+    {
+        if self.line.is_empty() {
+            return self.conclude(sink);
         }
+        self.end_line(sink)?;
+        self.conclude(sink)
+    }
+
+    // Writes the answers that are due, and tells whether each line was a message.
+    fn conclude<W: Write>(&mut self, sink: &mut Tally<W>) -> Result<bool, SinkFailed>
+        requires { sink.old.failures < 2 ^ 64 - 1 }
+        ensures counted { sink.new.failures ≡ failures_after sink.old.failures result }
+        ensures passes { IfOk result (λ passes. passes ≡ self.old.are_all_messages) }
+        ensures written { OnOk result (Appends (W.contents sink.old.device)
+            (W.contents sink.new.device) self.old.answers.items) }
+        ensures begun { OnErr result (AppendsBeginning (W.contents sink.old.device)
+            (W.contents sink.new.device) self.old.answers.items) }
+    {
         self.flush(sink)?;
         Ok(self.are_all_messages)
     }
@@ -140,15 +199,14 @@ impl<'z> Exchange<'z> {
     fn take<W: Write>(&mut self, octets: &[u8], sink: &mut Tally<W>) -> Result<(), SinkFailed>
         requires { sink.old.failures < 2 ^ 64 - 1 }
         ensures counted { sink.new.failures ≡ failures_after sink.old.failures result }
-        ensures task { OnOk result (reply_within self.new.limit self.new.zone.now
-            ≡ reply_within self.old.limit self.old.zone.now) }
+        ensures task { OnOk result (reply_of self.new ≡ reply_of self.old) }
         ensures taken { (held : Option Octets) (x : Octets)
-            → Progress (reply_within self.old.limit self.old.zone.now) held (W.contents sink.old.device) x (kept_as self.old.line.items self.old.is_overlong self.old.answers.items self.old.are_all_messages)
-            → OnOk result (Progress (reply_within self.old.limit self.old.zone.now) held (W.contents sink.new.device)
-            (x ++ octets.now) (kept_as self.new.line.items self.new.is_overlong self.new.answers.items self.new.are_all_messages)) }
+            → Progress (reply_of self.old) held (W.contents sink.old.device) x (kept_of self.old)
+            → OnOk result (Progress (reply_of self.old) held (W.contents sink.new.device)
+            (x ++ octets.now) (kept_of self.new)) }
         ensures begun { (held : Option Octets) (x : Octets)
-            → Progress (reply_within self.old.limit self.old.zone.now) held (W.contents sink.old.device) x (kept_as self.old.line.items self.old.is_overlong self.old.answers.items self.old.are_all_messages)
-            → OnErr result (Begun (reply_within self.old.limit self.old.zone.now) held (W.contents sink.new.device)
+            → Progress (reply_of self.old) held (W.contents sink.old.device) x (kept_of self.old)
+            → OnErr result (Begun (reply_of self.old) held (W.contents sink.new.device)
             (x ++ octets.now)) }
     {
         'octets: for octet in octets {
@@ -161,14 +219,11 @@ impl<'z> Exchange<'z> {
     fn take_octet<W: Write>(&mut self, octet: u8, sink: &mut Tally<W>) -> Result<(), SinkFailed>
         requires { sink.old.failures < 2 ^ 64 - 1 }
         ensures counted { sink.new.failures ≡ failures_after sink.old.failures result }
-        ensures task { OnOk result (reply_within self.new.limit self.new.zone.now
-            ≡ reply_within self.old.limit self.old.zone.now) }
+        ensures task { OnOk result (reply_of self.new ≡ reply_of self.old) }
         ensures taken { (held : Option Octets) (x : Octets)
-            → Progress (reply_within self.old.limit self.old.zone.now) held (W.contents sink.old.device) x
-            (kept_as self.old.line.items self.old.is_overlong self.old.answers.items self.old.are_all_messages)
-            → OnOk result (Progress (reply_within self.old.limit self.old.zone.now) held
-            (W.contents sink.new.device) (x ++ octet ∷ [])
-            (kept_as self.new.line.items self.new.is_overlong self.new.answers.items self.new.are_all_messages)) }
+            → Progress (reply_of self.old) held (W.contents sink.old.device) x (kept_of self.old)
+            → OnOk result (Progress (reply_of self.old) held (W.contents sink.new.device)
+            (x ++ octet ∷ []) (kept_of self.new)) }
         ensures begun { OnErr result (AppendsBeginning (W.contents sink.old.device)
             (W.contents sink.new.device) self.old.answers.items) }
     {
@@ -181,9 +236,8 @@ impl<'z> Exchange<'z> {
 
     // Keeps the next octet of the line, as long as the line may be a message.
     fn keep(&mut self, octet: u8)
-        ensures kept { KeepsOctet (kept_as self.old.line.items self.old.is_overlong self.old.answers.items self.old.are_all_messages) (kept_as self.new.line.items self.new.is_overlong self.new.answers.items self.new.are_all_messages) octet }
-        ensures task { reply_within self.new.limit self.new.zone.now
-            ≡ reply_within self.old.limit self.old.zone.now }
+        ensures kept { KeepsOctet (kept_of self.old) (kept_of self.new) octet }
+        ensures task { reply_of self.new ≡ reply_of self.old }
     {
         if self.line.len() < MOST_DIGITS {
             self.line.push_reserved(octet);
@@ -196,10 +250,9 @@ impl<'z> Exchange<'z> {
     fn end_line<W: Write>(&mut self, sink: &mut Tally<W>) -> Result<(), SinkFailed>
         requires { sink.old.failures < 2 ^ 64 - 1 }
         ensures counted { sink.new.failures ≡ failures_after sink.old.failures result }
-        ensures task { OnOk result (reply_within self.new.limit self.new.zone.now
-            ≡ reply_within self.old.limit self.old.zone.now) }
-        ensures ended { OnOk result (EndsLine (reply_within self.old.limit self.old.zone.now) (W.contents sink.old.device)
-            (W.contents sink.new.device) (kept_as self.old.line.items self.old.is_overlong self.old.answers.items self.old.are_all_messages) (kept_as self.new.line.items self.new.is_overlong self.new.answers.items self.new.are_all_messages)) }
+        ensures task { OnOk result (reply_of self.new ≡ reply_of self.old) }
+        ensures ended { OnOk result (EndsLine (reply_of self.old) (W.contents sink.old.device)
+            (W.contents sink.new.device) (kept_of self.old) (kept_of self.new)) }
         ensures begun { OnErr result (AppendsBeginning (W.contents sink.old.device)
             (W.contents sink.new.device) self.old.answers.items) }
     {
@@ -222,8 +275,7 @@ impl<'z> Exchange<'z> {
         ensures line { self.new.line.items ≡ self.old.line.items }
         ensures overlong { self.new.is_overlong ≡ self.old.is_overlong }
         ensures passes { self.new.are_all_messages ≡ self.old.are_all_messages }
-        ensures task { reply_within self.new.limit self.new.zone.now
-            ≡ reply_within self.old.limit self.old.zone.now }
+        ensures task { reply_of self.new ≡ reply_of self.old }
     {
         if ANSWERS - self.answers.len() < MOST_ANSWER {
             return self.flush(sink);
@@ -235,12 +287,11 @@ impl<'z> Exchange<'z> {
     fn answer_line(&mut self)
         requires { vec_len self.old.answers + MOST_ANSWER ≤ ANSWERS }
         ensures answers { self.new.answers.items ≡ self.old.answers.items
-            ++ message_answer (reply_within self.old.limit self.old.zone.now)
+            ++ message_answer (reply_of self.old)
             (kept_message self.old.line.items self.old.is_overlong) }
         ensures passes { self.new.are_all_messages ≡ (self.old.are_all_messages
             && is_some (kept_message self.old.line.items self.old.is_overlong)) }
-        ensures task { reply_within self.new.limit self.new.zone.now
-            ≡ reply_within self.old.limit self.old.zone.now }
+        ensures task { reply_of self.new ≡ reply_of self.old }
     {
         if self.is_overlong {
             self.refuse_line();
@@ -266,8 +317,7 @@ impl<'z> Exchange<'z> {
         requires { vec_len self.old.answers + MOST_ANSWER ≤ ANSWERS }
         ensures answers { self.new.answers.items ≡ self.old.answers.items ++ codes "bad hex\n" }
         ensures passes { self.new.are_all_messages ≡ false }
-        ensures task { reply_within self.new.limit self.new.zone.now
-            ≡ reply_within self.old.limit self.old.zone.now }
+        ensures task { reply_of self.new ≡ reply_of self.old }
     {
         self.are_all_messages = false;
         put(&mut self.answers, b"bad hex\n");
@@ -286,8 +336,7 @@ impl<'z> Exchange<'z> {
         ensures line { self.new.line.items ≡ self.old.line.items }
         ensures overlong { self.new.is_overlong ≡ self.old.is_overlong }
         ensures passes { self.new.are_all_messages ≡ self.old.are_all_messages }
-        ensures task { reply_within self.new.limit self.new.zone.now
-            ≡ reply_within self.old.limit self.old.zone.now }
+        ensures task { reply_of self.new ≡ reply_of self.old }
     {
         sink.write_all(self.answers.as_slice())?;
         self.answers.clear();
@@ -295,8 +344,8 @@ impl<'z> Exchange<'z> {
     }
 }
 
-// Answers a line that is a message, with room for its octets and for those of the reply. False, with nothing answered,
-// where it is none.
+// Answers a line that is a message, with room for its octets and for those of the reply. False,
+// with nothing answered, where it is none.
 fn answer(
     zone: &Zone,
     limit: Limit,
@@ -325,7 +374,8 @@ fn answer(
     true
 }
 
-/// Spells the octets of a message in front of the buffer, and answers how many they are. `None` for other lines.
+/// Spells the octets of a message in front of the buffer, and answers how many they are. `None` for
+/// other lines.
 pub(crate) fn octets_of(line: &[u8], datagram: &mut [u8]) -> Option<usize>
     requires { length line.now ≤ 2 * length datagram.old + 1 }
     ensures some { IfSome result (λ len. decode_of line.now ≡ Ok (take len datagram.new)) }

@@ -31,7 +31,8 @@ const MOST_TURNS: u32 = 1_000_000;
 /// How `zoneserve` is asked to serve.
 #[derive(Clone, Copy, Debug, PartialEq, Eq)]
 pub enum Service<'a> {
-    /// Each line of standard input is answered by a line of standard output, with replies up to the limit.
+    /// Each line of standard input is answered by a line of standard output, with replies up to the
+    /// limit.
     Once(Limit),
     /// So many datagrams are answered at the address.
     Udp {
@@ -60,13 +61,15 @@ pub struct ServeWords<'a> {
     pub file: &'a str,
 }
 
-/// Reads the words after the program's own name: `once [--tcp] ORIGIN FILE`, or `udp` or `tcp` and `ADDR TURNS ORIGIN FILE`,
-/// where ORIGIN is a name relative to the root and TURNS a number from 1 to 1,000,000. ADDR is not read yet.
+/// Reads the words after the program's own name: `once [--tcp] ORIGIN FILE`, or `udp` or `tcp` and
+/// `ADDR TURNS ORIGIN FILE`, where ORIGIN is a name relative to the root and TURNS a number from 1
+/// to 1,000,000. ADDR is not read yet.
 ///
-/// `usage` where they are other words, or where ORIGIN or FILE begins with `-`; then `bad origin` where ORIGIN is no name.
-/// No other option is known, and no word asks for help or for the version.
+/// `usage` where they are other words, or where ORIGIN or FILE begins with `-`; then `bad origin`
+/// where ORIGIN is no name. No other option is known, and no word asks for help or for the version.
 pub fn serve_words<'a, S: AsStr>(alloc: Global, words: &'a [S]) -> Result<ServeWords<'a>, FaultWord>
-    ensures dashed { IsTrue (has_dashed_value (map S.text words.entry.now)) → result ≡ Err FaultWord.Usage }
+    ensures dashed { IsTrue (has_dashed_value (map S.text words.entry.now))
+        → result ≡ Err FaultWord.Usage }
     ensures fault { IfErr result (λ fault. IsTrue (is_word_fault fault)) }
 {
     if has_dashed_value(words) {
@@ -92,13 +95,15 @@ pub struct CheckWords<'a> {
     pub file: &'a str,
 }
 
-/// Reads the words after the program's own name: `--quiet` and `--print`, in either order and each at most once, then
-/// ORIGIN, a name relative to the root, and FILE.
+/// Reads the words after the program's own name: `--quiet` and `--print`, in either order and each
+/// at most once, then ORIGIN, a name relative to the root, and FILE.
 ///
-/// `usage` where they are other words, or one of them after these options begins with `-`; then `bad origin` where ORIGIN
-/// is no name. No other option is known, and no word asks for help or for the version.
+/// `usage` where they are other words, or one of them after these options begins with `-`; then
+/// `bad origin` where ORIGIN is no name. No other option is known, and no word asks for help or for
+/// the version.
 pub fn check_words<'a, S: AsStr>(alloc: Global, words: &'a [S]) -> Result<CheckWords<'a>, FaultWord>
-    ensures late { IsTrue (has_late_dash (map S.text words.entry.now)) → result ≡ Err FaultWord.Usage }
+    ensures late { IsTrue (has_late_dash (map S.text words.entry.now))
+        → result ≡ Err FaultWord.Usage }
     ensures fault { IfErr result (λ fault. IsTrue (is_word_fault fault)) }
 {
     if has_late_dash(words) {
@@ -125,7 +130,8 @@ fn begins_with_dash(word: &str) -> bool
     matches!(word.as_bytes(), [b'-', ..])
 }
 
-// Whether a word that may not begin with `-` does: all but options of `once`, and the address of `udp` and `tcp`.
+// Whether a word that may not begin with `-` does: all but options of `once`, and the address of
+// `udp` and `tcp`.
 fn has_dashed_value<S: AsStr>(words: &[S]) -> bool
     ensures { result ≡ has_dashed_value (map S.text words.now) }
 {

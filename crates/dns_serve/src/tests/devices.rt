@@ -3,8 +3,8 @@ ghost use Rattle.std.specs.Prelude.{◌≡◌, None, true};
 use crate::{Datagrams, Failed};
 use std::io::{self, ErrorKind, Read, Write};
 
-/// A reader that gives a text in pieces of at most `most` octets, until its calls are used up: then one
-/// fails, and later ones would work.
+/// A reader that gives a text in pieces of at most `most` octets, until its calls are used up: then
+/// one fails, and later ones would work.
 #[derive(Drop)]
 pub(super) struct Pieces<'a> {
     pub text: &'a [u8],
@@ -24,8 +24,8 @@ impl Read for Pieces<'_> {
     }
 }
 
-/// A writer that keeps what it is given, at most `most` octets a call, until its calls are used up: then one
-/// fails, and later ones would work.
+/// A writer that keeps what it is given, at most `most` octets a call, until its calls are used up:
+/// then one fails, and later ones would work.
 #[derive(Drop)]
 pub(super) struct Kept {
     pub text: Vec<u8>,
@@ -49,8 +49,8 @@ impl Write for Kept {
     }
 }
 
-/// A device over memory: one datagram, and the replies that were sent. The call `fails_at`, counted from 0, fails, and later
-/// ones work.
+/// A device over memory: one datagram, and the replies that were sent. The call `fails_at`, counted
+/// from 0, fails, and later ones work.
 #[derive(Drop)]
 pub(super) struct Mailbox<'a> {
     pub datagram: &'a [u8],

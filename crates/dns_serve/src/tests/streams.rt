@@ -14,7 +14,8 @@ struct Left {
     failures: (u64, u64),
 }
 
-// How the devices behave: how many octets a call moves at most, and how many calls of each work before one fails.
+// How the devices behave: how many octets a call moves at most, and how many calls of each work
+// before one fails.
 #[derive(Clone, Copy)]
 struct Devices {
     most: usize,
@@ -66,8 +67,8 @@ fn add_frame(octets: &mut Vec<u8>, message: &[u8]) -> Result<(), Fail> {
     Ok(())
 }
 
-// Messages in their frames, a letter for each: `w` the question, `W` its reply, `a` what gets no reply, `e` no octets, `l` the
-// question with zeros up to 600 octets, `R` the reply to that.
+// Messages in their frames, a letter for each: `w` the question, `W` its reply, `a` what gets no
+// reply, `e` no octets, `l` the question with zeros up to 600 octets, `R` the reply to that.
 fn frames(alloc: Global, letters: &str) -> Result<Vec<u8>, Fail> {
     let mut long = Vec::new(alloc);
     long.extend_from_slice(WWW)?;

@@ -2,8 +2,8 @@ ghost use Rattle.std.specs.Prelude.{◌≤◌, length, IfOk};
 
 use std::io::{self, ErrorKind, Read, Write};
 
-/// A reader that gives a text in pieces of at most `most` octets, until its calls are used up: then one
-/// fails, and later ones would work.
+/// A reader that gives a text in pieces of at most `most` octets, until its calls are used up: then
+/// one fails, and later ones would work.
 #[derive(Drop)]
 pub(super) struct Pieces<'a> {
     pub text: &'a [u8],
@@ -23,8 +23,8 @@ impl Read for Pieces<'_> {
     }
 }
 
-/// A writer that keeps what it is given, at most `most` octets a call, until its calls are used up: then one
-/// fails, and later ones would work.
+/// A writer that keeps what it is given, at most `most` octets a call, until its calls are used up:
+/// then one fails, and later ones would work.
 #[derive(Drop)]
 pub(super) struct Kept {
     pub text: Vec<u8>,

@@ -21,8 +21,8 @@ pub(super) fn example() -> Result<Name, Fail> {
     Ok(Name::read_text(b"example", &Name::root())?)
 }
 
-// Why a text gives no zone, in the words of the report, or the serial of its zone. The text comes in pieces, and is followed
-// by a failure where the calls are used up.
+// Why a text gives no zone, in the words of the report, or the serial of its zone. The text comes
+// in pieces, and is followed by a failure where the calls are used up.
 fn loaded(
     alloc: Global,
     text: &[u8],

@@ -25,7 +25,8 @@ const PRINT: Flags = Flags {
     print: true,
 };
 
-// What a check of a text answers, and what it writes to a sink that takes 1,000 octets a call, so many times.
+// What a check of a text answers, and what it writes to a sink that takes 1,000 octets a call, so
+// many times.
 fn checked(
     alloc: Global,
     origin: &Name,
@@ -137,8 +138,8 @@ fn owners_of_127_labels(rt: HostRuntime) -> Result<(), Fail> {
     Ok(())
 }
 
-// A file of so many records, each a wildcard's name server without address, and its report: two lines a record, and two of
-// the origin, which has no record.
+// A file of so many records, each a wildcard's name server without address, and its report: two
+// lines a record, and two of the origin, which has no record.
 fn faulty_zone(alloc: Global, records: u32) -> Result<(String, String), Fail> {
     let mut text = String::from_str(alloc, "$TTL 60\n")?;
     let mut report = String::from_str(alloc, "example. Z01\nexample. Z04\n")?;

@@ -7,7 +7,8 @@ use dns_name::Tally;
 use std::alloc::Global;
 use std::test::Fail;
 
-// What a run over the sample zone, over UDP, writes and answers, for an input in pieces and a number of calls that work.
+// What a run over the sample zone, over UDP, writes and answers, for an input in pieces and a
+// number of calls that work.
 fn run(
     alloc: Global,
     input: &[u8],

@@ -1,0 +1,20 @@
+use Rattle.std.proofs.Common.{◌≤◌, ◌+◌}
+use Rattle.dns_tools.specs.Turns.{TakesTurns}
+use Rattle.dns_tools.proofs.listen.take_turns.Given as goal
+
+-- so many turns were taken, none of which failed more than once
+abbrev pub invariant-turns : goal.invariant-turns
+invariant-turns g l = record {
+  taken : TakesTurns l.zone l.counter
+      (record {
+        received = g.D.Datagrams.received l.initial.device;
+        sent = g.D.Datagrams.sent l.initial.device;
+        failures = g.D.Datagrams.count l.initial.device;
+      })
+      (record {
+        received = g.D.Datagrams.received l.device;
+        sent = g.D.Datagrams.sent l.device;
+        failures = g.D.Datagrams.count l.device;
+      });
+  count : g.D.Datagrams.count l.device ≤ g.D.Datagrams.count l.initial.device + l.counter;
+}

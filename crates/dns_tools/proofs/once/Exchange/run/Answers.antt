@@ -1,0 +1,95 @@
+use Rattle.std.proofs.Common.{arith, rules, ◌<◌, ◌≤◌, ◌∙◌, [], length, refl, subst, sym, take}
+use Rattle.std.specs.Io.KnownBytes.{Consumes}
+use Rattle.std.proofs.lemmas.List.{take-append-le}
+use Rattle.dns_tools.specs.ExchangeForm.{kept_of, reply_of}
+use Rattle.dns_tools.proofs.LineReads.{AllRead, reading_none, reading_flush, reading_take, reading_begun, taking_begun, reading_failed, all_read, all_given, all_answered, all_begun, sink_stopped, source_stopped}
+use Rattle.dns_tools.proofs.once.Exchange.run.Goals as goal
+use Rattle.dns_tools.proofs.once.Exchange.run.Goals.{else-pieces-test, then-pieces-test+in_ok-flush+in_ok-count+then-count-eq0}
+
+pub pieces-init : goal.pieces-init
+pieces-init g c = record { source = refl; sink = refl; task = refl; reading = reading_none _ _ _ _ c.requires.fresh }
+
+pub returns-in_err-flush-clause-lines : goal.returns-in_err-flush-clause-lines
+returns-in_err-flush-clause-lines g c =
+    sink_stopped _ _ c.from_residual.result c.from_residual.ensures.1
+    (reading_begun _ _ _ _ _ _ _ _ c.in_err-flush.ensures.begun c.pieces.invariant.reading)
+
+pub returns-in_err-count-clause-lines : goal.returns-in_err-count-clause-lines
+returns-in_err-count-clause-lines g c =
+    let e = c.in_ok-flush.ensures in
+    source_stopped _ _ c.from_residual-in_err-count.result c.from_residual-in_err-count.ensures.1
+    (reading_failed _ _ _ _ _ _ c.pieces.left _ e.none (omega (arith, c.pieces-test.true)) c.in_err-count.ensures.bytes
+    (reading_flush _ _ _ _ _ _ _ _ _ e.written e.none e.line e.overlong e.passes c.pieces.invariant.reading))
+
+pub returns-in_err-take-clause-lines : goal.returns-in_err-take-clause-lines
+returns-in_err-take-clause-lines g c =
+    let e = c.in_ok-flush.ensures in
+    let bound = c.in_ok-count.ensures.bound in
+    let within : c.in_ok-count.count ≤ c.pieces.left = search rules in
+    sink_stopped _ _ c.from_residual-in_err-take.result c.from_residual-in_err-take.ensures.1
+    (taking_begun _ _ _ _ _ _ _ _ c.pieces.left c.in_ok-count.count _ _ _ (e.task ∙ c.pieces.invariant.task)
+    (take-append-le c.in_ok-count.count c.read.new.buf _ bound.0) (sym bound.1) within
+    c.in_ok-count.ensures.bytes.0 c.in_err-take.ensures.begun
+    (reading_flush _ _ _ _ _ _ _ _ _ e.written e.none e.line e.overlong e.passes c.pieces.invariant.reading))
+
+pub pieces-preserved : goal.pieces-preserved
+pieces-preserved g c = record {
+  source = search rules;
+  sink = search rules;
+  task = c.in_ok-take.ensures.task ∙ c.in_ok-flush.ensures.task ∙ c.pieces.invariant.task;
+  reading =
+      let e = c.in_ok-flush.ensures in
+      let bound = c.in_ok-count.ensures.bound in
+      let within : c.in_ok-count.count ≤ c.pieces.left = search rules in
+      reading_take _ _ _ _ _ _ _ _ c.pieces.left c.in_ok-count.count _ _ _ _ (e.task ∙ c.pieces.invariant.task)
+      (take-append-le c.in_ok-count.count c.read.new.buf _ bound.0) (sym bound.1) within
+      c.in_ok-count.ensures.bytes.0 c.in_ok-take.ensures.taken
+      (reading_flush _ _ _ _ _ _ _ _ _ e.written e.none e.line e.overlong e.passes c.pieces.invariant.reading);
+}
+
+pub returns-in_err-finish-clause-lines : goal.returns-in_err-finish-clause-lines
+returns-in_err-finish-clause-lines g c =
+    let r = c.args.self.now in
+    let s = c.pieces-test.self in
+    let all : AllRead (reply_of r) (reply_of s) (g.R.Read.remaining c.args.source.now.device)
+    (g.R.Read.remaining c.pieces-test.source.device) (g.W.Write.contents c.args.sink.now.device) (g.W.Write.contents c.pieces-test.sink.device)
+    (kept_of s) = elim c.pieces-test.branch [
+      | else-pieces-test w ↦ rw (w.self-is, w.source-is, w.sink-is)
+          (all_read _ _ _ _ _ _ c.pieces.left _ c.pieces.invariant.task (omega (arith, w.pieces-test.false)) c.pieces.invariant.reading)
+      | then-pieces-test+in_ok-flush+in_ok-count+then-count-eq0 w ↦
+          let e = w.in_ok-flush.ensures in
+          let bytes = w.in_ok-count.ensures.bytes in
+          let some : 0 < length w.read.new.buf = search rules in
+          let nothing : Consumes (g.R.Read.remaining c.pieces.source.device) (g.R.Read.remaining w.read.new.self.device) [] =
+          subst (λ n. Consumes (g.R.Read.remaining c.pieces.source.device) (g.R.Read.remaining w.read.new.self.device) (take n w.read.new.buf))
+          w.if-count-eq0.true bytes.0
+          in
+          rw (w.self-is, w.source-is, w.sink-is)
+          (all_given _ _ _ _ _ _ _ c.pieces.left _ (e.task ∙ c.pieces.invariant.task) nothing (bytes.1 w.if-count-eq0.true some)
+          (reading_flush _ _ _ _ _ _ _ _ _ e.written e.none e.line e.overlong e.passes c.pieces.invariant.reading))
+    ] in
+    sink_stopped _ _ c.from_residual-in_err-finish.result c.from_residual-in_err-finish.ensures.1
+    (all_begun _ _ _ _ _ _ _ _ c.in_err-finish.ensures.begun all)
+
+pub returns-clause-lines : goal.returns-clause-lines
+returns-clause-lines g c =
+    let r = c.args.self.now in
+    let s = c.pieces-test.self in
+    let all : AllRead (reply_of r) (reply_of s) (g.R.Read.remaining c.args.source.now.device)
+    (g.R.Read.remaining c.pieces-test.source.device) (g.W.Write.contents c.args.sink.now.device) (g.W.Write.contents c.pieces-test.sink.device)
+    (kept_of s) = elim c.pieces-test.branch [
+      | else-pieces-test w ↦ rw (w.self-is, w.source-is, w.sink-is)
+          (all_read _ _ _ _ _ _ c.pieces.left _ c.pieces.invariant.task (omega (arith, w.pieces-test.false)) c.pieces.invariant.reading)
+      | then-pieces-test+in_ok-flush+in_ok-count+then-count-eq0 w ↦
+          let e = w.in_ok-flush.ensures in
+          let bytes = w.in_ok-count.ensures.bytes in
+          let some : 0 < length w.read.new.buf = search rules in
+          let nothing : Consumes (g.R.Read.remaining c.pieces.source.device) (g.R.Read.remaining w.read.new.self.device) [] =
+          subst (λ n. Consumes (g.R.Read.remaining c.pieces.source.device) (g.R.Read.remaining w.read.new.self.device) (take n w.read.new.buf))
+          w.if-count-eq0.true bytes.0
+          in
+          rw (w.self-is, w.source-is, w.sink-is)
+          (all_given _ _ _ _ _ _ _ c.pieces.left _ (e.task ∙ c.pieces.invariant.task) nothing (bytes.1 w.if-count-eq0.true some)
+          (reading_flush _ _ _ _ _ _ _ _ _ e.written e.none e.line e.overlong e.passes c.pieces.invariant.reading))
+    ] in
+    all_answered _ _ _ _ _ _ _ _ _ c.in_ok-finish.ensures.written c.in_ok-finish.ensures.passes all
