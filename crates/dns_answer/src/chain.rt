@@ -148,7 +148,8 @@ fn seek_one<'z, const N: usize, const SIZE: usize>(
     requires depth { length name.now ≡ length steps.old.zone.origin + depth }
     requires few { depth ≤ 127 }
     requires room { HasRoom steps.old (129 * (more + 129)) }
-    ensures { SoughtAs draft.old draft.new steps.old steps.new qtype more sought.now name.now result }
+    ensures { SoughtAs draft.old draft.new steps.old steps.new qtype more sought.now name.now
+        result }
 {
     let node = match look_up(name, depth, apex, steps) {
         Found::Cut(cut, octets) => return Sought::Last(refer(&cut, octets, apex, steps, draft)),
