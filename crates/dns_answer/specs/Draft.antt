@@ -4,8 +4,8 @@ use Rattle.std.specs.Prelude.{Some}
 use Rattle.dns_spec.specs.Reading.{MessageQuestion}
 use Rattle.dns_spec.specs.Layout.{Item, size}
 
--- A reply to a question while sets are offered to it: the sets that it has, and whether one did not fit, after which none is
--- tried.
+-- A reply to a question while sets are offered to it: the sets that it has, and whether one did
+-- not fit, after which none is tried.
 pub record Draft : Type 0 where
   pub question : MessageQuestion
   pub limit : ℕ

@@ -1,4 +1,5 @@
--- What a reader learns here: when a reply has the sets of a draft, and what offering sets makes of it.
+-- What a reader learns here: when a reply has the sets of a draft, and what offering sets makes of
+-- it.
 use Rattle.std.specs.Prelude.{◌≡◌, Bool, List}
 use Rattle.std.specs.Prelude.{Some}
 use Rattle.dns_spec.specs.Layout.{Item}

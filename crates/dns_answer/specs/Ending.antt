@@ -1,4 +1,5 @@
--- What a reader learns here: which sets end an answer, after the aliases, and what the header says of it.
+-- What a reader learns here: which sets end an answer, after the aliases, and what the header says
+-- of it.
 use Rattle.std.specs.Prelude.{◌≡◌, ℕ, ◌+◌, Bool, true, not, List, [], ◌++◌, length}
 use Rattle.std.specs.Prelude.{Option, None, Some}
 use Rattle.std.specs.Option.{is_some}
@@ -59,7 +60,9 @@ pub record Ends (w w' : State) (z : ZoneContents) (o : Outcome) (v : Verdict) : 
   pub offers : Offers w w' (ending_items z o)
   pub rcode : code_of v.rcode ≡ o.rcode
   pub referral : v.is_referral ≡ is_some o.referral
-  pub truncated : (d : spec.Draft) → Holds w d → v.is_truncated ≡ (offered d (ending_required z o)).full
+  pub truncated : (d : spec.Draft) → Holds w d → v.is_truncated
+      ≡ (offered d (ending_required z o)).full
 
 abbrev pub TookTargets : Walk → Walk → Outcome → Type 0
-TookTargets s s' o = Took s s' (nodes_by s.zone o.referral (ending_targets o)) (misses_by o.referral (ending_targets o))
+TookTargets s s' o = Took s s' (nodes_by s.zone o.referral (ending_targets o))
+    (misses_by o.referral (ending_targets o))

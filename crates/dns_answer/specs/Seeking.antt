@@ -23,15 +23,19 @@ use Rattle.dns_answer.specs.declared.chain.Sought.TheVariants as soughts
 abbrev pub AreSought : List DomainName → List DomainName → Type 0
 AreSought kept names = (p : DomainName → Bool) → list_any p kept ≡ list_any p names
 
--- The sets that an answer still has at the name s are offered, and the header says how its last name is answered.
-pub record SeeksFrom (w w' : State) (z : ZoneContents) (t k : ℕ) (before : List DomainName) (s : DomainName) (v : Verdict) : Type 0 where
+-- The sets that an answer still has at the name s are offered, and the header says how its last
+-- name is answered.
+pub record SeeksFrom (w w' : State) (z : ZoneContents) (t k : ℕ) (before : List DomainName)
+    (s : DomainName) (v : Verdict) : Type 0 where
   pub offers : Offers w w' (chain_items z t k before s)
   pub rcode : code_of v.rcode ≡ (chain_outcome z t k before s).rcode
   pub referral : v.is_referral ≡ is_some (chain_outcome z t k before s).referral
-  pub truncated : (d : spec.Draft) → Holds w d → v.is_truncated ≡ (offered d (chain_required z t k before s)).full
+  pub truncated : (d : spec.Draft) → Holds w d → v.is_truncated
+      ≡ (offered d (chain_required z t k before s)).full
 
 -- so for all names that were sought before
-abbrev pub Seeks : State → State → ZoneContents → ℕ → ℕ → List DomainName → DomainName → Verdict → Type 0
+abbrev pub Seeks : State → State → ZoneContents → ℕ → ℕ → List DomainName → DomainName → Verdict
+    → Type 0
 Seeks w w' z t k kept s v =
     (before : List DomainName) → AreSought kept (s ∷ before) → SeeksFrom w w' z t k before s v
 
@@ -45,35 +49,44 @@ TookFrom s s' t k kept n =
     → Took s s' (chain_nodes s.zone t k before n) (chain_misses s.zone t k before n)
 
 -- The name is the last: it has offered and taken so much, and a referral is from its own cut.
-pub record IsLast (w w' : State) (s s' : Walk) (t k : ℕ) (kept : List DomainName) (n : DomainName) (v : Verdict) : Type 0 where
+pub record IsLast (w w' : State) (s s' : Walk) (t k : ℕ) (kept : List DomainName) (n : DomainName)
+    (v : Verdict) : Type 0 where
   pub seeks : Seeks w w' s.zone t k kept n v
   pub took : TookFrom s s' t k kept n
   pub own : v.is_referral ≡ true → (follows_alias t && has_any (alias_set s.zone n)) ≡ false
 
 -- what seeking a name m still offers and takes, completes what seeking n has
-pub record Completes (w w' : State) (s s' : Walk) (z : ZoneContents) (t k k' : ℕ) (before before' : List DomainName) (n m : DomainName) : Type 0 where
-  pub seeks : (last : State) (v : Verdict) → SeeksFrom w' last z t k' before' m v → SeeksFrom w last z t k before n v
-  pub took : (last : Walk) → Took s' last (chain_nodes z t k' before' m) (chain_misses z t k' before' m)
+pub record Completes (w w' : State) (s s' : Walk) (z : ZoneContents) (t k k' : ℕ)
+    (before before' : List DomainName) (n m : DomainName) : Type 0 where
+  pub seeks : (last : State) (v : Verdict) → SeeksFrom w' last z t k' before' m v
+      → SeeksFrom w last z t k before n v
+  pub took : (last : Walk) → Took s' last (chain_nodes z t k' before' m)
+      (chain_misses z t k' before' m)
       → Took s last (chain_nodes z t k before n) (chain_misses z t k before n)
 
 -- The name has an alias, which leads to the name m.
-pub record LeadsTo (w w' : State) (s s' : Walk) (t k : ℕ) (kept : List DomainName) (n m : DomainName) (depth : ℕ) : Type 0 where
+pub record LeadsTo (w w' : State) (s s' : Walk) (t k : ℕ) (kept : List DomainName)
+    (n m : DomainName) (depth : ℕ) : Type 0 where
   pub more : 0 < k
   pub below : at_or_below m s.zone.origin ≡ true
   pub deep : length m ≡ length s.zone.origin + depth
   pub few : depth ≤ 127
   pub alias : (follows_alias t && has_any (alias_set s.zone n)) ≡ true
   pub took : Took s s' 127 2
-  pub completes : (before : List DomainName) → AreSought kept (n ∷ before) → Completes w w' s s' s.zone t k (k - 1) before (n ∷ before) n m
+  pub completes : (before : List DomainName) → AreSought kept (n ∷ before)
+      → Completes w w' s s' s.zone t k (k - 1) before (n ∷ before) n m
 
 -- Seeking a name n, the last of the names kept so far, completes what seeking n0 began.
-pub record LedOn (w0 w : State) (s0 s : Walk) (t k0 k : ℕ) (kept0 kept : List DomainName) (n0 n : DomainName) : Type 0 where
+pub record LedOn (w0 w : State) (s0 s : Walk) (t k0 k : ℕ) (kept0 kept : List DomainName)
+    (n0 n : DomainName) : Type 0 where
   pub zone : s.zone ≡ s0.zone
   pub below : at_or_below n s0.zone.origin ≡ true
   pub completes : (before0 : List DomainName) → AreSought kept0 (n0 ∷ before0)
-      → (before : List DomainName) × AreSought kept (n ∷ before) × Completes w0 w s0 s s0.zone t k0 k before0 before n0 n
+      → (before : List DomainName) × AreSought kept (n ∷ before)
+      × Completes w0 w s0 s s0.zone t k0 k before0 before n0 n
 
-abbrev pub SoughtAs : State → State → Walk → Walk → ℕ → ℕ → List DomainName → DomainName → Sought → Type 0
+abbrev pub SoughtAs : State → State → Walk → Walk → ℕ → ℕ → List DomainName → DomainName → Sought
+    → Type 0
 SoughtAs w w' s s' t k kept n (soughts.Last v) = IsLast w w' s s' t k kept n v
 SoughtAs w w' s s' t k kept n (soughts.Alias m depth) = LeadsTo w w' s s' t k kept n m depth
 
@@ -84,7 +97,9 @@ alias_target set = target set.rtype (get_or set.rdata 0 [])
 -- the next name sought after an alias, and its depth; or why there is none
 abbrev pub NextIs : RecordSet → ℕ → List DomainName → DomainName → Option (DomainName × ℕ) → Type 0
 NextIs set more kept origin None =
-    (more ≡ 0) ⊎ (option_and_then (λ m. if at_or_below m origin && not (list_any (same m) kept) then Some m else None) (alias_target set) ≡ None)
+    (more ≡ 0) ⊎ (option_and_then (λ m. if at_or_below m origin && not (list_any (same m) kept)
+    then Some m else None) (alias_target set) ≡ None)
 NextIs set more kept origin (Some (m, depth)) =
-    (0 < more) × (alias_target set ≡ Some m) × (at_or_below m origin ≡ true) × (list_any (same m) kept ≡ false)
+    (0 < more) × (alias_target set ≡ Some m) × (at_or_below m origin ≡ true)
+    × (list_any (same m) kept ≡ false)
     × (length m ≡ length origin + depth) × (depth ≤ 127)

@@ -29,14 +29,18 @@ abbrev pub addresses_of : ZoneContents → DomainName → List Item
 addresses_of z m = item additional (rrset z m type_a) ++ item additional (rrset z m type_aaaa)
 
 -- the addresses of a target that passes a test and did not stand before
-abbrev pub target_items : ZoneContents → (DomainName → Bool) → List DomainName → Option DomainName → List Item
+abbrev pub target_items : ZoneContents → (DomainName → Bool) → List DomainName → Option DomainName
+    → List Item
 target_items z p before None = []
-target_items z p before (Some m) = if p m && not (list_any (same m) before) then addresses_of z m else []
+target_items z p before (Some m) = if p m && not (list_any (same m) before) then addresses_of z m
+    else []
 
 -- those of the targets that pass it, one after the other
-unfoldable pub side_items : ZoneContents → (DomainName → Bool) → List DomainName → List DomainName → List Item
+unfoldable pub side_items : ZoneContents → (DomainName → Bool) → List DomainName → List DomainName
+    → List Item
 side_items z p before [] = []
-side_items z p before (m ∷ ms) = target_items z p before (Some m) ++ side_items z p (before ++ m ∷ []) ms
+side_items z p before (m ∷ ms) = target_items z p before (Some m)
+    ++ side_items z p (before ++ m ∷ []) ms
 
 -- the nodes below the apex on the ways to those of them that are in the zone
 abbrev pub side_nodes : ZoneContents → (DomainName → Bool) → List DomainName → ℕ

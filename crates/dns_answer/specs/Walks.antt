@@ -1,4 +1,5 @@
--- What a reader learns here: where the way down to a name ends, what is found for it, and what that took.
+-- What a reader learns here: where the way down to a name ends, what is found for it, and what
+-- that took.
 use Rattle.std.specs.Prelude.{◌≡◌, ℕ, ◌+◌, ◌*◌, ◌≤◌, Bool, true, false, if◌then◌else◌}
 use Rattle.std.specs.Prelude.{Option, None, Some}
 use Rattle.std.specs.Option.{unwrap_or}
@@ -39,16 +40,20 @@ pub record IsMissing (z : ZoneContents) (n : DomainName) (node : Option ZoneNode
   pub missing : exists z n ≡ false
   pub encloser : closest_encloser z n ≡ Some (node_or (node_of z z.origin) node).name
   pub zone : (node_or (node_of z z.origin) node).zone ≡ z
-  pub lower : folded (node_or (node_of z z.origin) node).name ≡ (node_or (node_of z z.origin) node).name
+  pub lower : folded (node_or (node_of z z.origin) node).name
+      ≡ (node_or (node_of z z.origin) node).name
 
--- RFC 1034 4.3.2 step 3b: the cut at or above the name, whose name is also that of the last labels asked for
-pub record IsBelowCut (z : ZoneContents) (n : DomainName) (node : ZoneNode) (name : DomainName) : Type 0 where
+-- RFC 1034 4.3.2 step 3b: the cut at or above the name, whose name is also that of the last labels
+-- asked for
+pub record IsBelowCut (z : ZoneContents) (n : DomainName) (node : ZoneNode)
+    (name : DomainName) : Type 0 where
   pub cut : cut_of z n ≡ Some node.name
   pub zone : node.zone ≡ z
   pub spelled : folded name ≡ node.name
 
 abbrev pub WalkedTo : ZoneContents → DomainName → Way → Type 0
-WalkedTo z n (ways.Cut node octets) = IsBelowCut z n node (labels_of octets.now) × IsWireForm octets.now
+WalkedTo z n (ways.Cut node octets) = IsBelowCut z n node (labels_of octets.now)
+    × IsWireForm octets.now
 WalkedTo z n (ways.Name node) = IsThere z n node
 WalkedTo z n (ways.Encloser node) = IsMissing z n node
 
@@ -63,7 +68,8 @@ pub record AreRecords (z : ZoneContents) (n : DomainName) (node : Option ZoneNod
   pub records : found z n ≡ Some (with_owner n (at z (node_or (node_of z z.origin) node).name))
 
 abbrev pub FoundAs : ZoneContents → DomainName → Found → Type 0
-FoundAs z n (finds.Cut node octets) = IsBelowCut z n node (labels_of octets.now) × IsWireForm octets.now
+FoundAs z n (finds.Cut node octets) = IsBelowCut z n node (labels_of octets.now)
+    × IsWireForm octets.now
 FoundAs z n finds.Nothing = IsNothing z n
 FoundAs z n (finds.Records node) = AreRecords z n node
 
@@ -81,7 +87,8 @@ pub record HasRoom (s : Walk) (nodes : ℕ) : Type 0 where
   pub visits : s.visits + nodes ≤ 4294967295
   pub comparisons : s.comparisons + 17 * nodes ≤ 4294967295
 
--- What a look-up took: at most so many nodes, and 17 comparisons for each node and for each label without a child.
+-- What a look-up took: at most so many nodes, and 17 comparisons for each node and for each label
+-- without a child.
 pub record Took (s s' : Walk) (nodes misses : ℕ) : Type 0 where
   pub zone : s'.zone ≡ s.zone
   pub from : s.visits ≤ s'.visits

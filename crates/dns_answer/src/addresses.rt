@@ -43,8 +43,8 @@ impl Side<'_> {
     }
 }
 
-/// Offers the addresses of the targets of a set, of those that are meant, in order. Those of a target that stood before are not
-/// offered again.
+/// Offers the addresses of the targets of a set, of those that are meant, in order. Those of a
+/// target that stood before are not offered again.
 pub(crate) fn offer_addresses<'z, const N: usize, const SIZE: usize>(
     set: &RecordSet<'z>,
     side: Side<'_>,
@@ -56,8 +56,11 @@ pub(crate) fn offer_addresses<'z, const N: usize, const SIZE: usize>(
     requires valid { HasValidData set.now }
     requires few { length set.now.rdata ≤ 64 }
     requires room { HasRoom steps.old (64 * 128) }
-    ensures offers { Offers draft.old draft.new (side_items steps.old.zone (side_takes side.entry) [] (set_targets set.now)) }
-    ensures took { Took steps.old steps.new (side_nodes steps.old.zone (side_takes side.entry) (set_targets set.now)) (length (filter (side_takes side.entry) (set_targets set.now))) }
+    ensures offers { Offers draft.old draft.new
+        (side_items steps.old.zone (side_takes side.entry) [] (set_targets set.now)) }
+    ensures took { Took steps.old steps.new
+        (side_nodes steps.old.zone (side_takes side.entry) (set_targets set.now))
+        (length (filter (side_takes side.entry) (set_targets set.now))) }
     ensures bound { Took steps.old steps.new (127 * 64) 64 }
 {
     'targets: for i in 0..set.len() {
@@ -79,10 +82,14 @@ fn offer_target<'z, const N: usize, const SIZE: usize>(
     requires inside { i < length set.now.rdata }
     requires room { HasRoom steps.old 128 }
     ensures offers { Offers draft.old draft.new
-        (target_items steps.old.zone (side_takes side.entry) (targets_of_first i set.now) (target set.now.rtype (get_or set.now.rdata i []))) }
-    ensures took { Took steps.old steps.new (target_nodes steps.old.zone (side_takes side.entry) (target set.now.rtype (get_or set.now.rdata i [])))
+        (target_items steps.old.zone (side_takes side.entry) (targets_of_first i set.now)
+        (target set.now.rtype (get_or set.now.rdata i []))) }
+    ensures took { Took steps.old steps.new
+        (target_nodes steps.old.zone (side_takes side.entry)
+        (target set.now.rtype (get_or set.now.rdata i [])))
         (target_misses (side_takes side.entry) (target set.now.rtype (get_or set.now.rdata i []))) }
-    ensures few { target_nodes steps.old.zone (side_takes side.entry) (target set.now.rtype (get_or set.now.rdata i [])) ≤ 127 }
+    ensures few { target_nodes steps.old.zone (side_takes side.entry)
+        (target set.now.rtype (get_or set.now.rdata i [])) ≤ 127 }
 {
     let Some(target) = Rdata::target(set.rtype(), set.rdata(i)) else {
         return;
@@ -115,7 +122,8 @@ fn stood_before(set: &RecordSet<'_>, count: usize, target: &Name) -> bool
     false
 }
 
-// Offers the addresses of one name: its A set, then its AAAA set, below a cut too, never by a wildcard.
+// Offers the addresses of one name: its A set, then its AAAA set, below a cut too, never by a
+// wildcard.
 fn offer_address<'z, const N: usize, const SIZE: usize>(
     target: &Name,
     depth: usize,
@@ -148,7 +156,8 @@ fn offer_type<const N: usize, const SIZE: usize>(
     draft: &mut Draft<N, SIZE>,
 )
     requires owner { node.now.name ≡ owner.now }
-    ensures { Offers draft.old draft.new (item additional (rrset node.now.zone node.now.name rtype.0)) }
+    ensures { Offers draft.old draft.new
+        (item additional (rrset node.now.zone node.now.name rtype.0)) }
 {
     if let Some(set) = node.set(rtype) {
         draft.offer(Section::Additional, owner, set.ttl(), &set);

@@ -148,7 +148,8 @@ fn seek_one<'z, const N: usize, const SIZE: usize>(
     requires depth { length name.now ≡ length steps.old.zone.origin + depth }
     requires few { depth ≤ 127 }
     requires room { HasRoom steps.old (129 * (more + 129)) }
-    ensures { SoughtAs draft.old draft.new steps.old steps.new qtype more sought.now name.now result }
+    ensures { SoughtAs draft.old draft.new steps.old steps.new qtype more sought.now name.now
+        result }
 {
     let node = match look_up(name, depth, apex, steps) {
         Found::Cut(cut, octets) => return Sought::Last(refer(&cut, octets, apex, steps, draft)),
@@ -175,8 +176,10 @@ fn seek_one<'z, const N: usize, const SIZE: usize>(
 // The alias at a node, unless it is itself what is asked for.
 fn alias_at<'z>(node: &Node<'z>, qtype: u16) -> Option<RecordSet<'z>>
     ensures alias { MatchOption result
-        ((follows_alias qtype ≡ false) ⊎ (None ≡ set_of (of_type type_cname (at node.now.zone node.now.name))))
-        (λ set. (follows_alias qtype ≡ true) × (Some set ≡ set_of (of_type type_cname (at node.now.zone node.now.name)))) }
+        ((follows_alias qtype ≡ false)
+        ⊎ (None ≡ set_of (of_type type_cname (at node.now.zone node.now.name))))
+        (λ set. (follows_alias qtype ≡ true)
+        × (Some set ≡ set_of (of_type type_cname (at node.now.zone node.now.name)))) }
     ensures rtype { IfSome result (λ set. set.rtype ≡ type_cname) }
     ensures kept { IfSome result (IsSetOf node.now) }
 {
@@ -186,8 +189,8 @@ fn alias_at<'z>(node: &Node<'z>, qtype: u16) -> Option<RecordSet<'z>>
     node.set(RType::CNAME)
 }
 
-// The name that is sought after an alias, and how many labels it has below the origin: the target, where more may be sought and it
-// is at or below the origin and was not sought yet.
+// The name that is sought after an alias, and how many labels it has below the origin: the target,
+// where more may be sought and it is at or below the origin and was not sought yet.
 fn next_sought(
     alias: &RecordSet<'_>,
     more: usize,

@@ -2,7 +2,7 @@
 ghost use Rattle.std.specs.Prelude.{◌≡◌, ◌*◌, ◌≤◌, [], ◌∷◌, false};
 ghost use Rattle.std.specs.Prelude.{length, min, take, Some};
 ghost use Rattle.dns_spec.specs.Layout.{layout, size};
-ghost use Rattle.dns_wire.specs.Draft.{item_of};
+ghost use Rattle.dns_wire.specs.Draft.{item_of, no_draft};
 ghost use Rattle.dns_answer.specs.Draft.{Draft as Offered, empty_draft};
 ghost use Rattle.dns_answer.specs.DraftForm.{Holds, Offers};
 
@@ -28,21 +28,32 @@ impl<const N: usize, const SIZE: usize> Model for Draft<N, SIZE> {
 }
 
 impl<const N: usize, const SIZE: usize> Draft<N, SIZE> {
-    /// The reply of at most `limit` octets before the first set.
-    pub(crate) fn new(limit: usize, question: &Question) -> Draft<N, SIZE>
+    /// Room for a reply of at most `limit` octets, before its question.
+    pub(crate) fn new(limit: usize) -> Draft<N, SIZE>
         requires from { 512 ≤ limit }
         requires upto { limit ≤ 65535 }
         requires octets { limit ≤ SIZE }
         requires places { min SIZE 16384 ≤ 2 * N }
         requires most { N ≤ 8192 }
-        ensures draft { Holds result (empty_draft question.now limit) }
-        ensures limit { result.page.limit ≡ limit }
+        ensures page { result.page ≡ no_draft limit }
+        ensures empty { result.full ≡ false }
     {
         Draft {
-            page: Page::new(limit, Some(question), &mut QuickHash),
+            page: Page::empty(limit),
             hash: QuickHash,
             is_full: false,
         }
+    }
+
+    /// Puts the question, before the first set. The draft stands where it stays, since it is large.
+    pub(crate) fn put_question(&mut self, question: &Question)
+        requires nothing { self.old.page ≡ no_draft self.old.page.limit }
+        requires from { 512 ≤ self.old.page.limit }
+        requires empty { self.old.full ≡ false }
+        ensures draft { Holds self.new (empty_draft question.now self.old.page.limit) }
+        ensures limit { self.new.page.limit ≡ self.old.page.limit }
+    {
+        self.page.put_question(&mut self.hash, question);
     }
 
     /// Whether a set did not fit.
@@ -68,7 +79,8 @@ impl<const N: usize, const SIZE: usize> Draft<N, SIZE> {
     pub(crate) fn finish(&self, head: Head, out: &mut [u8]) -> usize
         requires { self.now.page.limit ≤ length out.old }
         ensures length { (d : Offered) → Holds self.now d → result ≡ size (Some d.question) d.kept }
-        ensures octets { (d : Offered) → Holds self.now d → take result out.new ≡ layout head (Some d.question) d.kept }
+        ensures octets { (d : Offered) → Holds self.now d → take result out.new
+            ≡ layout head (Some d.question) d.kept }
     {
         self.page.finish(head, out)
     }

@@ -32,8 +32,8 @@ pub(crate) struct Verdict {
     pub(crate) is_truncated: bool,
 }
 
-/// Refers the asker to the servers of a cut: their set, the addresses of those at or below the cut, and those of the others
-/// (RFC 1034 4.3.2 step 3b).
+/// Refers the asker to the servers of a cut: their set, the addresses of those at or below the
+/// cut, and those of the others (RFC 1034 4.3.2 step 3b).
 pub(crate) fn refer<'z, const N: usize, const SIZE: usize>(
     cut: &Node<'z>,
     octets: &[u8],
@@ -45,7 +45,8 @@ pub(crate) fn refer<'z, const N: usize, const SIZE: usize>(
     requires cut { (n : DomainName) × IsBelowCut steps.old.zone n cut.now (labels_of octets.now) }
     requires form { IsWireForm octets.now }
     requires room { HasRoom steps.old (128 * 128) }
-    ensures ends { Ends draft.old draft.new steps.old.zone (referral_to steps.old.zone cut.now.name) result }
+    ensures ends { Ends draft.old draft.new steps.old.zone
+        (referral_to steps.old.zone cut.now.name) result }
     ensures took { TookTargets steps.old steps.new (referral_to steps.old.zone cut.now.name) }
 {
     let mut name = Name::from_octets(octets);
@@ -64,7 +65,8 @@ pub(crate) fn refer<'z, const N: usize, const SIZE: usize>(
     }
 }
 
-/// Says that there is nothing: the SOA of the zone, with the lesser of its TTL and its MINIMUM (RFC 2308 3, 5).
+/// Says that there is nothing: the SOA of the zone, with the lesser of its TTL and its MINIMUM
+/// (RFC 2308 3, 5).
 pub(crate) fn deny<const N: usize, const SIZE: usize>(
     rcode: Rcode,
     apex: &Node<'_>,
@@ -73,7 +75,8 @@ pub(crate) fn deny<const N: usize, const SIZE: usize>(
 ) -> Verdict
     requires apex { IsApex apex.now.zone apex.now }
     requires origin { origin.now ≡ apex.now.zone.origin }
-    ensures { Ends draft.old draft.new apex.now.zone (negative apex.now.zone (code_of rcode)) result }
+    ensures { Ends draft.old draft.new apex.now.zone
+        (negative apex.now.zone (code_of rcode)) result }
 {
     let Some(soa) = apex.set(RType::SOA) else {
         return Verdict {
@@ -91,8 +94,8 @@ pub(crate) fn deny<const N: usize, const SIZE: usize>(
     }
 }
 
-/// Offers the set asked for of the records at a node, shown at a name, and the addresses of its targets; or says that there
-/// is none.
+/// Offers the set asked for of the records at a node, shown at a name, and the addresses of its
+/// targets; or says that there is none.
 pub(crate) fn offer_asked<'z, const N: usize, const SIZE: usize>(
     node: &Node<'z>,
     name: &Name,
@@ -103,12 +106,16 @@ pub(crate) fn offer_asked<'z, const N: usize, const SIZE: usize>(
 ) -> Verdict
     requires apex { IsApex steps.old.zone apex.now }
     requires zone { node.now.zone ≡ steps.old.zone }
-    requires no_alias { (follows_alias qtype && has_any (of_type type_cname (with_owner name.now (at node.now.zone node.now.name)))) ≡ false }
+    requires no_alias { (follows_alias qtype
+        && has_any (of_type type_cname (with_owner name.now (at node.now.zone node.now.name))))
+        ≡ false }
     requires room { HasRoom steps.old (64 * 128) }
     ensures ends { Ends draft.old draft.new steps.old.zone
-        (outcome_by steps.old.zone qtype None (Some (with_owner name.now (at node.now.zone node.now.name)))) result }
+        (outcome_by steps.old.zone qtype None
+        (Some (with_owner name.now (at node.now.zone node.now.name)))) result }
     ensures took { TookTargets steps.old steps.new
-        (outcome_by steps.old.zone qtype None (Some (with_owner name.now (at node.now.zone node.now.name)))) }
+        (outcome_by steps.old.zone qtype None
+        (Some (with_owner name.now (at node.now.zone node.now.name)))) }
 {
     let Some(set) = asked_set(node, qtype) else {
         return deny(Rcode::NoError, apex, steps.origin(), draft);

@@ -1,5 +1,5 @@
-//! The answer of a zone to a query (RFC 1034 4.3.2): what is found for a name, which sets end an answer, and the reply to which
-//! they are offered.
+//! The answer of a zone to a query (RFC 1034 4.3.2): what is found for a name, which sets end an
+//! answer, and the reply to which they are offered.
 #![tactic(auto)]
 
 mod addresses;

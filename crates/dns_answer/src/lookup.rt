@@ -81,7 +81,8 @@ fn wildcard_below<'z>(encloser: &Node<'z>, steps: &mut Steps<'z>) -> Option<Node
     requires room { HasRoom steps.old 1 }
     ensures node { MatchOption result
         (exists encloser.now.zone (asterisk ∷ encloser.now.name) ≡ false)
-        (λ n. (exists encloser.now.zone (asterisk ∷ encloser.now.name) ≡ true) × (n ≡ record { zone = encloser.now.zone; name = asterisk ∷ encloser.now.name })) }
+        (λ n. (exists encloser.now.zone (asterisk ∷ encloser.now.name) ≡ true)
+        × (n ≡ record { zone = encloser.now.zone; name = asterisk ∷ encloser.now.name })) }
     ensures took { TookChild steps.old steps.new (is_some result) }
 {
     let Some(label) = Label::new(b"*") else {
@@ -90,8 +91,8 @@ fn wildcard_below<'z>(encloser: &Node<'z>, steps: &mut Steps<'z>) -> Option<Node
     encloser.down(label, steps)
 }
 
-// The way from the apex down to a name, up to the first cut on it (RFC 1034 4.3.2 step 3b). The labels are taken from the
-// right.
+// The way from the apex down to a name, up to the first cut on it (RFC 1034 4.3.2 step 3b). The
+// labels are taken from the right.
 fn walk<'n, 'z>(
     octets: &'n [u8],
     depth: usize,

@@ -8,7 +8,8 @@ use dns_name::Name;
 pub(crate) fn depth_below(name: &Name, ancestor: &Name) -> Option<usize>
     ensures { MatchOption result
         (at_or_below name.now ancestor.now ≡ false)
-        (λ depth. (at_or_below name.now ancestor.now ≡ true) × (length name.now ≡ length ancestor.now + depth) × (depth ≤ 127)) }
+        (λ depth. (at_or_below name.now ancestor.now ≡ true)
+        × (length name.now ≡ length ancestor.now + depth) × (depth ≤ 127)) }
 {
     if !name.at_or_below(ancestor) {
         return None;

@@ -201,7 +201,8 @@ fn put_answer<'z, const N: usize, const SIZE: usize>(
     ensures reply { IsReply steps.old.zone SIZE (answered head.now question.now) result out.new }
     ensures costs { Costs (answered head.now question.now) steps.old steps.new }
 {
-    let mut draft: Draft<N, SIZE> = Draft::new(SIZE, question);
+    let mut draft: Draft<N, SIZE> = Draft::new(SIZE);
+    draft.put_question(question);
     let head = offer_answer(head, question, depth, steps, &mut draft);
     draft.finish(head, out)
 }

@@ -4,27 +4,31 @@ use Rattle.std.proofs.lemmas.Option.{get_or_from_slice_get}
 use Rattle.std.proofs.lemmas.Bool.{false≢true, eqb-true, eq-eqb, leb-true, leb-false}
 use Rattle.std.proofs.lemmas.Option.{none-some, same_Some, slice_get_within, slice_get-map}
 use Rattle.std.proofs.lemmas.List.{get_or-set_same, get_or-set_other, get_or-replicate, length-set, length-replicate, take-append-le, length-take-le}
+use Rattle.std.proofs.lemmas.Nat.{mod_below}
 use Rattle.std.proofs.Math.Seq.{take-append_seam, take-length}
 use Rattle.dns_wire.specs.declared.places.Entry.{Entry}
 use Rattle.dns_wire.specs.Kept.{Kept}
-use Rattle.dns_wire.specs.Chains.{kept_in, with_first, last_with, AreChains}
+use Rattle.dns_wire.specs.Chains.{kept_in, chain_of, with_first, last_with, AreChains}
 
-pub last_with-push : (h : ℕ) (es : List Entry) (e : Entry) → last_with h (es ++ e ∷ []) ≡ cond (e.head == h) (suc (length es)) (last_with h es)
+chain_low : (head : ℕ) → chain_of head < 128
+chain_low head = mod_below head 128 (omega arith)
+
+pub last_with-push : (h : ℕ) (es : List Entry) (e : Entry) → last_with h (es ++ e ∷ []) ≡ cond (chain_of e.head == h) (suc (length es)) (last_with h es)
 last_with-push h [] e = refl
-last_with-push h (x ∷ es) e = ap (with_first x h) (last_with-push h es e) ∙ go (e.head == h)
+last_with-push h (x ∷ es) e = ap (with_first x h) (last_with-push h es e) ∙ go (chain_of e.head == h)
   where
     go : (t : Bool) → with_first x h (cond t (suc (length es)) (last_with h es)) ≡ cond t (suc (suc (length es))) (with_first x h (last_with h es))
     go true = refl
     go false = refl
 
-last_with-same : (h : ℕ) (es : List Entry) (e : Entry) → e.head ≡ h → last_with h (es ++ e ∷ []) ≡ suc (length es)
+last_with-same : (h : ℕ) (es : List Entry) (e : Entry) → chain_of e.head ≡ h → last_with h (es ++ e ∷ []) ≡ suc (length es)
 last_with-same h es e is = last_with-push h es e ∙ ap (λ t. cond t (suc (length es)) (last_with h es)) (ap (λ k. k == h) is ∙ eq-eqb h h refl)
 
-last_with-other : (h : ℕ) (es : List Entry) (e : Entry) → h ≢ e.head → last_with h (es ++ e ∷ []) ≡ last_with h es
-last_with-other h es e other = last_with-push h es e ∙ go (e.head == h) refl
+last_with-other : (h : ℕ) (es : List Entry) (e : Entry) → h ≢ chain_of e.head → last_with h (es ++ e ∷ []) ≡ last_with h es
+last_with-other h es e other = last_with-push h es e ∙ go (chain_of e.head == h) refl
   where
-    go : (t : Bool) → e.head == h ≡ t → cond t (suc (length es)) (last_with h es) ≡ last_with h es
-    go true q = absurd (other (sym (eqb-true e.head h q)))
+    go : (t : Bool) → chain_of e.head == h ≡ t → cond t (suc (length es)) (last_with h es) ≡ last_with h es
+    go true q = absurd (other (sym (eqb-true (chain_of e.head) h q)))
     go false q = refl
 
 pub last_with-bound : (h : ℕ) (es : List Entry) → last_with h es ≤ length es
@@ -32,15 +36,15 @@ last_with-bound h [] = omega arith
 last_with-bound h (x ∷ es) = go (last_with h es) (last_with-bound h es)
   where
     go : (k : ℕ) → k ≤ length es → with_first x h k ≤ suc (length es)
-    go zero b = first (x.head == h)
+    go zero b = first (chain_of x.head == h)
       where
         first : (t : Bool) → cond t 1 0 ≤ suc (length es)
         first true = omega arith
         first false = omega arith
     go (suc k) b = omega arith
 
--- no entry from the last one with a number on has it
-pub none_after : (h : ℕ) (es : List Entry) (k : ℕ) (e : Entry) → slice_get es k ≡ Some e → last_with h es ≤ k → e.head ≡ h → ⊥
+-- no entry after the last one of a chain is in it
+pub none_after : (h : ℕ) (es : List Entry) (k : ℕ) (e : Entry) → slice_get es k ≡ Some e → last_with h es ≤ k → chain_of e.head ≡ h → ⊥
 none_after h [] k e at past is = none-some e at
 none_after h (x ∷ es) zero e at past is = go (last_with h es) past
   where
@@ -48,11 +52,11 @@ none_after h (x ∷ es) zero e at past is = go (last_with h es) past
     here = same_Some x e at
 
     go : (m : ℕ) → with_first x h m ≤ 0 → ⊥
-    go zero b = first (x.head == h) refl b
+    go zero b = first (chain_of x.head == h) refl b
       where
-        first : (t : Bool) → x.head == h ≡ t → cond t 1 0 ≤ 0 → ⊥
+        first : (t : Bool) → chain_of x.head == h ≡ t → cond t 1 0 ≤ 0 → ⊥
         first true q c = absurd (omega arith)
-        first false q c = false≢true (sym q ∙ ap (λ (y : Entry). y.head == h) (same_Some x e at) ∙ ap (λ m. m == h) is ∙ eq-eqb h h refl)
+        first false q c = false≢true (sym q ∙ ap (λ (y : Entry). chain_of y.head == h) (same_Some x e at) ∙ ap (λ m. m == h) is ∙ eq-eqb h h refl)
     go (suc m) b = absurd (omega arith)
 none_after h (x ∷ es) (suc k) e at past is = none_after h es k e at (go (last_with h es) past) is
   where
@@ -63,17 +67,17 @@ none_after h (x ∷ es) (suc k) e at past is = none_after h es k e at (go (last_
 pub record LastEntry (h : ℕ) (es : List Entry) (k : ℕ) : Type 0 where
   pub entry : Entry
   pub there : slice_get es k ≡ Some entry
-  pub with_number : entry.head ≡ h
+  pub with_number : chain_of entry.head ≡ h
 
 pub last_entry : (h : ℕ) (es : List Entry) (k : ℕ) → last_with h es ≡ suc k → LastEntry h es k
 last_entry h [] k e = absurd (omega arith)
 last_entry h (x ∷ es) k e = go (last_with h es) e (λ m f. last_entry h es m f) refl
   where
     go : (n : ℕ) → with_first x h n ≡ suc k → ((m : ℕ) → last_with h es ≡ suc m → LastEntry h es m) → last_with h es ≡ n → LastEntry h (x ∷ es) k
-    go zero f again is = first (x.head == h) refl f
+    go zero f again is = first (chain_of x.head == h) refl f
       where
-        first : (t : Bool) → x.head == h ≡ t → cond t 1 0 ≡ suc k → LastEntry h (x ∷ es) k
-        first true q g = let z : 0 ≡ k = omega arith in subst (LastEntry h (x ∷ es)) z (record { entry = x; there = refl; with_number = eqb-true x.head h q })
+        first : (t : Bool) → chain_of x.head == h ≡ t → cond t 1 0 ≡ suc k → LastEntry h (x ∷ es) k
+        first true q g = let z : 0 ≡ k = omega arith in subst (LastEntry h (x ∷ es)) z (record { entry = x; there = refl; with_number = eqb-true (chain_of x.head) h q })
         first false q g = absurd (omega arith)
     go (suc m) f again is =
         let r = again m is in
@@ -81,10 +85,10 @@ last_entry h (x ∷ es) k e = go (last_with h es) e (λ m f. last_entry h es m f
         subst (LastEntry h (x ∷ es)) z (record { entry = r.entry; there = r.there; with_number = r.with_number })
 
 -- no entry at all
-pub chains_begin : AreChains (replicate 1024 0) []
+pub chains_begin : AreChains (replicate 128 0) []
 chains_begin = record {
-  all = length-replicate {A = ℕ} 1024 0;
-  newest = λ h low. get_or-replicate 1024 h 0 0 low;
+  all = length-replicate {A = ℕ} 128 0;
+  newest = λ h low. get_or-replicate 128 h 0 0 low;
   linked = λ k e at. absurd (none-some e at);
 }
 
@@ -104,47 +108,47 @@ among (y ∷ es) e (suc k) x at =
       last = λ h. let b = r.last (omega arith) in (ap suc b.0, b.1);
     }
 
-newest_grown : (heads : List ℕ) (es : List Entry) (e : Entry) → AreChains heads es → e.head < 1024 → (h : ℕ) → h < 1024
-    → (t : Bool) → (h == e.head) ≡ t → get_or (slice_set heads e.head (suc (length es))) h 0 ≡ last_with h (es ++ e ∷ [])
-newest_grown heads es e c low h lower true q =
-    let is = eqb-true h e.head q in
-    ap (λ k. get_or (slice_set heads e.head (suc (length es))) k 0) is
-    ∙ get_or-set_same heads e.head (suc (length es)) 0 (let all = c.all in omega (arith, all, low)) ∙ sym (last_with-same h es e (sym is))
-newest_grown heads es e c low h lower false q =
-    let other : h ≢ e.head = λ is. false≢true (sym q ∙ eq-eqb h e.head is) in
-    get_or-set_other heads e.head h (suc (length es)) 0 other ∙ c.newest h lower ∙ sym (last_with-other h es e other)
+newest_grown : (heads : List ℕ) (es : List Entry) (e : Entry) → AreChains heads es → (h : ℕ) → h < 128
+    → (t : Bool) → (h == (chain_of e.head)) ≡ t → get_or (slice_set heads (chain_of e.head) (suc (length es))) h 0 ≡ last_with h (es ++ e ∷ [])
+newest_grown heads es e c h lower true q =
+    let is = eqb-true h (chain_of e.head) q in
+    ap (λ k. get_or (slice_set heads (chain_of e.head) (suc (length es))) k 0) is
+    ∙ get_or-set_same heads (chain_of e.head) (suc (length es)) 0 (let all = c.all in let low = chain_low e.head in omega (arith, all, low)) ∙ sym (last_with-same h es e (sym is))
+newest_grown heads es e c h lower false q =
+    let other : h ≢ chain_of e.head = λ is. false≢true (sym q ∙ eq-eqb h (chain_of e.head) is) in
+    get_or-set_other heads (chain_of e.head) h (suc (length es)) 0 other ∙ c.newest h lower ∙ sym (last_with-other h es e other)
 
-linked_grown : (heads : List ℕ) (es : List Entry) (e : Entry) → AreChains heads es → e.head < 1024 → e.place < 16384 → e.next ≡ get_or heads e.head 0
+linked_grown : (heads : List ℕ) (es : List Entry) (e : Entry) → AreChains heads es → e.place < 16384 → e.next ≡ get_or heads (chain_of e.head) 0
     → (k : ℕ) (x : Entry) → Among es e k x → (t : Bool) → nat_le (length es) k ≡ t
-    → (x.head < 1024) × (x.place < 16384) × (x.next ≡ last_with x.head (take k (es ++ e ∷ [])))
-linked_grown heads es e c low reach next k x a true q =
+    → (x.place < 16384) × (x.next ≡ last_with (chain_of x.head) (take k (es ++ e ∷ [])))
+linked_grown heads es e c reach next k x a true q =
     let b = a.last (leb-true (length es) k q) in
-    let own : e.next ≡ last_with e.head (take k (es ++ e ∷ [])) =
-    next ∙ c.newest e.head low ∙ ap (last_with e.head) (sym (ap (λ j. take j (es ++ e ∷ [])) b.0 ∙ take-append_seam es (e ∷ []))) in
-    subst (λ (y : Entry). (y.head < 1024) × (y.place < 16384) × (y.next ≡ last_with y.head (take k (es ++ e ∷ [])))) (sym b.1) (low, reach, own)
-linked_grown heads es e c low reach next k x a false q =
+    let own : e.next ≡ last_with (chain_of e.head) (take k (es ++ e ∷ [])) =
+    next ∙ c.newest (chain_of e.head) (chain_low e.head) ∙ ap (last_with (chain_of e.head)) (sym (ap (λ j. take j (es ++ e ∷ [])) b.0 ∙ take-append_seam es (e ∷ []))) in
+    subst (λ (y : Entry). (y.place < 16384) × (y.next ≡ last_with (chain_of y.head) (take k (es ++ e ∷ [])))) (sym b.1) (reach, own)
+linked_grown heads es e c reach next k x a false q =
     let b = a.before (leb-false (length es) k q) in
     let l = c.linked k x b.0 in
-    (l.0, l.1, l.2 ∙ ap (last_with x.head) (sym b.1))
+    (l.0, l.1 ∙ ap (last_with (chain_of x.head)) (sym b.1))
 
-pub chains_grow : (heads : List ℕ) (es : List Entry) (e : Entry) → AreChains heads es → e.head < 1024 → e.place < 16384 → e.next ≡ get_or heads e.head 0
-    → AreChains (slice_set heads e.head (suc (length es))) (es ++ e ∷ [])
-chains_grow heads es e c low reach next = record {
-  all = length-set heads e.head (suc (length es)) ∙ c.all;
-  newest = λ h lower. newest_grown heads es e c low h lower (h == e.head) refl;
-  linked = λ k x at. linked_grown heads es e c low reach next k x (among es e k x at) (nat_le (length es) k) refl;
+pub chains_grow : (heads : List ℕ) (es : List Entry) (e : Entry) → AreChains heads es → e.place < 16384 → e.next ≡ get_or heads (chain_of e.head) 0
+    → AreChains (slice_set heads (chain_of e.head) (suc (length es))) (es ++ e ∷ [])
+chains_grow heads es e c reach next = record {
+  all = length-set heads (chain_of e.head) (suc (length es)) ∙ c.all;
+  newest = λ h lower. newest_grown heads es e c h lower (h == chain_of e.head) refl;
+  linked = λ k x at. linked_grown heads es e c reach next k x (among es e k x at) (nat_le (length es) k) refl;
 }
 
-newest_shrunk : (heads : List ℕ) (es : List Entry) (e : Entry) → AreChains heads (es ++ e ∷ []) → (e.head < 1024) × (e.next ≡ last_with e.head es)
-    → (h : ℕ) → h < 1024 → (t : Bool) → (h == e.head) ≡ t → get_or (slice_set heads e.head e.next) h 0 ≡ last_with h es
+newest_shrunk : (heads : List ℕ) (es : List Entry) (e : Entry) → AreChains heads (es ++ e ∷ []) → e.next ≡ last_with (chain_of e.head) es
+    → (h : ℕ) → h < 128 → (t : Bool) → (h == (chain_of e.head)) ≡ t → get_or (slice_set heads (chain_of e.head) e.next) h 0 ≡ last_with h es
 newest_shrunk heads es e c l h lower true q =
-    let is = eqb-true h e.head q in
-    let low = l.0 in
-    ap (λ k. get_or (slice_set heads e.head e.next) k 0) is
-    ∙ get_or-set_same heads e.head e.next 0 (let all = c.all in omega (arith, all, low)) ∙ l.1 ∙ ap (λ k. last_with k es) (sym is)
+    let is = eqb-true h (chain_of e.head) q in
+    let low = chain_low e.head in
+    ap (λ k. get_or (slice_set heads (chain_of e.head) e.next) k 0) is
+    ∙ get_or-set_same heads (chain_of e.head) e.next 0 (let all = c.all in omega (arith, all, low)) ∙ l ∙ ap (λ k. last_with k es) (sym is)
 newest_shrunk heads es e c l h lower false q =
-    let other : h ≢ e.head = λ is. false≢true (sym q ∙ eq-eqb h e.head is) in
-    get_or-set_other heads e.head h e.next 0 other ∙ c.newest h lower ∙ last_with-other h es e other
+    let other : h ≢ chain_of e.head = λ is. false≢true (sym q ∙ eq-eqb h (chain_of e.head) is) in
+    get_or-set_other heads (chain_of e.head) h e.next 0 other ∙ c.newest h lower ∙ last_with-other h es e other
 
 -- the last element stands at the end
 at_end : (es : List Entry) (e : Entry) → slice_get (es ++ e ∷ []) (length es) ≡ Some e
@@ -156,18 +160,17 @@ get_before [] e k x at = absurd (none-some x at)
 get_before (y ∷ es) e zero x at = at
 get_before (y ∷ es) e (suc k) x at = get_before es e k x at
 
-pub last_linked : (heads : List ℕ) (es : List Entry) (e : Entry) → AreChains heads (es ++ e ∷ []) → (e.head < 1024) × (e.next ≡ last_with e.head es)
+pub last_linked : (heads : List ℕ) (es : List Entry) (e : Entry) → AreChains heads (es ++ e ∷ []) → e.next ≡ last_with (chain_of e.head) es
 last_linked heads es e c =
-    let l = c.linked (length es) e (at_end es e) in
-    (l.0, l.2 ∙ ap (last_with e.head) (take-append_seam es (e ∷ [])))
+    (c.linked (length es) e (at_end es e)).1 ∙ ap (last_with (chain_of e.head)) (take-append_seam es (e ∷ []))
 
-pub chains_shrink : (heads : List ℕ) (es : List Entry) (e : Entry) → AreChains heads (es ++ e ∷ []) → AreChains (slice_set heads e.head e.next) es
+pub chains_shrink : (heads : List ℕ) (es : List Entry) (e : Entry) → AreChains heads (es ++ e ∷ []) → AreChains (slice_set heads (chain_of e.head) e.next) es
 chains_shrink heads es e c = record {
-  all = length-set heads e.head e.next ∙ c.all;
-  newest = λ h lower. newest_shrunk heads es e c (last_linked heads es e c) h lower (h == e.head) refl;
+  all = length-set heads (chain_of e.head) e.next ∙ c.all;
+  newest = λ h lower. newest_shrunk heads es e c (last_linked heads es e c) h lower (h == chain_of e.head) refl;
   linked = λ k x at.
       let l = c.linked k x (get_before es e k x at) in
-      (l.0, l.1, l.2 ∙ ap (last_with x.head) (take-append-le k es (e ∷ []) (let inside = slice_get_within es k x at in omega arith)));
+      (l.0, l.1 ∙ ap (last_with (chain_of x.head)) (take-append-le k es (e ∷ []) (let inside = slice_get_within es k x at in omega arith)));
 }
 
 -- a beginning of the entries has those that it has
@@ -177,11 +180,11 @@ get_taken [] (suc m) k h = refl
 get_taken (x ∷ es) (suc m) zero h = refl
 get_taken (x ∷ es) (suc m) (suc k) h = get_taken es m k (omega arith)
 
--- A chain goes on at an entry with the number, counted from 1, and P holds of no place with the number from there on.
-pub record Chain (P : ℕ → Type 0) (h : ℕ) (es : List Entry) (number : ℕ) : Type 0 where
+-- A chain goes on at an entry of its own, counted from 1, and P holds of no entry of the chain from there on.
+pub record Chain (P : Entry → Type 0) (h : ℕ) (es : List Entry) (number : ℕ) : Type 0 where
   pub inside : number ≤ length es
   pub here : (k : ℕ) → number ≡ suc k → LastEntry h es k
-  pub after : (k : ℕ) (e : Entry) → slice_get es k ≡ Some e → number ≤ k → e.head ≡ h → P e.place → ⊥
+  pub after : (k : ℕ) (e : Entry) → slice_get es k ≡ Some e → number ≤ k → chain_of e.head ≡ h → P e → ⊥
 
 -- the entry that is read at a number counted from 1 is the chain's own
 pub record EntryRead (h : ℕ) (es : List Entry) (number : ℕ) (read : Entry) : Type 0 where
@@ -190,7 +193,7 @@ pub record EntryRead (h : ℕ) (es : List Entry) (number : ℕ) (read : Entry) :
   pub last : LastEntry h es k
   pub own : read ≡ last.entry
 
-pub read_entry : {P : ℕ → Type 0} {h : ℕ} {es xs : List Entry} {number i : ℕ} (blank : Entry) → Chain P h es number → 0 < number → xs ≡ es → i ≡ number
+pub read_entry : {P : Entry → Type 0} {h : ℕ} {es xs : List Entry} {number i : ℕ} (blank : Entry) → Chain P h es number → 0 < number → xs ≡ es → i ≡ number
     → EntryRead h es number (get_or xs (i - 1) blank)
 read_entry {P} {h} {es} {xs} {number} {i} blank chain positive same at =
     let k : ℕ = number - 1 in
@@ -203,8 +206,8 @@ read_entry {P} {h} {es} {xs} {number} {i} blank chain positive same at =
       own = ap₂ (λ ys j. get_or ys j blank) same (ap (λ n. n - 1) at) ∙ get_or_from_slice_get es k last.entry blank last.there;
     }
 
-chain_at : (P : ℕ → Type 0) (h : ℕ) (es : List Entry) (m : ℕ) → m ≤ length es
-    → ((k : ℕ) (e : Entry) → slice_get es k ≡ Some e → m ≤ k → e.head ≡ h → P e.place → ⊥) → Chain P h es (last_with h (take m es))
+chain_at : (P : Entry → Type 0) (h : ℕ) (es : List Entry) (m : ℕ) → m ≤ length es
+    → ((k : ℕ) (e : Entry) → slice_get es k ≡ Some e → m ≤ k → chain_of e.head ≡ h → P e → ⊥) → Chain P h es (last_with h (take m es))
 chain_at P h es m inside none = record {
   inside = let b = last_with-bound h (take m es) in omega (arith, b, length-take-le m es inside);
   here = λ k e.
@@ -218,26 +221,26 @@ chain_at P h es m inside none = record {
   after = λ k e at past is p. go k e at past is p (nat_le m k) refl;
 }
   where
-    go : (k : ℕ) (e : Entry) → slice_get es k ≡ Some e → last_with h (take m es) ≤ k → e.head ≡ h → P e.place → (t : Bool) → nat_le m k ≡ t → ⊥
+    go : (k : ℕ) (e : Entry) → slice_get es k ≡ Some e → last_with h (take m es) ≤ k → chain_of e.head ≡ h → P e → (t : Bool) → nat_le m k ≡ t → ⊥
     go k e at past is p true q = none k e at (leb-true m k q) is p
     go k e at past is p false q = none_after h (take m es) k e (get_taken es m k (leb-false m k q) ∙ at) past is
 
-pub chain_begins : (P : ℕ → Type 0) (heads : List ℕ) (es : List Entry) (h : ℕ) → AreChains heads es → h < 1024 → Chain P h es (get_or heads h 0)
+pub chain_begins : (P : Entry → Type 0) (heads : List ℕ) (es : List Entry) (h : ℕ) → AreChains heads es → h < 128 → Chain P h es (get_or heads h 0)
 chain_begins P heads es h c low =
     let n = length es in
     let whole : take n es ≡ es = take-length es in
     subst (Chain P h es) (ap (last_with h) whole ∙ sym (c.newest h low))
     (chain_at P h es n (omega arith) (λ k e at past is p. let inside = slice_get_within es k e at in absurd (omega (arith, inside, past))))
 
-pub chain_next : (P : ℕ → Type 0) (heads : List ℕ) (es : List Entry) (h k : ℕ) → AreChains heads es → Chain P h es (suc k)
-    → (l : LastEntry h es k) → (P l.entry.place → ⊥) → Chain P h es l.entry.next × (l.entry.next ≤ k)
+pub chain_next : (P : Entry → Type 0) (heads : List ℕ) (es : List Entry) (h k : ℕ) → AreChains heads es → Chain P h es (suc k)
+    → (l : LastEntry h es k) → (P l.entry → ⊥) → Chain P h es l.entry.next × (l.entry.next ≤ k)
 chain_next P heads es h k c chain l unspelled =
-    let link = (c.linked k l.entry l.there).2 ∙ ap (λ j. last_with j (take k es)) l.with_number in
+    let link = (c.linked k l.entry l.there).1 ∙ ap (λ j. last_with j (take k es)) l.with_number in
     let inside = chain.inside in
     let bound = last_with-bound h (take k es) in
     (subst (Chain P h es) (sym link) (chain_at P h es k (omega (arith, inside)) none), omega (arith, link, bound, length-take-le k es (omega (arith, inside))))
   where
-    none : (j : ℕ) (e : Entry) → slice_get es j ≡ Some e → k ≤ j → e.head ≡ h → P e.place → ⊥
+    none : (j : ℕ) (e : Entry) → slice_get es j ≡ Some e → k ≤ j → chain_of e.head ≡ h → P e → ⊥
     none j e at past is p = go (nat_le (suc k) j) refl
       where
         go : (t : Bool) → nat_le (suc k) j ≡ t → ⊥
@@ -245,11 +248,11 @@ chain_next P heads es h k c chain l unspelled =
         go false q =
             let below = leb-false (suc k) j q in
             let same : j ≡ k = omega (arith, below, past) in
-            unspelled (subst (λ (x : Entry). P x.place) (same_Some e l.entry (sym at ∙ ap (slice_get es) same ∙ l.there)) p)
+            unspelled (subst P (same_Some e l.entry (sym at ∙ ap (slice_get es) same ∙ l.there)) p)
 
 -- the pair that an entry stands for
-pub entry_kept : (es : List Entry) (h k : ℕ) (l : LastEntry h es k) → slice_get (map kept_in es) k ≡ Some (record { place = l.entry.place; head = h })
-entry_kept es h k l = slice_get-map kept_in es k ∙ ap (option_map kept_in) l.there ∙ ap (λ n. Some (record { place = l.entry.place; head = n })) l.with_number
+pub entry_kept : (es : List Entry) (h k : ℕ) (l : LastEntry h es k) → slice_get (map kept_in es) k ≡ Some (kept_in l.entry)
+entry_kept es h k l = slice_get-map kept_in es k ∙ ap (option_map kept_in) l.there
 
 pub kept_entry : (es : List Entry) (k p h : ℕ) → slice_get (map kept_in es) k ≡ Some (record { place = p; head = h })
     → (e : Entry) × (slice_get es k ≡ Some e) × (e.head ≡ h) × (e.place ≡ p)

@@ -189,6 +189,31 @@ tail_written {head} {limit} {ms} {b} {b'} {b''} {ks} {fits} t ttl k o e long don
     let same = subst (λ p. IsWritten head limit ms b' (data_laid ms p (laid_parts t o)) fits b'' ks) at done in
     written_after (numbers_of t ttl k) own (ap (λ j. numbers_of t ttl j ++ (data_laid ms (length b + 10) (laid_parts t o)).written) (sym long)) refl same
 
+-- where nothing is shared the numbers and the data come at once
+pub plain_written : {head : Octets → ℕ} {limit : ℕ} {ms : List Placed} {b b' : Octets} {ks ks' : List Kept} {fits : Bool} (t ttl : ℕ) (o x : Octets) → x ≡ numbers_of t ttl (length o)
+    → laid_parts t o ≡ octets o ∷ [] → Holds head ms b ks → ((fits ≡ true) ↔ (length b + (length x + length o) ≤ limit)) → OnTrue fits (b' ≡ b ++ (x ++ o)) → ks' ≡ ks
+    → IsWritten head limit ms b (tail_laid ms (length b) t ttl o) fits b' ks'
+plain_written {head} {limit} {ms} {b} {b'} {ks} {ks'} {fits} t ttl o x own whole holds exactly written places =
+    let z = b ++ (x ++ []) in
+    let e : z ≡ b ++ (numbers_of t ttl (length o) ++ []) = ap (λ y. b ++ (y ++ [])) own in
+    let ten : length x ≡ 10 = ap length own in
+    let at : length z ≡ length b + 10 = omega (arith, length-append b (x ++ []), length-append x [], ten) in
+    let done = octets_written {head = head} {limit = limit} {ms = ms} {b = z} {b' = b'} {ks = ks} {ks' = ks'} o fits (holds_octets (x ++ []) holds)
+    (λ yes. let h = exactly.0 yes in omega (arith, h, at, ten), λ h. exactly.1 (omega (arith, h, at, ten))) (go fits written) places in
+    let p = length b + 10 in
+    let laid : data_laid ms p (octets o ∷ []) ≡ record { written = o ++ []; names = [] } = data-octets ms p o [] ∙ ap (laid_front o []) (data-none ms (p + length o)) in
+    let long : length (data_laid ms p (laid_parts t o)).written ≡ length o =
+    ap (λ ps. length (data_laid ms p ps).written) whole ∙ ap (λ (l : Laid). length l.written) laid ∙ ap length (append-nil o) in
+    tail_written t ttl (length o) o e (sym long) (subst (λ ps. IsWritten head limit ms z (data_laid ms (length z) ps) fits b' ks') (sym whole) done)
+  where
+    go : (f : Bool) → OnTrue f (b' ≡ b ++ (x ++ o)) → OnTrue f (b' ≡ (b ++ (x ++ [])) ++ (o ++ []))
+    go false h = tt
+    go true h = h ∙ ap₂ (λ y w. b ++ (y ++ w)) (sym (append-nil x)) (sym (append-nil o)) ∙ sym (append_assoc b (x ++ []) (o ++ []))
+
+pub longer_by_numbers : (b b' x o : Octets) (fits : Bool) → length x ≡ 10 → OnTrue fits (b' ≡ b ++ (x ++ o)) → OnTrue fits (length b + 10 ≤ length b')
+longer_by_numbers b b' x o false ten e = tt
+longer_by_numbers b b' x o true ten e = omega (arith, ten, ap length e, length-append b (x ++ o), length-append x o)
+
 pub tail_past : (limit : ℕ) (ms : List Placed) (b : Octets) (t ttl : ℕ) (o : Octets) → limit < length b + (10 + length (data_laid ms (length b + 10) (laid_parts t o)).written)
     → limit < length (b ++ (tail_laid ms (length b) t ttl o).written)
 tail_past limit ms b t ttl o past =

@@ -1,10 +1,13 @@
 -- Records are written one after the other: those that are written and those that are to come are all.
-use Rattle.std.proofs.Common.{◌≡◌, ℕ, zero, suc, ◌+◌, ◌<◌, ◌≤◌, true, false, List, [], ◌∷◌, ◌++◌, map, length, drop, get_or, refl, sym, ap, ◌∙◌, subst, subst₂, Bool, arith, append_assoc, length-append, lt_of_not-le}
+use Rattle.std.proofs.Common.{◌≡◌, ℕ, zero, suc, ◌+◌, ◌*◌, ◌<◌, ◌≤◌, true, false, List, [], ◌∷◌, ◌++◌, map, length, drop, get_or, refl, sym, ap, ◌∙◌, subst, subst₂, Bool, arith, append_assoc, length-append, lt_of_not-le}
 use Rattle.std.proofs.lemmas.Bool.{false≢true}
+use Rattle.std.proofs.lemmas.List.{length-map}
 use Rattle.dns_spec.specs.Names.{Octets, DomainName}
 use Rattle.dns_spec.specs.Records.{ResourceRecord}
 use Rattle.dns_spec.specs.Sets.{RecordSet, records_at}
-use Rattle.dns_spec.specs.Layout.{Placed, Laid, laid_front, record_laid, records_octets}
+use Rattle.dns_spec.specs.Data.{laid_parts}
+use Rattle.dns_spec.specs.Layout.{Placed, Laid, laid_front, shared_octets, data_laid, record_laid, record_tail, records_octets}
+use Rattle.dns_spec.proofs.Layouts.LayoutSize.{length-record_tail}
 use Rattle.dns_wire.specs.Kept.{Kept}
 use Rattle.dns_wire.specs.Writing.{Holds, IsWritten, shown, records_laid}
 use Rattle.dns_wire.proofs.DataWritten.{Goes, all_written, not_written}
@@ -24,6 +27,29 @@ octets_of_records ms p [] = refl
 octets_of_records ms p (r ∷ rs) =
     let l = record_laid ms p r in
     ap (λ z. l.written ++ z) (octets_of_records (ms ++ l.names) (p + length l.written) rs)
+
+-- a record has ten octets after its owner
+records_long : (ms : List Placed) (p : ℕ) (rs : List ResourceRecord) → 10 * length rs ≤ length (records_laid ms p rs).written
+records_long ms p [] = omega arith
+records_long ms p (r ∷ rs) =
+    let l = record_laid ms p r in
+    let more = ms ++ l.names in
+    let place = p + length l.written in
+    let owner = shared_octets ms r.owner in
+    let d = (data_laid (ms ++ (r.owner, p) ∷ []) (p + length owner + 10) (laid_parts r.rtype r.rdata)).written in
+    let rest = (records_laid more place rs).written in
+    let whole : length (records_laid ms p (r ∷ rs)).written ≡ length l.written + length rest = ap (λ (x : Laid). length x.written) (records-more ms p r rs) ∙ length-append l.written rest in
+    let own : length l.written ≡ length owner + (10 + length d) = length-append owner (record_tail r d) ∙ ap (λ k. length owner + k) (length-record_tail r d) in
+    let others = records_long more place rs in
+    omega (arith, whole, own, others)
+
+pub records_over : (limit : ℕ) (ms : List Placed) (b : Octets) (owner : DomainName) (ttl : ℕ) (set : RecordSet) → limit < length b + 10 * length set.rdata
+    → limit < length (b ++ (records_laid ms (length b) (records_at owner ttl set)).written)
+records_over limit ms b owner ttl set past =
+    let rs = records_at owner ttl set in
+    let long = records_long ms (length b) rs in
+    let count : length rs ≡ length set.rdata = length-map set.rdata (shown owner set.rtype ttl) in
+    omega (arith, past, long, count, length-append b (records_laid ms (length b) rs).written)
 
 abbrev pub RecordsGo : (Octets → ℕ) → List ResourceRecord → Octets → List Kept → List ResourceRecord → Octets → List Kept → Type 0
 RecordsGo head rs₀ b₀ ks₀ rs b ks =

@@ -37,6 +37,18 @@ pub record Draft : Type 0 where
   pub authorities : ℕ
   pub additionals : ℕ
 
+-- nothing but room for a header
+abbrev pub no_draft : ℕ → Draft
+no_draft limit = record {
+  limit = limit;
+  octets = replicate 12 0;
+  kept = [];
+  questions = 0;
+  answers = 0;
+  authorities = 0;
+  additionals = 0;
+}
+
 -- the names of the records so far, with their places
 abbrev pub names_so_far : Option MessageQuestion → List Item → List Placed
 names_so_far q items =

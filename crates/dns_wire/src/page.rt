@@ -1,6 +1,6 @@
 //! A message that is being written: a question, and sets in their sections, within a limit (RFC
 //! 1035 4.1).
-ghost use Rattle.std.specs.Prelude.{◌≡◌, ◌↔◌, ◌+◌, ◌<◌, ◌≤◌, ◌^◌, List, [], ◌∷◌, ◌++◌, ℕ, ◌*◌, length, take, drop, min, IsTrue, IsFalse, Option, All};
+ghost use Rattle.std.specs.Prelude.{◌≡◌, ◌↔◌, ◌+◌, ◌<◌, ◌≤◌, ◌^◌, List, [], ◌∷◌, ◌++◌, ℕ, ◌*◌, length, take, drop, min, IsTrue, IsFalse, Option, Some, All};
 ghost use Rattle.std.specs.Option.{option_copied};
 ghost use Rattle.dns_spec.specs.Names.{Octets};
 ghost use Rattle.std.specs.Bool.{OnTrue, OnFalse};
@@ -66,7 +66,7 @@ impl<const N: usize, const SIZE: usize> Model for Page<N, SIZE> {
 }
 
 impl<const N: usize, const SIZE: usize> Page<N, SIZE> {
-    ghost use Rattle.dns_wire.specs.Draft.{IsDraft, with_set};
+    ghost use Rattle.dns_wire.specs.Draft.{IsDraft, no_draft, with_set};
 
     /// An empty message of at most `limit` octets, 512 to 65,535, with the question that it
     /// repeats, if any.
@@ -87,19 +87,46 @@ impl<const N: usize, const SIZE: usize> Page<N, SIZE> {
         ensures limit { result.limit ≡ limit }
         ensures same { H.numbers hash.new ≡ H.numbers hash.old }
     {
-        let mut page = Page {
+        let mut page = Page::empty(limit);
+        if let Some(question) = question {
+            page.put_question(hash, question);
+        }
+        page
+    }
+
+    /// A message of at most `limit` octets, 512 to 65,535, that has nothing yet. A question may be
+    /// put where it stands, so that it need not be moved.
+    ///
+    /// Condition: that of `new`.
+    pub fn empty(limit: usize) -> Page<N, SIZE>
+        requires from { 512 ≤ limit }
+        requires upto { limit ≤ 65535 }
+        requires octets { limit ≤ SIZE }
+        requires places { min SIZE 16384 ≤ 2 * N }
+        requires most { N ≤ 8192 }
+        ensures { result ≡ no_draft limit }
+    {
+        Page {
             room: Room::new(limit),
             questions: 0,
             answers: 0,
             authorities: 0,
             additionals: 0,
-        };
-        let Some(question) = question else {
-            return page;
-        };
-        page.room.put_question(hash, question);
-        page.questions = 1;
-        page
+        }
+    }
+
+    /// Writes the question that a message repeats.
+    ///
+    /// Conditions: the message has nothing yet, and its limit is at least 512 octets.
+    pub fn put_question<H: SuffixHash>(&mut self, hash: &mut H, question: &Question)
+        requires nothing { self.old ≡ no_draft self.old.limit }
+        requires from { 512 ≤ self.old.limit }
+        ensures draft { IsDraft (H.numbers hash.old) (Some question.now) [] self.new }
+        ensures limit { self.new.limit ≡ self.old.limit }
+        ensures same { H.numbers hash.new ≡ H.numbers hash.old }
+    {
+        self.room.put_question(hash, question);
+        self.questions = 1;
     }
 
     /// Writes the records of a set at an owner, with a TTL in seconds, into a section: all of them,

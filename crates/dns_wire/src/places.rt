@@ -1,14 +1,16 @@
 //! The places of the suffixes that a message has so far, found by a hash of the suffix (RFC 1035
 //! 4.1.4).
-ghost use Rattle.std.specs.Prelude.{◌≡◌, ◌-◌, ◌<◌, ◌≤◌, [], ◌∷◌, ◌++◌, length, take, replicate, get_or, IsTrue, IfSome, IsNone};
+ghost use Rattle.std.specs.Prelude.{◌≡◌, ◌↔◌, ◌-◌, ◌<◌, ◌≤◌, [], ◌∷◌, ◌++◌, length, take, replicate, get_or, IsTrue, IfSome, IsNone};
+ghost use Rattle.dns_wire.specs.Chains.{chain_of};
 ghost use Rattle.dns_wire.specs.Kept.{IsKept, SpelledAt, NoneSpelled};
 
 use crate::spelled::is_spelled;
 use arrayvec::ArrayVec;
 use std::marker::Model;
 
-// Chains of places are found by so many numbers.
-const HEADS: usize = 1024;
+// There are so many chains of places: a suffix with number k is in the one of k modulo this. They
+// are few, since a table of them is filled for each message.
+const HEADS: usize = 128;
 
 /// Chooses the chain in which a suffix is looked for: a number below 1,024, the same at every call
 /// for the same octets.
@@ -28,8 +30,8 @@ pub trait SuffixHash {
         ensures same { numbers self.new ≡ numbers self.old };
 }
 
-// A place, the number of its suffix, and which entry with this number was kept before it, counted
-// from 1; 0 is none.
+// A place, the number of its suffix, and which entry of its chain was kept before it, counted from
+// 1; 0 is none.
 #[derive(Clone, Copy, Default)]
 struct Entry {
     place: u16,
@@ -41,7 +43,7 @@ struct Entry {
 /// What a suffix is called stands in the message alone.
 #[derive(Drop)]
 pub(crate) struct Places<const N: usize> {
-    // Which entry with each number is the newest, counted from 1; 0 is none.
+    // Which entry of each chain is the newest, counted from 1; 0 is none.
     heads: [u16; HEADS],
     entries: ArrayVec<Entry, N>,
 }
@@ -78,6 +80,13 @@ impl<const N: usize> Places<N> {
         self.entries.len()
     }
 
+    /// Whether no place is kept.
+    pub(crate) fn is_empty(&self) -> bool
+        ensures { IsTrue result → length self.now ≡ 0 }
+    {
+        self.len() == 0
+    }
+
     /// Keeps a place more, of a suffix with this number.
     pub(crate) fn insert(&mut self, place: u16, head: u16)
         requires few { N ≤ 8192 }
@@ -86,9 +95,9 @@ impl<const N: usize> Places<N> {
         requires reached { place < 16384 }
         ensures { self.new ≡ self.old ++ record { place = place; head = head } ∷ [] }
     {
-        let next = self.heads[usize::from(head)];
+        let next = self.heads[chain_of(head)];
         self.entries.push(Entry { place, head, next });
-        self.heads[usize::from(head)] = self.entries.len() as u16;
+        self.heads[chain_of(head)] = self.entries.len() as u16;
     }
 
     /// Keeps only the places that came first, as if the others had never come.
@@ -104,7 +113,7 @@ impl<const N: usize> Places<N> {
         ensures { self.new ≡ take (length self.old - 1) self.old }
     {
         if let Some(newest) = self.entries.pop() {
-            self.heads[usize::from(newest.head)] = newest.next;
+            self.heads[chain_of(newest.head)] = newest.next;
         }
     }
 
@@ -117,10 +126,10 @@ impl<const N: usize> Places<N> {
         ensures reached { IfSome result (λ place. place < 16384) }
         ensures none { IsNone result → NoneSpelled self.now head message.now suffix.now }
     {
-        let mut number = self.heads[usize::from(head)];
+        let mut number = self.heads[chain_of(head)];
         'chain: while number > 0 {
             let entry = self.entries.as_slice()[usize::from(number) - 1];
-            if is_spelled(message, usize::from(entry.place), suffix) {
+            if is_sought(entry, head, message, suffix) {
                 return Some(entry.place);
             }
             number = entry.next;
@@ -130,7 +139,22 @@ impl<const N: usize> Places<N> {
 }
 
 fn no_heads() -> [u16; HEADS]
-    ensures { result ≡ replicate 1024 0 }
+    ensures { result ≡ replicate 128 0 }
 {
     [0; HEADS]
+}
+
+// The chain of the suffixes with a number.
+fn chain_of(head: u16) -> usize
+    ensures chain { result ≡ chain_of head }
+    ensures low { result < 128 }
+{
+    usize::from(head) % HEADS
+}
+
+// Whether an entry has this number, and the message spells the suffix at its place.
+fn is_sought(entry: Entry, head: u16, message: &[u8], suffix: &[u8]) -> bool
+    ensures { IsTrue result ↔ ((entry.head ≡ head) × SpelledAt message.now entry.place suffix.now) }
+{
+    entry.head == head && is_spelled(message, usize::from(entry.place), suffix)
 }

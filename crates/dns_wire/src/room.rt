@@ -3,9 +3,10 @@
 ghost use Rattle.std.specs.Prelude.{◌≡◌, ◌↔◌, List, ◌+◌, ◌*◌, ◌≤◌, ◌<◌, ◌^◌, [], ◌∷◌, ◌++◌, length, take, replicate, min, All, IsTrue, IfSome, IsNone};
 ghost use Rattle.std.specs.Bool.{OnTrue, OnFalse};
 ghost use Rattle.dns_spec.specs.Names.{DomainName, wire, is_name};
-ghost use Rattle.dns_spec.specs.Data.{Valid, class_in, laid_parts};
+ghost use Rattle.dns_spec.specs.Data.{Valid, class_in, compresses, laid_parts};
 ghost use Rattle.dns_spec.specs.Layout.{Placed, question_octets, octets16, octets32, pointer, shared_octets, cost, data_laid, record_laid};
 ghost use Rattle.dns_wire.specs.Writing.{front_size, pointed_place, new_places, end_octets, Grows, AfterLabel, Holds, shown, tail_laid, records_laid};
+ghost use Rattle.dns_wire.specs.Kept.{IsKept, SpelledAt, NoneSpelled};
 ghost use Rattle.dns_wire.specs.Rooms.{IsSoundRoom, HasNames, HasGrown, HasWritten};
 ghost use Rattle.dns_spec.specs.Sets.{records_at};
 ghost use Rattle.dns_spec.specs.Laws.{IsAskable};
@@ -161,10 +162,12 @@ impl<const N: usize, const SIZE: usize> Room<N, SIZE> {
         true
     }
 
-    // Writes data as it is laid out, all of it or, where it does not fit, a part of it.
+    // Writes data whose names may be shared as it is laid out, all of it or, where it does not fit,
+    // a part of it.
     fn put_data<H: SuffixHash>(&mut self, hash: &mut H, rtype: RType, rdata: &[u8]) -> bool
         requires sound { IsSoundRoom self.old }
         requires valid { Valid rtype.0 rdata.now }
+        requires shared { IsTrue (compresses rtype.0) }
         ensures written { (ms : List Placed) → HasNames self.old (H.numbers hash.old) ms
             → HasWritten self.old self.new (H.numbers hash.old) ms
             (data_laid ms (length self.old.octets.items) (laid_parts rtype.0 rdata.now)) result }
@@ -173,11 +176,7 @@ impl<const N: usize, const SIZE: usize> Room<N, SIZE> {
         ensures same { H.numbers hash.new ≡ H.numbers hash.old }
         ensures sound { IsSoundRoom self.new }
     {
-        if rtype.compresses() {
-            self.put_parts(hash, Rdata::parts(rtype, rdata))
-        } else {
-            self.append(rdata, &[])
-        }
+        self.put_parts(hash, Rdata::parts(rtype, rdata))
     }
 
     // Takes octets and places back, but for those that came first.
@@ -195,6 +194,42 @@ impl<const N: usize, const SIZE: usize> Room<N, SIZE> {
     /// Writes the records of a set at an owner, with this TTL in seconds. False, with nothing
     /// written, where they do not all fit.
     pub(crate) fn put_set<H: SuffixHash, S: SetView>(
+        &mut self,
+        hash: &mut H,
+        owner: &Name,
+        ttl: u32,
+        set: &S,
+    ) -> bool
+        requires { IsSoundRoom self.old }
+        ensures written { (ms : List Placed) → HasNames self.old (H.numbers hash.old) ms
+            → HasWritten self.old self.new (H.numbers hash.old) ms
+            (records_laid ms (length self.old.octets.items)
+            (records_at owner.now ttl (S.set set.now))) result }
+        ensures unchanged { OnFalse result ((self.new.octets.items ≡ self.old.octets.items)
+            × (self.new.places ≡ self.old.places)) }
+        ensures longer { OnTrue result (length self.old.octets.items + length (S.set set.now).rdata
+            ≤ length self.new.octets.items) }
+        ensures limit { self.new.limit ≡ self.old.limit }
+        ensures same { H.numbers hash.new ≡ H.numbers hash.old }
+        ensures sound { IsSoundRoom self.new }
+    {
+        if self.is_too_small(set.len()) {
+            return false;
+        }
+        self.put_records(hash, owner, ttl, set)
+    }
+
+    // Whether so many records don't fit, however short they are: each has 10 octets after its
+    // owner.
+    fn is_too_small(&self, count: usize) -> bool
+        requires { IsSoundRoom self.now }
+        ensures { IsTrue result → self.now.limit < length self.now.octets.items + 10 * count }
+    {
+        (self.limit - self.octets.len()) / 10 < count
+    }
+
+    // Writes the records of a set, one after the other, until one does not fit.
+    fn put_records<H: SuffixHash, S: SetView>(
         &mut self,
         hash: &mut H,
         owner: &Name,
@@ -270,6 +305,34 @@ impl<const N: usize, const SIZE: usize> Room<N, SIZE> {
         ensures same { H.numbers hash.new ≡ H.numbers hash.old }
         ensures sound { IsSoundRoom self.new }
     {
+        if rtype.compresses() {
+            self.put_shared_tail(hash, rtype, ttl, rdata)
+        } else {
+            self.append(&record_numbers(rtype, ttl, rdata.len() as u16), rdata)
+        }
+    }
+
+    // Writes what follows the owner of a record in whose data names may be shared.
+    fn put_shared_tail<H: SuffixHash>(
+        &mut self,
+        hash: &mut H,
+        rtype: RType,
+        ttl: u32,
+        rdata: &[u8],
+    ) -> bool
+        requires sound { IsSoundRoom self.old }
+        requires valid { Valid rtype.0 rdata.now }
+        requires shared { IsTrue (compresses rtype.0) }
+        ensures written { (ms : List Placed) → HasNames self.old (H.numbers hash.old) ms
+            → HasWritten self.old self.new (H.numbers hash.old) ms
+            (tail_laid ms (length self.old.octets.items) rtype.0 ttl rdata.now) result }
+        ensures longer { OnTrue result (length self.old.octets.items + 10
+            ≤ length self.new.octets.items) }
+        ensures extends { HasGrown self.old self.new }
+        ensures limit { self.new.limit ≡ self.old.limit }
+        ensures same { H.numbers hash.new ≡ H.numbers hash.old }
+        ensures sound { IsSoundRoom self.new }
+    {
         let Some(length) = self.data_length(hash, rtype, rdata) else {
             return false;
         };
@@ -287,6 +350,7 @@ impl<const N: usize, const SIZE: usize> Room<N, SIZE> {
     ) -> Option<u16>
         requires sound { IsSoundRoom self.old }
         requires valid { Valid rtype.0 rdata.now }
+        requires shared { IsTrue (compresses rtype.0) }
         ensures some { (ms : List Placed) → HasNames self.old (H.numbers hash.old) ms
             → IfSome result (λ k. k ≡ length (data_laid ms (length self.old.octets.items + 10)
             (laid_parts rtype.0 rdata.now)).written) }
@@ -372,8 +436,7 @@ fn shared_suffix<H: SuffixHash, const N: usize>(
 {
     let mut rest = name;
     'suffixes: while let Some((_, after)) = after_first_label(rest) {
-        let head = hash.head(rest);
-        if let Some(place) = places.find(head, message, rest) {
+        if let Some(place) = find_suffix(places, message, hash, rest) {
             return Shared {
                 front: name.len() - rest.len(),
                 place: Some(place),
@@ -385,6 +448,29 @@ fn shared_suffix<H: SuffixHash, const N: usize>(
         front: name.len() - rest.len(),
         place: None,
     }
+}
+
+// A place that is kept and at which the message spells a suffix. Nothing is hashed where none is
+// kept.
+fn find_suffix<H: SuffixHash, const N: usize>(
+    places: &Places<N>,
+    message: &[u8],
+    hash: &mut H,
+    suffix: &[u8],
+) -> Option<u16>
+    ensures kept { IfSome result
+        (λ place. IsKept places.now place (H.numbers hash.old suffix.now)) }
+    ensures spelled { IfSome result (λ place. SpelledAt message.now place suffix.now) }
+    ensures reached { IfSome result (λ place. place < 16384) }
+    ensures none { IsNone result
+        → NoneSpelled places.now (H.numbers hash.old suffix.now) message.now suffix.now }
+    ensures same { H.numbers hash.new ≡ H.numbers hash.old }
+{
+    if places.is_empty() {
+        return None;
+    }
+    let head = hash.head(suffix);
+    places.find(head, message, suffix)
 }
 
 // Keeps the places of the suffixes that begin in the first `front` octets of a name laid out at a

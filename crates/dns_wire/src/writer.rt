@@ -44,7 +44,8 @@ impl<'h, H: SuffixHash> Writer<'h, H> {
         ensures fits { (q : Option MessageQuestion) (items : List Item)
             → IsDraft (H.numbers self.old.hash.now) q items self.old.page
             → IsTrue result
-            ↔ (size q (with_set items section owner.now ttl (S.set set.now)) ≤ self.old.page.limit) }
+            ↔ (size q (with_set items section owner.now ttl (S.set set.now))
+            ≤ self.old.page.limit) }
         ensures put { (q : Option MessageQuestion) (items : List Item)
             → IsDraft (H.numbers self.old.hash.now) q items self.old.page
             → OnTrue result (IsDraft (H.numbers self.new.hash.now) q

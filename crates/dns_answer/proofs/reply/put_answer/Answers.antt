@@ -1,4 +1,7 @@
-use Rattle.std.proofs.Common.{rules}
+use Rattle.std.proofs.Common.{ap, subst, rules}
+use Rattle.dns_wire.specs.Draft as wire
+use Rattle.dns_answer.specs.Draft.{empty_draft}
+use Rattle.dns_answer.specs.DraftForm.{Holds}
 use Rattle.dns_answer.proofs.PutReplies.{answer-put}
 use Rattle.dns_answer.proofs.reply.put_answer.Goals as goal
 
@@ -7,10 +10,12 @@ offer_answer-head-requires g c = (
   search rules,
   (
     c.requires.visits,
-    (c.requires.comparisons, (c.requires.below, (c.requires.depth, (c.requires.few, c.new-draft.ensures.draft.written.askable.qname)))),
+    (c.requires.comparisons, (c.requires.below, (c.requires.depth, (c.requires.few, c.put_question.ensures.draft.written.askable.qname)))),
   ),
 )
 
 pub returns-clause-reply : goal.returns-clause-reply
 returns-clause-reply g c =
-    answer-put _ _ _ g.row.SIZE _ _ c.offer_answer-head.result _ _ c.new-draft.ensures.draft c.offer_answer-head.ensures.answers c.finish.ensures.length c.finish.ensures.octets
+    let limit = ap (λ (p : wire.Draft). p.limit) c.new-draft.ensures.page in
+    let begun = subst (λ k. Holds c.put_question.new.self (empty_draft c.args.question.now k)) limit c.put_question.ensures.draft in
+    answer-put _ _ _ g.row.SIZE _ _ c.offer_answer-head.result _ _ begun c.offer_answer-head.ensures.answers c.finish.ensures.length c.finish.ensures.octets

@@ -3,30 +3,30 @@ use Rattle.dns_wire.specs.Kept.{IsKept, NoneSpelled}
 use Rattle.dns_wire.proofs.Suffixes.{left_label, left_root, left_found}
 use Rattle.dns_wire.proofs.room.shared_suffix.Goals as goal
 
-pub returns-in-Some-find-clause-front : goal.returns-in-Some-find-clause-front
-returns-in-Some-find-clause-front g c = λ ms n holds e ok.
+pub returns-in-Some-find_suffix-clause-front : goal.returns-in-Some-find_suffix-clause-front
+returns-in-Some-find_suffix-clause-front g c = λ ms n holds e ok.
     let a = c.in-Some.ensures.some in
-    let number = c.head-head.ensures.value ∙ ap (λ f. f c.suffixes.rest.now) c.suffixes.invariant.same in
-    let p = c.in-Some-find.place in
-    let kept = subst (IsKept c.args.places.now p) number c.in-Some-find.ensures.kept in
-    sym (left_found c.in-Some.field-0-0 p ms n c.suffixes.invariant.left a.first a.some kept c.in-Some-find.ensures.spelled holds e ok).0
+    let number = ap (λ f. f c.suffixes.rest.now) c.suffixes.invariant.same in
+    let p = c.in-Some-find_suffix.place in
+    let kept = subst (IsKept c.args.places.now p) number c.in-Some-find_suffix.ensures.kept in
+    sym (left_found c.in-Some.field-0-0 p ms n c.suffixes.invariant.left a.first a.some kept c.in-Some-find_suffix.ensures.spelled holds e ok).0
 
-pub returns-in-Some-find-clause-place : goal.returns-in-Some-find-clause-place
-returns-in-Some-find-clause-place g c = λ ms n holds e ok.
+pub returns-in-Some-find_suffix-clause-place : goal.returns-in-Some-find_suffix-clause-place
+returns-in-Some-find_suffix-clause-place g c = λ ms n holds e ok.
     let a = c.in-Some.ensures.some in
-    let number = c.head-head.ensures.value ∙ ap (λ f. f c.suffixes.rest.now) c.suffixes.invariant.same in
-    let p = c.in-Some-find.place in
-    let kept = subst (IsKept c.args.places.now p) number c.in-Some-find.ensures.kept in
-    sym (left_found c.in-Some.field-0-0 p ms n c.suffixes.invariant.left a.first a.some kept c.in-Some-find.ensures.spelled holds e ok).1
+    let number = ap (λ f. f c.suffixes.rest.now) c.suffixes.invariant.same in
+    let p = c.in-Some-find_suffix.place in
+    let kept = subst (IsKept c.args.places.now p) number c.in-Some-find_suffix.ensures.kept in
+    sym (left_found c.in-Some.field-0-0 p ms n c.suffixes.invariant.left a.first a.some kept c.in-Some-find_suffix.ensures.spelled holds e ok).1
 
 pub suffixes-preserved : goal.suffixes-preserved
 suffixes-preserved g c =
     let a = c.in-Some.ensures.some in
-    let number = c.head-head.ensures.value ∙ ap (λ f. f c.suffixes.rest.now) c.suffixes.invariant.same in
-    let none = subst (λ h. NoneSpelled c.args.places.now h c.args.message.now c.suffixes.rest.now) number (c.in_default-find.ensures.none refl) in
+    let number = ap (λ f. f c.suffixes.rest.now) c.suffixes.invariant.same in
+    let none = subst (λ h. NoneSpelled c.args.places.now h c.args.message.now c.suffixes.rest.now) number (c.in_default-find_suffix.ensures.none refl) in
     record {
       left = left_label c.in-Some.field-0-0 c.suffixes.invariant.left a.first a.some a.fits a.cut none;
-      same = c.head-head.ensures.same ∙ c.suffixes.invariant.same;
+      same = c.find_suffix.ensures.same ∙ c.suffixes.invariant.same;
     }
 
 pub returns-clause-front : goal.returns-clause-front

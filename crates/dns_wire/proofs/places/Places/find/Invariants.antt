@@ -1,10 +1,13 @@
+use Rattle.std.proofs.Common.{◌≡◌}
+use Rattle.dns_wire.specs.declared.places.Entry.{Entry}
+use Rattle.dns_wire.specs.Chains.{chain_of}
 use Rattle.dns_wire.specs.Kept.{SpelledAt}
 use Rattle.dns_wire.proofs.ChainLemmas.{Chain}
 use Rattle.dns_wire.proofs.places.Places.find.Given as goal
 
--- from the entry at hand on, none spells the suffix
+-- from the entry at hand on, none is the one sought
 abbrev pub invariant-chain : goal.invariant-chain
-invariant-chain g l = Chain (λ p. SpelledAt l.message p l.suffix) l.head l.self-inside.entries.items l.number
+invariant-chain g l = Chain (λ (e : Entry). (e.head ≡ l.head) × SpelledAt l.message e.place l.suffix) (chain_of l.head) l.self-inside.entries.items l.number
 
 abbrev pub decreases-chain : goal.decreases-chain
 decreases-chain g l = l.number

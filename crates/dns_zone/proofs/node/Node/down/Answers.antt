@@ -1,13 +1,13 @@
-use Rattle.std.proofs.Common.{◌≡◌, ◌+◌, ◌∷◌, ◌++◌, [], ◌<◌, map, length, refl, true, ℕ, List, sym, ap, ap₂, ◌∙◌, subst}
+use Rattle.std.proofs.Common.{◌≡◌, ◌+◌, ◌∷◌, ◌<◌, map, length, refl, true, ℕ, List, sym, ap, ap₂, ◌∙◌, subst}
 use Rattle.std.proofs.lemmas.Bool.{false≢true}
 use Rattle.std.specs.Char.{to_ascii_lowercase}
-use Rattle.dns_spec.specs.Names.{Octets, DomainName, folded}
+use Rattle.dns_spec.specs.Names.{Octets, DomainName}
 use Rattle.dns_spec.specs.Records.{ResourceRecord}
 use Rattle.dns_spec.specs.Tree.{exists}
 use Rattle.dns_spec.proofs.Records.SortedOnce.{Each, Among}
 use Rattle.dns_zone.specs.Nodes.{ZoneNode}
 use Rattle.dns_zone.specs.NodeForm.{zone_of_tree, node_at}
-use Rattle.dns_zone.specs.TreeForm.{first_of, row_name, row_label, row_at, kids_at, IsRow}
+use Rattle.dns_zone.specs.TreeForm.{row_name, row_label, row_at, kids_at, IsRow}
 use Rattle.dns_zone.specs.declared.row.Row.{Row}
 use Rattle.dns_zone.proofs.Existing.{child-exists}
 use Rattle.dns_zone.proofs.NodeRows.{is_row, are_kids, kid_rows, kid_name, kid_exists}
@@ -27,27 +27,22 @@ returns-in_err-found-clause-child c =
     let t = c.self.inside.tree.now in
     let k = c.self.inside.row in
     let l = c.args.label in
-    let asked : c.in_ok-lower.lower ≡ map to_ascii_lowercase l =
-    ap first_of (sym c.in_ok-lower.ensures.steps ∙ c.labels.ensures.labels ∙ c.fold_in_place.ensures
-    ∙ ap folded
-    (c.if-not-push.ensures.pushed ∙ ap (λ (x : DomainName). x ++ l ∷ []) c.root-asked.ensures))
-    in
     let labels : map (row_label c.as_slice.result.now) c.kids_of-start.result.1.now ≡ map
     (row_label t.records.items) (kids_at t.rows.items t.bounds.items k) =
     ap₂ (λ (rs : List ResourceRecord) xs. map (row_label rs) xs) c.as_slice.ensures.value
     c.kids_of-start.ensures.kids
     in
     let absent : exists c.args.self.now.zone (l ∷ c.args.self.now.name) ≡ true
-    → Among c.octets.result.now
+    → Among c.as_slice-2.result.now
     (map (row_label c.as_slice.result.now) c.kids_of-start.result.1.now) =
-    λ h. subst (Among c.octets.result.now) (sym labels)
+    λ h. subst (Among c.as_slice-2.result.now) (sym labels)
     (subst (λ (x : Octets). Among x
     (map (row_label t.records.items) (kids_at t.rows.items t.bounds.items k)))
-    (sym (c.octets.ensures.value ∙ asked))
+    (sym (c.as_slice-2.ensures.value ∙ c.lower_case-lower.ensures))
     ((are_kids t k c.self.invariant).all l
     (ap (λ (v : ZoneNode). exists v.zone (l ∷ v.name)) c.self.view_is ∙ h)))
     in
-    rw c.from_residual-in_err-found.ensures
+    rw c.from_residual.ensures
     (λ h. absurd (false≢true h), λ h. absurd (c.in_err-found.ensures.none refl (absent h)))
 
 module _ (c : goal.After-count_visit) where
@@ -63,13 +58,9 @@ module _ (c : goal.After-count_visit) where
   label : row_label c.self.inside.tree.now.records.items (row_at kids c.in_ok-found.found)
       ≡ map to_ascii_lowercase c.args.label
   label =
-      let asked : c.in_ok-lower.lower ≡ map to_ascii_lowercase c.args.label =
-      ap first_of (sym c.in_ok-lower.ensures.steps ∙ c.labels.ensures.labels
-      ∙ c.fold_in_place.ensures ∙ ap folded (c.if-not-push.ensures.pushed
-      ∙ ap (λ (x : DomainName). x ++ c.args.label ∷ []) c.root-asked.ensures)) in
       sym (ap₂ (λ (rs : List ResourceRecord) (xs : List Row). row_label rs
       (row_at xs c.in_ok-found.found)) c.as_slice.ensures.value c.kids_of-start.ensures.kids)
-      ∙ c.in_ok-found.ensures.found.1 ∙ c.octets.ensures.value ∙ asked
+      ∙ c.in_ok-found.ensures.found.1 ∙ c.as_slice-2.ensures.value ∙ c.lower_case-lower.ensures
 
 pub returns-clause-child : goal.returns-clause-child
 returns-clause-child c =

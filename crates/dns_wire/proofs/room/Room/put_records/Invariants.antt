@@ -2,7 +2,7 @@ use Rattle.std.proofs.Common.{◌≡◌, ◌≤◌, ◌+◌, drop, length}
 use Rattle.dns_spec.specs.Sets.{records_at}
 use Rattle.dns_wire.specs.Writing.{Extends, IsSound}
 use Rattle.dns_wire.proofs.RecordsWritten.{RecordsGo}
-use Rattle.dns_wire.proofs.room.Room.put_set.Given as goal
+use Rattle.dns_wire.proofs.room.Room.put_records.Given as goal
 
 -- the records that are written and those that are to come are the set
 abbrev pub invariant-records : goal.invariant-records
