@@ -86,7 +86,7 @@ pub(crate) fn count_under(records: &[Record], name: &Name) -> usize
     ensures others { drop result records.now
         ≡ filter (λ (r : ResourceRecord). not (at_or_below r.owner name.now)) records.now }
 {
-    if let Some(count) = count_under_among(records, name, 1) {
+    if let Some(count) = count_under_among(records, name, 0) {
         return count;
     }
     if let Some(count) = count_under_among(records, name, NEAR) {

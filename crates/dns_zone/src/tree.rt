@@ -106,10 +106,12 @@ fn kid_at(records: &[Record], parent: &[u8], next: usize) -> Row
     let octets = child_octets(owner, parent);
     let name = Name::from_octets(octets);
     let (_, others) = records.split_at(next);
+    let own = count_at(others, &name);
+    let (_, after) = others.split_at(own);
     Row {
         first: next as u32,
-        own_end: (next + count_at(others, &name)) as u32,
-        end: (next + count_under(others, &name)) as u32,
+        own_end: (next + own) as u32,
+        end: (next + (own + count_under(after, &name))) as u32,
         place: (owner.len() - octets.len()) as u32,
     }
 }
