@@ -1,7 +1,7 @@
 //! Records brought near to canonical order by few moves.
 //!
-//! A record has 300 octets, and a sort moves what it sorts again and again. So places are sorted in the records' stead, by
-//! short keys first, and each record is moved once.
+//! A record has 300 octets, and a sort moves what it sorts again and again. So places are sorted in
+//! the records' stead, by short keys first, and each record is moved once.
 ghost use Rattle.std.specs.Prelude.{◌≡◌, ◌<◌, ◌++◌, All, length, take, replicate, IfOk};
 ghost use Rattle.std.specs.List.Sorted.{IsPermutation};
 ghost use Rattle.std.specs.Ordering.{nat_cmp, ordering_then};
@@ -16,7 +16,8 @@ use std::cmp::Ordering;
 // How many octets of an owner's key are kept.
 const KEY_OCTETS: usize = 16;
 
-// Of 16 octets the highest bit of each, the other bits, and what gives those from 65 on the highest bit.
+// Of 16 octets the highest bit of each, the other bits, and what gives those from 65 on the highest
+// bit.
 const HIGH_BITS: u128 = 0x8080_8080_8080_8080_8080_8080_8080_8080;
 
 const LOW_BITS: u128 = 0x7f7f_7f7f_7f7f_7f7f_7f7f_7f7f_7f7f_7f7f;
@@ -31,8 +32,9 @@ struct Place<'a> {
     listed: &'a Record,
 }
 
-/// Moves records into the order of their keys, and those of one key into canonical order. Where all owners are in the zone
-/// that is the canonical order, but nothing here says so: who needs it sorts, which then moves nothing.
+/// Moves records into the order of their keys, and those of one key into canonical order. Where all
+/// owners are in the zone that is the canonical order, but nothing here says so: who needs it
+/// sorts, which then moves nothing.
 ///
 /// Memory is taken for 40 octets for each record.
 pub(crate) fn arrange(
@@ -93,8 +95,8 @@ fn key_after(places: &[Place<'_>], origin_count: usize, owner: &Name) -> u128 {
     key_below(origin_count, owner)
 }
 
-// The first octets that the key of an owner has after that of the origin, by which most owners of a zone differ. A label
-// further right comes first, so each moves those before it back.
+// The first octets that the key of an owner has after that of the origin, by which most owners of a
+// zone differ. A label further right comes first, so each moves those before it back.
 fn key_below(origin_count: usize, owner: &Name) -> u128 {
     let mut labels = owner.labels();
     let mut key = 0;

@@ -12,8 +12,8 @@ use dns_master::Record;
 use dns_name::Name;
 use std::alloc::{AllocError, Global};
 
-// The records, each once, in canonical order (RFC 4034 6.1, 6.3, RFC 2181 5). The sort here moves nothing where the records
-// are arranged already, and they mostly are.
+// The records, each once, in canonical order (RFC 4034 6.1, 6.3, RFC 2181 5). The sort here moves
+// nothing where the records are arranged already, and they mostly are.
 pub(crate) fn ordered(
     alloc: Global,
     origin: &Name,
@@ -32,7 +32,8 @@ pub(crate) fn ordered(
     Ok(records)
 }
 
-// Leaves each record out that is equal to the one before. `dedup_by` moves all records, and mostly none is left out.
+// Leaves each record out that is equal to the one before. `dedup_by` moves all records, and mostly
+// none is left out.
 fn leave_out_doubles(records: &mut Vec<Record>)
     ensures kept { records.new.items ≡ dedup records_equal records.old.items }
     ensures bound { length records.new.items ≤ length records.old.items }
@@ -67,7 +68,8 @@ fn is_doubled(first: &Record, others: &[Record]) -> bool
     }
 }
 
-// Whether two records are equal in owner, type, data and TTL (RFC 2181 5). Neighbours mostly differ by type or owner.
+// Whether two records are equal in owner, type, data and TTL (RFC 2181 5). Neighbours mostly differ
+// by type or owner.
 fn records_equal(one: &Record, other: &Record) -> bool
     ensures { result ≡ records_equal one.now other.now }
 {
