@@ -16,6 +16,9 @@ use std::cmp::Ordering;
 // How many octets of an owner's key are kept.
 const KEY_OCTETS: usize = 16;
 
+// The most labels that these are of: each has an octet at least, and its end.
+const KEY_LABELS: usize = 8;
+
 // Of 16 octets the highest bit of each, the other bits, and what gives those from 65 on the highest
 // bit.
 const HIGH_BITS: u128 = 0x8080_8080_8080_8080_8080_8080_8080_8080;
@@ -98,9 +101,13 @@ fn key_after(places: &[Place<'_>], origin_count: usize, owner: &Name) -> u128 {
 // The first octets that the key of an owner has after that of the origin, by which most owners of a
 // zone differ. A label further right comes first, so each moves those before it back.
 fn key_below(origin_count: usize, owner: &Name) -> u128 {
+    let count = owner.label_count().saturating_sub(origin_count);
     let mut labels = owner.labels();
     let mut key = 0;
-    for _ in origin_count..owner.label_count() {
+    for _ in KEY_LABELS..count {
+        labels.next();
+    }
+    for _ in 0..count.min(KEY_LABELS) {
         let Some(label) = labels.next() else {
             return key;
         };

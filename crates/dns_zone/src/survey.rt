@@ -24,8 +24,10 @@ use dns_rdata::RType;
 use std::alloc::{AllocError, Global};
 use std::marker::Model;
 
-// How many owners after a cut are looked at for a server below it.
+// How many owners after a cut are looked at for a server below it, and how many records of each.
 const NEAR_OWNERS: usize = 4;
+
+const NEAR_RECORDS: usize = 16;
 
 /// The zone of an origin and of records in canonical order, whose checks are asked for.
 #[derive(Drop)]
@@ -177,22 +179,27 @@ impl<'a> Survey<'a> {
         ensures own { result.now ≡ at self.now name.now }
         ensures by_types { IsNonDecreasingBy (λ (r : ResourceRecord). r.rtype) result.now }
     {
-        if name.at_or_below(owner) {
-            if let Some(own) = self.at_near(name, after) {
+        if ends_in(name, owner) {
+            if let Some(own) = self.at_near(name, owner, after) {
                 return own;
             }
         }
         self.at(name)
     }
 
-    // The same where they are those of one of the first owners of the records.
-    fn at_near<'b>(&self, name: &Name, records: &'b [Record]) -> Option<&'b [Record]>
+    // The same where they are those of one of the first owners of the records. So that no more is
+    // looked at than a search by halves would, that ends where an owner is not below `cut`, or has
+    // many records.
+    fn at_near<'b>(&self, name: &Name, cut: &Name, records: &'b [Record]) -> Option<&'b [Record]>
         requires { HasOwners self.now records.now }
         ensures { IfSome result (λ own. IsOwner self.now name.now own.now) }
     {
         let mut rest = records;
         'owners: for _ in 0..NEAR_OWNERS {
             let (first, _) = rest.split_first()?;
+            if !ends_in(&first.owner, cut) || has_many(first, rest) {
+                return None;
+            }
             let (own, others) = rest.split_at(count_in_front(rest, &first.owner));
             if first.owner == *name {
                 return Some(own);
@@ -242,5 +249,18 @@ impl<'a> Survey<'a> {
             return false;
         }
         is_below_last(not_after(self.cuts.as_slice(), name), name)
+    }
+}
+
+// Whether the octets of a name end in those of another, as they do where it is at or below that.
+fn ends_in(name: &Name, other: &Name) -> bool {
+    name.octets().ends_with(other.octets())
+}
+
+// Whether the first of the records has the owner of one that comes long after.
+fn has_many(first: &Record, records: &[Record]) -> bool {
+    match records.get(NEAR_RECORDS) {
+        Some(far) => far.owner == first.owner,
+        None => false,
     }
 }
