@@ -254,7 +254,11 @@ impl<'a> Survey<'a> {
 
 // Whether the octets of a name end in those of another, as they do where it is at or below that.
 fn ends_in(name: &Name, other: &Name) -> bool {
-    name.octets().ends_with(other.octets())
+    let octets = name.octets();
+    match octets.len().checked_sub(other.octets().len()) {
+        Some(front) => &octets[front..] == other.octets(),
+        None => false,
+    }
 }
 
 // Whether the first of the records has the owner of one that comes long after.
