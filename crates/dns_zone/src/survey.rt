@@ -187,9 +187,8 @@ impl<'a> Survey<'a> {
         self.at(name)
     }
 
-    // The same where they are those of one of the first owners of the records. So that no more is
-    // looked at than a search by halves would, that ends where an owner is not below `cut`, or has
-    // many records.
+    // The same where they are those of one of the first owners of the records. It ends where an
+    // owner is not below `cut` or has many records, so that few records are looked at.
     fn at_near<'b>(&self, name: &Name, cut: &Name, records: &'b [Record]) -> Option<&'b [Record]>
         requires { HasOwners self.now records.now }
         ensures { IfSome result (λ own. IsOwner self.now name.now own.now) }
