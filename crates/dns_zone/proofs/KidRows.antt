@@ -2,7 +2,8 @@
 use Rattle.std.proofs.Common.{◌≡◌, ℕ, zero, suc, ◌+◌, ◌-◌, ◌<◌, ◌≤◌, Bool, true, false, not, cond, ◌⊎◌, inl, inr, List, [], ◌∷◌, ◌++◌, length, take, drop, get_or, refl, sym, ap, ap₂, ◌∙◌, arith, subst, filter, is_gt, is_lt, Ordering, Less, Equal, Greater, length-take, length-drop}
 use Rattle.std.proofs.lemmas.Bool.{false≢true, true≢false}
 use Rattle.std.proofs.lemmas.Cmp.{upto}
-use Rattle.std.proofs.lemmas.List.{take-append-drop, get_or-map, drop_more}
+use Rattle.std.proofs.lemmas.List.{take-append-drop, get_or-map, get_or-drop, drop_more}
+use Rattle.std.proofs.Math.Seq.{take-add}
 use Rattle.std.proofs.lemmas.List.Elements.{filter-append}
 use Rattle.std.specs.List.Sorted.{IsPartitionedBy}
 use Rattle.std.specs.Ordering.{ordering_reverse}
@@ -79,6 +80,42 @@ pub owner_at : (rs : List ResourceRecord) (k : ℕ) (r : ResourceRecord) → k <
 owner_at rs k r h e =
     get_or-map (λ (s : ResourceRecord). s.owner) rs k r [] h
     ∙ ap (λ (s : ResourceRecord). s.owner) (sym e)
+
+-- what is left of a list whose passing elements stand in front is such a list too
+pub parted_drop : {X : Type 0} (p : X → Bool) (xs : List X) (k : ℕ) → IsPartitionedBy p xs
+    → IsPartitionedBy p (drop k xs)
+parted_drop p xs k h i j d a b e =
+    let long : length (drop k xs) ≡ length xs - k = length-drop k xs in
+    subst (λ y. p y ≡ true) (sym (get_or-drop k xs i d))
+    (h (k + i) (k + j) d (omega (arith, a)) (omega (arith, long, b))
+    (subst (λ y. p y ≡ true) (get_or-drop k xs j d) e))
+
+-- what passes q, and so passes p
+pub filter_both : {X : Type 0} (p q : X → Bool) (xs : List X)
+    → ((x : X) → q x ≡ true → p x ≡ true) → filter p (filter q xs) ≡ filter q xs
+filter_both p q [] f = refl
+filter_both p q (x ∷ xs) f = go (q x) refl (filter_both p q xs f)
+  where
+    go : (t : Bool) → q x ≡ t → filter p (filter q xs) ≡ filter q xs
+        → filter p (cond t (x ∷ filter q xs) (filter q xs)) ≡ cond t (x ∷ filter q xs) (filter q xs)
+    go true a r =
+        ap (λ t. cond t (x ∷ filter p (filter q xs)) (filter p (filter q xs))) (f x a)
+        ∙ ap (λ ys. x ∷ ys) r
+    go false a r = r
+
+-- the records of a name, and then those below it
+pub own_then_below : (m : DomainName) (xs : List ResourceRecord) (own count : ℕ)
+    → take own xs ≡ filter (is_at m) xs → take count (drop own xs) ≡ under m (drop own xs)
+    → take (own + count) xs ≡ under m xs
+own_then_below m xs own count o u =
+    let whole : under m xs ≡ under m (take own xs) ++ under m (drop own xs) =
+    ap (under m) (sym (take-append-drop own xs))
+    ∙ filter-append (is_under m) (take own xs) (drop own xs) in
+    let front : under m (take own xs) ≡ take own xs =
+    ap (under m) o ∙ filter_both (is_under m) (is_at m) xs (λ s e. itself-under s.owner m e)
+    ∙ sym o in
+    take-add own count xs ∙ ap (λ ys. take own xs ++ ys) u
+    ∙ sym (whole ∙ ap (λ ys. ys ++ under m (drop own xs)) front)
 
 -- the next record, and the name that its child has
 module _ (rs : List ResourceRecord) (canonical : IsCanonical rs) (n : DomainName) (next : ℕ)

@@ -21,7 +21,8 @@ last_passes p (x ∷ y ∷ ys) = last_passes p (y ∷ ys)
 -- no owner is at or below one before it, and the owners rise
 abbrev pub IsApart : ResourceRecord → List ResourceRecord → Type 0
 IsApart c [] = Unit {0}
-IsApart c (d ∷ ds) = ((is_lt (name_order c.owner d.owner) ≡ true) × (at_or_below d.owner c.owner ≡ false)) × IsApart c ds
+IsApart c (d ∷ ds) = ((is_lt (name_order c.owner d.owner) ≡ true) ×
+    (at_or_below d.owner c.owner ≡ false)) × IsApart c ds
 
 abbrev pub AreApart : List ResourceRecord → Type 0
 AreApart [] = Unit {0}
@@ -31,7 +32,8 @@ AreApart (c ∷ cs) = IsApart c cs × AreApart cs
 pub record AreTopmost (z : ZoneContents) (cuts : List ResourceRecord) : Type 0 where
   pub are_cuts : All (λ (c : ResourceRecord). is_cut z c.owner ≡ true) cuts
   pub apart : AreApart cuts
-  pub cover : (n : DomainName) → is_cut z n ≡ true → list_any (λ (c : ResourceRecord). at_or_below n c.owner) cuts ≡ true
+  pub cover : (n : DomainName) → is_cut z n ≡ true → list_any
+      (λ (c : ResourceRecord). at_or_below n c.owner) cuts ≡ true
 
 -- What a zone under check keeps.
 pub record IsSurvey (z : ZoneContents) (keyed cuts : List ResourceRecord) : Type 0 where

@@ -1,9 +1,11 @@
--- What a reader learns here: octets that stand in the order of names, by which names are sorted and found.
+-- What a reader learns here: octets that stand in the order of names, by which names are sorted and
+-- found.
 use Rattle.std.specs.Prelude.{ℕ, ◌+◌, Bool, false, List, [], ◌∷◌, ◌++◌, map, nat_lt, if◌then◌else◌}
 use Rattle.dns_spec.specs.Names.{Octets, DomainName, names_equal}
 use Rattle.dns_spec.specs.Records.{ResourceRecord}
 
--- An octet of a name in lower case, where 65 to 90 do not stand: those below are one more, so that 0 is left to end a label.
+-- An octet of a name in lower case, where 65 to 90 do not stand: those below are one more, so that
+-- 0 is left to end a label.
 abbrev pub raised : ℕ → ℕ
 raised o = if nat_lt o 65 then o + 1 else o
 

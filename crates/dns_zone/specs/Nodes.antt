@@ -1,5 +1,5 @@
--- What a reader learns here: what is counted while the names of a zone are walked, what a node of the zone is, and what its
--- sets of records keep.
+-- What a reader learns here: what is counted while the names of a zone are walked, what a node of
+-- the zone is, and what its sets of records keep.
 use Rattle.std.specs.Prelude.{◌≡◌, ℕ, true, ◌≤◌, length}
 use Rattle.dns_spec.specs.Names.{DomainName, folded}
 use Rattle.dns_spec.specs.Records.{ZoneContents, rrset}
@@ -19,13 +19,15 @@ pub record ZoneNode : Type 0 where
   pub zone : ZoneContents
   pub name : DomainName
 
--- RFC 4592 2.2: the name exists in a zone that was built, and is in lower case as the zone's names are
+-- RFC 4592 2.2: the name exists in a zone that was built, and is in lower case as the zone's names
+-- are
 pub record IsNode (z : ZoneContents) (n : DomainName) : Type 0 where
   pub built : IsBuilt z
   pub lower : folded n ≡ n
   pub stands : exists z n ≡ true
 
--- RFC 2181 5: at the node's name the set stands for the RRset of its type. It has at most 64 records.
+-- RFC 2181 5: at the node's name the set stands for the RRset of its type. It has at most 64
+-- records.
 pub record IsSetOf (node : ZoneNode) (set : RecordSet) : Type 0 where
   pub records : records_at node.name set.ttl set ≡ rrset node.zone node.name set.rtype
   pub few : length set.rdata ≤ 64

@@ -6,6 +6,7 @@ use Rattle.dns_spec.specs.Names.{DomainName, folded, at_or_below}
 use Rattle.dns_spec.specs.Data.{type_ns, type_cname, target}
 use Rattle.dns_spec.specs.Checks.{lacks_address}
 use Rattle.dns_spec.specs.Records.{ResourceRecord, ZoneContents, at, owns}
+use Rattle.dns_zone.specs.ReportedForm.{HasOwners}
 
 -- a zone, and a name whose checks are asked for
 pub record NameOfZone : Type 0 where
@@ -18,10 +19,20 @@ pub record IsOwner (z : ZoneContents) (n : DomainName) (own : List ResourceRecor
   pub own_is : own ≡ at z n
   pub by_types : IsNonDecreasingBy (λ (r : ResourceRecord). r.rtype) own
 
+-- the same, and some records after these, of each owner all of the zone
+pub record IsPlaced (z : ZoneContents) (n : DomainName)
+    (own after : List ResourceRecord) : Type 0 where
+  pub lower : folded n ≡ n
+  pub own_is : own ≡ at z n
+  pub by_types : IsNonDecreasingBy (λ (r : ResourceRecord). r.rtype) own
+  pub followed : HasOwners z after
+
 -- an NS record whose target is a name of the zone that owns a CNAME
 abbrev pub is_server_alias : ZoneContents → ResourceRecord → Bool
-is_server_alias z r = r.rtype == type_ns && option_map_or (λ m. at_or_below m z.origin && owns z m type_cname) (target r.rtype r.rdata) false
+is_server_alias z r = r.rtype == type_ns && option_map_or
+    (λ m. at_or_below m z.origin && owns z m type_cname) (target r.rtype r.rdata) false
 
 -- an NS record of a name, whose target is a name of the zone that lacks an address
 abbrev pub is_server_lost : ZoneContents → DomainName → ResourceRecord → Bool
-is_server_lost z n r = r.rtype == type_ns && option_map_or (λ m. at_or_below m z.origin && lacks_address z n m) (target r.rtype r.rdata) false
+is_server_lost z n r = r.rtype == type_ns && option_map_or
+    (λ m. at_or_below m z.origin && lacks_address z n m) (target r.rtype r.rdata) false

@@ -9,7 +9,8 @@ use Rattle.dns_zone.specs.ZoneForm.{AreOrdered}
 -- the faults of a name, by whether it fails the checks from a code on
 abbrev pub failed_from : DomainName → ℕ → List Bool → List Fault
 failed_from n code [] = []
-failed_from n code (fails ∷ rest) = (if fails then record { owner = n; code = code } ∷ [] else []) ++ failed_from n (suc code) rest
+failed_from n code (fails ∷ rest) = (if fails then record { owner = n; code = code } ∷ [] else [])
+    ++ failed_from n (suc code) rest
 
 -- the first record stands at the name
 abbrev pub begins_with_owner : DomainName → List ResourceRecord → Bool
@@ -19,18 +20,23 @@ begins_with_owner n (r ∷ rs) = same r.owner n
 -- the owners of records that stand by them, each once
 abbrev pub owners_once : List ResourceRecord → List DomainName
 owners_once [] = []
-owners_once (r ∷ rs) = (if begins_with_owner r.owner rs then [] else folded r.owner ∷ []) ++ owners_once rs
+owners_once (r ∷ rs) = (if begins_with_owner r.owner rs then [] else folded r.owner ∷ [])
+    ++ owners_once rs
 
--- Some of a zone's records, in canonical order: of each owner that they have, all records of the zone.
+-- Some of a zone's records, in canonical order: of each owner that they have, all records of the
+-- zone.
 pub record HasOwners (z : ZoneContents) (rs : List ResourceRecord) : Type 0 where
   pub ordered : AreOrdered rs
-  pub all : All (λ (r : ResourceRecord). filter (λ (s : ResourceRecord). same s.owner r.owner) rs ≡ at z r.owner) rs
+  pub all : All (λ (r : ResourceRecord). filter (λ (s : ResourceRecord). same s.owner r.owner) rs
+      ≡ at z r.owner) rs
 
 -- the faults of a name, as one word
 unfoldable pub reported_at : ZoneContents → DomainName → List Fault
 reported_at z n = faults_at z n
 
 -- the faults of the owners before a name, of the name, and of the owners after it
-abbrev pub reported_around : ZoneContents → List ResourceRecord → DomainName → List ResourceRecord → List Fault
+abbrev pub reported_around : ZoneContents → List ResourceRecord → DomainName → List ResourceRecord
+    → List Fault
 reported_around z before n after =
-    flat_map (reported_at z) (owners_once before) ++ (reported_at z n ++ flat_map (reported_at z) (owners_once after))
+    flat_map (reported_at z) (owners_once before) ++
+    (reported_at z n ++ flat_map (reported_at z) (owners_once after))

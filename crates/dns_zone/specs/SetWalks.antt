@@ -1,4 +1,5 @@
--- What a reader learns here: what one walk over the records of an owner, which stand by their types, tells of its RRsets.
+-- What a reader learns here: what one walk over the records of an owner, which stand by their
+-- types, tells of its RRsets.
 use Rattle.std.specs.Prelude.{ℕ, ◌+◌, Bool, false, ◌&&◌, ◌||◌, not, List, [], ◌∷◌, drop, ◌==◌, if◌then◌else◌}
 use Rattle.dns_spec.specs.Records.{ResourceRecord}
 

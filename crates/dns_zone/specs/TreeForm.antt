@@ -1,4 +1,5 @@
--- What a reader learns here: how the names of a zone are kept as rows of numbers, and what such rows keep.
+-- What a reader learns here: how the names of a zone are kept as rows of numbers, and what such
+-- rows keep.
 use Rattle.std.specs.Prelude.{◌≡◌, ℕ, zero, suc, ◌+◌, ◌-◌, ◌/◌, ◌<◌, ◌≤◌, true, List, [], ◌∷◌, map, length, take, drop, get_or}
 use Rattle.std.specs.List.{filter, list_any}
 use Rattle.std.specs.Char.{to_ascii_lowercase}
@@ -15,7 +16,8 @@ span xs a b = take (b - a) (drop a xs)
 abbrev pub owners : List ResourceRecord → List DomainName
 owners = map (λ (r : ResourceRecord). r.owner)
 
--- The wire form of a row's name: it is the end of the owner of the first record at or below the name.
+-- The wire form of a row's name: it is the end of the owner of the first record at or below the
+-- name.
 unfoldable pub row_octets : List ResourceRecord → Row → Octets
 row_octets rs row = drop row.place (wire (get_or (owners rs) row.first []))
 

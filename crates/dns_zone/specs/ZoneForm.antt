@@ -19,7 +19,8 @@ pub record IsCanonical (rs : List ResourceRecord) : Type 0 where
   pub ordered : AreOrdered rs
   pub few : length rs ≤ most_records
 
--- what every built zone keeps: an origin in lower case, and records in canonical order, without a fault
+-- what every built zone keeps: an origin in lower case, and records in canonical order, without a
+-- fault
 pub record IsBuilt (z : ZoneContents) : Type 0 where
   pub low : folded z.origin ≡ z.origin
   pub each : All IsReadRecord z.records
@@ -27,7 +28,8 @@ pub record IsBuilt (z : ZoneContents) : Type 0 where
   pub few : length z.records ≤ most_records
   pub passes : Passes z
 
--- what is reported of a zone that can't be built: its faults, one at least, or nothing where no memory was found
+-- what is reported of a zone that can't be built: its faults, one at least, or nothing where no
+-- memory was found
 abbrev pub ReportsFaults : BuildFault → ZoneContents → Type 0
 ReportsFaults (Faults found) z = (found.items ≡ faults z) × (faults z ≢ [])
 ReportsFaults NoMemory z = ⊤

@@ -1,13 +1,12 @@
 //! Records brought near to canonical order by few moves.
 //!
-//! A record has 300 octets, and a sort moves what it sorts again and again. So places are sorted in the records' stead, by
-//! short keys first, and each record is moved once.
+//! A record has 300 octets, and a sort moves what it sorts again and again. So places are sorted in
+//! the records' stead, by short keys first, and each record is moved once.
 ghost use Rattle.std.specs.Prelude.{◌≡◌, ◌<◌, ◌++◌, All, length, take, replicate, IfOk};
 ghost use Rattle.std.specs.List.Sorted.{IsPermutation};
 ghost use Rattle.std.specs.Ordering.{nat_cmp, ordering_then};
 ghost use Rattle.dns_spec.specs.Records.{record_order};
 
-use crate::key::Key;
 use crate::order::record_order;
 use dns_master::Record;
 use dns_name::Name;
@@ -17,6 +16,17 @@ use std::cmp::Ordering;
 // How many octets of an owner's key are kept.
 const KEY_OCTETS: usize = 16;
 
+// The most labels that these are of: each has an octet at least, and its end.
+const KEY_LABELS: usize = 8;
+
+// Of 16 octets the highest bit of each, the other bits, and what gives those from 65 on the highest
+// bit.
+const HIGH_BITS: u128 = 0x8080_8080_8080_8080_8080_8080_8080_8080;
+
+const LOW_BITS: u128 = 0x7f7f_7f7f_7f7f_7f7f_7f7f_7f7f_7f7f_7f7f;
+
+const TO_HIGH_BIT: u128 = 0x3f3f_3f3f_3f3f_3f3f_3f3f_3f3f_3f3f_3f3f;
+
 // A record, where it stands, and the first octets of its owner's key.
 #[derive(Drop)]
 struct Place<'a> {
@@ -25,8 +35,9 @@ struct Place<'a> {
     listed: &'a Record,
 }
 
-/// Moves records into the order of their keys, and those of one key into canonical order. Where all owners are in the zone
-/// that is the canonical order, but nothing here says so: who needs it sorts, which then moves nothing.
+/// Moves records into the order of their keys, and those of one key into canonical order. Where all
+/// owners are in the zone that is the canonical order, but nothing here says so: who needs it
+/// sorts, which then moves nothing.
 ///
 /// Memory is taken for 40 octets for each record.
 pub(crate) fn arrange(
@@ -60,15 +71,15 @@ fn places<'a>(
     records: &'a [Record],
 ) -> Result<Vec<Place<'a>>, AllocError>
     ensures count { IfOk result (λ places. length places.items ≡ length records.now) }
-    ensures below { IfOk result (λ places. All (λ (p : Place). p.at < length records.now) places.items) }
+    ensures below { IfOk result (λ places.
+        All (λ (p : Place). p.at < length records.now) places.items) }
 {
-    let mut room = Key::of(origin);
-    let origin_octets = room.octets().len();
+    let origin_count = origin.label_count();
     let mut places = Vec::with_capacity(alloc, records.len())?;
     let mut rest = records;
     let mut at = 0;
     'records: while let Some((listed, others)) = rest.split_first() {
-        let key = key_after(places.as_slice(), origin_octets, &listed.owner, &mut room);
+        let key = key_after(places.as_slice(), origin_count, &listed.owner);
         places.push(Place { key, at, listed })?;
         rest = others;
         at += 1;
@@ -77,24 +88,48 @@ fn places<'a>(
 }
 
 // The key of an owner, which is mostly that of the record before.
-fn key_after(places: &[Place<'_>], origin_octets: usize, owner: &Name, room: &mut Key) -> u128 {
+fn key_after(places: &[Place<'_>], origin_count: usize, owner: &Name) -> u128 {
     if let Some(last) = places.last() {
         let before = last.listed;
         if before.owner == *owner {
             return last.key;
         }
     }
-    key_below(origin_octets, owner, room)
+    key_below(origin_count, owner)
 }
 
-// The first octets that the key of an owner has after that of the origin, by which most owners of a zone differ.
-fn key_below(origin_octets: usize, owner: &Name, room: &mut Key) -> u128 {
-    room.make_that_of(owner);
-    let octets = room.octets();
-    if octets.len() < origin_octets {
-        return 0;
+// The first octets that the key of an owner has after that of the origin, by which most owners of a
+// zone differ. A label further right comes first, so each moves those before it back.
+fn key_below(origin_count: usize, owner: &Name) -> u128 {
+    let count = owner.label_count().saturating_sub(origin_count);
+    let mut labels = owner.labels();
+    let mut key = 0;
+    for _ in KEY_LABELS..count {
+        labels.next();
     }
-    u128::from_be_bytes(leading_octets(&octets[origin_octets..]))
+    for _ in 0..count.min(KEY_LABELS) {
+        let Some(label) = labels.next() else {
+            return key;
+        };
+        key = key_of_label(label.octets()) | moved_back(key, label.octets().len());
+    }
+    key
+}
+
+// A key after a label of so many octets and its end.
+fn moved_back(key: u128, count: usize) -> u128 {
+    let bits = 8 * (count.min(KEY_OCTETS) as u32) + 8;
+    key.checked_shr(bits).unwrap_or(0)
+}
+
+// The first octets of a label as a key has them: those below 65 are one more, all at once.
+fn key_of_label(octets: &[u8]) -> u128 {
+    let leading = u128::from_be_bytes(leading_octets(octets));
+    let bits = 8 * (octets.len().min(KEY_OCTETS) as u32);
+    let unused = u128::MAX.checked_shr(bits).unwrap_or(0);
+    let others = ((leading & LOW_BITS).wrapping_add(TO_HIGH_BIT) | leading) & HIGH_BITS;
+    let one_more = (others ^ HIGH_BITS) & !unused;
+    leading.wrapping_add(one_more >> 7)
 }
 
 // The first octets, with zeros where there are fewer.
@@ -108,7 +143,8 @@ fn leading_octets(octets: &[u8]) -> [u8; KEY_OCTETS]
 }
 
 fn place_order(one: &Place<'_>, other: &Place<'_>) -> Ordering
-    ensures { result ≡ ordering_then (nat_cmp one.now.key other.now.key) (record_order one.now.listed.now other.now.listed.now) }
+    ensures { result ≡ ordering_then (nat_cmp one.now.key other.now.key)
+        (record_order one.now.listed.now other.now.listed.now) }
 {
     one.key
         .cmp(&other.key)

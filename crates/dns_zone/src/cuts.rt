@@ -15,17 +15,19 @@ use dns_name::Name;
 use dns_rdata::RType;
 use std::alloc::{AllocError, Global};
 
-/// A record of each cut that is below no other cut, by the order of owners. Memory is taken once, 8 octets for each record.
+/// A record of each cut that is below no other cut, by the order of owners. Memory is taken once, 8
+/// octets for each record.
 ///
-/// In canonical order a cut comes before all names below it, and they stand side by side. So it is enough to look at the
-/// cut that was found last.
+/// In canonical order a cut comes before all names below it, and they stand side by side. So it is
+/// enough to look at the cut that was found last.
 pub(crate) fn topmost_cuts<'a>(
     alloc: Global,
     origin: &Name,
     records: &'a [Keyed<'a>],
 ) -> Result<Vec<&'a Keyed<'a>>, AllocError>
     requires { AreOrdered records.now }
-    ensures { IfOk result (λ cuts. AreTopmost (record { origin = origin.now; records = records.now }) (after cuts.items)) }
+    ensures { IfOk result (λ cuts. AreTopmost
+        (record { origin = origin.now; records = records.now }) (after cuts.items)) }
 {
     let mut cuts: Vec<&'a Keyed<'a>> = Vec::with_capacity(alloc, records.len())?;
     'records: for listed in records {
@@ -39,7 +41,8 @@ pub(crate) fn topmost_cuts<'a>(
 // Whether the record makes a cut that is not at or below the last of the cuts.
 fn is_topmost(origin: &Name, cuts: &[&Keyed<'_>], listed: &Keyed<'_>) -> bool
     ensures { result ≡ ((listed.now.rtype == type_ns && below listed.now.owner origin.now)
-        && not (last_passes (λ (c : ResourceRecord). at_or_below listed.now.owner c.owner) (after cuts.now))) }
+        && not (last_passes (λ (c : ResourceRecord). at_or_below listed.now.owner c.owner)
+        (after cuts.now))) }
 {
     let record = listed.listed();
     is_delegation(origin, record) && !is_covered(cuts, &record.owner)
@@ -55,7 +58,8 @@ fn is_delegation(origin: &Name, listed: &Record) -> bool
 pub(crate) fn not_after<'a, 'b>(cuts: &'b [&'a Keyed<'a>], name: &Name) -> &'b [&'a Keyed<'a>]
     requires apart { AreApart (after cuts.now) }
     requires lower { folded name.now ≡ name.now }
-    ensures { after result.now ≡ filter (λ (c : ResourceRecord). not (is_gt (name_order c.owner name.now))) (after cuts.now) }
+    ensures { after result.now ≡ filter
+        (λ (c : ResourceRecord). not (is_gt (name_order c.owner name.now))) (after cuts.now) }
 {
     let key = Key::of(name);
     &cuts[..cuts.partition_point(|cut| !cut.order(name, &key).is_gt())]
@@ -63,7 +67,8 @@ pub(crate) fn not_after<'a, 'b>(cuts: &'b [&'a Keyed<'a>], name: &Name) -> &'b [
 
 /// Whether the name is at or below the last of the cuts.
 pub(crate) fn is_covered(cuts: &[&Keyed<'_>], name: &Name) -> bool
-    ensures { result ≡ last_passes (λ (c : ResourceRecord). at_or_below name.now c.owner) (after cuts.now) }
+    ensures { result ≡ last_passes (λ (c : ResourceRecord). at_or_below name.now c.owner)
+        (after cuts.now) }
 {
     match cuts.last() {
         Some(cut) => {
@@ -76,7 +81,8 @@ pub(crate) fn is_covered(cuts: &[&Keyed<'_>], name: &Name) -> bool
 
 /// Whether the name is below the last of the cuts.
 pub(crate) fn is_below_last(cuts: &[&Keyed<'_>], name: &Name) -> bool
-    ensures { result ≡ last_passes (λ (c : ResourceRecord). below name.now c.owner) (after cuts.now) }
+    ensures { result ≡ last_passes (λ (c : ResourceRecord). below name.now c.owner)
+        (after cuts.now) }
 {
     match cuts.last() {
         Some(cut) => {

@@ -16,8 +16,8 @@ use dns_master::Record;
 use dns_name::Name;
 use std::alloc::{AllocError, Global};
 
-/// The faults of the zone of these records, by the order of owners, then by code. They are reported of all owners, and of
-/// the origin where it owns nothing too.
+/// The faults of the zone of these records, by the order of owners, then by code. They are reported
+/// of all owners, and of the origin where it owns nothing too.
 ///
 /// An error only where memory for the list of faults, for keys or for cuts was not found.
 pub(crate) fn faults(
@@ -27,7 +27,8 @@ pub(crate) fn faults(
 ) -> Result<Vec<CheckFault>, AllocError>
     requires ordered { AreOrdered records.now }
     requires lower { folded origin.now ≡ origin.now }
-    ensures { IfOk result (λ found. found.items ≡ faults (record { origin = origin.now; records = records.now })) }
+    ensures { IfOk result (λ found. found.items ≡ faults
+        (record { origin = origin.now; records = records.now })) }
 {
     let keys = keys_of(alloc, records)?;
     let keyed = beside_keys(alloc, records, keys.as_slice())?;
@@ -51,10 +52,11 @@ fn report_around(
     requires before { HasOwners survey.now before.now }
     requires own { IsOwner survey.now name.now own.now }
     requires after { HasOwners survey.now after.now }
-    ensures { OnOk result (found.new.items ≡ found.old.items ++ reported_around survey.now before.now name.now after.now) }
+    ensures { OnOk result (found.new.items ≡ found.old.items
+        ++ reported_around survey.now before.now name.now after.now) }
 {
     report_owners(survey, before, found)?;
-    report(survey, name, own, found)?;
+    report(survey, name, own, after, found)?;
     report_owners(survey, after, found)
 }
 
@@ -65,28 +67,31 @@ fn report_owners(
     found: &mut Vec<CheckFault>,
 ) -> Result<(), AllocError>
     requires { HasOwners survey.now records.now }
-    ensures { OnOk result (found.new.items ≡ found.old.items ++ flat_map (reported_at survey.now) (owners_once records.now)) }
+    ensures { OnOk result (found.new.items ≡ found.old.items ++ flat_map (reported_at survey.now)
+        (owners_once records.now)) }
 {
     let mut rest = records;
     'owners: while let Some((first, _)) = rest.split_first() {
         let (own, others) = rest.split_at(count_in_front(rest, &first.owner));
-        report(survey, &first.owner, own, found)?;
+        report(survey, &first.owner, own, others, found)?;
         rest = others;
     }
     Ok(())
 }
 
-// Adds the faults of a name, whose records these are.
+// Adds the faults of a name, whose records these are, and after which come others.
 fn report(
     survey: &Survey<'_>,
     name: &Name,
     own: &[Record],
+    after: &[Record],
     found: &mut Vec<CheckFault>,
 ) -> Result<(), AllocError>
-    requires { IsOwner survey.now name.now own.now }
+    requires own { IsOwner survey.now name.now own.now }
+    requires after { HasOwners survey.now after.now }
     ensures { OnOk result (found.new.items ≡ found.old.items ++ reported_at survey.now name.now) }
 {
-    let failed = Owner::new(survey, name, own).judged();
+    let failed = Owner::new(survey, name, own, after).judged();
     add_failed(name, &failed, found)
 }
 
@@ -108,7 +113,8 @@ fn add_failed(name: &Name, failed: &[bool], found: &mut Vec<CheckFault>) -> Resu
 }
 
 fn add(name: &Name, code: u8, found: &mut Vec<CheckFault>) -> Result<(), AllocError>
-    ensures { OnOk result (found.new.items ≡ found.old.items ++ record { owner = name.now; code = code } ∷ []) }
+    ensures { OnOk result (found.new.items ≡ found.old.items
+        ++ record { owner = name.now; code = code } ∷ []) }
 {
     found.push(CheckFault {
         owner: name.copied(),

@@ -10,7 +10,8 @@ use std::marker::Model;
 
 const MAX_OCTETS: usize = 255;
 
-/// The key of a name in lower case. Keys are compared octet by octet, and stand in the canonical order (RFC 4034 6.1).
+/// The key of a name in lower case. Keys are compared octet by octet, and stand in the canonical
+/// order (RFC 4034 6.1).
 #[derive(Drop)]
 pub(crate) struct Key {
     octets: ArrayVec<u8, MAX_OCTETS>,
@@ -32,7 +33,8 @@ impl Key {
         }
     }
 
-    /// The key of a name: its labels from the right, each ended, so that one which begins another comes first.
+    /// The key of a name: its labels from the right, each ended, so that one which begins another
+    /// comes first.
     pub(crate) fn of(name: &Name) -> Key
         ensures { result ≡ name_key name.now }
     {
@@ -82,7 +84,8 @@ fn append_label(label: &[u8], key: &mut ArrayVec<u8, MAX_OCTETS>)
     key.push(0);
 }
 
-// An octet of a name in lower case, where 65 to 90 do not stand: those below are one more, so that 0 is left to end a label.
+// An octet of a name in lower case, where 65 to 90 do not stand: those below are one more, so that
+// 0 is left to end a label.
 fn raised(octet: u8) -> u8
     ensures { result ≡ raised octet }
 {

@@ -111,7 +111,8 @@ pub(crate) fn beside_keys<'a>(
     Ok(keyed)
 }
 
-// The keys that are left after a record: all where the next record has its owner, else those after its own.
+// The keys that are left after a record: all where the next record has its owner, else those after
+// its own.
 fn later_keys<'a>(first: &Record, others: &[Record], keys: &'a [u8], after: &'a [u8]) -> &'a [u8]
     requires keys { keys.now ≡ keys_left (first.now ∷ others.now) }
     requires after { keys.now ≡ name_key first.now.owner ++ after.now }

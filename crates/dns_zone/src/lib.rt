@@ -1,4 +1,5 @@
-//! Zones: the checks that a zone has to pass before it is served, the walk over its names, and its canonical text.
+//! Zones: the checks that a zone has to pass before it is served, the walk over its names, and its
+//! canonical text.
 #![tactic(auto)]
 
 mod arranged;

@@ -13,7 +13,8 @@ use dns_master::Record;
 use dns_name::Name;
 use dns_rdata::RType;
 
-// How many records are looked at before all are: most owners have few records, and most names few below them.
+// How many records are looked at before all are: most owners have few records, and most names few
+// below them.
 const NEAR: usize = 4;
 
 /// The records whose owner is the name, which stand side by side.
@@ -47,7 +48,8 @@ pub(crate) fn count_before(records: &[Keyed<'_>], name: &Name) -> usize
 
 /// How many of the records have the name as owner, where these stand in front.
 pub(crate) fn count_at(records: &[Record], name: &Name) -> usize
-    requires in_front { IsPartitionedBy (λ (r : ResourceRecord). same r.owner name.now) records.now }
+    requires in_front { IsPartitionedBy
+        (λ (r : ResourceRecord). same r.owner name.now) records.now }
     requires lower { folded name.now ≡ name.now }
     ensures bound { result ≤ length records.now }
     ensures own { take result records.now
@@ -66,9 +68,11 @@ pub(crate) fn count_at(records: &[Record], name: &Name) -> usize
 
 // The same where it is at most `near`, and a record stands there; or nothing.
 fn count_at_among(records: &[Record], name: &Name, near: usize) -> Option<usize>
-    requires in_front { IsPartitionedBy (λ (r : ResourceRecord). same r.owner name.now) records.now }
+    requires in_front { IsPartitionedBy
+        (λ (r : ResourceRecord). same r.owner name.now) records.now }
     requires lower { folded name.now ≡ name.now }
-    ensures { IfSome result (λ k. IsFront (λ (r : ResourceRecord). same r.owner name.now) records.now k) }
+    ensures { IfSome result
+        (λ k. IsFront (λ (r : ResourceRecord). same r.owner name.now) records.now k) }
 {
     let next = records.get(near)?;
     if is_at(next, name) {
@@ -86,7 +90,7 @@ pub(crate) fn count_under(records: &[Record], name: &Name) -> usize
     ensures others { drop result records.now
         ≡ filter (λ (r : ResourceRecord). not (at_or_below r.owner name.now)) records.now }
 {
-    if let Some(count) = count_under_among(records, name, 1) {
+    if let Some(count) = count_under_among(records, name, 0) {
         return count;
     }
     if let Some(count) = count_under_among(records, name, NEAR) {
@@ -98,7 +102,8 @@ pub(crate) fn count_under(records: &[Record], name: &Name) -> usize
 // The same where it is at most `near`, and a record stands there; or nothing.
 fn count_under_among(records: &[Record], name: &Name, near: usize) -> Option<usize>
     requires { IsPartitionedBy (λ (r : ResourceRecord). at_or_below r.owner name.now) records.now }
-    ensures { IfSome result (λ k. IsFront (λ (r : ResourceRecord). at_or_below r.owner name.now) records.now k) }
+    ensures { IfSome result
+        (λ k. IsFront (λ (r : ResourceRecord). at_or_below r.owner name.now) records.now k) }
 {
     let next = records.get(near)?;
     if next.owner.at_or_below(name) {
@@ -110,7 +115,8 @@ fn count_under_among(records: &[Record], name: &Name, near: usize) -> Option<usi
 /// How many records stand in front whose owner is the name. They are passed one by one.
 pub(crate) fn count_in_front(records: &[Record], name: &Name) -> usize
     requires { folded name.now ≡ name.now }
-    ensures value { result ≡ prefix_len (λ (r : ResourceRecord). same r.owner name.now) records.now }
+    ensures value { result ≡ prefix_len
+        (λ (r : ResourceRecord). same r.owner name.now) records.now }
     ensures bound { result ≤ length records.now }
 {
     records

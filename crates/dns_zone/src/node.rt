@@ -53,17 +53,20 @@ impl<'z> Node<'z> {
         Node { tree, row: 0 }
     }
 
-    /// The child of this label, if that name exists. Labels are compared without regard to the case of ASCII letters
-    /// (RFC 1035 2.3.3). The node handed out is counted, and each comparison of labels.
+    /// The child of this label, if that name exists. Labels are compared without regard to the case
+    /// of ASCII letters (RFC 1035 2.3.3). The node handed out is counted, and each comparison of
+    /// labels.
     ///
-    /// A node has at most 100,000 children, so that 17 comparisons find a label among theirs. Conditions: the steps are
-    /// over the node's zone, `visits` is below 4,294,967,295, and `comparisons` at most 4,294,967,278.
+    /// A node has at most 100,000 children, so that 17 comparisons find a label among theirs.
+    /// Conditions: the steps are over the node's zone, `visits` is below 4,294,967,295, and
+    /// `comparisons` at most 4,294,967,278.
     pub fn down(&self, label: Label<'_>, steps: &mut Steps<'z>) -> Option<Node<'z>>
         requires zone { steps.old.zone ≡ self.now.zone }
         requires visits { steps.old.visits < 4294967295 }
         requires comparisons { steps.old.comparisons ≤ 4294967278 }
 
-        ensures child { IsSome result ↔ IsTrue (exists self.now.zone (label.entry ∷ self.now.name)) }
+        ensures child { IsSome result ↔ IsTrue
+            (exists self.now.zone (label.entry ∷ self.now.name)) }
         ensures node { IfSome result (λ n. n ≡ record {
           zone = self.now.zone;
           name = map to_ascii_lowercase label.entry ∷ self.now.name;
@@ -85,7 +88,8 @@ impl<'z> Node<'z> {
         })
     }
 
-    /// The records of a type at the name, by their data octets; `None` where there are none (RFC 2181 5).
+    /// The records of a type at the name, by their data octets; `None` where there are none
+    /// (RFC 2181 5).
     pub fn set(&self, rtype: RType) -> Option<RecordSet<'z>>
         ensures set { result ≡ set_of (rrset self.now.zone self.now.name rtype.0) }
         ensures rtype { IfSome result (λ s. s.rtype ≡ rtype.0) }

@@ -1,5 +1,7 @@
 //! Records in canonical order, each once.
-ghost use Rattle.std.specs.Prelude.{◌≡◌, ◌<◌, ◌≤◌, All, length, IfOk};
+ghost use Rattle.std.specs.Prelude.{◌≡◌, ◌<◌, ◌≤◌, ◌∷◌, All, length, IfOk};
+ghost use Rattle.std.specs.Bool.{OnFalse};
+ghost use Rattle.std.specs.List.{dedup};
 ghost use Rattle.dns_spec.specs.Records.{records_equal, distinct, sort_by, record_order};
 ghost use Rattle.dns_spec.specs.ZonePrinted.{IsReadRecord};
 ghost use Rattle.dns_zone.specs.ZoneForm.{AreOrdered};
@@ -10,14 +12,15 @@ use dns_master::Record;
 use dns_name::Name;
 use std::alloc::{AllocError, Global};
 
-// The records, each once, in canonical order (RFC 4034 6.1, 6.3, RFC 2181 5). The sort here moves nothing where the records
-// are arranged already, and they mostly are.
+// The records, each once, in canonical order (RFC 4034 6.1, 6.3, RFC 2181 5). The sort here moves
+// nothing where the records are arranged already, and they mostly are.
 pub(crate) fn ordered(
     alloc: Global,
     origin: &Name,
     mut records: Vec<Record>,
 ) -> Result<Vec<Record>, AllocError>
-    ensures records { IfOk result (λ kept. kept.items ≡ sort_by record_order (distinct records_equal records.items)) }
+    ensures records { IfOk result (λ kept. kept.items
+        ≡ sort_by record_order (distinct records_equal records.items)) }
     ensures in_order { IfOk result (λ kept. AreOrdered kept.items) }
     ensures count { IfOk result (λ kept. length kept.items ≤ length records.items) }
     ensures each { IfOk result (λ kept. All IsReadRecord kept.items) }
@@ -25,11 +28,48 @@ pub(crate) fn ordered(
     know_each(records.as_slice());
     arrange(alloc, origin, records.as_mut_slice())?;
     records.sort_unstable_by(|one, other| record_order(one, other));
-    records.dedup_by(|one, other| records_equal(one, other));
+    leave_out_doubles(&mut records);
     Ok(records)
 }
 
-// Whether two records are equal in owner, type, data and TTL (RFC 2181 5). Neighbours mostly differ by type or owner.
+// Leaves each record out that is equal to the one before. `dedup_by` moves all records, and mostly
+// none is left out.
+fn leave_out_doubles(records: &mut Vec<Record>)
+    ensures kept { records.new.items ≡ dedup records_equal records.old.items }
+    ensures bound { length records.new.items ≤ length records.old.items }
+{
+    if has_double(records.as_slice()) {
+        records.dedup_by(|one, other| records_equal(one, other));
+    }
+}
+
+// Whether a record is equal to the one before. Where none is, none is to be left out.
+fn has_double(records: &[Record]) -> bool
+    ensures { OnFalse result (dedup records_equal records.now ≡ records.now) }
+{
+    let mut rest = records;
+    'records: while let Some((first, others)) = rest.split_first() {
+        if is_doubled(first, others) {
+            return true;
+        }
+        rest = others;
+    }
+    false
+}
+
+// Whether the next record is equal to this one.
+fn is_doubled(first: &Record, others: &[Record]) -> bool
+    ensures { OnFalse result (dedup records_equal (first.now ∷ others.now)
+        ≡ first.now ∷ dedup records_equal others.now) }
+{
+    match others.first() {
+        Some(next) => records_equal(next, first),
+        None => false,
+    }
+}
+
+// Whether two records are equal in owner, type, data and TTL (RFC 2181 5). Neighbours mostly differ
+// by type or owner.
 fn records_equal(one: &Record, other: &Record) -> bool
     ensures { result ≡ records_equal one.now other.now }
 {

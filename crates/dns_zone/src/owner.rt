@@ -4,7 +4,7 @@ ghost use Rattle.dns_spec.specs.Records.{owns};
 ghost use Rattle.dns_spec.specs.Tree.{is_cut};
 ghost use Rattle.dns_spec.specs.Checks.{is_origin, count, owns_such, is_address_type, below_cut, checks, no_soa, many_soa, soa_elsewhere, no_ns, outside, cname_and_other, many_cname, ttls_differ, ns_target_alias, ns_target_lost, mx_target_alias, data_at_cut, wildcard_ns, large_set, many_sets};
 ghost use Rattle.dns_spec.specs.Data.{type_ns, type_cname};
-ghost use Rattle.dns_zone.specs.OwnerForm.{IsOwner, is_server_alias, is_server_lost};
+ghost use Rattle.dns_zone.specs.OwnerForm.{IsPlaced, is_server_alias, is_server_lost};
 
 use crate::lookup::has_type;
 use crate::sets::{have_large_set, have_many_sets, have_other_ttls};
@@ -20,25 +20,38 @@ pub(crate) struct Owner<'a> {
     survey: &'a Survey<'a>,
     name: &'a Name,
     own: &'a [Record],
+    // Records of other owners, which come after.
+    after: &'a [Record],
 }
 
 impl<'a> Model for Owner<'a> {
-    ghost use Rattle.dns_zone.specs.OwnerForm.{NameOfZone, IsOwner};
+    ghost use Rattle.dns_zone.specs.OwnerForm.{NameOfZone, IsPlaced};
 
     ghost Value = { NameOfZone };
 
     ghost view = { λ o. record { zone = o.survey.now; name = o.name.now } };
 
-    ghost invariant = { λ o. IsOwner o.survey.now o.name.now o.own.now };
+    ghost invariant = { λ o. IsPlaced o.survey.now o.name.now o.own.now o.after.now };
 }
 
 impl<'a> Owner<'a> {
-    /// A name in lower case, of a zone, with the name's records.
-    pub(crate) fn new(survey: &'a Survey<'a>, name: &'a Name, own: &'a [Record]) -> Owner<'a>
-        requires { IsOwner survey.now name.now own.now }
+    /// A name in lower case, of a zone, with the name's records and some after these, which are all
+    /// of their owners.
+    pub(crate) fn new(
+        survey: &'a Survey<'a>,
+        name: &'a Name,
+        own: &'a [Record],
+        after: &'a [Record],
+    ) -> Owner<'a>
+        requires { IsPlaced survey.now name.now own.now after.now }
         ensures { result ≡ record { zone = survey.now; name = name.now } }
     {
-        Owner { survey, name, own }
+        Owner {
+            survey,
+            name,
+            own,
+            after,
+        }
     }
 
     /// Which checks the name fails, by their codes.
@@ -116,7 +129,8 @@ impl<'a> Owner<'a> {
         have_other_ttls(self.own)
     }
 
-    // Whether the target of an NS record is an alias, and whether that of one lacks an address. Each is looked up once.
+    // Whether the target of an NS record is an alias, and whether that of one lacks an address.
+    // Each is looked up once.
     fn judged_servers(&self) -> (bool, bool)
         ensures alias { result.0 ≡ ns_target_alias self.now.zone self.now.name }
         ensures lost { result.1 ≡ ns_target_lost self.now.zone self.now.name }
@@ -143,7 +157,8 @@ impl<'a> Owner<'a> {
         if listed.rtype != RType::NS {
             return (false, false);
         }
-        self.survey.judged_target(listed, self.name, owner_is_cut)
+        self.survey
+            .judged_target(listed, self.name, owner_is_cut, self.after)
     }
 
     fn has_mx_target_alias(&self) -> bool
@@ -209,14 +224,18 @@ impl<'a> Owner<'a> {
 
     // At a cut stand its NS records and addresses alone.
     fn has_own_data_at_cut(&self) -> bool
-        ensures { result ≡ (is_cut self.now.zone self.now.name && owns_such self.now.zone self.now.name (λ t. not (t == type_ns || is_address_type t))) }
+        ensures { result ≡ (is_cut self.now.zone self.now.name
+            && owns_such self.now.zone self.now.name
+            (λ t. not (t == type_ns || is_address_type t))) }
     {
         self.is_cut() && self.owns_other_than_delegation()
     }
 
-    // Below a cut stands glue alone. Most names own something else, and the cuts are searched for the fewest.
+    // Below a cut stands glue alone. Most names own something else, and the cuts are searched for
+    // the fewest.
     fn has_data_below_cut(&self) -> bool
-        ensures { result ≡ (below_cut self.now.zone self.now.name && owns_such self.now.zone self.now.name (λ t. not (is_address_type t))) }
+        ensures { result ≡ (below_cut self.now.zone self.now.name
+            && owns_such self.now.zone self.now.name (λ t. not (is_address_type t))) }
     {
         self.owns_other_than_address() && self.survey.is_below_cut(self.name)
     }
@@ -228,7 +247,8 @@ impl<'a> Owner<'a> {
     }
 
     fn owns_other_than_delegation(&self) -> bool
-        ensures { result ≡ owns_such self.now.zone self.now.name (λ t. not (t == type_ns || is_address_type t)) }
+        ensures { result ≡ owns_such self.now.zone self.now.name
+            (λ t. not (t == type_ns || is_address_type t)) }
     {
         self.own.iter().any(|listed| !(listed.rtype == RType::NS || is_address_type(listed.rtype)))
     }

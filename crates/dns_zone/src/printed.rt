@@ -27,13 +27,14 @@ impl From<SinkFailed> for PrintFault {
     }
 }
 
-/// Writes the canonical text of a zone: each record on a line of its own with its owner, TTL, class, type and data, the
-/// SOA first and the others in canonical order (RFC 1035 5.1, 5.2, RFC 4034 6.1, 6.3).
+/// Writes the canonical text of a zone: each record on a line of its own with its owner, TTL,
+/// class, type and data, the SOA first and the others in canonical order (RFC 1035 5.1, 5.2,
+/// RFC 4034 6.1, 6.3).
 ///
-/// Names are written whole, with a dot at their end. The text is a zone file, which means the same zone again, whatever the
-/// origin: it has at most 100,000 records, and where it has at most 16,777,216 octets and only types that zones have, it is
-/// read back. It takes no memory. Where the sink fails, a beginning of the text
-/// was written, and nothing is tried after it.
+/// Names are written whole, with a dot at their end. The text is a zone file, which means the same
+/// zone again, whatever the origin: it has at most 100,000 records, and where it has at most
+/// 16,777,216 octets and only types that zones have, it is read back. It takes no memory. Where the
+/// sink fails, a beginning of the text was written, and nothing is tried after it.
 pub fn print<W: Write>(zone: &Zone, sink: &mut Tally<W>) -> Result<(), PrintFault>
     requires { sink.old.failures < 2 ^ 64 - 1 }
     ensures writes { Writes W.contents sink.old sink.new result (zone_text zone.now) }

@@ -1,6 +1,7 @@
 //! Rows of a tree of names.
 
-/// A name of a zone: which of the zone's records, in canonical order, are at or below it, and which of these its own.
+/// A name of a zone: which of the zone's records, in canonical order, are at or below it, and which
+/// of these its own.
 #[derive(Drop)]
 pub(crate) struct Row {
     /// The first record at or below the name.

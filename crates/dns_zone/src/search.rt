@@ -12,8 +12,8 @@ use dns_master::Record;
 use dns_name::first_label;
 use std::cmp::Ordering;
 
-/// Which of the children has the label, if one has it. Each comparison is counted: they are at most 17, since 100,000
-/// children are fewer than 2 ^ 17.
+/// Which of the children has the label, if one has it. Each comparison is counted: they are at most
+/// 17, since 100,000 children are fewer than 2 ^ 17.
 pub(crate) fn find(
     records: &[Record],
     kids: &[Row],

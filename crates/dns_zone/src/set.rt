@@ -7,7 +7,8 @@ use dns_master::Record;
 use dns_rdata::{RType, SetView};
 use std::marker::Model;
 
-/// The records of one type at a name of a zone, by their data octets, a beginning first (RFC 2181 5).
+/// The records of one type at a name of a zone, by their data octets, a beginning first
+/// (RFC 2181 5).
 #[derive(Drop)]
 pub struct RecordSet<'z> {
     rtype: RType,

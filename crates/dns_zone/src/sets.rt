@@ -5,8 +5,8 @@ ghost use Rattle.dns_zone.specs.SetWalks.{begins_with_type, next_differs, neighb
 use dns_master::Record;
 use dns_rdata::RType;
 
-// The greatest RRset that is served.
-const MOST_RECORDS: usize = 64;
+// The most records of an RRset that is served.
+const MOST_OF_A_SET: usize = 64;
 
 // The most RRsets that are served of one owner.
 const MOST_SETS: usize = 32;
@@ -62,10 +62,10 @@ pub(crate) fn have_many_sets(own: &[Record]) -> bool
 fn is_repeated(one: &Record, others: &[Record]) -> bool
     ensures { result ≡ begins_with_type one.now.rtype (drop 63 others.now) }
 {
-    if others.len() < MOST_RECORDS {
+    if others.len() < MOST_OF_A_SET {
         return false;
     }
-    begins_with_type(&others[MOST_RECORDS - 1..], one.rtype)
+    begins_with_type(&others[MOST_OF_A_SET - 1..], one.rtype)
 }
 
 fn begins_with_type(records: &[Record], rtype: RType) -> bool

@@ -11,8 +11,8 @@ use std::marker::Model;
 
 /// A walk over one zone: how many nodes it was handed, and how many labels were compared for it.
 ///
-/// A node is handed out by a walk alone, which counts it. A walk is not copied, and neither the zone nor another walk is
-/// had from it: who is lent one is counted.
+/// A node is handed out by a walk alone, which counts it. A walk is not copied, and neither the
+/// zone nor another walk is had from it: who is lent one is counted.
 #[derive(Drop)]
 pub struct Steps<'z> {
     zone: &'z Zone,

@@ -1,5 +1,5 @@
 //! A zone under check: its origin, its records in canonical order, and its cuts.
-ghost use Rattle.std.specs.Prelude.{◌≡◌, ◌==◌, ◌&&◌, true, not, false, IfOk, OnOk, length, take};
+ghost use Rattle.std.specs.Prelude.{◌≡◌, ◌==◌, ◌&&◌, true, not, false, IfOk, IfSome, OnOk, length, take};
 ghost use Rattle.std.specs.List.{filter, list_any};
 ghost use Rattle.std.specs.Ordering.{is_gt};
 ghost use Rattle.dns_spec.specs.Names.{folded, name_order, at_or_below, below};
@@ -11,16 +11,23 @@ ghost use Rattle.dns_spec.specs.Tree.{is_cut};
 ghost use Rattle.dns_spec.specs.Checks.{at_or_below_cut, below_cut, lacks_address, has_address};
 ghost use Rattle.dns_zone.specs.ZoneForm.{AreOrdered};
 ghost use Rattle.dns_zone.specs.CutForm.{after, AreTopmost, AreApart, last_passes};
+ghost use Rattle.dns_zone.specs.OwnerForm.{IsOwner};
+ghost use Rattle.dns_zone.specs.ReportedForm.{HasOwners};
 
 use crate::cuts::{is_below_last, is_covered, not_after, topmost_cuts};
 use crate::keyed::Keyed;
-use crate::lookup::{has_type, records_at};
+use crate::lookup::{count_in_front, has_type, records_at};
 use crate::target::target;
 use dns_master::Record;
 use dns_name::Name;
 use dns_rdata::RType;
 use std::alloc::{AllocError, Global};
 use std::marker::Model;
+
+// How many owners after a cut are looked at for a server below it, and how many records of each.
+const NEAR_OWNERS: usize = 4;
+
+const NEAR_RECORDS: usize = 16;
 
 /// The zone of an origin and of records in canonical order, whose checks are asked for.
 #[derive(Drop)]
@@ -46,7 +53,8 @@ impl<'a> Model for Survey<'a> {
 }
 
 impl<'a> Survey<'a> {
-    /// The zone of an origin in lower case and of records. An error only where no memory for its cuts was found.
+    /// The zone of an origin in lower case and of records. An error only where no memory for its
+    /// cuts was found.
     pub(crate) fn new(
         alloc: Global,
         origin: &'a Name,
@@ -56,7 +64,8 @@ impl<'a> Survey<'a> {
         requires keyed { keyed.now ≡ records.now }
         requires ordered { AreOrdered records.now }
         requires lower { folded origin.now ≡ origin.now }
-        ensures { IfOk result (λ survey. survey ≡ record { origin = origin.now; records = records.now }) }
+        ensures { IfOk result (λ survey. survey
+            ≡ record { origin = origin.now; records = records.now }) }
     {
         let cuts = topmost_cuts(alloc, origin, keyed)?;
         Ok(Survey {
@@ -94,7 +103,8 @@ impl<'a> Survey<'a> {
 
     /// Whether the record's target is a name of the zone that owns a CNAME.
     pub(crate) fn is_target_alias(&self, listed: &Record) -> bool
-        ensures { result ≡ option_map_or (λ m. at_or_below m self.now.origin && owns self.now m type_cname) (target listed.now.rtype listed.now.rdata) false }
+        ensures { result ≡ option_map_or (λ m. at_or_below m self.now.origin
+            && owns self.now m type_cname) (target listed.now.rtype listed.now.rdata) false }
     {
         match target(listed) {
             Some(target) => self.is_alias(&target),
@@ -103,7 +113,8 @@ impl<'a> Survey<'a> {
     }
 
     fn is_alias(&self, target: &Name) -> bool
-        ensures { result ≡ (at_or_below target.now self.now.origin && owns self.now target.now type_cname) }
+        ensures { result ≡ (at_or_below target.now self.now.origin
+            && owns self.now target.now type_cname) }
     {
         if !target.at_or_below(self.origin) {
             return false;
@@ -111,37 +122,90 @@ impl<'a> Survey<'a> {
         self.owns(&target.fold(), RType::CNAME)
     }
 
-    /// Whether the record's target is a name of the zone that owns a CNAME (RFC 2181 10.3), and whether it is one that
-    /// lacks an address there (RFC 1034 4.2.1). It is looked up once. The record stands at `owner`.
+    /// Whether the record's target is a name of the zone that owns a CNAME (RFC 2181 10.3), and
+    /// whether it is one that lacks an address there (RFC 1034 4.2.1). It is looked up once. The
+    /// record stands at `owner`, and the records of other owners come `after`.
     pub(crate) fn judged_target(
         &self,
         listed: &Record,
         owner: &Name,
         owner_is_cut: bool,
+        after: &[Record],
     ) -> (bool, bool)
-        requires { owner_is_cut ≡ is_cut self.now owner.now }
-        ensures alias { result.0 ≡ option_map_or (λ m. at_or_below m self.now.origin && owns self.now m type_cname) (target listed.now.rtype listed.now.rdata) false }
-        ensures lost { result.1 ≡ option_map_or (λ m. at_or_below m self.now.origin && lacks_address self.now owner.now m) (target listed.now.rtype listed.now.rdata) false }
+        requires cut { owner_is_cut ≡ is_cut self.now owner.now }
+        requires after { HasOwners self.now after.now }
+        ensures alias { result.0 ≡ option_map_or
+            (λ m. at_or_below m self.now.origin && owns self.now m type_cname)
+            (target listed.now.rtype listed.now.rdata) false }
+        ensures lost { result.1 ≡ option_map_or
+            (λ m. at_or_below m self.now.origin && lacks_address self.now owner.now m)
+            (target listed.now.rtype listed.now.rdata) false }
     {
         match target(listed) {
-            Some(target) => self.judged_name(&target, owner, owner_is_cut),
+            Some(target) => self.judged_name(&target, owner, owner_is_cut, after),
             None => (false, false),
         }
     }
 
-    fn judged_name(&self, target: &Name, owner: &Name, owner_is_cut: bool) -> (bool, bool)
-        requires { owner_is_cut ≡ is_cut self.now owner.now }
-        ensures alias { result.0 ≡ (at_or_below target.now self.now.origin && owns self.now target.now type_cname) }
-        ensures lost { result.1 ≡ (at_or_below target.now self.now.origin && lacks_address self.now owner.now target.now) }
+    fn judged_name(
+        &self,
+        target: &Name,
+        owner: &Name,
+        owner_is_cut: bool,
+        after: &[Record],
+    ) -> (bool, bool)
+        requires cut { owner_is_cut ≡ is_cut self.now owner.now }
+        requires after { HasOwners self.now after.now }
+        ensures alias { result.0 ≡ (at_or_below target.now self.now.origin
+            && owns self.now target.now type_cname) }
+        ensures lost { result.1 ≡ (at_or_below target.now self.now.origin
+            && lacks_address self.now owner.now target.now) }
     {
         if !target.at_or_below(self.origin) {
             return (false, false);
         }
         let lower = target.fold();
-        let own = self.at(&lower);
+        let own = self.at_server(&lower, owner, after);
         let is_alias = has_type(own, RType::CNAME);
         let is_lost = self.lacks_address(&lower, own, owner, owner_is_cut);
         (is_alias, is_lost)
+    }
+
+    // The records at the name, by their types. Those of a server below `owner` mostly come soon
+    // after those of `owner`.
+    fn at_server<'b>(&'b self, name: &Name, owner: &Name, after: &'b [Record]) -> &'b [Record]
+        requires lower { folded name.now ≡ name.now }
+        requires after { HasOwners self.now after.now }
+        ensures own { result.now ≡ at self.now name.now }
+        ensures by_types { IsNonDecreasingBy (λ (r : ResourceRecord). r.rtype) result.now }
+    {
+        if ends_in(name, owner) {
+            if let Some(own) = self.at_near(name, owner, after) {
+                return own;
+            }
+        }
+        self.at(name)
+    }
+
+    // The same where they are those of one of the first owners of the records. It ends where an
+    // owner is not below `cut` or has many records, so that few records are looked at.
+    fn at_near<'b>(&self, name: &Name, cut: &Name, records: &'b [Record]) -> Option<&'b [Record]>
+        requires { HasOwners self.now records.now }
+        ensures { IfSome result (λ own. IsOwner self.now name.now own.now) }
+    {
+        let mut rest = records;
+        'owners: for _ in 0..NEAR_OWNERS {
+            let (first, _) = rest.split_first()?;
+            if !ends_in(&first.owner, cut) || has_many(first, rest) {
+                return None;
+            }
+            let (own, others) = rest.split_at(count_in_front(rest, &first.owner));
+            if first.owner == *name {
+                return Some(own);
+            }
+            rest = others;
+        }
+        None
     }
 
     // Whether a name that owns these records lacks an address that a server of `owner` needs.
@@ -174,8 +238,8 @@ impl<'a> Survey<'a> {
         is_covered(not_after(self.cuts.as_slice(), name), name)
     }
 
-    /// Whether the name is below a cut. A cut is below the origin, so what is below a cut has two labels more than the
-    /// origin at least: that costs no search.
+    /// Whether the name is below a cut. A cut is below the origin, so what is below a cut has two
+    /// labels more than the origin at least: that costs no search.
     pub(crate) fn is_below_cut(&self, name: &Name) -> bool
         requires { folded name.now ≡ name.now }
         ensures { result ≡ below_cut self.now name.now }
@@ -184,5 +248,22 @@ impl<'a> Survey<'a> {
             return false;
         }
         is_below_last(not_after(self.cuts.as_slice(), name), name)
+    }
+}
+
+// Whether the octets of a name end in those of another, as they do where it is at or below that.
+fn ends_in(name: &Name, other: &Name) -> bool {
+    let octets = name.octets();
+    match octets.len().checked_sub(other.octets().len()) {
+        Some(front) => &octets[front..] == other.octets(),
+        None => false,
+    }
+}
+
+// Whether the first of the records has the owner of one that comes long after.
+fn has_many(first: &Record, records: &[Record]) -> bool {
+    match records.get(NEAR_RECORDS) {
+        Some(far) => far.owner == first.owner,
+        None => false,
     }
 }

@@ -1,4 +1,5 @@
-//! The names of a zone as rows, level by level: the children of a row stand side by side, by their labels.
+//! The names of a zone as rows, level by level: the children of a row stand side by side, by their
+//! labels.
 ghost use Rattle.std.specs.Prelude.{◌≡◌, ℕ, ◌+◌, ◌<◌, ◌≤◌, ◌∷◌, length, take, drop, get_or, true, IfOk, OnOk};
 ghost use Rattle.dns_spec.specs.Names.{folded, at_or_below, below};
 ghost use Rattle.dns_spec.specs.Records.{ResourceRecord};
@@ -106,15 +107,18 @@ fn kid_at(records: &[Record], parent: &[u8], next: usize) -> Row
     let octets = child_octets(owner, parent);
     let name = Name::from_octets(octets);
     let (_, others) = records.split_at(next);
+    let own = count_at(others, &name);
+    let (_, after) = others.split_at(own);
     Row {
         first: next as u32,
-        own_end: (next + count_at(others, &name)) as u32,
-        end: (next + count_under(others, &name)) as u32,
+        own_end: (next + own) as u32,
+        end: (next + (own + count_under(after, &name))) as u32,
         place: (owner.len() - octets.len()) as u32,
     }
 }
 
-// The end of an owner's wire form that has one label more than the name of `parent`, which the owner is below.
+// The end of an owner's wire form that has one label more than the name of `parent`, which the
+// owner is below.
 fn child_octets<'a>(owner: &'a [u8], parent: &[u8]) -> &'a [u8]
     requires owner { IsWireForm owner.now }
     requires parent { IsWireForm parent.now }

@@ -20,7 +20,8 @@ use dns_rdata::{RType, Rdata};
 use std::alloc::Global;
 use std::marker::Model;
 
-/// A zone that has no fault: an origin, and records in canonical order, each once. It has at most 100,000.
+/// A zone that has no fault: an origin, and records in canonical order, each once. It has at most
+/// 100,000.
 #[derive(Drop)]
 pub struct Zone {
     tree: Tree,
@@ -39,15 +40,17 @@ impl Model for Zone {
 }
 
 impl Zone {
-    /// The zone of an origin and of records, each kept once (RFC 2181 5), in canonical order (RFC 4034 6.1, 6.3).
+    /// The zone of an origin and of records, each kept once (RFC 2181 5), in canonical order
+    /// (RFC 4034 6.1, 6.3).
     ///
-    /// `Faults` tells all faults of the zone, where it has one; `NoMemory` comes only where none was found. Either way
-    /// the records are let go. The limit is that of a zone file.
+    /// `Faults` tells all faults of the zone, where it has one; `NoMemory` comes only where none
+    /// was found. Either way the records are let go. The limit is that of a zone file.
     pub fn build(alloc: Global, origin: &Name, records: Vec<Record>) -> Result<Zone, BuildFault>
         requires { length records.items ≤ most_records }
         ensures ok { IfOk result (λ zone. zone ≡ ordered_zone origin.now records.items) }
         ensures passes { IfOk result (λ zone. faults (zone_of origin.now records.items) ≡ []) }
-        ensures faults { IfErr result (λ fault. ReportsFaults fault (zone_of origin.now records.items)) }
+        ensures faults { IfErr result (λ fault. ReportsFaults fault
+            (zone_of origin.now records.items)) }
     {
         let origin = origin.fold();
         let records = ordered(alloc, &origin, records)?;

@@ -6,7 +6,8 @@ use dns_master::read_zone;
 use dns_name::{Name, Tally};
 use std::test::Fail;
 
-// Owners that differ by a label below another, after their first 16 octets, by length, or not at all.
+// Owners that differ by a label below another, after their first 16 octets, by length, or not at
+// all.
 const TURNED: &[u8] = b"$TTL 60
 zz A 192.0.2.1
 x.y TXT a

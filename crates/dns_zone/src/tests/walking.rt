@@ -8,8 +8,8 @@ use itoa::Buffer;
 use std::alloc::Global;
 use std::test::Fail;
 
-// Labels, the nearest to the origin first; how many of them are found; the lowest type at the last name found, or 0 where
-// it owns nothing.
+// Labels, the nearest to the origin first; how many of them are found; the lowest type at the last
+// name found, or 0 where it owns nothing.
 type Walked<'a> = (&'a [&'a [u8]], usize, u16);
 
 #[test]

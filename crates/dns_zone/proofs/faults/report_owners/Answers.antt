@@ -5,12 +5,19 @@ use Rattle.dns_zone.specs.ReportedForm.{reported_at, owners_once}
 use Rattle.dns_zone.proofs.OwnersWalk.{Step, step}
 use Rattle.dns_zone.proofs.faults.report_owners.Goals as goal
 
-pub report-requires : goal.report-requires
-report-requires c =
+pub report-requires-clause-own : goal.report-requires-clause-own
+report-requires-clause-own c =
     let rest_is : c.owners.rest.now ≡ c.in-Some.first.now ∷ c.in-Some.field-0-1.now = search rules in
     let name_is : c.first.inside.owner ≡ c.in-Some.first.now.owner = search rules in
     (step _ _ c.in-Some.first.now c.in-Some.field-0-1.now _ _ _ _ name_is c.first.invariant.low rest_is c.owners.invariant.whole
     (record { count = c.count_in_front.ensures.value; own_is = c.split_at.ensures.front; others_are = c.split_at.ensures.back })).is_owner
+
+pub report-requires-clause-after : goal.report-requires-clause-after
+report-requires-clause-after c =
+    let rest_is : c.owners.rest.now ≡ c.in-Some.first.now ∷ c.in-Some.field-0-1.now = search rules in
+    let name_is : c.first.inside.owner ≡ c.in-Some.first.now.owner = search rules in
+    (step _ _ c.in-Some.first.now c.in-Some.field-0-1.now _ _ _ _ name_is c.first.invariant.low rest_is c.owners.invariant.whole
+    (record { count = c.count_in_front.ensures.value; own_is = c.split_at.ensures.front; others_are = c.split_at.ensures.back })).has_owners
 
 module _ (c : goal.In_ok-report) where
   stepped : Step c.args.survey.now c.first.inside.owner c.owners.rest.now c.split_at.result.0.now c.split_at.result.1.now

@@ -1,5 +1,5 @@
 use Rattle.std.proofs.Common.{All, length, take, drop, ◌++◌, is_lt, sym, subst, ◌∙◌, ◌≡◌, rules, arith}
-use Rattle.std.proofs.lemmas.Fn.{dedup_same, always_returns_same}
+use Rattle.std.proofs.lemmas.Fn.{always_returns_same}
 use Rattle.std.proofs.Math.Seq.{take-append_seam}
 use Rattle.std.proofs.lemmas.List.Elements.{All-weaker}
 use Rattle.std.proofs.lemmas.List.Sorted.{ranks_by, length_permutation, IsPermutation-trans}
@@ -23,12 +23,11 @@ returns c =
     let sorted : IsSorted record_order xs =
     c.sort_unstable_by.ensures.sorted (λ r s. is_lt (record_order r s)) (ranks_by record_order_total (λ r. r)) (always_returns_same _ _ _ (λ a r f' k. search rules)) in
     let each : All IsReadRecord rs = subst (All IsReadRecord) c.as_slice.ensures.value c.know_each.ensures in
-    let kept : c.dedup_by.new.self.items ≡ dedup records_equal xs =
-    dedup_same _ records_equal _ (λ r s b f' r' s' k. search rules) xs c.dedup_by.new.self.items c.dedup_by.ensures.filtered in
+    let kept : c.leave_out_doubles.new.records.items ≡ dedup records_equal xs = c.leave_out_doubles.ensures.kept in
     let whole = kept ∙ canonical_records rs xs (All-weaker IsReadRecord LowerOwner (λ r h. h.lower_owner) rs each) moved sorted in
     record {
       records = whole;
       in_order = subst AreOrdered (sym whole) (sort_risen record_order (sort_by record_order (distinct records_equal rs)) (rises_canonical rs));
-      count = omega (arith, c.dedup_by.ensures.bound, length_permutation rs xs moved);
+      count = omega (arith, c.leave_out_doubles.ensures.bound, length_permutation rs xs moved);
       each = subst (All IsReadRecord) (sym whole) (all_canonical IsReadRecord rs each);
     }

@@ -4,8 +4,8 @@ use Rattle.dns_spec.specs.Records.{ResourceRecord}
 use Rattle.dns_zone.specs.SetWalks.{begins_with_type}
 use Rattle.dns_zone.proofs.sets.is_repeated.Goals as goal
 
-pub returns-then-others-lt-MOST_RECORDS : goal.returns-then-others-lt-MOST_RECORDS
-returns-then-others-lt-MOST_RECORDS c =
+pub returns-then-others-lt-MOST_OF_A_SET : goal.returns-then-others-lt-MOST_OF_A_SET
+returns-then-others-lt-MOST_OF_A_SET c =
     let few : length c.args.others.now ≤ 63 = omega arith in
     sym (ap (begins_with_type c.args.one.now.rtype) (drop_all 63 c.args.others.now few))
 

@@ -1,12 +1,13 @@
-use Rattle.std.proofs.Common.{◌≡◌, Bool, true, ap, sym, ◌∙◌, subst, length, ◌-◌, List}
+use Rattle.std.proofs.Common.{◌≡◌, ◌+◌, ◌≤◌, Bool, true, ap, sym, ◌∙◌, subst, length, take, drop, filter, arith, length-drop, ◌-◌, List}
 use Rattle.std.specs.List.Sorted.{IsPartitionedBy}
 use Rattle.dns_spec.specs.Names.{DomainName, Octets, wire, folded, below}
 use Rattle.dns_spec.specs.Records.{ResourceRecord}
 use Rattle.dns_name.specs.WireForm.{labels_of}
 use Rattle.dns_name.proofs.WireLemmas.{IsWireForm-wire, labels_of_spelled}
+use Rattle.dns_zone.specs.TreeForm.{under}
 use Rattle.dns_zone.specs.TreeSteps.{IsChildOf}
 use Rattle.dns_zone.proofs.AtName.{is_at}
-use Rattle.dns_zone.proofs.KidRows.{is_under, owner_name, owner_lower, owner_below, under_front, own_front, made}
+use Rattle.dns_zone.proofs.KidRows.{is_under, owner_name, owner_lower, owner_below, under_front, own_front, parted_drop, own_then_below, made}
 use Rattle.dns_zone.proofs.tree.kid_at.Goals as goal
 
 pub child_octets-octets-requires-clause-owner : goal.child_octets-octets-requires-clause-owner
@@ -53,8 +54,8 @@ parted P {m} {n} {xs} {ys} name back h =
     subst (λ (k : DomainName). IsPartitionedBy (P k) xs) (sym name)
     (subst (λ (zs : List ResourceRecord). IsPartitionedBy (P n) zs) (sym back) h)
 
-pub count_at-requires-clause-in_front : goal.count_at-requires-clause-in_front
-count_at-requires-clause-in_front c =
+pub count_at-own-requires-clause-in_front : goal.count_at-own-requires-clause-in_front
+count_at-own-requires-clause-in_front c =
     let n = labels_of c.args.parent.now in
     let spelled =
     c.octets-owner.ensures.value ∙ ap (λ (q : ResourceRecord). wire q.owner) c.record.view_is in
@@ -69,11 +70,17 @@ count_under-requires c =
     let n = labels_of c.args.parent.now in
     let spelled =
     c.octets-owner.ensures.value ∙ ap (λ (q : ResourceRecord). wire q.owner) c.record.view_is in
-    parted is_under c.from_octets-name.ensures.value c.split_at.ensures.back
+    parted is_under c.from_octets-name.ensures.value c.split_at-2.ensures.back
+    (parted_drop (is_under (labels_of c.child_octets-octets.result.now)) c.split_at.result.1.now
+    c.count_at-own.result
+    (subst
+    (λ (ys : List ResourceRecord).
+    IsPartitionedBy (is_under (labels_of c.child_octets-octets.result.now)) ys)
+    (sym c.split_at.ensures.back)
     (under_front c.args.records.now c.requires.canonical n c.args.next c.requires.next _
     c.index-records-next.is c.child_octets-octets.result.now
     (subst (λ (o : Octets). IsChildOf n o c.child_octets-octets.result.now) spelled
-    c.child_octets-octets.ensures))
+    c.child_octets-octets.ensures))))
 
 pub returns : goal.returns
 returns c =
@@ -82,13 +89,26 @@ returns c =
     let r = c.index-records-next.result in
     let octets = c.child_octets-octets.result.now in
     let back = c.split_at.ensures.back in
+    let after = c.split_at-2.ensures.back in
     let named = c.from_octets-name.ensures.value in
     let spelled =
     c.octets-owner.ensures.value ∙ ap (λ (q : ResourceRecord). wire q.owner) c.record.view_is in
     let child =
     subst (λ (o : Octets). IsChildOf n o octets) spelled c.child_octets-octets.ensures in
+    let own = c.count_at-own.result in
+    let count = c.count_under.result in
+    let others = c.split_at.result.1.now in
+    let left : length c.split_at-2.result.1.now ≡ length others - own =
+    ap length after ∙ length-drop own others in
+    let fits : own + count ≤ length others =
+    omega (arith, left, c.count_at-own.ensures.bound, c.count_under.ensures.bound) in
+    let own_is : take own (drop c.args.next rs) ≡ filter (is_at (labels_of octets)) (drop c.args.next rs) =
+    rw (← back, ← named) c.count_at-own.ensures.own in
+    let below_is : take count (drop own (drop c.args.next rs))
+    ≡ under (labels_of octets) (drop own (drop c.args.next rs)) =
+    rw (← back, ← after, ← named) c.count_under.ensures.own in
     made rs c.requires.canonical n c.args.next c.requires.next r c.index-records-next.is octets
-    child c.count_at.result c.count_under.result _
-    (rw (← back) c.count_at.ensures.bound) (rw (← back) c.count_under.ensures.bound)
-    (rw (← back, ← named) c.count_at.ensures.own) (rw (← back, ← named) c.count_under.ensures.own)
+    child own (own + count) _
+    (rw (← back) c.count_at-own.ensures.bound) (rw (← back) fits)
+    own_is (own_then_below (labels_of octets) (drop c.args.next rs) own count own_is below_is)
     (ap (λ (o : Octets). length o - length octets) spelled)

@@ -9,8 +9,8 @@ use Rattle.dns_zone.proofs.NameOrder.{lower_twice}
 use Rattle.dns_zone.proofs.OwnRecords.{lacks-lower, owns-lower, own-owns}
 use Rattle.dns_zone.proofs.survey.Survey.judged_name.Goals as goal
 
-pub at-own-requires : goal.at-own-requires
-at-own-requires c = ap folded c.fold-lower.ensures ∙ lower_twice c.args.target.now ∙ sym c.fold-lower.ensures
+pub at_server-own-requires-clause-lower : goal.at_server-own-requires-clause-lower
+at_server-own-requires-clause-lower c = ap folded c.fold-lower.ensures ∙ lower_twice c.args.target.now ∙ sym c.fold-lower.ensures
 
 pub lacks_address-is_lost-requires-clause-lower : goal.lacks_address-is_lost-requires-clause-lower
 lacks_address-is_lost-requires-clause-lower c = ap folded c.fold-lower.ensures ∙ lower_twice c.args.target.now ∙ sym c.fold-lower.ensures
@@ -20,7 +20,7 @@ returns-clause-alias c =
     let z = c.args.self.now in
     let m = c.args.target.now in
     let inside = sym c.if-not-at_or_below.false ∙ c.at_or_below.ensures ∙ ap (λ (y : ZoneContents). at_or_below m y.origin) c.self.view_is in
-    c.has_type-is_alias.ensures ∙ ap (list_any (λ (r : ResourceRecord). r.rtype == type_cname)) c.at-own.ensures.own
+    c.has_type-is_alias.ensures ∙ ap (list_any (λ (r : ResourceRecord). r.rtype == type_cname)) c.at_server-own.ensures.own
     ∙ own-owns z c.fold-lower.result type_cname ∙ ap (λ (n : DomainName). owns z n type_cname) c.fold-lower.ensures ∙ owns-lower z m type_cname
     ∙ ap (λ b. b && owns z m type_cname) inside
 
