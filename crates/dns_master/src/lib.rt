@@ -14,7 +14,7 @@ mod token;
 mod words;
 
 pub use fault::{ReadCode, ReadFault};
-pub use reader::{read_zone, MOST_RECORDS};
+pub use reader::{MOST_RECORDS, read_zone};
 pub use record::Record;
 
 #[cfg(test)]
