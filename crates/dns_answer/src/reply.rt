@@ -111,7 +111,7 @@ fn put_reply<'z>(
         }
         Judged::Answered(depth) => match limit {
             Limit::Udp => put_answer::<256, 512>(steps, head, question, depth, out),
-            Limit::Tcp => put_long_answer(steps, head, question, depth, out),
+            Limit::Tcp => put_answer::<8192, 65_535>(steps, head, question, depth, out),
         },
     }
 }
@@ -155,28 +155,6 @@ fn put_refusal(head: Head, question: Option<&Question>, out: &mut [u8]) -> usize
     let mut hash = QuickHash;
     let page: Page<256, 512> = Page::new(512, question, &mut hash);
     page.finish(head, out)
-}
-
-// Puts the answer to a question over TCP. It stands out of line, since each reply over UDP would
-// pass its room on the stack too, which is far larger.
-#[inline(never)]
-fn put_long_answer<'z>(
-    steps: &mut Steps<'z>,
-    head: &Head,
-    question: &Question,
-    depth: usize,
-    out: &mut [u8],
-) -> usize
-    requires visits { steps.old.visits ≡ 0 }
-    requires comparisons { steps.old.comparisons ≡ 0 }
-    requires below { IsTrue (at_or_below question.now.qname steps.old.zone.origin) }
-    requires depth { length question.now.qname ≡ length steps.old.zone.origin + depth }
-    requires few { depth ≤ 127 }
-    requires out { length out.old ≡ 65535 }
-    ensures reply { IsReply steps.old.zone 65535 (answered head.now question.now) result out.new }
-    ensures costs { Costs (answered head.now question.now) steps.old steps.new }
-{
-    put_answer::<8192, 65_535>(steps, head, question, depth, out)
 }
 
 // Puts the answer to a question whose name is `depth` labels below the origin, of as many octets

@@ -221,6 +221,14 @@ all_given r s a b c x y left k task none end reading =
       progress = subst (λ q. Progress q x y reading.given k) (sym task) reading.progress;
     }
 
+-- a read gave nothing more, once the answers that were due were written
+pub all_flushed : (r s : Octets → Option Octets) (a b c x y z : Option Octets) (left count : ℕ) (buf : Octets) (k n : Kept) → s ≡ r
+    → Consumes b c (take count buf) → count ≡ 0 → IsAtEnd c → Appends y z k.answers → n.answers ≡ [] → n.line ≡ k.line
+    → n.is_overlong ≡ k.is_overlong → n.passes ≡ k.passes → Reading r a b x y left k → AllRead r s a c x z n
+all_flushed r s a b c x y z left count buf k n task more none end written answers line overlong passes reading =
+    all_given r s a b c x z left n task (subst (λ m. Consumes b c (take m buf)) none more) end
+    (reading_flush r a b x y z left k n written answers line overlong passes reading)
+
 -- the last answers were written, or a beginning of them
 pub all_answered : (r s : Octets → Option Octets) (a b x y z : Option Octets) (k : Kept) (passes : Bool)
     → ((h : Option Octets) (i : Octets) → Progress s h y i k → Appends h z (line_answers s (lines i)))

@@ -28,28 +28,28 @@ pub(crate) fn ordered(
     know_each(records.as_slice());
     arrange(alloc, origin, records.as_mut_slice())?;
     records.sort_unstable_by(|one, other| record_order(one, other));
-    leave_out_doubles(&mut records);
+    leave_out_duplicates(&mut records);
     Ok(records)
 }
 
 // Leaves each record out that is equal to the one before. `dedup_by` moves all records, and mostly
 // none is left out.
-fn leave_out_doubles(records: &mut Vec<Record>)
+fn leave_out_duplicates(records: &mut Vec<Record>)
     ensures kept { records.new.items ≡ dedup records_equal records.old.items }
     ensures bound { length records.new.items ≤ length records.old.items }
 {
-    if has_double(records.as_slice()) {
+    if has_duplicate(records.as_slice()) {
         records.dedup_by(|one, other| records_equal(one, other));
     }
 }
 
 // Whether a record is equal to the one before. Where none is, none is to be left out.
-fn has_double(records: &[Record]) -> bool
+fn has_duplicate(records: &[Record]) -> bool
     ensures { OnFalse result (dedup records_equal records.now ≡ records.now) }
 {
     let mut rest = records;
     'records: while let Some((first, others)) = rest.split_first() {
-        if is_doubled(first, others) {
+        if is_duplicate(first, others) {
             return true;
         }
         rest = others;
@@ -58,7 +58,7 @@ fn has_double(records: &[Record]) -> bool
 }
 
 // Whether the next record is equal to this one.
-fn is_doubled(first: &Record, others: &[Record]) -> bool
+fn is_duplicate(first: &Record, others: &[Record]) -> bool
     ensures { OnFalse result (dedup records_equal (first.now ∷ others.now)
         ≡ first.now ∷ dedup records_equal others.now) }
 {

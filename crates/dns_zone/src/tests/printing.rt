@@ -115,10 +115,10 @@ fn printed<W: Write>(
 #[test]
 fn zones_printed(rt: HostRuntime) -> Result<(), Fail> {
     let file = file_with(rt.alloc(), b"")?;
-    let doubled = file_with(rt.alloc(), b"WWW A 192.0.2.10\n@ NS ns\n")?;
+    let repeated = file_with(rt.alloc(), b"WWW A 192.0.2.10\n@ NS ns\n")?;
     let rows: [(&[u8], &[u8], &[u8]); 5] = [
         (b"example.", &file, PRINTED),
-        (b"example.", &doubled, PRINTED),
+        (b"example.", &repeated, PRINTED),
         (b"example.", MIXED, MIXED_PRINTED),
         (b"example.", TURNED, TURNED_PRINTED),
         (b".", SHORT, SHORT_PRINTED),

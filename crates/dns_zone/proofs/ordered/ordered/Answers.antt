@@ -23,11 +23,11 @@ returns c =
     let sorted : IsSorted record_order xs =
     c.sort_unstable_by.ensures.sorted (λ r s. is_lt (record_order r s)) (ranks_by record_order_total (λ r. r)) (always_returns_same _ _ _ (λ a r f' k. search rules)) in
     let each : All IsReadRecord rs = subst (All IsReadRecord) c.as_slice.ensures.value c.know_each.ensures in
-    let kept : c.leave_out_doubles.new.records.items ≡ dedup records_equal xs = c.leave_out_doubles.ensures.kept in
+    let kept : c.leave_out_duplicates.new.records.items ≡ dedup records_equal xs = c.leave_out_duplicates.ensures.kept in
     let whole = kept ∙ canonical_records rs xs (All-weaker IsReadRecord LowerOwner (λ r h. h.lower_owner) rs each) moved sorted in
     record {
       records = whole;
       in_order = subst AreOrdered (sym whole) (sort_risen record_order (sort_by record_order (distinct records_equal rs)) (rises_canonical rs));
-      count = omega (arith, c.leave_out_doubles.ensures.bound, length_permutation rs xs moved);
+      count = omega (arith, c.leave_out_duplicates.ensures.bound, length_permutation rs xs moved);
       each = subst (All IsReadRecord) (sym whole) (all_canonical IsReadRecord rs each);
     }

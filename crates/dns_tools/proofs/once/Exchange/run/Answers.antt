@@ -2,7 +2,7 @@ use Rattle.std.proofs.Common.{arith, rules, ◌<◌, ◌≤◌, ◌∙◌, [], l
 use Rattle.std.specs.Io.KnownBytes.{Consumes}
 use Rattle.std.proofs.lemmas.List.{take-append-le}
 use Rattle.dns_tools.specs.ExchangeForm.{kept_of, reply_of}
-use Rattle.dns_tools.proofs.LineReads.{AllRead, reading_none, reading_flush, reading_take, reading_begun, taking_begun, reading_failed, all_read, all_given, all_answered, all_begun, sink_stopped, source_stopped}
+use Rattle.dns_tools.proofs.LineReads.{AllRead, reading_none, reading_flush, reading_take, reading_begun, taking_begun, reading_failed, all_read, all_flushed, all_answered, all_begun, sink_stopped, source_stopped}
 use Rattle.dns_tools.proofs.once.Exchange.run.Goals as goal
 use Rattle.dns_tools.proofs.once.Exchange.run.Goals.{else-pieces-test, then-pieces-test+in_ok-flush+in_ok-count+then-count-eq0}
 
@@ -49,47 +49,23 @@ pieces-preserved g c = record {
 
 pub returns-in_err-finish-clause-lines : goal.returns-in_err-finish-clause-lines
 returns-in_err-finish-clause-lines g c =
-    let r = c.args.self.now in
-    let s = c.pieces-test.self in
-    let all : AllRead (reply_of r) (reply_of s) (g.R.Read.remaining c.args.source.now.device)
-    (g.R.Read.remaining c.pieces-test.source.device) (g.W.Write.contents c.args.sink.now.device) (g.W.Write.contents c.pieces-test.sink.device)
-    (kept_of s) = elim c.pieces-test.branch [
-      | else-pieces-test w ↦ rw (w.self-is, w.source-is, w.sink-is)
-          (all_read _ _ _ _ _ _ c.pieces.left _ c.pieces.invariant.task (omega (arith, w.pieces-test.false)) c.pieces.invariant.reading)
+    let all : AllRead (reply_of c.args.self.now) (reply_of c.pieces-test.self) (g.R.Read.remaining c.args.source.now.device) (g.R.Read.remaining c.pieces-test.source.device) (g.W.Write.contents c.args.sink.now.device) (g.W.Write.contents c.pieces-test.sink.device) (kept_of c.pieces-test.self) = elim c.pieces-test.branch [
+      | else-pieces-test w ↦ rw (w.self-is, w.source-is, w.sink-is) (all_read _ _ _ _ _ _ c.pieces.left _ c.pieces.invariant.task (omega (arith, w.pieces-test.false)) c.pieces.invariant.reading)
       | then-pieces-test+in_ok-flush+in_ok-count+then-count-eq0 w ↦
           let e = w.in_ok-flush.ensures in
-          let bytes = w.in_ok-count.ensures.bytes in
           let some : 0 < length w.read.new.buf = search rules in
-          let nothing : Consumes (g.R.Read.remaining c.pieces.source.device) (g.R.Read.remaining w.read.new.self.device) [] =
-          subst (λ n. Consumes (g.R.Read.remaining c.pieces.source.device) (g.R.Read.remaining w.read.new.self.device) (take n w.read.new.buf))
-          w.if-count-eq0.true bytes.0
-          in
-          rw (w.self-is, w.source-is, w.sink-is)
-          (all_given _ _ _ _ _ _ _ c.pieces.left _ (e.task ∙ c.pieces.invariant.task) nothing (bytes.1 w.if-count-eq0.true some)
-          (reading_flush _ _ _ _ _ _ _ _ _ e.written e.none e.line e.overlong e.passes c.pieces.invariant.reading))
+          rw (w.self-is, w.source-is, w.sink-is) (all_flushed _ _ _ _ _ _ _ _ c.pieces.left _ _ _ _ (e.task ∙ c.pieces.invariant.task) w.in_ok-count.ensures.bytes.0 w.if-count-eq0.true (w.in_ok-count.ensures.bytes.1 w.if-count-eq0.true some) e.written e.none e.line e.overlong e.passes c.pieces.invariant.reading)
     ] in
     sink_stopped _ _ c.from_residual-in_err-finish.result c.from_residual-in_err-finish.ensures.1
     (all_begun _ _ _ _ _ _ _ _ c.in_err-finish.ensures.begun all)
 
 pub returns-clause-lines : goal.returns-clause-lines
 returns-clause-lines g c =
-    let r = c.args.self.now in
-    let s = c.pieces-test.self in
-    let all : AllRead (reply_of r) (reply_of s) (g.R.Read.remaining c.args.source.now.device)
-    (g.R.Read.remaining c.pieces-test.source.device) (g.W.Write.contents c.args.sink.now.device) (g.W.Write.contents c.pieces-test.sink.device)
-    (kept_of s) = elim c.pieces-test.branch [
-      | else-pieces-test w ↦ rw (w.self-is, w.source-is, w.sink-is)
-          (all_read _ _ _ _ _ _ c.pieces.left _ c.pieces.invariant.task (omega (arith, w.pieces-test.false)) c.pieces.invariant.reading)
+    let all : AllRead (reply_of c.args.self.now) (reply_of c.pieces-test.self) (g.R.Read.remaining c.args.source.now.device) (g.R.Read.remaining c.pieces-test.source.device) (g.W.Write.contents c.args.sink.now.device) (g.W.Write.contents c.pieces-test.sink.device) (kept_of c.pieces-test.self) = elim c.pieces-test.branch [
+      | else-pieces-test w ↦ rw (w.self-is, w.source-is, w.sink-is) (all_read _ _ _ _ _ _ c.pieces.left _ c.pieces.invariant.task (omega (arith, w.pieces-test.false)) c.pieces.invariant.reading)
       | then-pieces-test+in_ok-flush+in_ok-count+then-count-eq0 w ↦
           let e = w.in_ok-flush.ensures in
-          let bytes = w.in_ok-count.ensures.bytes in
           let some : 0 < length w.read.new.buf = search rules in
-          let nothing : Consumes (g.R.Read.remaining c.pieces.source.device) (g.R.Read.remaining w.read.new.self.device) [] =
-          subst (λ n. Consumes (g.R.Read.remaining c.pieces.source.device) (g.R.Read.remaining w.read.new.self.device) (take n w.read.new.buf))
-          w.if-count-eq0.true bytes.0
-          in
-          rw (w.self-is, w.source-is, w.sink-is)
-          (all_given _ _ _ _ _ _ _ c.pieces.left _ (e.task ∙ c.pieces.invariant.task) nothing (bytes.1 w.if-count-eq0.true some)
-          (reading_flush _ _ _ _ _ _ _ _ _ e.written e.none e.line e.overlong e.passes c.pieces.invariant.reading))
+          rw (w.self-is, w.source-is, w.sink-is) (all_flushed _ _ _ _ _ _ _ _ c.pieces.left _ _ _ _ (e.task ∙ c.pieces.invariant.task) w.in_ok-count.ensures.bytes.0 w.if-count-eq0.true (w.in_ok-count.ensures.bytes.1 w.if-count-eq0.true some) e.written e.none e.line e.overlong e.passes c.pieces.invariant.reading)
     ] in
     all_answered _ _ _ _ _ _ _ _ _ c.in_ok-finish.ensures.written c.in_ok-finish.ensures.passes all
