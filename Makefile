@@ -1,4 +1,4 @@
-.PHONY: run programs built install uninstall clean package examples docs-check test misuse clients speed faults messages memory bench
+.PHONY: run programs built install uninstall clean package examples docs-check test misuse clients speed faults hostile messages memory bench
 
 PREFIX ?= /usr/local
 NAMES = zonecheck zoneserve dnsmsg
@@ -83,6 +83,10 @@ speed: built
 # gate.
 faults: built
 	tools/faults $(PROGRAMS)
+
+# Gives a million datagrams that were changed at random to zoneserve, and compares each reply with that of a plain server.
+hostile: built
+	tools/hostile crates/zonecheck/out/zonecheck crates/zoneserve/out/zoneserve 1000000
 
 # Gives broken messages to dnsmsg, and times the worst one. It is no part of the gate.
 messages: built
