@@ -84,9 +84,11 @@ speed: built
 faults: built
 	tools/faults $(PROGRAMS)
 
-# Gives a million datagrams that were changed at random to zoneserve, and compares each reply with that of a plain server.
+# Gives a million datagrams that were changed at random to zoneserve, and 100,000 such files to zonecheck, and compares what
+# they answer with what plain programs in another language do.
 hostile: built
 	tools/hostile crates/zonecheck/out/zonecheck crates/zoneserve/out/zoneserve 1000000
+	tools/hostile-zones crates/zonecheck/out/zonecheck 100000
 
 # Gives broken messages to dnsmsg, and times the worst one. It is no part of the gate.
 messages: built
