@@ -11,6 +11,3 @@ mod names;
 mod reply;
 
 pub use reply::{Limit, respond};
-
-#[cfg(test)]
-mod tests;

@@ -1,6 +1,6 @@
 //! Queries, and their replies by a zone.
 
-use crate::{Limit, respond};
+use dns_answer::{Limit, respond};
 use dns_zone::{Steps, Zone};
 use std::alloc::Global;
 use std::test::Fail;

@@ -1,5 +1,5 @@
-use crate::{FaultWord, Stop, TurnWord, exit_status};
 use dns_serve::{StreamFault, TurnFault};
+use dns_tools::{FaultWord, Stop, TurnWord, exit_status};
 use std::test::Fail;
 
 #[test]

@@ -1,7 +1,7 @@
 //! Files that are written to do harm.
 
 use super::reading::{fault, repeated};
-use crate::read_zone;
+use dns_master::read_zone;
 use dns_name::{Name, Tally};
 use std::alloc::Global;
 use std::test::Fail;

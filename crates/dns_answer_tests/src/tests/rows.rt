@@ -2,7 +2,7 @@
 
 use super::replies::is_reply;
 use super::zones::{large, small};
-use crate::Limit;
+use dns_answer::Limit;
 use dns_zone::Zone;
 use std::alloc::Global;
 use std::test::Fail;

@@ -2,7 +2,7 @@
 
 use super::replies::{compare, joined, query};
 use super::zones::small;
-use crate::Limit;
+use dns_answer::Limit;
 use std::test::Fail;
 
 // The question `www.example. IN A`.

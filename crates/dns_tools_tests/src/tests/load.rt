@@ -1,7 +1,6 @@
 use super::devices::{Kept, Pieces};
-use crate::load::{LoadFault, load};
-use crate::{Stop, write_refusal};
 use dns_name::{Name, Tally};
+use dns_tools::{LoadFault, Stop, load_zone, write_refusal};
 use std::alloc::Global;
 use std::test::Fail;
 
@@ -34,7 +33,7 @@ fn loaded(
         most,
         calls_left,
     });
-    let refusal = match load(alloc, &example()?, &mut source) {
+    let refusal = match load_zone(alloc, &example()?, &mut source) {
         Ok(zone) => return Ok(Ok(zone.serial())),
         Err(LoadFault::Refused(refusal)) => refusal,
         Err(LoadFault::Stopped(Stop::Source)) => return Ok(Err(Vec::new(alloc))),

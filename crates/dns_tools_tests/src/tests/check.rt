@@ -1,7 +1,7 @@
 use super::devices::{Kept, Pieces};
 use super::load::example;
-use crate::{Flags, Stop, check_zone};
 use dns_name::Tally;
+use dns_tools::{Flags, Stop, check_zone};
 use std::alloc::Global;
 use std::test::Fail;
 

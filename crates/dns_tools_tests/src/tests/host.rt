@@ -1,4 +1,4 @@
-use crate::{Stop, finish};
+use dns_tools::{Stop, finish};
 use std::io::{self, BufWriter, ErrorKind, Write};
 use std::test::Fail;
 

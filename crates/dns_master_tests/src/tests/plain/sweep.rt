@@ -3,7 +3,7 @@
 use super::super::reading::example;
 use super::judge::Meant;
 use super::tokens::{Stop, plain_meaning};
-use crate::{ReadFault, Record, read_zone};
+use dns_master::{ReadFault, Record, read_zone};
 use dns_name::{Name, Tally};
 use std::alloc::{AllocError, Global};
 use std::process::Abort;

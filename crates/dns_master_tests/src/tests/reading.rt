@@ -1,6 +1,6 @@
 //! What the tests of the reader share.
 
-use crate::{Record, read_zone};
+use dns_master::{Record, read_zone};
 use dns_name::{Name, Tally};
 use std::alloc::{AllocError, Global};
 use std::process::Abort;

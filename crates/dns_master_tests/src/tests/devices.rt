@@ -1,7 +1,7 @@
 //! Sources that give what they have in other pieces, that fail, and that have no end.
 
 use super::reading::example;
-use crate::{ReadCode, ReadFault, Record, read_zone};
+use dns_master::{ReadCode, ReadFault, Record, read_zone};
 use dns_name::Tally;
 use std::alloc::Global;
 use std::io::{self, ErrorKind, Read};

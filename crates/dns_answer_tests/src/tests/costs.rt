@@ -2,7 +2,7 @@
 
 use super::replies::{compare, joined, query};
 use super::zones::{deep, wide};
-use crate::Limit;
+use dns_answer::Limit;
 use std::alloc::Global;
 use std::test::Fail;
 

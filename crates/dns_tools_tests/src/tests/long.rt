@@ -2,9 +2,9 @@
 
 use super::devices::{Kept, Pieces};
 use super::load::example;
-use crate::{Flags, Stop, check_zone};
 use dns_master::MOST_RECORDS;
 use dns_name::{Name, Tally};
+use dns_tools::{Flags, Stop, check_zone};
 use std::alloc::Global;
 use std::test::Fail;
 

@@ -2,7 +2,7 @@
 
 use super::replies::{is_reply, joined};
 use super::zones::{LETTERS, large, long};
-use crate::Limit;
+use dns_answer::Limit;
 use std::alloc::Global;
 use std::test::Fail;
 

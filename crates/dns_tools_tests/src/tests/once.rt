@@ -1,9 +1,8 @@
 use super::devices::{Kept, Pieces};
 use super::load::{Z0, example};
-use crate::load::load;
-use crate::{Stop, run_once};
 use dns_answer::Limit;
 use dns_name::Tally;
+use dns_tools::{Stop, load_zone, run_once};
 use std::alloc::Global;
 use std::test::Fail;
 
@@ -16,7 +15,7 @@ fn run(
     reads: u32,
     writes: u32,
 ) -> Result<(Vec<u8>, Result<bool, Stop>), Fail> {
-    let Ok(zone) = load(alloc, &example()?, &mut Tally::new(Z0.as_bytes())) else {
+    let Ok(zone) = load_zone(alloc, &example()?, &mut Tally::new(Z0.as_bytes())) else {
         return Err("the sample zone is refused".into());
     };
     let mut source = Tally::new(Pieces {

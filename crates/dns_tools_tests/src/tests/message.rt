@@ -1,6 +1,6 @@
 use super::devices::{Kept, Pieces};
-use crate::{Stop, run_message};
 use dns_name::Tally;
+use dns_tools::{Stop, run_message};
 use std::alloc::Global;
 use std::test::Fail;
 

@@ -1,5 +1,5 @@
-use crate::{FaultWord, Flags, Service, check_words, serve_words};
 use dns_answer::Limit;
+use dns_tools::{FaultWord, Flags, Service, check_words, serve_words};
 use std::test::Fail;
 
 fn fault(rt: &impl AllocGlobal, words: &[&str]) -> Option<FaultWord> {
