@@ -115,6 +115,24 @@ impl<const N: usize, const SIZE: usize> Page<N, SIZE> {
         }
     }
 
+    /// Makes the page that of a message of at most `limit` octets, 512 to 65,535, that has nothing
+    /// yet, whatever was written before. It takes time for what was written, not for the size of
+    /// the room.
+    ///
+    /// Condition: there are as many octets as the limit.
+    pub fn clear(&mut self, limit: usize)
+        requires from { 512 ≤ limit }
+        requires upto { limit ≤ 65535 }
+        requires octets { limit ≤ SIZE }
+        ensures { self.new ≡ no_draft limit }
+    {
+        self.room.clear(limit);
+        self.questions = 0;
+        self.answers = 0;
+        self.authorities = 0;
+        self.additionals = 0;
+    }
+
     /// Writes the question that a message repeats.
     ///
     /// Conditions: the message has nothing yet, and its limit is at least 512 octets.
