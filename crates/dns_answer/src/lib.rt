@@ -10,7 +10,8 @@ mod lookup;
 mod names;
 mod reply;
 
-pub use reply::{Limit, respond};
+pub use draft::Draft;
+pub use reply::{Limit, TcpDraft, UdpDraft, respond, respond_in};
 
 #[cfg(test)]
 mod tests;
