@@ -10,4 +10,5 @@ mod lookup;
 mod names;
 mod reply;
 
-pub use reply::{Limit, respond};
+pub use draft::Draft;
+pub use reply::{Limit, TcpDraft, UdpDraft, respond, respond_in};

@@ -1,4 +1,5 @@
 mod costs;
+mod drafts;
 mod long;
 mod refusals;
 mod replies;
