@@ -11,15 +11,16 @@ ghost use Rattle.dns_spec.specs.Meaning.{Nothing, TtlSays, gives, faulty, direct
 ghost use Rattle.dns_master.specs.Codes.{fault_of, failures_after_read};
 ghost use Rattle.dns_master.specs.EntryForm.{TextMeans};
 ghost use Rattle.dns_master.specs.SourceForm.{GivesMeaning};
-ghost use Rattle.dns_master.specs.ReaderForm.{Knows, RecordTaken, EntryTaken, EntryDone};
+ghost use Rattle.dns_master.specs.ReaderForm.{Knows, RecordTaken, EntryTaken, EntryDone, handed, taken_record};
+ghost use Rattle.dns_master.specs.RecordsForm.{StillGives, given_so_far};
 
 use crate::directive::{is_directive, read_default_ttl, read_origin};
 use crate::entry::{begins_blank, check_end, read_entry};
 use crate::fault::{ReadCode, ReadFault};
 use crate::fields::{Fields, is_other_class, stated_ttl, type_and_words};
 use crate::record::Record;
-use crate::source::{MOST_OCTETS, read_text};
-use crate::state::Reader;
+use crate::source::read_text;
+use crate::state::{Reader, Records, Taken};
 use crate::words::{is_word, read_name};
 use dns_name::{Name, Tally};
 use dns_rdata::{RType, Rdata, Word};
@@ -58,60 +59,41 @@ pub fn read_zone<R: Read>(
         Ok(text) => text,
         Err(code) => return Err(ReadFault { code, line: 0 }),
     };
-    let goes_on = text.len() > MOST_OCTETS;
-    let (text, _) = text.as_slice().split_at(MOST_OCTETS.min(text.len()));
-    read_entries(alloc, origin, text, goes_on)
+    let mut records = Records::new(alloc, origin, text.as_slice());
+    gather(alloc, &mut records)
 }
 
-// The records of a text, which goes on past its limit or not.
-fn read_entries(
-    alloc: Global,
-    origin: &Name,
-    text: &[u8],
-    goes_on: bool,
-) -> Result<Vec<Record>, ReadFault>
-    requires { length text.now ≤ 16777216 }
-    ensures ok { IfOk result (λ found. TextMeans origin.now [] goes_on text.now
-        (records found.items)) }
+// All records that are still to come.
+fn gather(alloc: Global, entries: &mut Records<'_>) -> Result<Vec<Record>, ReadFault>
+    requires { given_so_far entries.old ≡ 0 }
+    ensures ok { IfOk result (λ found. StillGives entries.old (records found.items)) }
     ensures few { IfOk result (λ found. length found.items ≤ most_records) }
     ensures err { IfErr result (λ f. f.code ≢ ReadCode.NoMemory
-        → TextMeans origin.now [] goes_on text.now (fault_at (fault_of f.code) f.line)) }
+        → StillGives entries.old (fault_at (fault_of f.code) f.line)) }
     ensures source { IfErr result (λ f. f.code ≢ ReadCode.SourceFailed) }
     ensures memory { IfErr result (λ f. f.code ≡ ReadCode.NoMemory → f.line ≡ 0) }
 {
-    let mut reader = Reader::new(alloc, origin);
-    let mut words = Vec::new(alloc);
-    let mut rest = text;
-    'entries: while !rest.is_empty() {
-        let line = reader.line;
-        match reader.take_entry(rest, goes_on, &mut words) {
-            Ok(others) => rest = others,
-            Err(code) => return Err(entry_fault(code, line)),
+    let mut found = Vec::new(alloc);
+    'records: loop {
+        let record = match entries.next_record() {
+            Ok(Some(record)) => record,
+            Ok(None) => return Ok(found),
+            Err(fault) => return Err(fault),
+        };
+        if push_record(&mut found, record).is_err() {
+            return Err(ReadFault {
+                code: ReadCode::NoMemory,
+                line: 0,
+            });
         }
-    }
-    if goes_on {
-        return Err(entry_fault(ReadCode::TooLong, reader.line));
-    }
-    Ok(reader.records)
-}
-
-// The fault of an entry that begins on this line.
-fn entry_fault(code: ReadCode, line: u32) -> ReadFault
-    ensures code { result.code ≡ code }
-    ensures line { code ≢ ReadCode.NoMemory → result.line ≡ line }
-    ensures memory { code ≡ ReadCode.NoMemory → result.line ≡ 0 }
-{
-    match code {
-        ReadCode::NoMemory => ReadFault { code, line: 0 },
-        _ => ReadFault { code, line },
     }
 }
 
 impl Reader {
-    fn new(alloc: Global, origin: &Name) -> Reader
+    pub(crate) fn new(alloc: Global, origin: &Name) -> Reader
         ensures known { Knows origin.now [] result }
         ensures line { result.line ≡ 1 }
-        ensures records { result.records.items ≡ [] }
+        ensures none { result.count ≡ 0 }
     {
         Reader {
             alloc,
@@ -119,24 +101,28 @@ impl Reader {
             default_ttl: None,
             stated_ttl: None,
             line: 1,
-            records: Vec::new(alloc),
+            owner: None,
+            count: 0,
         }
     }
 
-    // Takes the entry that a text begins with, and gives the text after it.
-    fn take_entry<'a>(
+    /// Takes the entry that a text begins with: gives what it says of the record that it is, if it
+    /// is one, and the text after it. The owner is kept.
+    pub(crate) fn take_entry<'a>(
         &mut self,
         text: &'a [u8],
         goes_on: bool,
         words: &mut Vec<Word<'a>>,
-    ) -> Result<&'a [u8], ReadCode>
+    ) -> Result<(Option<Taken>, &'a [u8]), ReadCode>
         requires some { text.now ≢ [] }
         requires fits { self.old.line + length text.now ≤ 16777217 }
-        ensures ok { IfOk result (λ rest. (o : DomainName) (earlier : List Entry)
+        ensures ok { IfOk result (λ x. (o : DomainName) (earlier : List Entry)
             → Knows o earlier self.old → self.old.line ≡ line_after earlier
-            → EntryDone o earlier goes_on text.now rest.now self.old self.new) }
-        ensures shorter { IfOk result (λ rest. length rest.now < length text.now) }
-        ensures lines { IfOk result (λ rest. self.new.line + length rest.now
+            → EntryDone o earlier goes_on text.now x.1.now (handed self.new.owner x.0) self.old self.new) }
+        ensures counted { IfOk result (λ x.
+            self.new.count ≡ self.old.count + length (handed self.new.owner x.0)) }
+        ensures shorter { IfOk result (λ x. length x.1.now < length text.now) }
+        ensures lines { IfOk result (λ x. self.new.line + length x.1.now
             ≤ self.old.line + length text.now) }
         ensures err { IfErr result (λ code. code ≢ ReadCode.NoMemory
             → (o : DomainName) (earlier : List Entry) → Knows o earlier self.old
@@ -147,24 +133,26 @@ impl Reader {
         words.clear();
         let end = read_entry(text, words)?;
         check_end(&end, goes_on)?;
-        self.take_words(begins_blank(text), words.as_slice())?;
+        let taken = self.take_words(begins_blank(text), words.as_slice())?;
         self.line += end.lines;
-        Ok(end.rest)
+        Ok((taken, end.rest))
     }
 
     // Takes what the words of an entry say.
-    fn take_words(&mut self, is_blank_led: bool, words: &[Word<'_>]) -> Result<(), ReadCode>
-        ensures ok { OnOk result ((o : DomainName) (earlier : List Entry) (e : Entry)
+    fn take_words(&mut self, is_blank_led: bool, words: &[Word<'_>]) -> Result<Option<Taken>, ReadCode>
+        ensures ok { IfOk result (λ taken. (o : DomainName) (earlier : List Entry) (e : Entry)
             → Knows o earlier self.old → kind_of e ≡ kind_by_words is_blank_led words.now
-            → EntryTaken o earlier e self.old self.new) }
-        ensures line { OnOk result (self.new.line ≡ self.old.line) }
+            → EntryTaken o earlier e (handed self.new.owner taken) self.old self.new) }
+        ensures counted { IfOk result (λ taken.
+            self.new.count ≡ self.old.count + length (handed self.new.owner taken)) }
+        ensures line { IfOk result (λ _. self.new.line ≡ self.old.line) }
         ensures err { IfErr result (λ code. code ≢ ReadCode.NoMemory
             → (o : DomainName) (earlier : List Entry) → Knows o earlier self.old
             → KindGives o earlier (kind_by_words is_blank_led words.now) (faulty (fault_of code))) }
         ensures source { IfErr result (λ code. code ≢ ReadCode.SourceFailed) }
     {
         let Some((first, others)) = words.split_first() else {
-            return Ok(());
+            return Ok(None);
         };
         if is_blank_led {
             return self.take_unowned(words);
@@ -176,12 +164,14 @@ impl Reader {
     }
 
     // Takes a directive: its name, and the words after it.
-    fn take_directive(&mut self, name: &[u8], words: &[Word<'_>]) -> Result<(), ReadCode>
-        ensures ok { OnOk result ((o : DomainName) (earlier : List Entry) (e : Entry)
+    fn take_directive(&mut self, name: &[u8], words: &[Word<'_>]) -> Result<Option<Taken>, ReadCode>
+        ensures ok { IfOk result (λ taken. (o : DomainName) (earlier : List Entry) (e : Entry)
             → Knows o earlier self.old → kind_of e
             ≡ directive (text_in_lower_case name.now) words.now
-            → EntryTaken o earlier e self.old self.new) }
-        ensures line { OnOk result (self.new.line ≡ self.old.line) }
+            → EntryTaken o earlier e (handed self.new.owner taken) self.old self.new) }
+        ensures counted { IfOk result (λ taken.
+            self.new.count ≡ self.old.count + length (handed self.new.owner taken)) }
+        ensures line { IfOk result (λ _. self.new.line ≡ self.old.line) }
         ensures err { IfErr result (λ code. code ≢ ReadCode.NoMemory
             → (o : DomainName) (earlier : List Entry) → Knows o earlier self.old
             → KindGives o earlier (directive (text_in_lower_case name.now) words.now)
@@ -198,11 +188,13 @@ impl Reader {
     }
 
     // Takes the words of `$ORIGIN`.
-    fn take_origin(&mut self, words: &[Word<'_>]) -> Result<(), ReadCode>
-        ensures ok { OnOk result ((o : DomainName) (earlier : List Entry) (e : Entry)
+    fn take_origin(&mut self, words: &[Word<'_>]) -> Result<Option<Taken>, ReadCode>
+        ensures ok { IfOk result (λ taken. (o : DomainName) (earlier : List Entry) (e : Entry)
             → Knows o earlier self.old → kind_of e ≡ directive (codes "$origin") words.now
-            → EntryTaken o earlier e self.old self.new) }
-        ensures line { OnOk result (self.new.line ≡ self.old.line) }
+            → EntryTaken o earlier e (handed self.new.owner taken) self.old self.new) }
+        ensures counted { IfOk result (λ taken.
+            self.new.count ≡ self.old.count + length (handed self.new.owner taken)) }
+        ensures line { IfOk result (λ _. self.new.line ≡ self.old.line) }
         ensures err { IfErr result (λ code. (o : DomainName) (earlier : List Entry)
             → Knows o earlier self.old
             → KindGives o earlier (directive (codes "$origin") words.now)
@@ -213,15 +205,17 @@ impl Reader {
             return Err(ReadCode::DirectiveWords);
         };
         self.origin = origin;
-        Ok(())
+        Ok(None)
     }
 
     // Takes the words of `$TTL`.
-    fn take_default_ttl(&mut self, words: &[Word<'_>]) -> Result<(), ReadCode>
-        ensures ok { OnOk result ((o : DomainName) (earlier : List Entry) (e : Entry)
+    fn take_default_ttl(&mut self, words: &[Word<'_>]) -> Result<Option<Taken>, ReadCode>
+        ensures ok { IfOk result (λ taken. (o : DomainName) (earlier : List Entry) (e : Entry)
             → Knows o earlier self.old → kind_of e ≡ directive (codes "$ttl") words.now
-            → EntryTaken o earlier e self.old self.new) }
-        ensures line { OnOk result (self.new.line ≡ self.old.line) }
+            → EntryTaken o earlier e (handed self.new.owner taken) self.old self.new) }
+        ensures counted { IfOk result (λ taken.
+            self.new.count ≡ self.old.count + length (handed self.new.owner taken)) }
+        ensures line { IfOk result (λ _. self.new.line ≡ self.old.line) }
         ensures err { IfErr result (λ code. (o : DomainName) (earlier : List Entry)
             → Knows o earlier self.old
             → KindGives o earlier (directive (codes "$ttl") words.now) (faulty (fault_of code))) }
@@ -231,15 +225,17 @@ impl Reader {
             return Err(ReadCode::DirectiveWords);
         };
         self.default_ttl = Some(ttl);
-        Ok(())
+        Ok(None)
     }
 
     // Takes a record that states its owner: that word, and the words after it.
-    fn take_owned(&mut self, owner: &Word<'_>, words: &[Word<'_>]) -> Result<(), ReadCode>
-        ensures ok { OnOk result ((o : DomainName) (earlier : List Entry) (e : Entry)
+    fn take_owned(&mut self, owner: &Word<'_>, words: &[Word<'_>]) -> Result<Option<Taken>, ReadCode>
+        ensures ok { IfOk result (λ taken. (o : DomainName) (earlier : List Entry) (e : Entry)
             → Knows o earlier self.old → kind_of e ≡ owned owner.now words.now
-            → EntryTaken o earlier e self.old self.new) }
-        ensures line { OnOk result (self.new.line ≡ self.old.line) }
+            → EntryTaken o earlier e (handed self.new.owner taken) self.old self.new) }
+        ensures counted { IfOk result (λ taken.
+            self.new.count ≡ self.old.count + length (handed self.new.owner taken)) }
+        ensures line { IfOk result (λ _. self.new.line ≡ self.old.line) }
         ensures err { IfErr result (λ code. code ≢ ReadCode.NoMemory
             → (o : DomainName) (earlier : List Entry) → Knows o earlier self.old
             → KindGives o earlier (owned owner.now words.now) (faulty (fault_of code))) }
@@ -249,34 +245,38 @@ impl Reader {
             return Err(ReadCode::BadOwner);
         };
         owner.fold_in_place();
-        self.take_record(owner, words)
+        Ok(Some(self.take_record(owner, words)?))
     }
 
     // Takes a record whose owner is that of the record before.
-    fn take_unowned(&mut self, words: &[Word<'_>]) -> Result<(), ReadCode>
-        ensures ok { OnOk result ((o : DomainName) (earlier : List Entry) (e : Entry)
+    fn take_unowned(&mut self, words: &[Word<'_>]) -> Result<Option<Taken>, ReadCode>
+        ensures ok { IfOk result (λ taken. (o : DomainName) (earlier : List Entry) (e : Entry)
             → Knows o earlier self.old → kind_of e ≡ unowned words.now
-            → EntryTaken o earlier e self.old self.new) }
-        ensures line { OnOk result (self.new.line ≡ self.old.line) }
+            → EntryTaken o earlier e (handed self.new.owner taken) self.old self.new) }
+        ensures counted { IfOk result (λ taken.
+            self.new.count ≡ self.old.count + length (handed self.new.owner taken)) }
+        ensures line { IfOk result (λ _. self.new.line ≡ self.old.line) }
         ensures err { IfErr result (λ code. code ≢ ReadCode.NoMemory
             → (o : DomainName) (earlier : List Entry) → Knows o earlier self.old
             → KindGives o earlier (unowned words.now) (faulty (fault_of code))) }
         ensures source { IfErr result (λ code. code ≢ ReadCode.SourceFailed) }
     {
-        let Some(last) = self.records.last() else {
+        let Some(last) = &self.owner else {
             return Err(ReadCode::NoOwner);
         };
-        let owner = last.owner.copied();
-        self.take_record(owner, words)
+        let owner = last.copied();
+        Ok(Some(self.take_record(owner, words)?))
     }
 
     // Takes the record of an owner and of the words after it.
-    fn take_record(&mut self, owner: Name, words: &[Word<'_>]) -> Result<(), ReadCode>
+    fn take_record(&mut self, owner: Name, words: &[Word<'_>]) -> Result<Taken, ReadCode>
         requires { folded owner ≡ owner }
-        ensures ok { OnOk result ((o : DomainName) (earlier : List Entry)
+        ensures ok { IfOk result (λ t. (o : DomainName) (earlier : List Entry)
             → Knows o earlier self.old → RecordTaken o earlier owner
-            (fields words.now) self.old self.new) }
-        ensures line { OnOk result (self.new.line ≡ self.old.line) }
+            (fields words.now) (taken_record owner t) self.old self.new) }
+        ensures owner { IfOk result (λ _. self.new.owner ≡ Some owner) }
+        ensures counted { IfOk result (λ _. self.new.count ≡ self.old.count + 1) }
+        ensures line { IfOk result (λ _. self.new.line ≡ self.old.line) }
         ensures err { IfErr result (λ code. code ≢ ReadCode.NoMemory
             → (o : DomainName) (earlier : List Entry) → Knows o earlier self.old
             → RecordGives o earlier no_owner (λ n. n ≡ owner) (fields words.now)
@@ -284,23 +284,25 @@ impl Reader {
         ensures source { IfErr result (λ code. code ≢ ReadCode.SourceFailed) }
     {
         let fields = Fields::of(words);
-        let record = self.read_record(owner, &fields)?;
-        self.stated_ttl = last_stated(fields.ttl.is_some(), record.ttl, self.stated_ttl);
-        push_record(&mut self.records, record)
+        let taken = self.read_fields(&owner, &fields)?;
+        self.stated_ttl = last_stated(fields.ttl.is_some(), taken.ttl, self.stated_ttl);
+        self.owner = Some(owner);
+        self.count += 1;
+        Ok(taken)
     }
 
-    // The record of an owner and of the fields after it.
-    fn read_record(&self, owner: Name, fields: &Fields<'_, '_>) -> Result<Record, ReadCode>
-        requires { folded owner ≡ owner }
-        ensures ok { IfOk result (λ r. (o : DomainName) (earlier : List Entry)
+    // What the fields after an owner say.
+    fn read_fields(&self, owner: &Name, fields: &Fields<'_, '_>) -> Result<Taken, ReadCode>
+        requires { folded owner.now ≡ owner.now }
+        ensures ok { IfOk result (λ t. (o : DomainName) (earlier : List Entry)
             → Knows o earlier self.now → RecordGives o earlier no_owner
-            (λ n. n ≡ owner) fields.now (gives (r ∷ []))) }
-        ensures few { IfOk result (λ r. length self.now.records.items < most_records) }
-        ensures owner { IfOk result (λ r. r.owner ≡ owner) }
-        ensures ttl { IfOk result (λ r. IfSome fields.now.ttl (λ w. TtlSays w r.ttl)) }
+            (λ n. n ≡ owner.now) fields.now (gives (taken_record owner.now t ∷ []))) }
+        ensures few { IfOk result (λ t. self.now.count < most_records) }
+        ensures ttl { IfOk result (λ t. IfSome fields.now.ttl (λ w. TtlSays w t.ttl)) }
         ensures err { IfErr result (λ code. code ≢ ReadCode.NoMemory
             → (o : DomainName) (earlier : List Entry) → Knows o earlier self.now
-            → RecordGives o earlier no_owner (λ n. n ≡ owner) fields.now (faulty (fault_of code))) }
+            → RecordGives o earlier no_owner (λ n. n ≡ owner.now) fields.now
+            (faulty (fault_of code))) }
         ensures source { IfErr result (λ code. code ≢ ReadCode.SourceFailed) }
     {
         let Ok(stated) = stated_ttl(fields.ttl) else {
@@ -316,15 +318,10 @@ impl Reader {
             return Err(ReadCode::NoTtl);
         };
         let rdata = self.read_data(rtype, words)?;
-        if self.records.len() >= MOST_RECORDS {
+        if self.count >= MOST_RECORDS {
             return Err(ReadCode::TooManyRecords);
         }
-        Ok(Record {
-            owner,
-            ttl,
-            rtype,
-            rdata,
-        })
+        Ok(Taken { ttl, rtype, rdata })
     }
 
     // The TTL of a record: the stated one, else that of `$TTL`, else the last that was stated.
