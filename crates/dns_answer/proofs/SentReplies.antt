@@ -1,5 +1,5 @@
 -- What is sent is the reply that the definitions state, by the query that a datagram was read as.
-use Rattle.std.proofs.Common.{◌≡◌, ◌↔◌, ℕ, ◌<◌, ◌≤◌, Bool, true, false, not, cond, Option, None, Some, IsTrue, IsNone, IfSome, All, refl, sym, ap, subst, ◌∙◌, arith}
+use Rattle.std.proofs.Common.{◌≡◌, ◌↔◌, ℕ, ◌<◌, ◌≤◌, Bool, true, false, not, cond, Option, None, Some, IsTrue, IsNone, IfSome, All, length, take, refl, sym, ap, subst, ◌∙◌, arith}
 use Rattle.std.proofs.lemmas.Bool.{true≢false}
 use Rattle.std.proofs.lemmas.List.Elements.{All-weaker}
 use Rattle.std.specs.Prelude.{◌==◌}
@@ -11,14 +11,11 @@ use Rattle.dns_spec.specs.Query.{field16, opcode, head_of, refusal_head, counts_
 use Rattle.dns_spec.specs.Layout.{layout}
 use Rattle.dns_spec.specs.Laws.{IsWritable}
 use Rattle.dns_spec.specs.ZonePrinted.{IsReadRecord}
-use Rattle.dns_spec.specs.Reply.{decide_query, decide, Reply, reply_of, keep_longest, reply_with, reply, octets_by, reply_message, octets_of}
+use Rattle.dns_spec.specs.Reply.{Decision, decide_query, decide, Reply, reply_of, keep_longest, reply_with, reply, octets_by, reply_message, octets_of}
 use Rattle.dns_spec.proofs.Replies.ReplySpelled.{shared_reply_spells}
 use Rattle.dns_zone.specs.Nodes.{Walk}
 use Rattle.dns_zone.specs.ZoneForm.{IsBuilt}
-use Rattle.dns_answer.specs.Limits.{limit_of}
-use Rattle.dns_answer.specs.Replies.{Costs}
-use Rattle.dns_answer.specs.declared.reply.Limit.{Limit}
-use Rattle.dns_answer.specs.declared.reply.Limit.TheVariants.{Udp, Tcp}
+use Rattle.dns_answer.specs.Replies.{IsReply, Costs, Responds}
 
 -- the datagrams to which no reply is owed
 abbrev is_absent : QueryRead → Bool
@@ -62,24 +59,59 @@ module _ (d : Octets) (y : QueryRead) (read : y ≡ query_read d) where
 writable : (r : ResourceRecord) → IsReadRecord r → IsWritable r
 writable r read = record { owner = read.owner; rtype = read.rtype; ttl = let t = read.ttl in omega (arith, t); rdata = read.rdata }
 
--- limits have room for a question, and lengths of messages for them
-limit_from : (limit : Limit) → 271 ≤ limit_of limit
-limit_from Udp = omega arith
-limit_from Tcp = omega arith
-
-limit_upto : (limit : Limit) → limit_of limit ≤ 65535
-limit_upto Udp = omega arith
-limit_upto Tcp = omega arith
-
 -- What is sent spells the message of the reply.
-pub spelled : (z : ZoneContents) (d sent : Octets) (limit : Limit) → IsBuilt z → All (λ o. o < 256) d → Some sent ≡ octets_of z d (limit_of limit)
-    → IfSome (reply z d (limit_of limit)) (λ r. Spells sent (reply_message r))
+pub spelled : (z : ZoneContents) (d sent : Octets) (limit : ℕ) → IsBuilt z → All (λ o. o < 256) d → 271 ≤ limit → limit ≤ 65535 → Some sent ≡ octets_of z d limit
+    → IfSome (reply z d limit) (λ r. Spells sent (reply_message r))
 unfolding octets_of
-spelled z d sent limit built low e = go (reply z d (limit_of limit)) refl e
+spelled z d sent limit built low from upto e = go (reply z d limit) refl e
   where
-    go : (x : Option Reply) → reply z d (limit_of limit) ≡ x → Some sent ≡ option_map (octets_by layout) x → IfSome x (λ r. Spells sent (reply_message r))
+    go : (x : Option Reply) → reply z d limit ≡ x → Some sent ≡ option_map (octets_by layout) x → IfSome x (λ r. Spells sent (reply_message r))
     go None is e = tt
     go (Some r) is e =
         let same : sent ≡ octets_by layout r = cc in
         subst (λ b. Spells b (reply_message r)) (sym same)
-        (shared_reply_spells z d (limit_of limit) r (All-weaker IsReadRecord IsWritable writable z.records built.each) low (limit_from limit) (limit_upto limit) is)
+        (shared_reply_spells z d limit r (All-weaker IsReadRecord IsWritable writable z.records built.each) low from upto is)
+
+-- a walk that is left as it was has taken nothing
+pub nothing-taken : (x : Decision) (s : Walk) → s.visits ≡ 0 → s.comparisons ≡ 0 → Costs x s s
+nothing-taken x s visits comparisons = record {
+  zone = refl;
+  visits = omega (arith, visits);
+  visits_a_name = omega (arith, visits);
+  comparisons = omega (arith, comparisons);
+}
+
+module _ (d : Octets) (y : QueryRead) (read : y ≡ query_read d) (s s' : Walk) (limit : ℕ) where
+  -- no reply is owed
+  pub unanswered : (out : Octets) → is_absent y ≡ true → option_map (octets_by layout) (reply_of (keep_longest s.zone limit) s.zone (decide_query s.zone y)) ≡ None
+      → Costs (decide_query s.zone y) s s' → Responds s s' d limit None out
+  unanswered out missing none costs =
+      let c = costs-by d y read s.zone s s' costs in
+      record {
+        absent = silent d y read missing;
+        octets = sym none ∙ octets-by d y read s.zone limit;
+        spells = tt;
+        fits = tt;
+        zone = c.zone;
+        visits = c.visits;
+        visits_a_name = c.visits_a_name;
+        comparisons = c.comparisons;
+      }
+
+  -- the octets of a reply are sent
+  pub responded : (len : ℕ) (out : Octets) → is_absent y ≡ false → IsBuilt s.zone → All (λ o. o < 256) d → 512 ≤ limit → limit ≤ 65535 → length out ≡ limit
+      → IsReply s.zone limit (decide_query s.zone y) len out → Costs (decide_query s.zone y) s s' → Responds s s' d limit (Some len) out
+  responded len out owed built low from upto long sent costs =
+      let c = costs-by d y read s.zone s s' costs in
+      let octets = sent.octets ∙ octets-by d y read s.zone limit in
+      let within = sent.within in
+      record {
+        absent = stated d y read owed len;
+        octets = octets;
+        spells = spelled s.zone d (take len out) limit built low (omega (arith, from)) upto octets;
+        fits = omega (arith, within, long);
+        zone = c.zone;
+        visits = c.visits;
+        visits_a_name = c.visits_a_name;
+        comparisons = c.comparisons;
+      }

@@ -1,12 +1,13 @@
 -- What a reader learns here: how a question is judged, when a reply was put, and what it may take.
-use Rattle.std.specs.Prelude.{◌≡◌, ℕ, ◌+◌, ◌*◌, ◌≤◌, true, length, take, None, Some}
+use Rattle.std.specs.Prelude.{◌≡◌, ◌↔◌, ℕ, ◌+◌, ◌*◌, ◌≤◌, true, length, take, Option, None, Some, IsTrue, IsNone, IfSome}
 use Rattle.std.specs.Option.{option_map}
 use Rattle.dns_spec.specs.Names.{Octets, at_or_below}
 use Rattle.dns_spec.specs.Records.{ZoneContents}
-use Rattle.dns_spec.specs.Reading.{Header, MessageQuestion}
+use Rattle.dns_spec.specs.Reading.{Header, MessageQuestion, Spells}
+use Rattle.dns_spec.specs.Query.{is_ignored}
 use Rattle.dns_spec.specs.Layout.{layout}
 use Rattle.dns_spec.specs.Answer.{items, most_visits, names_looked_up, most_comparisons}
-use Rattle.dns_spec.specs.Reply.{Decision, silence, header_alone, question_alone, answered, refusal, answer_with, reply_of, keep_longest, octets_by}
+use Rattle.dns_spec.specs.Reply.{Decision, silence, header_alone, question_alone, answered, refusal, answer_with, reply_of, keep_longest, octets_by, decide, reply, reply_message, octets_of}
 use Rattle.dns_zone.specs.Nodes.{Walk}
 use Rattle.dns_wire.specs.QueryForm.{code_of}
 use Rattle.dns_answer.specs.Draft.{empty_draft}
@@ -64,3 +65,19 @@ pub record Costs (x : Decision) (s s' : Walk) : Type 0 where
   pub visits : s'.visits ≤ visits_for s.zone x
   pub visits_a_name : s'.visits ≤ 128 * names_for s.zone x
   pub comparisons : s'.comparisons ≤ comparisons_for s.zone x s'.visits
+
+-- A datagram was answered in at most so many octets: the octets at the front of `out` and the
+-- message that they spell, or nothing where no reply is owed; and what was looked up for it by a
+-- walk that had counted nothing.
+pub record Responds (s s' : Walk) (datagram : Octets) (limit : ℕ) (sent : Option ℕ) (out : Octets)
+    : Type 0 where
+  pub absent : IsNone sent ↔ IsTrue (is_ignored datagram)
+  pub octets : option_map (λ len. take len out) sent ≡ octets_of s.zone datagram limit
+  pub spells : IfSome sent (λ len. IfSome (reply s.zone datagram limit)
+      (λ r. Spells (take len out) (reply_message r)))
+  pub fits : IfSome sent (λ len. len ≤ limit)
+  pub zone : s'.zone ≡ s.zone
+  pub visits : s'.visits ≤ visits_for s.zone (decide s.zone datagram)
+  pub visits_a_name : s'.visits ≤ 128 * names_for s.zone (decide s.zone datagram)
+  pub comparisons : s'.comparisons
+      ≤ comparisons_for s.zone (decide s.zone datagram) s'.visits

@@ -1,58 +1,64 @@
 //! A reply while sets are offered to it: after one for which there is no room none is tried.
-ghost use Rattle.std.specs.Prelude.{◌≡◌, ◌*◌, ◌≤◌, [], ◌∷◌, false};
-ghost use Rattle.std.specs.Prelude.{length, min, take, Some};
-ghost use Rattle.dns_spec.specs.Layout.{layout, size};
-ghost use Rattle.dns_wire.specs.Draft.{item_of, no_draft};
-ghost use Rattle.dns_answer.specs.Draft.{Draft as Offered, empty_draft};
-ghost use Rattle.dns_answer.specs.DraftForm.{Holds, Offers};
+ghost use Rattle.std.specs.Prelude.{◌≡◌, ℕ, ◌*◌, ◌≤◌, List, [], ◌∷◌, false};
+ghost use Rattle.std.specs.Prelude.{Option, length, min, take};
+ghost use Rattle.std.specs.Option.{option_copied};
+ghost use Rattle.dns_spec.specs.Reading.{MessageQuestion};
+ghost use Rattle.dns_spec.specs.Layout.{Item, layout, size};
+ghost use Rattle.dns_wire.specs.Draft.{IsDraft, item_of};
+ghost use Rattle.dns_wire.specs.QuickNumbers.{quick_number};
+ghost use Rattle.dns_answer.specs.DraftForm.{Offers};
 
 use dns_name::Name;
 use dns_rdata::SetView;
 use dns_wire::{Head, Page, Question, QuickHash, Section};
 use std::marker::Model;
 
-/// A reply to a question while sets are offered to it, in room for so many places and octets.
+/// A reply that is made, in room for so many places of names and so many octets, which stand in
+/// the value itself. It is lent to `respond_in` for one reply after the other.
 #[derive(Drop)]
-pub(crate) struct Draft<const N: usize, const SIZE: usize> {
+pub struct Draft<const N: usize, const SIZE: usize> {
     page: Page<N, SIZE>,
     hash: QuickHash,
     is_full: bool,
 }
 
 impl<const N: usize, const SIZE: usize> Model for Draft<N, SIZE> {
+    ghost use Rattle.std.specs.Prelude.{◌≤◌};
     ghost use Rattle.dns_answer.specs.DraftForm.{State};
 
     ghost Value = { State };
 
     ghost view = { λ d. record { page = d.page; full = d.is_full } };
+
+    ghost invariant = { λ d. (512 ≤ SIZE) × (SIZE ≤ 65535) };
 }
 
 impl<const N: usize, const SIZE: usize> Draft<N, SIZE> {
-    /// Room for a reply of at most `limit` octets, before its question.
-    pub(crate) fn new(limit: usize) -> Draft<N, SIZE>
-        requires from { 512 ≤ limit }
-        requires upto { limit ≤ 65535 }
-        requires octets { limit ≤ SIZE }
+    /// Room for replies of at most `SIZE` octets, 512 to 65,535.
+    ///
+    /// Condition: there are places for one in two of the octets that a pointer reaches.
+    pub fn new() -> Draft<N, SIZE>
+        requires from { 512 ≤ SIZE }
+        requires upto { SIZE ≤ 65535 }
         requires places { min SIZE 16384 ≤ 2 * N }
         requires most { N ≤ 8192 }
-        ensures page { result.page ≡ no_draft limit }
-        ensures empty { result.full ≡ false }
     {
         Draft {
-            page: Page::empty(limit),
+            page: Page::empty(SIZE),
             hash: QuickHash,
             is_full: false,
         }
     }
 
-    /// Puts the question, before the first set. The draft stands where it stays, since it is large.
-    pub(crate) fn put_question(&mut self, question: &Question)
-        requires nothing { self.old.page ≡ no_draft self.old.page.limit }
-        requires from { 512 ≤ self.old.page.limit }
-        requires empty { self.old.full ≡ false }
-        ensures draft { Holds self.new (empty_draft question.now self.old.page.limit) }
-        ensures limit { self.new.page.limit ≡ self.old.page.limit }
+    /// Begins a reply, with the question that it repeats, if any. Nothing is left of the reply
+    /// before.
+    pub(crate) fn begin(&mut self, question: Option<&Question>)
+        ensures draft { IsDraft quick_number (option_copied question.entry) [] self.new.page }
+        ensures limit { self.new.page.limit ≡ SIZE }
+        ensures empty { self.new.full ≡ false }
     {
+        self.page.clear(SIZE);
+        self.is_full = false;
         self.page.put_question(&mut self.hash, question);
     }
 
@@ -78,9 +84,11 @@ impl<const N: usize, const SIZE: usize> Draft<N, SIZE> {
     /// Puts the reply at the front of `out`, with its header, and answers how many octets it has.
     pub(crate) fn finish(&self, head: Head, out: &mut [u8]) -> usize
         requires { self.now.page.limit ≤ length out.old }
-        ensures length { (d : Offered) → Holds self.now d → result ≡ size (Some d.question) d.kept }
-        ensures octets { (d : Offered) → Holds self.now d → take result out.new
-            ≡ layout head (Some d.question) d.kept }
+        ensures length { (q : Option MessageQuestion) (items : List Item)
+            → IsDraft quick_number q items self.now.page → result ≡ size q items }
+        ensures octets { (q : Option MessageQuestion) (items : List Item)
+            → IsDraft quick_number q items self.now.page
+            → take result out.new ≡ layout head q items }
     {
         self.page.finish(head, out)
     }

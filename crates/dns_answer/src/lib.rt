@@ -10,7 +10,5 @@ mod lookup;
 mod names;
 mod reply;
 
-pub use reply::{Limit, respond};
-
-#[cfg(test)]
-mod tests;
+pub use draft::Draft;
+pub use reply::{Limit, TcpDraft, UdpDraft, respond, respond_in};

@@ -1,5 +1,5 @@
 //! The reply to a datagram (RFC 1034 4.3.2).
-ghost use Rattle.std.specs.Prelude.{◌≡◌, ◌↔◌, ℕ, ◌+◌, ◌*◌, ◌≤◌, [], min, length, take, true, false, IsTrue, IsNone, IfSome};
+ghost use Rattle.std.specs.Prelude.{◌≡◌, ◌↔◌, ℕ, ◌+◌, ◌*◌, ◌≤◌, [], length, take, true, false, IsTrue, IsNone, IfSome};
 ghost use Rattle.std.specs.Option.{option_map, option_copied};
 ghost use Rattle.dns_spec.specs.Names.{at_or_below, is_name};
 ghost use Rattle.dns_spec.specs.Records.{ZoneContents};
@@ -8,13 +8,13 @@ ghost use Rattle.dns_spec.specs.Query.{is_ignored};
 ghost use Rattle.dns_spec.specs.Layout.{layout};
 ghost use Rattle.dns_spec.specs.Reply.{answered, decide, decide_question, is_meta_type, refusal, reply, reply_message, octets_of};
 ghost use Rattle.dns_answer.specs.Limits.{limit_of};
-ghost use Rattle.dns_answer.specs.Replies.{JudgedAs, IsReply, Answers, Costs, visits_for, names_for, comparisons_for};
+ghost use Rattle.dns_answer.specs.Replies.{JudgedAs, IsReply, Answers, Costs, Responds, visits_for, names_for, comparisons_for};
 
 use crate::chain::{Ended, seek};
 use crate::draft::Draft;
 use crate::names::depth_below;
 use dns_name::Name;
-use dns_wire::{CLASS_IN, Head, Page, QueryRead, Question, QuickHash, Rcode, read_query};
+use dns_wire::{CLASS_IN, Head, QueryRead, Question, Rcode, read_query};
 use dns_zone::Steps;
 
 /// How many octets a reply may have.
@@ -38,6 +38,12 @@ impl Limit {
     }
 }
 
+/// Room for replies over UDP.
+pub type UdpDraft = Draft<256, 512>;
+
+/// Room for replies over TCP: about 115,000 octets.
+pub type TcpDraft = Draft<8192, 65_535>;
+
 /// Writes the reply to a datagram at the front of `out`, and answers its length in octets.
 ///
 /// `None`, with nothing promised of `out`, exactly where no reply is owed: the datagram is shorter
@@ -47,6 +53,9 @@ impl Limit {
 ///
 /// Conditions: nothing was counted by the walk, and `out` is as long as the limit. No memory is
 /// taken. Where no question is answered, no name is looked up.
+///
+/// The room that a reply is made in is filled first, which over TCP takes far longer than a short
+/// reply. Who answers many messages keeps a draft, and calls `respond_in`.
 pub fn respond(
     steps: &mut Steps<'_>,
     datagram: &[u8],
@@ -75,30 +84,57 @@ pub fn respond(
     ensures comparisons { steps.new.comparisons
         ≤ comparisons_for steps.old.zone (decide steps.old.zone datagram.now) steps.new.visits }
 {
+    match limit {
+        Limit::Udp => respond_in(steps, datagram, &mut UdpDraft::new(), out),
+        Limit::Tcp => respond_in(steps, datagram, &mut TcpDraft::new(), out),
+    }
+}
+
+/// Writes the reply to a datagram, of as many octets as a draft has room for, at the front of
+/// `out`, and answers its length in octets: all of what `respond` says, at that limit.
+///
+/// Nothing is left of the reply that was made in the draft before, and nothing is filled in the
+/// size of its room.
+///
+/// Conditions: nothing was counted by the walk, the room has 512 to 65,535 octets, and `out` is as
+/// long. No memory is taken.
+pub fn respond_in<const N: usize, const SIZE: usize>(
+    steps: &mut Steps<'_>,
+    datagram: &[u8],
+    draft: &mut Draft<N, SIZE>,
+    out: &mut [u8],
+) -> Option<usize>
+    requires visits { steps.old.visits ≡ 0 }
+    requires comparisons { steps.old.comparisons ≡ 0 }
+    requires from { 512 ≤ SIZE }
+    requires upto { SIZE ≤ 65535 }
+    requires out { length out.old ≡ SIZE }
+    ensures { Responds steps.old steps.new datagram.now SIZE result out.new }
+{
     let origin = steps.origin();
     match read_query(datagram) {
         QueryRead::Absent => None,
-        QueryRead::Refused(head) => Some(put_refusal(head, None, out)),
+        QueryRead::Refused(head) => Some(put_refusal(head, None, draft, out)),
         QueryRead::Query(head, question) => {
-            Some(put_reply(steps, origin, &head, &question, limit, out))
+            Some(put_reply(steps, origin, &head, &question, draft, out))
         }
     }
 }
 
-// Puts the reply to a query: a refusal, or an answer in the room that its limit needs.
-fn put_reply<'z>(
+// Puts the reply to a query: a refusal, or an answer.
+fn put_reply<'z, const N: usize, const SIZE: usize>(
     steps: &mut Steps<'z>,
     origin: &Name,
     head: &Head,
     question: &Question,
-    limit: Limit,
+    draft: &mut Draft<N, SIZE>,
     out: &mut [u8],
 ) -> usize
     requires origin { origin.now ≡ steps.old.zone.origin }
     requires visits { steps.old.visits ≡ 0 }
     requires comparisons { steps.old.comparisons ≡ 0 }
-    requires out { length out.old ≡ limit_of limit }
-    ensures reply { IsReply steps.old.zone (limit_of limit)
+    requires out { length out.old ≡ SIZE }
+    ensures reply { IsReply steps.old.zone SIZE
         (decide_question head.now question.now (refusal steps.old.zone question.now))
         result out.new }
     ensures costs { Costs
@@ -106,13 +142,13 @@ fn put_reply<'z>(
         steps.old steps.new }
 {
     match judge(question, origin) {
-        Judged::Refused(rcode) => {
-            put_refusal(head.reply(false, false, rcode), Some(question), out)
-        }
-        Judged::Answered(depth) => match limit {
-            Limit::Udp => put_answer::<256, 512>(steps, head, question, depth, out),
-            Limit::Tcp => put_answer::<8192, 65_535>(steps, head, question, depth, out),
-        },
+        Judged::Refused(rcode) => put_refusal(
+            head.reply(false, false, rcode),
+            Some(question),
+            draft,
+            out,
+        ),
+        Judged::Answered(depth) => put_answer(steps, head, question, depth, draft, out),
     }
 }
 
@@ -147,23 +183,27 @@ fn is_meta_type(qtype: u16) -> bool
 }
 
 // Puts a reply without records: a header, and the question if it is repeated.
-fn put_refusal(head: Head, question: Option<&Question>, out: &mut [u8]) -> usize
-    requires { 512 ≤ length out.old }
+fn put_refusal<const N: usize, const SIZE: usize>(
+    head: Head,
+    question: Option<&Question>,
+    draft: &mut Draft<N, SIZE>,
+    out: &mut [u8],
+) -> usize
+    requires { length out.old ≡ SIZE }
     ensures octets { take result out.new ≡ layout head (option_copied question.entry) [] }
     ensures within { result ≤ length out.new }
 {
-    let mut hash = QuickHash;
-    let page: Page<256, 512> = Page::new(512, question, &mut hash);
-    page.finish(head, out)
+    draft.begin(question);
+    draft.finish(head, out)
 }
 
-// Puts the answer to a question whose name is `depth` labels below the origin, of as many octets
-// as there is room for.
+// Puts the answer to a question whose name is `depth` labels below the origin.
 fn put_answer<'z, const N: usize, const SIZE: usize>(
     steps: &mut Steps<'z>,
     head: &Head,
     question: &Question,
     depth: usize,
+    draft: &mut Draft<N, SIZE>,
     out: &mut [u8],
 ) -> usize
     requires visits { steps.old.visits ≡ 0 }
@@ -171,17 +211,12 @@ fn put_answer<'z, const N: usize, const SIZE: usize>(
     requires below { IsTrue (at_or_below question.now.qname steps.old.zone.origin) }
     requires depth { length question.now.qname ≡ length steps.old.zone.origin + depth }
     requires few { depth ≤ 127 }
-    requires from { 512 ≤ SIZE }
-    requires upto { SIZE ≤ 65535 }
-    requires places { min SIZE 16384 ≤ 2 * N }
-    requires most { N ≤ 8192 }
     requires out { length out.old ≡ SIZE }
     ensures reply { IsReply steps.old.zone SIZE (answered head.now question.now) result out.new }
     ensures costs { Costs (answered head.now question.now) steps.old steps.new }
 {
-    let mut draft: Draft<N, SIZE> = Draft::new(SIZE);
-    draft.put_question(question);
-    let head = offer_answer(head, question, depth, steps, &mut draft);
+    draft.begin(Some(question));
+    let head = offer_answer(head, question, depth, steps, draft);
     draft.finish(head, out)
 }
 

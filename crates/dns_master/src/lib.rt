@@ -16,6 +16,3 @@ mod words;
 pub use fault::{ReadCode, ReadFault};
 pub use reader::{MOST_RECORDS, read_zone};
 pub use record::Record;
-
-#[cfg(test)]
-mod tests;

@@ -10,7 +10,7 @@ ghost use Rattle.dns_serve.specs.Streams.{SessionOf, StepOf, reply_over_tcp, sou
 use crate::fault::StreamFault;
 use crate::read::{read_full, skip};
 use byteorder::{BigEndian, ByteOrder};
-use dns_answer::{Limit, respond};
+use dns_answer::{TcpDraft, respond_in};
 use dns_name::{SinkFailed, Tally};
 use dns_zone::{Steps, Zone};
 use std::io::{Read, Write};
@@ -60,11 +60,13 @@ pub fn serve_stream<R: Read, W: Write>(
     Ok(served)
 }
 
-// Room for what is kept of a message, and for its reply after its length.
+// Room for what is kept of a message, for its reply after its length, and for the reply while it is made. It is filled
+// once for all messages.
 #[derive(Drop)]
 struct Room {
     message: [u8; MOST_KEPT],
     reply: [u8; MOST_FRAME],
+    draft: TcpDraft,
 }
 
 impl Room {
@@ -72,6 +74,7 @@ impl Room {
         Room {
             message: [0; MOST_KEPT],
             reply: [0; MOST_FRAME],
+            draft: TcpDraft::new(),
         }
     }
 }
@@ -100,7 +103,7 @@ fn serve_message<R: Read, W: Write>(
         return Ok(false);
     };
     let (message, _) = room.message.split_at(kept);
-    write_reply(zone, message, sink, &mut room.reply)?;
+    write_reply(zone, message, sink, &mut room.draft, &mut room.reply)?;
     Ok(true)
 }
 
@@ -188,6 +191,7 @@ fn write_reply<W: Write>(
     zone: &Zone,
     message: &[u8],
     sink: &mut Tally<W>,
+    draft: &mut TcpDraft,
     room: &mut [u8],
 ) -> Result<(), SinkFailed>
     requires sink { sink.old.failures < 2 ^ 64 - 1 }
@@ -197,7 +201,7 @@ fn write_reply<W: Write>(
 {
     let (length, reply) = room.split_at_mut(2);
     let mut steps = Steps::new(zone);
-    let Some(count) = respond(&mut steps, message, Limit::Tcp, reply) else {
+    let Some(count) = respond_in(&mut steps, message, draft, reply) else {
         return Ok(());
     };
     BigEndian::write_u16(length, count as u16);

@@ -22,6 +22,3 @@ pub use message::run_message;
 pub use once::run_once;
 pub use socket::Socket;
 pub use words::{CheckWords, ServeWords, Service, check_words, serve_words};
-
-#[cfg(test)]
-mod tests;

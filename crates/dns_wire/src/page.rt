@@ -88,9 +88,7 @@ impl<const N: usize, const SIZE: usize> Page<N, SIZE> {
         ensures same { H.numbers hash.new ≡ H.numbers hash.old }
     {
         let mut page = Page::empty(limit);
-        if let Some(question) = question {
-            page.put_question(hash, question);
-        }
+        page.put_question(hash, question);
         page
     }
 
@@ -115,18 +113,38 @@ impl<const N: usize, const SIZE: usize> Page<N, SIZE> {
         }
     }
 
-    /// Writes the question that a message repeats.
+    /// Makes the page that of a message of at most `limit` octets, 512 to 65,535, that has nothing
+    /// yet, whatever was written before. It takes time for what was written, not for the size of
+    /// the room.
+    ///
+    /// Condition: there are as many octets as the limit.
+    pub fn clear(&mut self, limit: usize)
+        requires from { 512 ≤ limit }
+        requires upto { limit ≤ 65535 }
+        requires octets { limit ≤ SIZE }
+        ensures { self.new ≡ no_draft limit }
+    {
+        self.room.clear(limit);
+        self.questions = 0;
+        self.answers = 0;
+        self.authorities = 0;
+        self.additionals = 0;
+    }
+
+    /// Writes the question that a message repeats, if any.
     ///
     /// Conditions: the message has nothing yet, and its limit is at least 512 octets.
-    pub fn put_question<H: SuffixHash>(&mut self, hash: &mut H, question: &Question)
+    pub fn put_question<H: SuffixHash>(&mut self, hash: &mut H, question: Option<&Question>)
         requires nothing { self.old ≡ no_draft self.old.limit }
         requires from { 512 ≤ self.old.limit }
-        ensures draft { IsDraft (H.numbers hash.old) (Some question.now) [] self.new }
+        ensures draft { IsDraft (H.numbers hash.old) (option_copied question.entry) [] self.new }
         ensures limit { self.new.limit ≡ self.old.limit }
         ensures same { H.numbers hash.new ≡ H.numbers hash.old }
     {
-        self.room.put_question(hash, question);
-        self.questions = 1;
+        if let Some(question) = question {
+            self.room.put_question(hash, question);
+            self.questions = 1;
+        }
     }
 
     /// Writes the records of a set at an owner, with a TTL in seconds, into a section: all of them,

@@ -50,6 +50,22 @@ impl<const N: usize, const SIZE: usize> Room<N, SIZE> {
         }
     }
 
+    /// Makes the room that of a message that has nothing yet, of so many octets. Only what was
+    /// written before is written over.
+    pub(crate) fn clear(&mut self, limit: usize)
+        requires room { 12 ≤ SIZE }
+        ensures octets { self.new.octets.items ≡ replicate 12 0 }
+        ensures places { self.new.places ≡ [] }
+        ensures limit { self.new.limit ≡ limit }
+    {
+        self.octets.clear();
+        if self.octets.try_extend_from_slice(&[0; 12]).is_err() {
+            unreachable!();
+        }
+        self.places.clear();
+        self.limit = limit;
+    }
+
     /// Writes the question, which nothing stands before but the room for a header.
     pub(crate) fn put_question<H: SuffixHash>(&mut self, hash: &mut H, question: &Question)
         requires sound { IsSoundRoom self.old }

@@ -1,5 +1,4 @@
-use Rattle.std.proofs.Common.{ap, subst, rules}
-use Rattle.dns_wire.specs.Draft as wire
+use Rattle.std.proofs.Common.{rules}
 use Rattle.dns_answer.specs.Draft.{empty_draft}
 use Rattle.dns_answer.specs.DraftForm.{Holds}
 use Rattle.dns_answer.proofs.PutReplies.{answer-put}
@@ -10,12 +9,16 @@ offer_answer-head-requires g c = (
   search rules,
   (
     c.requires.visits,
-    (c.requires.comparisons, (c.requires.below, (c.requires.depth, (c.requires.few, c.put_question.ensures.draft.written.askable.qname)))),
+    (c.requires.comparisons, (c.requires.below, (c.requires.depth, (c.requires.few, c.begin.ensures.draft.askable.qname)))),
   ),
 )
 
 pub returns-clause-reply : goal.returns-clause-reply
 returns-clause-reply g c =
-    let limit = ap (λ (p : wire.Draft). p.limit) c.new-draft.ensures.page in
-    let begun = subst (λ k. Holds c.put_question.new.self (empty_draft c.args.question.now k)) limit c.put_question.ensures.draft in
-    answer-put _ _ _ g.row.SIZE _ _ c.offer_answer-head.result _ _ begun c.offer_answer-head.ensures.answers c.finish.ensures.length c.finish.ensures.octets
+    let begun : Holds c.begin.new.self (empty_draft c.args.question.now g.row.SIZE) = record {
+      written = c.begin.ensures.draft;
+      limit = c.begin.ensures.limit;
+      full = c.begin.ensures.empty;
+    } in
+    answer-put _ _ _ g.row.SIZE _ _ c.offer_answer-head.result _ _ begun c.offer_answer-head.ensures.answers
+    (λ d h. c.finish.ensures.length _ _ h.written) (λ d h. c.finish.ensures.octets _ _ h.written)

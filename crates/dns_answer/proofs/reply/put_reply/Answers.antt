@@ -1,8 +1,14 @@
-use Rattle.std.proofs.Common.{sym}
+use Rattle.std.proofs.Common.{rules, sym, subst}
+use Rattle.dns_spec.specs.Reply.{decide_question}
+use Rattle.dns_answer.specs.Replies.{Costs}
 use Rattle.dns_answer.proofs.reply.put_reply.Goals as goal
 
-pub put_answer-requires-clause-few : goal.put_answer-requires-clause-few
-put_answer-requires-clause-few c = (c.in-Answered.ensures c.args.steps.now.zone (sym c.requires.origin)).3
+pub put_answer-requires : goal.put_answer-requires
+put_answer-requires g c =
+    let judged = c.in-Answered.ensures c.args.steps.now.zone (sym c.requires.origin) in
+    (search rules, (c.requires.visits, (c.requires.comparisons, (judged.1, (judged.2, (judged.3, c.requires.out))))))
 
-pub put_answer-requires-in-Tcp-clause-few : goal.put_answer-requires-in-Tcp-clause-few
-put_answer-requires-in-Tcp-clause-few c = (c.in-Answered.ensures c.args.steps.now.zone (sym c.requires.origin)).3
+pub returns-in-Answered-clause-costs : goal.returns-in-Answered-clause-costs
+returns-in-Answered-clause-costs g c =
+    let judged = c.in-Answered.ensures c.args.steps.now.zone (sym c.requires.origin) in
+    subst (λ r. Costs (decide_question c.args.head.now c.args.question.now r) c.args.steps.now c.put_answer.new.steps) (sym judged.0) c.put_answer.ensures.costs

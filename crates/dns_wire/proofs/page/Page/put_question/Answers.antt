@@ -1,12 +1,23 @@
-use Rattle.std.proofs.Common.{◌∙◌, refl, ap, Some}
-use Rattle.dns_wire.specs.Draft.{Draft}
+use Rattle.std.proofs.Common.{◌∙◌, refl, sym, ap, subst, subst₂, [], Option, None, Some}
+use Rattle.std.specs.Borrow.{Bor}
+use Rattle.std.specs.Option.{option_copied}
+use Rattle.dns_spec.specs.Reading.{MessageQuestion}
+use Rattle.dns_wire.specs.Draft.{Draft, IsDraft, no_draft}
+use Rattle.dns_wire.proofs.NameWritten.{holds_nothing}
 use Rattle.dns_wire.proofs.DraftLemmas.{draft_begins}
 use Rattle.dns_wire.proofs.page.Page.put_question.Goals as goal
 
-pub returns-clause-draft : goal.returns-clause-draft
-returns-clause-draft g c =
+pub returns-in-Some-clause-draft : goal.returns-in-Some-clause-draft
+returns-in-Some-clause-draft g c =
     let head = g.H.SuffixHash.numbers c.args.hash.now in
     let r = c.put_question.new.self in
     let d : Draft = record { limit = r.limit; octets = r.octets.items; kept = r.places; questions = 1; answers = c.self.inside.answers; authorities = c.self.inside.authorities; additionals = c.self.inside.additionals } in
-    draft_begins head (Some c.args.question.now) d c.put_question.ensures.octets c.put_question.ensures.holds refl
-    (ap (λ (k : Draft). k.answers) (c.self.view_is ∙ c.requires.nothing)) (ap (λ (k : Draft). k.authorities) (c.self.view_is ∙ c.requires.nothing)) (ap (λ (k : Draft). k.additionals) (c.self.view_is ∙ c.requires.nothing)) c.put_question.ensures.askable
+    let begun = draft_begins head (Some c.in-Some.question.now) d c.put_question.ensures.octets c.put_question.ensures.holds refl
+    (ap (λ (k : Draft). k.answers) (c.self.view_is ∙ c.requires.nothing)) (ap (λ (k : Draft). k.authorities) (c.self.view_is ∙ c.requires.nothing)) (ap (λ (k : Draft). k.additionals) (c.self.view_is ∙ c.requires.nothing)) c.put_question.ensures.askable in
+    subst (λ (o : Option (Bor MessageQuestion)). IsDraft head (option_copied o) [] d) (sym c.in-Some.is) begun
+
+pub returns-in_default-clause-draft : goal.returns-in_default-clause-draft
+returns-in_default-clause-draft g c =
+    let head = g.H.SuffixHash.numbers c.args.hash.now in
+    let begun = draft_begins head None (no_draft c.args.self.now.limit) refl (holds_nothing head) refl refl refl refl tt in
+    subst₂ (λ (o : Option (Bor MessageQuestion)) (d : Draft). IsDraft head (option_copied o) [] d) (sym c.in_default.is) (sym c.requires.nothing) begun

@@ -1,6 +1,0 @@
-mod costs;
-mod long;
-mod refusals;
-mod replies;
-mod rows;
-mod zones;

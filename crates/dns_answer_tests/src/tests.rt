@@ -1,0 +1,7 @@
+mod costs;
+mod drafts;
+mod long;
+mod refusals;
+mod replies;
+mod rows;
+mod zones;

@@ -1,0 +1,58 @@
+//! What answers take: the nodes that are visited, and the labels that are compared.
+
+use super::replies::{compare, joined, query};
+use super::zones::{deep, wide};
+use dns_answer::Limit;
+use std::alloc::Global;
+use std::test::Fail;
+
+// The question of a name of 127 labels.
+fn deep_question(alloc: Global) -> Result<Vec<u8>, Fail> {
+    let mut question = Vec::new(alloc);
+    for _ in 0..127_u8 {
+        question.extend_from_slice(b"\x01a")?;
+    }
+    question.extend_from_slice(b"\x00\x00\x01\x00\x01")?;
+    Ok(question)
+}
+
+#[test]
+fn a_name_of_127_labels_takes_128_visits(rt: HostRuntime) -> Result<(), Fail> {
+    let zone = deep(rt.alloc())?;
+    let question = deep_question(rt.alloc())?;
+    let asked = query(rt.alloc(), question.as_slice())?;
+    assert_eq!(rt; asked.len(), 271);
+    let wanted: [&[u8]; 3] = [
+        b"\x12\x34\x84\x00\x00\x01\x00\x01\x00\x00\x00\x00",
+        question.as_slice(),
+        b"\xc0\x0c\x00\x01\x00\x01\x00\x00\x0e\x10\x00\x04\xc0\x00\x02\x02",
+    ];
+    let wanted = joined(rt.alloc(), &wanted)?;
+    assert_eq!(rt; wanted.len(), 287);
+    let wanted = Some(wanted.as_slice());
+    for limit in [Limit::Udp, Limit::Tcp] {
+        let found = compare(rt.alloc(), &zone, limit, asked.as_slice(), wanted)?;
+        assert!(rt; found.is_wanted);
+        assert_eq!(rt; found.visits, 128);
+    }
+    Ok(())
+}
+
+#[test]
+fn one_of_100_000_names_takes_17_comparisons(rt: HostRuntime) -> Result<(), Fail> {
+    let zone = wide(rt.alloc())?;
+    let question = b"\x06n99996\x07example\x00\x00\x01\x00\x01";
+    let asked = query(rt.alloc(), question)?;
+    let wanted: [&[u8]; 3] = [
+        b"\x12\x34\x84\x00\x00\x01\x00\x01\x00\x00\x00\x00",
+        question,
+        b"\xc0\x0c\x00\x01\x00\x01\x00\x00\x00\x3c\x00\x04\xc0\x00\x02\x02",
+    ];
+    let wanted = joined(rt.alloc(), &wanted)?;
+    let wanted = Some(wanted.as_slice());
+    let found = compare(rt.alloc(), &zone, Limit::Udp, asked.as_slice(), wanted)?;
+    assert!(rt; found.is_wanted);
+    assert_eq!(rt; found.visits, 2);
+    assert!(rt; found.comparisons <= 17);
+    Ok(())
+}

@@ -1,0 +1,77 @@
+//! Queries, and their replies by a zone.
+
+use dns_answer::{Limit, respond};
+use dns_zone::{Steps, Zone};
+use std::alloc::Global;
+use std::test::Fail;
+
+// The header of a query of one question.
+const QUERY: &[u8] = b"\x12\x34\x00\x00\x00\x01\x00\x00\x00\x00\x00\x00";
+
+/// Whether a reply is the one that is wanted, and what it took: the nodes that were handed out, and
+/// the labels that were compared.
+#[derive(Clone, Copy)]
+pub(super) struct Compared {
+    pub(super) is_wanted: bool,
+    pub(super) visits: u32,
+    pub(super) comparisons: u32,
+}
+
+/// The query of a question.
+pub(super) fn query(alloc: Global, question: &[u8]) -> Result<Vec<u8>, Fail> {
+    joined(alloc, &[QUERY, question])
+}
+
+/// Octets, one piece after the other.
+pub(super) fn joined(alloc: Global, pieces: &[&[u8]]) -> Result<Vec<u8>, Fail> {
+    let mut octets = Vec::new(alloc);
+    for piece in pieces {
+        octets.extend_from_slice(piece)?;
+    }
+    Ok(octets)
+}
+
+/// Compares the reply of a zone to a datagram with the one that is wanted, if any.
+pub(super) fn compare(
+    alloc: Global,
+    zone: &Zone,
+    limit: Limit,
+    datagram: &[u8],
+    wanted: Option<&[u8]>,
+) -> Result<Compared, Fail> {
+    let mut out = vec![in alloc; 0; limit.octets()]?;
+    let mut steps = Steps::new(zone);
+    let length = respond(&mut steps, datagram, limit, &mut out);
+    let is_wanted = match (length, wanted) {
+        (None, None) => true,
+        (Some(length), Some(wanted)) => out.as_slice().get(..length) == Some(wanted),
+        _ => false,
+    };
+    Ok(Compared {
+        is_wanted,
+        visits: steps.visits(),
+        comparisons: steps.comparisons(),
+    })
+}
+
+/// Whether the reply of a zone to a question is these octets.
+pub(super) fn is_reply(
+    alloc: Global,
+    zone: &Zone,
+    limit: Limit,
+    question: &[u8],
+    wanted: &[&[u8]],
+) -> Result<bool, Fail> {
+    let asked = query(alloc, question)?;
+    let wanted = joined(alloc, wanted)?;
+    Ok(
+        compare(
+            alloc,
+            zone,
+            limit,
+            asked.as_slice(),
+            Some(wanted.as_slice()),
+        )?
+        .is_wanted,
+    )
+}

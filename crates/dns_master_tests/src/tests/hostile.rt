@@ -1,0 +1,81 @@
+//! Files that are written to do harm.
+
+use super::reading::{fault, repeated};
+use dns_master::read_zone;
+use dns_name::{Name, Tally};
+use std::alloc::Global;
+use std::test::Fail;
+
+// A beginning, and what is repeated after it so often; then the fault.
+type Hostile<'a> = (&'a [u8], &'a [u8], usize, (u8, u32));
+
+const FILES: [Hostile<'static>; 29] = [
+    (b"", b"(", 1_000_000, (4, 1)),
+    (b"", b"(\n", 1_000_000, (4, 1)),
+    (b"", b")", 1_000_000, (4, 1)),
+    (b"", b"()", 1_000_000, (0, 0)),
+    (b"", b"( ) ; (\n", 1_000_000, (0, 0)),
+    (b"(", b"\n", 1_000_000, (4, 1)),
+    (b"(", b"a\n", 1_000_000, (4, 1)),
+    (b"", b"\\", 1_000_001, (2, 1)),
+    (b"", b"\\", 1_000_000, (7, 1)),
+    (b"", b"\\1", 1_000_000, (2, 1)),
+    (b"", b"\\111", 1_000_000, (7, 1)),
+    (b"", b"a", 16_777_216, (7, 1)),
+    (b"", b"a.", 8_388_608, (7, 1)),
+    (b"a 1 TXT ", b"a", 1_000_000, (13, 1)),
+    (b"a 1 TXT \"", b"a", 1_000_000, (3, 1)),
+    (b"a 1 TXT", b" \"\"", 65_535, (0, 0)),
+    (b"a 1 TXT", b" \"\"", 65_536, (13, 1)),
+    (b"a 1 TYPE65280 \\# 65535", b" 00", 65_535, (0, 0)),
+    (b"a 1 TYPE65280 \\# 65535", b" 00", 65_536, (13, 1)),
+    (b"a 1", b" 1", 1_000_000, (11, 1)),
+    (b"a", b" IN", 1_000_000, (11, 1)),
+    (b"a ", b"1", 1_000_000, (9, 1)),
+    (b"", b"\x00", 1_000_000, (1, 1)),
+    (b";", b"\x00", 1_000_000, (0, 0)),
+    (b"", b"\r", 1_000_000, (1, 1)),
+    (b"", b"\"", 65_535, (3, 1)),
+    (b"", b"\"", 65_534, (7, 1)),
+    (b"", b"$TTL 1\n", 100_000, (0, 0)),
+    (b"", b" ", 16_777_216, (0, 0)),
+];
+
+#[test]
+fn files_that_are_written_to_do_harm(rt: HostRuntime) -> Result<(), Fail> {
+    for (begin, piece, times, wanted) in FILES {
+        let mut text = repeated(rt.alloc(), begin, 1)?;
+        text.extend_from_slice(repeated(rt.alloc(), piece, times)?.as_slice())?;
+        let reported = fault(rt.alloc(), text.as_slice())?;
+        assert_eq!(rt; reported, wanted, "at {piece:?} after {begin:?}");
+    }
+    Ok(())
+}
+
+// `example.` has 9 octets, each label two more; a name has 255 at most.
+#[test]
+fn an_origin_that_grows(rt: HostRuntime) -> Result<(), Fail> {
+    let text = repeated(rt.alloc(), b"$ORIGIN a\n", 100_000)?;
+    assert_eq!(rt; fault(rt.alloc(), text.as_slice())?, (6, 124));
+    let text = repeated(rt.alloc(), b"$ORIGIN a\n", 123)?;
+    assert_eq!(rt; fault(rt.alloc(), text.as_slice())?, (0, 0));
+    Ok(())
+}
+
+// The fault of a record at an owner of so many labels, below the root.
+fn fault_of_labels(alloc: Global, count: usize) -> Result<(u8, u32), Fail> {
+    let mut text = repeated(alloc, b"a.", count)?;
+    text.extend_from_slice(b" 60 A 192.0.2.1")?;
+    let mut source = Tally::new(text.as_slice());
+    Ok(match read_zone(alloc, &Name::root(), &mut source) {
+        Ok(_) => (0, 0),
+        Err(fault) => (fault.code.number(), fault.line),
+    })
+}
+
+#[test]
+fn an_owner_of_many_labels(rt: HostRuntime) -> Result<(), Fail> {
+    assert_eq!(rt; fault_of_labels(rt.alloc(), 127)?, (0, 0));
+    assert_eq!(rt; fault_of_labels(rt.alloc(), 128)?, (7, 1));
+    Ok(())
+}

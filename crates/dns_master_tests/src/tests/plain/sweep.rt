@@ -1,0 +1,132 @@
+//! All short texts, read by the plain program and by the reader.
+
+use super::super::reading::example;
+use super::judge::Meant;
+use super::tokens::{Stop, plain_meaning};
+use dns_master::{ReadFault, Record, read_zone};
+use dns_name::{Name, Tally};
+use std::alloc::{AllocError, Global};
+use std::process::Abort;
+use std::test::Fail;
+
+// Single octets: what tokens begin and end with.
+const OCTETS: [&[u8]; 10] = [
+    b" ", b"\n", b"(", b")", b"\"", b";", b"\\", b"1", b"a", b"\r",
+];
+
+// What entries are made of.
+const ENTRIES: [&[u8]; 10] = [
+    b" ",
+    b"\n",
+    b"a ",
+    b"B",
+    b"1 ",
+    b"IN ",
+    b"A 1.2.3.4",
+    b"$TTL ",
+    b"$origin ",
+    b"(",
+];
+
+// What lines are made of.
+const LINES: [&[u8]; 10] = [
+    b"a 1 A 192.0.2.1\n",
+    b"b A 192.0.2.1 ; x\n",
+    b" A 192.0.2.2\r\n",
+    b"@ 7 A 0.0.0.0\n",
+    b"$TTL 5\n",
+    b"$ORIGIN a\n",
+    b"$ORIGIN .\n",
+    b" 3 A (\n255.255.255.255 )\n",
+    b"\\065\\.x IN type1 1.1.1.1\n",
+    b"\n",
+];
+
+// The text that a number means, whose decimal digits are so many pieces.
+fn text_of(
+    alloc: Global,
+    pieces: &[&[u8]; 10],
+    number: u32,
+    count: u32,
+) -> Result<Vec<u8>, AllocError> {
+    let mut text = Vec::new(alloc);
+    let mut rest = number;
+    for _ in 0..count {
+        text.extend_from_slice(pieces[(rest % 10) as usize])?;
+        rest /= 10;
+    }
+    Ok(text)
+}
+
+fn is_same(record: &Record, meant: &Meant) -> bool {
+    record.owner.octets() == meant.owner.as_slice()
+        && record.ttl == meant.ttl
+        && record.rtype.0 == 1
+        && record.rdata.octets() == meant.address.as_slice()
+}
+
+// Whether the reader gave what is meant.
+fn agrees(read: &Result<Vec<Record>, ReadFault>, meant: &Result<Vec<Meant>, Stop>) -> bool {
+    match (read, meant) {
+        (Ok(records), Ok(meant)) => {
+            let mut pairs = records.iter().zip(meant.iter());
+            records.len() == meant.len() && pairs.all(|(record, meant)| is_same(record, meant))
+        }
+        (Err(fault), Err(Stop::Fault(code, line))) => {
+            fault.code.number() == *code && fault.line == *line
+        }
+        _ => false,
+    }
+}
+
+// Compares the two on all texts of so many pieces; how many texts have records.
+fn compare<R: Abort + AllocGlobal>(
+    rt: &R,
+    pieces: &[&[u8]; 10],
+    origin: &Name,
+    count: u32,
+) -> Result<u32, Fail> {
+    let mut with_records: u32 = 0;
+    for number in 0..10_u32.saturating_pow(count) {
+        let text = text_of(rt.alloc(), pieces, number, count)?;
+        let meant = plain_meaning(rt.alloc(), text.as_slice());
+        let mut source = Tally::new(text.as_slice());
+        let read = read_zone(rt.alloc(), origin, &mut source);
+        assert!(rt; agrees(&read, &meant), "at {text:?}");
+        if read.is_ok_and(|records| !records.is_empty()) {
+            with_records = with_records.saturating_add(1);
+        }
+    }
+    Ok(with_records)
+}
+
+#[test]
+fn all_texts_of_five_octets(rt: HostRuntime) -> Result<(), Fail> {
+    let origin = example()?;
+    for count in 0..6 {
+        compare(&rt, &OCTETS, &origin, count)?;
+    }
+    Ok(())
+}
+
+#[test]
+fn all_texts_of_five_words(rt: HostRuntime) -> Result<(), Fail> {
+    let origin = example()?;
+    let mut with_records: u32 = 0;
+    for count in 0..6 {
+        with_records = with_records.saturating_add(compare(&rt, &ENTRIES, &origin, count)?);
+    }
+    assert!(rt; with_records > 100);
+    Ok(())
+}
+
+#[test]
+fn all_texts_of_four_lines(rt: HostRuntime) -> Result<(), Fail> {
+    let origin = example()?;
+    let mut with_records: u32 = 0;
+    for count in 0..5 {
+        with_records = with_records.saturating_add(compare(&rt, &LINES, &origin, count)?);
+    }
+    assert!(rt; with_records > 1000);
+    Ok(())
+}

@@ -1,0 +1,97 @@
+use super::devices::{Kept, Pieces};
+use dns_name::{Name, Tally};
+use dns_tools::{LoadFault, Stop, load_zone, write_refusal};
+use std::alloc::Global;
+use std::test::Fail;
+
+pub(super) const Z0: &str = "$TTL 3600
+@ SOA ns hostmaster 1 7200 900 1209600 300
+@ NS ns
+ns A 192.0.2.1
+www A 192.0.2.10
+alias CNAME www
+*.w TXT \"any\"
+a.b.ent A 192.0.2.11
+sub NS ns.sub
+ns.sub A 192.0.2.53
+";
+
+pub(super) fn example() -> Result<Name, Fail> {
+    Ok(Name::read_text(b"example", &Name::root())?)
+}
+
+// Why a text gives no zone, in the words of the report, or the serial of its zone. The text comes
+// in pieces, and is followed by a failure where the calls are used up.
+fn loaded(
+    alloc: Global,
+    text: &[u8],
+    most: usize,
+    calls_left: u32,
+) -> Result<Result<u32, Vec<u8>>, Fail> {
+    let mut source = Tally::new(Pieces {
+        text,
+        most,
+        calls_left,
+    });
+    let refusal = match load_zone(alloc, &example()?, &mut source) {
+        Ok(zone) => return Ok(Ok(zone.serial())),
+        Err(LoadFault::Refused(refusal)) => refusal,
+        Err(LoadFault::Stopped(Stop::Source)) => return Ok(Err(Vec::new(alloc))),
+        Err(LoadFault::Stopped(_)) => return Err(Fail::new("no memory")),
+    };
+    let mut sink = Tally::new(Kept {
+        text: Vec::new(alloc),
+        most: 7,
+        calls_left: 1_000_000,
+    });
+    write_refusal(&refusal, &mut sink)?;
+    Ok(Err(sink.into_inner().text))
+}
+
+#[test]
+fn the_sample_file(rt: HostRuntime) -> Result<(), Fail> {
+    for most in [1, 7, 1000] {
+        assert_eq!(rt; loaded(rt.alloc(), Z0.as_bytes(), most, 1000)?, Ok(1));
+    }
+    Ok(())
+}
+
+#[test]
+fn refusals_in_the_lines_of_the_report(rt: HostRuntime) -> Result<(), Fail> {
+    let rows = [
+        ("", "example. Z01\nexample. Z04\n"),
+        (" A 192.0.2.1", "line 1: R08\n"),
+        ("$TTL 60\n\nwww A (\n192.0.2.1 )\nx ANY\n", "line 5: R11\n"),
+    ];
+    for (text, wanted) in rows {
+        let Err(said) = loaded(rt.alloc(), text.as_bytes(), 7, 1000)? else {
+            return Err(Fail::new("no fault"));
+        };
+        assert_eq!(rt; said.as_slice(), wanted.as_bytes(), "of {text:?}");
+    }
+    let rows = [
+        (
+            "www CNAME ns\nx.sub TXT q\n",
+            "x.sub.example. Z12\nwww.example. Z06\n",
+        ),
+        ("www.other. A 192.0.2.1\n", "www.other. Z05\n"),
+        ("*.w NS ns\n", "*.w.example. Z12\n*.w.example. Z13\n"),
+    ];
+    for (lines, wanted) in rows {
+        let text = format!(in rt.alloc(); "{Z0}{lines}")?;
+        let Err(said) = loaded(rt.alloc(), text.as_bytes(), 100, 1000)? else {
+            return Err(Fail::new("no fault"));
+        };
+        assert_eq!(rt; said.as_slice(), wanted.as_bytes(), "at {lines}");
+    }
+    Ok(())
+}
+
+#[test]
+fn a_source_that_fails(rt: HostRuntime) -> Result<(), Fail> {
+    for calls in 0..10 {
+        let found = loaded(rt.alloc(), Z0.as_bytes(), 20, calls)?;
+        assert_eq!(rt; found, Err(Vec::new(rt.alloc())), "after {calls} reads");
+    }
+    Ok(())
+}

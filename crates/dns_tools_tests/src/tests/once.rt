@@ -1,0 +1,208 @@
+use super::devices::{Kept, Pieces};
+use super::load::{Z0, example};
+use dns_answer::Limit;
+use dns_name::Tally;
+use dns_tools::{Stop, load_zone, run_once};
+use std::alloc::Global;
+use std::test::Fail;
+
+// What a run over the sample zone, over UDP, writes and answers, for an input in pieces and a
+// number of calls that work.
+fn run(
+    alloc: Global,
+    input: &[u8],
+    most: usize,
+    reads: u32,
+    writes: u32,
+) -> Result<(Vec<u8>, Result<bool, Stop>), Fail> {
+    let Ok(zone) = load_zone(alloc, &example()?, &mut Tally::new(Z0.as_bytes())) else {
+        return Err("the sample zone is refused".into());
+    };
+    let mut source = Tally::new(Pieces {
+        text: input,
+        most,
+        calls_left: reads,
+    });
+    let mut sink = Tally::new(Kept {
+        text: Vec::new(alloc),
+        most,
+        calls_left: writes,
+    });
+    let outcome = run_once(alloc, &zone, Limit::Udp, &mut source, &mut sink);
+    let (source, sink) = (source.into_inner(), sink.into_inner());
+    // Both would work again after their failure.
+    if (source.calls_left == u32::MAX) != (outcome == Err(Stop::Source)) {
+        return Err("a source that is asked after its failure".into());
+    }
+    if (sink.calls_left == u32::MAX) != (outcome == Err(Stop::Sink)) {
+        return Err("a sink that is asked after its failure".into());
+    }
+    Ok((sink.text, outcome))
+}
+
+const WWW: &str = "12340000000100000000000003777777076578616d706c650000010001";
+
+const WWW_REPLY: &str =
+    "12348400000100010000000003777777076578616d706c650000010001c00c0001000100000e100004c000020a";
+
+#[test]
+fn replies_to_one_message(rt: HostRuntime) -> Result<(), Fail> {
+    let rows = [
+        (WWW, WWW_REPLY),
+        (
+            "12340000000100000000000003575757074578616d706c650000010001",
+            "12348400000100010000000003575757074578616d706c650000010001c00c0001000100000e100004c000020a",
+        ),
+        (
+            "12340000000100000000000003777777076578616D706C650000010001",
+            WWW_REPLY,
+        ),
+        ("1234000000010000000000", "none"),
+        (
+            "12348000000100000000000003777777076578616d706c650000010001",
+            "none",
+        ),
+        ("", "none"),
+        (
+            "12341000000100000000000003777777076578616d706c650000010001",
+            "123490040000000000000000",
+        ),
+        (
+            "12340000000100000000000103777777076578616d706c6500000100010000291000000000000000",
+            "123480010000000000000000",
+        ),
+        (
+            "123400000001000000000000c00c00010001",
+            "123480010000000000000000",
+        ),
+        (
+            "12340000000100000000000003777777076578616d706c65000001000100",
+            "123480010000000000000000",
+        ),
+        (
+            "12340000000100000000000003777777056f746865720000010001",
+            "12348005000100000000000003777777056f746865720000010001",
+        ),
+        (
+            "12340000000100000000000003777777076578616d706c650000010003",
+            "12348005000100000000000003777777076578616d706c650000010003",
+        ),
+        (
+            "123400000001000000000000076578616d706c650000fc0001",
+            "123480040001000000000000076578616d706c650000fc0001",
+        ),
+        (
+            "123400000001000000000000046e6f7065076578616d706c650000010001",
+            "123484030001000000010000046e6f7065076578616d706c650000010001c011000600010000012c0026026e73c0110a686f73746d6173746572c0110000000100001c2000000384001275000000012c",
+        ),
+        (
+            "123400000001000000000000017801790177076578616d706c650000100001",
+            "123484000001000100000000017801790177076578616d706c650000100001c00c0010000100000e10000403616e79",
+        ),
+        (
+            "123400000001000000000000016803737562076578616d706c650000010001",
+            "123480000001000000010001016803737562076578616d706c650000010001c00e0002000100000e100005026e73c00ec02b0001000100000e100004c0000235",
+        ),
+        (
+            "12340000000100000000000005616c696173076578616d706c650000010001",
+            "12348400000100020000000005616c696173076578616d706c650000010001c00c0005000100000e10000603777777c012c02b0001000100000e100004c000020a",
+        ),
+        (
+            "123400000001000000000000076578616d706c650000020001",
+            "123484000001000100000001076578616d706c650000020001c00c0002000100000e100005026e73c00cc0250001000100000e100004c0000201",
+        ),
+    ];
+    for (query, reply) in rows {
+        let input = format!(in rt.alloc(); "{query}\n")?;
+        let (output, outcome) = run(rt.alloc(), input.as_bytes(), 1000, 1000, 1000)?;
+        let wanted = format!(in rt.alloc(); "{reply}\n")?;
+        assert_eq!(rt; output.as_slice(), wanted.as_bytes(), "to {query}");
+        assert_eq!(rt; outcome, Ok(true));
+    }
+    Ok(())
+}
+
+#[test]
+fn lines_that_are_no_messages(rt: HostRuntime) -> Result<(), Fail> {
+    for line in ["zz", "0", "00\r", "00 ", "123", "0x00", "\u{e9}"] {
+        let input = format!(in rt.alloc(); "\n{line}\n00\n")?;
+        for most in [1, 1000] {
+            let (output, outcome) = run(rt.alloc(), input.as_bytes(), most, 1000, 1000)?;
+            assert_eq!(rt;
+                output.as_slice(),
+                b"none\nbad hex\nnone\n".as_slice(),
+                "at {line}"
+            );
+            assert_eq!(rt; outcome, Ok(false));
+        }
+    }
+    Ok(())
+}
+
+#[test]
+fn the_last_line_may_lack_its_end(rt: HostRuntime) -> Result<(), Fail> {
+    for (input, wanted) in [
+        ("", ""),
+        ("\n", "none\n"),
+        ("\n00", "none\nnone\n"),
+        ("z", "bad hex\n"),
+    ] {
+        let (output, outcome) = run(rt.alloc(), input.as_bytes(), 1, 1000, 1000)?;
+        assert_eq!(rt; output.as_slice(), wanted.as_bytes());
+        assert_eq!(rt; outcome, Ok(input != "z"));
+    }
+    Ok(())
+}
+
+#[test]
+fn a_line_of_the_most_digits_and_one_more(rt: HostRuntime) -> Result<(), Fail> {
+    let mut input = vec![in rt.alloc(); b'0'; 131_070]?;
+    let (output, outcome) = run(rt.alloc(), input.as_slice(), 70_000, 1000, 1000)?;
+    assert_eq!(rt; output.as_slice(), b"000080010000000000000000\n".as_slice());
+    assert_eq!(rt; outcome, Ok(true));
+    input.extend_from_slice(b"0\n\n")?;
+    let (output, outcome) = run(rt.alloc(), input.as_slice(), 70_000, 1000, 1000)?;
+    assert_eq!(rt; output.as_slice(), b"bad hex\nnone\n".as_slice());
+    assert_eq!(rt; outcome, Ok(false));
+    Ok(())
+}
+
+#[test]
+fn more_answers_than_are_gathered(rt: HostRuntime) -> Result<(), Fail> {
+    let (mut input, mut wanted) = (Vec::new(rt.alloc()), Vec::new(rt.alloc()));
+    for _ in 0..2000 {
+        input.extend_from_slice(WWW.as_bytes())?;
+        input.push(b'\n')?;
+        wanted.extend_from_slice(WWW_REPLY.as_bytes())?;
+        wanted.push(b'\n')?;
+    }
+    let (output, outcome) = run(rt.alloc(), input.as_slice(), 1_000_000, 1000, 1000)?;
+    assert_eq!(rt; outcome, Ok(true));
+    assert!(rt; output == wanted);
+    Ok(())
+}
+
+#[test]
+fn a_failing_device_stops_the_run_after_a_beginning(rt: HostRuntime) -> Result<(), Fail> {
+    let (input, wanted) = (b"\n00\n\n", b"none\nnone\nnone\n".as_slice());
+    for reads in 0..5 {
+        let (output, outcome) = run(rt.alloc(), input, 1, reads, 1000)?;
+        assert_eq!(rt; outcome, Err(Stop::Source));
+        let due = [0, 1, 1, 1, 2];
+        assert_eq!(rt;
+            output.len(),
+            5 * due[reads as usize],
+            "after {reads} reads"
+        );
+        assert!(rt; wanted.starts_with(output.as_slice()));
+    }
+    for writes in 0..15 {
+        let (output, outcome) = run(rt.alloc(), input, 1, 1000, writes)?;
+        assert_eq!(rt; outcome, Err(Stop::Sink));
+        assert_eq!(rt; output.len(), writes as usize);
+        assert!(rt; wanted.starts_with(output.as_slice()));
+    }
+    let (_, outcome) = run(rt.alloc(), input, 1, 6, 15)?;
+    assert_eq!(rt; outcome, Ok(true));
+    Ok(())
+}
