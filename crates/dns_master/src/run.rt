@@ -1,9 +1,9 @@
 //! Runs of octets: how far a word, a string, a blank or a comment goes (RFC 1035 5.1).
 ghost use Rattle.std.specs.Prelude.{◌≡◌, ◌==◌, ◌≤◌, not, length, drop};
-ghost use Rattle.std.specs.List.{prefix_len};
+ghost use Rattle.std.specs.List.{prefix_len, position};
 ghost use Rattle.dns_spec.specs.ZoneText.{is_blank, is_word_octet, is_string_octet, run_length};
 ghost use Rattle.dns_spec.proofs.NameTexts.Escapes.{counted_digits, counted_escape};
-ghost use Rattle.dns_master.specs.TokenForm.{by_itself};
+ghost use Rattle.dns_master.specs.TokenForm.{by_itself, plain_length};
 
 /// What a run is made of, beside escapes.
 #[derive(Clone, Copy, Debug, PartialEq, Eq)]
@@ -15,48 +15,62 @@ pub(crate) enum Run {
 }
 
 impl Run {
-    // Whether the octet stands in such a run by itself.
-    fn has(self, octet: u8) -> bool
-        ensures { result ≡ by_itself self octet }
-    {
-        match self {
-            Run::Word => is_word_octet(octet),
-            Run::String => is_string_octet(octet),
-        }
-    }
-
     /// How many octets the run has that a text begins with, escapes counted with all of their
     /// octets.
     pub(crate) fn length(self, text: &[u8]) -> usize
         ensures value { result ≡ run_length (by_itself self) 0 text.now }
         ensures bound { result ≤ length text.now }
     {
-        let mut length = 0;
-        let mut rest = text;
-        'run: while let Some((first, others)) = rest.split_first() {
-            if *first == b'\\' {
-                let escape = escape_length(others);
-                if escape == 0 {
-                    break;
-                }
-                length += 1 + escape;
-                rest = others.split_at(escape).1;
-            } else {
-                if !self.has(*first) {
-                    break;
-                }
-                length += 1;
-                rest = others;
+        let mut length = self.plain_length(text);
+        let (_, mut rest) = text.split_at(length);
+        'escapes: while let Some((first, others)) = rest.split_first() {
+            if *first != b'\\' {
+                break;
             }
+            let escape = escape_length(others);
+            if escape == 0 {
+                break;
+            }
+            let (_, after) = others.split_at(escape);
+            let plain = self.plain_length(after);
+            length += 1 + escape + plain;
+            rest = after.split_at(plain).1;
         }
         length
+    }
+
+    // How many octets stand in the run by themselves before the first one that does not.
+    fn plain_length(self, text: &[u8]) -> usize
+        ensures value { result ≡ plain_length (by_itself self) text.now }
+        ensures bound { result ≤ length text.now }
+    {
+        match self.plain_end(text) {
+            Some(place) => place,
+            None => text.len(),
+        }
+    }
+
+    // Where the first octet stands that is not in the run by itself.
+    fn plain_end(self, text: &[u8]) -> Option<usize>
+        ensures { result ≡ position (λ o. not (by_itself self o)) text.now }
+    {
+        match self {
+            Run::Word => text.iter().position(|octet| !is_word_octet(*octet)),
+            Run::String => text.iter().position(|octet| !is_string_octet(*octet)),
+        }
     }
 }
 
 fn is_word_octet(octet: u8) -> bool
     ensures { result ≡ is_word_octet octet }
 {
-    octet.is_ascii_graphic() && !matches!(octet, b'"' | b'(' | b')' | b';' | b'\\')
+    if octet > b'\\' {
+        return octet <= b'~';
+    }
+    if octet > b')' {
+        return octet != b';' && octet != b'\\';
+    }
+    octet == b'!' || octet >= b'#' && octet <= b'\''
 }
 
 fn is_string_octet(octet: u8) -> bool
@@ -124,12 +138,15 @@ pub(crate) fn is_blank(octet: u8) -> bool
 pub(crate) fn after_comment(text: &[u8]) -> &[u8]
     ensures { result.now ≡ drop (prefix_len (λ x. not (x == 10)) text.now) text.now }
 {
-    let mut rest = text;
-    'octets: while let Some((first, others)) = rest.split_first() {
-        if *first == b'\n' {
-            break;
-        }
-        rest = others;
+    match line_feed_place(text) {
+        Some(place) => text.split_at(place).1,
+        None => &[],
     }
-    rest
+}
+
+// Where the first LF stands.
+fn line_feed_place(text: &[u8]) -> Option<usize>
+    ensures { result ≡ position (λ x. x == 10) text.now }
+{
+    text.iter().position(|octet| *octet == b'\n')
 }
