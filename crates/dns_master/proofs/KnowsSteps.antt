@@ -1,28 +1,19 @@
 -- What an entry changes of what is known of the entries so far.
-use Rattle.std.proofs.Common.{◌≡◌, ℕ, zero, suc, ◌+◌, ◌≤◌, Bool, true, false, cond, List, [], ◌∷◌, ◌++◌, length, length-append, append-nil, refl, sym, ap, ◌∙◌, subst, arith, inl, inr, ◌⊎◌, codes, Option, Some, None}
+use Rattle.std.proofs.Common.{◌≡◌, ℕ, zero, suc, ◌+◌, ◌≤◌, Bool, true, false, cond, List, [], ◌∷◌, ◌++◌, length, refl, sym, ap, ◌∙◌, subst, arith, inl, inr, ◌⊎◌, codes, Option, Some, None}
 use Rattle.std.specs.Prelude.{MatchOption}
-use Rattle.std.specs.Option.{option_or, option_map}
-use Rattle.std.specs.List.{filter, slice_get}
+use Rattle.std.specs.Option.{option_or}
+use Rattle.std.specs.List.{filter}
 use Rattle.dns_spec.specs.Names.{DomainName, folded}
 use Rattle.dns_spec.specs.NameText.{SpellsName}
 use Rattle.dns_spec.specs.DataText.{Word}
+use Rattle.dns_spec.specs.TypeText.{text_in_lower_case}
 use Rattle.dns_spec.specs.Records.{ResourceRecord}
 use Rattle.dns_spec.specs.ZoneText.{Entry}
 use Rattle.dns_spec.specs.FileFaults.{directive_words, no_owner, FileFault, bad_owner}
 use Rattle.dns_spec.specs.Meaning.{Nothing, EntryKind, no_words, directive, owned, unowned, kind_of, kind_by_words, is_directive, Fields, fields, EntryMeaning, faulty, gives, OriginIs, NameIs, OneWord, OwnerBefore, TtlSays, nearest, directive_word, owner_word, ttl_word, is_record, IsRecord, RecordGives, KindGives}
 use Rattle.dns_master.specs.RecordForm.{TtlOf, Inherited, LastOwner, SpelledName}
-use Rattle.dns_master.specs.ReaderForm.{last_owner, Knows, RecordTaken, EntryTaken}
+use Rattle.dns_master.specs.ReaderForm.{Knows, RecordTaken, EntryTaken, owner_of, handed}
 use Rattle.dns_master.specs.declared.state.Reader.{Reader}
-
--- the record that was added is the last
-slice_get-last : (rs : List ResourceRecord) (r : ResourceRecord) (n : ℕ) → n ≡ length rs → slice_get (rs ++ r ∷ []) n ≡ Some r
-slice_get-last [] r zero e = refl
-slice_get-last [] r (suc n) e = absurd (omega (arith, e))
-slice_get-last (x ∷ rs) r zero e = absurd (omega (arith, e))
-slice_get-last (x ∷ rs) r (suc n) e = slice_get-last rs r n (omega (arith, e))
-
-last_owner-push : (rs : List ResourceRecord) (r : ResourceRecord) → last_owner (rs ++ r ∷ []) ≡ Some r.owner
-last_owner-push rs r = ap (option_map (λ (r : ResourceRecord). r.owner)) (slice_get-last rs r _ (omega (arith, length-append rs (r ∷ []))))
 
 otherwise : {F N X Y : Type 0} → (X → Y) → F ⊎ (N × X) → F ⊎ (N × Y)
 otherwise f (inl h) = inl h
@@ -93,72 +84,60 @@ module _ (o : DomainName) (earlier : List Entry) where
 
   module _ (e : Entry) (old new : Reader) (known : Knows o earlier old) where
     -- an entry without words
-    pub nothing-taken : kind_of e ≡ no_words → EntryTaken o earlier e old old
+    pub nothing-taken : kind_of e ≡ no_words → EntryTaken o earlier e [] old old
     nothing-taken is =
         record {
-          taken = [];
           given = subst (λ s. KindGives o earlier s (gives [])) (sym is) refl;
           known = known-of_kind e no_words _ _ _ _ _ is
               (record { origin_is = known.origin_is; no_other = known.no_other; owner_is = known.owner_is; default_is = known.default_is; stated_is = known.stated_is; count_is = known.count_is });
-          records = sym (append-nil old.records.items);
         }
-
-    -- the owner of the last record is that of the record that was taken
-    owner_taken : (owner : DomainName) (f : Fields) (t : RecordTaken o earlier owner f old new) → last_owner new.records.items ≡ Some owner
-    owner_taken owner f t = ap last_owner t.records ∙ last_owner-push old.records.items t.taken ∙ ap Some t.owner_is
 
     -- what after a record is known, where its owner is the one of its kind
     record_after : (s : EntryKind) (owner : DomainName) (f : Fields) → directive_word (codes "$origin") s ≡ None → directive_word (codes "$ttl") s ≡ None → ttl_word s ≡ f.ttl
         → counts_as_record s ≡ true → (n : DomainName) → OwnerAt s n → owner ≡ folded n → (t : RecordTaken o earlier owner f old new)
-        → After s new.origin (last_owner new.records.items) new.default_ttl new.stated_ttl (length new.records.items)
+        → After s new.origin (owner_of new.last) new.default_ttl new.stated_ttl new.count
     record_after s owner f no_origin no_ttl ttl counts n is low t =
         record {
           origin_is = rw no_origin (rw t.origin_is known.origin_is);
           no_other = rw no_origin (λ m h. known.no_other m h ∙ sym t.origin_is);
-          owner_is = subst (λ x. MatchOption x (Nothing (OwnerAt s)) (λ f. (n : DomainName) × OwnerAt s n × (f ≡ folded n))) (sym (owner_taken owner f t)) (n, is, low);
+          owner_is = subst (λ x. MatchOption x (Nothing (OwnerAt s)) (λ f. (n : DomainName) × OwnerAt s n × (f ≡ folded n))) (sym (ap owner_of t.last_is ∙ ap Some t.owner_is)) (n, is, low);
           default_is = rw no_ttl (rw t.default_is known.default_is);
           stated_is = rw ttl (t.stated_is _ known.stated_is);
-          count_is = rw counts (ap length t.records ∙ length-append old.records.items (t.taken ∷ []) ∙ ap (λ k. k + 1) known.count_is);
+          count_is = rw counts (t.count_is ∙ ap (λ k. k + 1) known.count_is);
         }
 
     pub owned-taken : (w : Word) (ws : List Word) (n owner : DomainName) → kind_of e ≡ owned w ws → NameIs o earlier w n → owner ≡ folded n → folded owner ≡ owner
-        → RecordTaken o earlier owner (fields ws) old new → EntryTaken o earlier e old new
+        → RecordTaken o earlier owner (fields ws) old new → EntryTaken o earlier e (handed true new.last) old new
     owned-taken w ws n owner is named low twice t =
         record {
-          taken = t.taken ∷ [];
-          given = subst (λ s. KindGives o earlier s (gives (t.taken ∷ []))) (sym is)
-              (given-owner o earlier (NameIs o earlier w) (fields ws) n owner named low twice bad_owner (gives (t.taken ∷ [])) t.given);
+          given = subst (λ x. KindGives o earlier (kind_of e) (gives (handed true x))) (sym t.last_is)
+              (subst (λ s. KindGives o earlier s (gives (t.taken ∷ []))) (sym is)
+              (given-owner o earlier (NameIs o earlier w) (fields ws) n owner named low twice bad_owner (gives (t.taken ∷ [])) t.given));
           known = known-of_kind e (owned w ws) _ _ _ _ _ is (record_after (owned w ws) owner (fields ws) refl refl refl refl n named low t);
-          records = t.records;
         }
 
     pub unowned-taken : (ws : List Word) (n owner : DomainName) → kind_of e ≡ unowned ws → OwnerBefore o earlier n → owner ≡ folded n → folded owner ≡ owner
-        → RecordTaken o earlier owner (fields ws) old new → EntryTaken o earlier e old new
+        → RecordTaken o earlier owner (fields ws) old new → EntryTaken o earlier e (handed true new.last) old new
     unowned-taken ws n owner is named low twice t =
         record {
-          taken = t.taken ∷ [];
-          given = subst (λ s. KindGives o earlier s (gives (t.taken ∷ []))) (sym is)
-              (given-owner o earlier (OwnerBefore o earlier) (fields ws) n owner named low twice no_owner (gives (t.taken ∷ [])) t.given);
+          given = subst (λ x. KindGives o earlier (kind_of e) (gives (handed true x))) (sym t.last_is)
+              (subst (λ s. KindGives o earlier s (gives (t.taken ∷ []))) (sym is)
+              (given-owner o earlier (OwnerBefore o earlier) (fields ws) n owner named low twice no_owner (gives (t.taken ∷ [])) t.given));
           known = known-of_kind e (unowned ws) _ _ _ _ _ is (record_after (unowned ws) owner (fields ws) refl refl refl refl n named low t);
-          records = t.records;
         }
 
   -- `$ORIGIN`
   module _ (e : Entry) (old new : Reader) (known : Knows o earlier old) (stated_kept : new.stated_ttl ≡ old.stated_ttl)
-      (records_kept : new.records.items ≡ old.records.items) where
-    nothing_new : new.records.items ≡ old.records.items ++ []
-    nothing_new = records_kept ∙ sym (append-nil old.records.items)
-
-    owner_kept : LastOwner o earlier (last_owner new.records.items)
-    owner_kept = subst (LastOwner o earlier) (sym (ap last_owner records_kept)) known.owner_is
+      (same_last : new.last ≡ old.last) (same_count : new.count ≡ old.count) where
+    owner_kept : LastOwner o earlier (owner_of new.last)
+    owner_kept = subst (λ x. LastOwner o earlier (owner_of x)) (sym same_last) known.owner_is
 
     pub origin-taken : (ws : List Word) → kind_of e ≡ directive (codes "$origin") ws → OneWord (λ w. SpelledName old.origin w new.origin) ws
-        → ((n : DomainName) → OneWord (λ w. SpelledName old.origin w n) ws → n ≡ new.origin) → new.default_ttl ≡ old.default_ttl → EntryTaken o earlier e old new
+        → ((n : DomainName) → OneWord (λ w. SpelledName old.origin w n) ws → n ≡ new.origin) → new.default_ttl ≡ old.default_ttl → EntryTaken o earlier e [] old new
     origin-taken [] is one only default_kept = absurd one
     origin-taken (w ∷ v ∷ ws) is one only default_kept = absurd one
     origin-taken (w ∷ []) is one only default_kept =
         record {
-          taken = [];
           given = subst (λ s. KindGives o earlier s (gives [])) (sym is)
               (inr ((λ none. none new.origin (one.0, (old.origin, known.origin_is, one.1))), refl));
           known = known-of_kind e (directive (codes "$origin") (w ∷ [])) _ _ _ _ _ is
@@ -168,19 +147,17 @@ module _ (o : DomainName) (earlier : List Entry) where
                 owner_is = owner_kept;
                 default_is = rw default_kept known.default_is;
                 stated_is = rw stated_kept known.stated_is;
-                count_is = ap length records_kept ∙ known.count_is;
+                count_is = same_count ∙ known.count_is;
               });
-          records = nothing_new;
         }
 
     -- `$TTL`
     pub default-taken : (ws : List Word) (n : ℕ) → kind_of e ≡ directive (codes "$ttl") ws → OneWord (λ w. TtlSays w n) ws → new.default_ttl ≡ Some n
-        → new.origin ≡ old.origin → EntryTaken o earlier e old new
+        → new.origin ≡ old.origin → EntryTaken o earlier e [] old new
     default-taken [] n is one default_is origin_kept = absurd one
     default-taken (w ∷ v ∷ ws) n is one default_is origin_kept = absurd one
     default-taken (w ∷ []) n is one default_is origin_kept =
         record {
-          taken = [];
           given = subst (λ s. KindGives o earlier s (gives [])) (sym is) (inr ((λ none. none n one), refl));
           known = known-of_kind e (directive (codes "$ttl") (w ∷ [])) _ _ _ _ _ is
               (record {
@@ -189,9 +166,8 @@ module _ (o : DomainName) (earlier : List Entry) where
                 owner_is = owner_kept;
                 default_is = (n, default_is, one);
                 stated_is = rw stated_kept known.stated_is;
-                count_is = ap length records_kept ∙ known.count_is;
+                count_is = same_count ∙ known.count_is;
               });
-          records = nothing_new;
         }
 
   -- the words of `$ORIGIN` are none
@@ -214,3 +190,7 @@ kind-unowned blank ws w others b e = rw e (rw b refl)
 pub kind-owned : (blank : Bool) (ws : List Word) (w : Word) (others : List Word) → blank ≡ false → is_directive w ≡ false → ws ≡ w ∷ others
     → kind_by_words blank ws ≡ owned w others
 kind-owned blank ws w others b d e = rw e (rw b (rw d refl))
+
+pub kind-directive : (blank : Bool) (ws : List Word) (w : Word) (others : List Word) → blank ≡ false → is_directive w ≡ true → ws ≡ w ∷ others
+    → kind_by_words blank ws ≡ directive (text_in_lower_case w.raw) others
+kind-directive blank ws w others b d e = rw e (rw b (rw d refl))

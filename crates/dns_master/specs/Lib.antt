@@ -4,4 +4,5 @@ pub mod EntryForm
 pub mod Steps
 pub mod RecordForm
 pub mod ReaderForm
+pub mod RecordsForm
 pub mod SourceForm

@@ -54,6 +54,32 @@ impl ReadCode {
     }
 }
 
+impl From<AllocError> for ReadFault {
+    ghost use Rattle.dns_master.specs.declared.fault.ReadCode.{ReadCode};
+
+    ghost from_gives = { λ _ f. (f.code ≡ ReadCode.NoMemory) × (f.line ≡ 0) };
+
+    fn from(_refused: AllocError) -> ReadFault {
+        ReadFault {
+            code: ReadCode::NoMemory,
+            line: 0,
+        }
+    }
+}
+
+impl<T: Drop> From<AllocFailed<T>> for ReadFault {
+    ghost use Rattle.dns_master.specs.declared.fault.ReadCode.{ReadCode};
+
+    ghost from_gives = { λ _ f. (f.code ≡ ReadCode.NoMemory) × (f.line ≡ 0) };
+
+    fn from(_refused: AllocFailed<T>) -> ReadFault {
+        ReadFault {
+            code: ReadCode::NoMemory,
+            line: 0,
+        }
+    }
+}
+
 impl From<AllocError> for ReadCode {
     ghost use Rattle.dns_master.specs.declared.fault.ReadCode.{ReadCode};
 

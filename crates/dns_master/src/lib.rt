@@ -10,9 +10,11 @@ mod record;
 mod run;
 mod source;
 mod state;
+mod stream;
 mod token;
 mod words;
 
 pub use fault::{ReadCode, ReadFault};
 pub use reader::{MOST_RECORDS, read_zone};
 pub use record::Record;
+pub use state::Records;

@@ -1,5 +1,5 @@
 //! The reader of zone files (RFC 1035 section 5).
-ghost use Rattle.std.specs.Prelude.{◌≡◌, ◌≢◌, ◌+◌, ◌-◌, ◌^◌, ◌≤◌, ◌<◌, ◌⊎◌, length, List, [], ◌∷◌, ◌++◌, IfOk, IfErr, OnOk, IfSome, Some, codes, if◌then◌else◌};
+ghost use Rattle.std.specs.Prelude.{◌≡◌, ◌≢◌, ◌+◌, ◌-◌, ◌^◌, ◌≤◌, ◌<◌, ◌⊎◌, length, List, [], ◌∷◌, ◌++◌, IfOk, IfErr, OnOk, IfSome, IsSome, IsTrue, Some, true, codes, if◌then◌else◌};
 ghost use Rattle.std.specs.Option.{option_or};
 ghost use Rattle.dns_spec.specs.Names.{DomainName, folded};
 ghost use Rattle.dns_spec.specs.Data.{Valid, lower_case};
@@ -11,15 +11,16 @@ ghost use Rattle.dns_spec.specs.Meaning.{Nothing, TtlSays, gives, faulty, direct
 ghost use Rattle.dns_master.specs.Codes.{fault_of, failures_after_read};
 ghost use Rattle.dns_master.specs.EntryForm.{TextMeans};
 ghost use Rattle.dns_master.specs.SourceForm.{GivesMeaning};
-ghost use Rattle.dns_master.specs.ReaderForm.{Knows, RecordTaken, EntryTaken, EntryDone};
+ghost use Rattle.dns_master.specs.ReaderForm.{Knows, RecordTaken, EntryTaken, EntryDone, handed};
+ghost use Rattle.dns_master.specs.RecordsForm.{StillGives, came, given_so_far};
 
 use crate::directive::{is_directive, read_default_ttl, read_origin};
 use crate::entry::{begins_blank, check_end, read_entry};
 use crate::fault::{ReadCode, ReadFault};
 use crate::fields::{Fields, is_other_class, stated_ttl, type_and_words};
 use crate::record::Record;
-use crate::source::{MOST_OCTETS, read_text};
-use crate::state::Reader;
+use crate::source::read_text;
+use crate::state::{Reader, Records};
 use crate::words::{is_word, read_name};
 use dns_name::{Name, Tally};
 use dns_rdata::{RType, Rdata, Word};
@@ -58,60 +59,44 @@ pub fn read_zone<R: Read>(
         Ok(text) => text,
         Err(code) => return Err(ReadFault { code, line: 0 }),
     };
-    let goes_on = text.len() > MOST_OCTETS;
-    let (text, _) = text.as_slice().split_at(MOST_OCTETS.min(text.len()));
-    read_entries(alloc, origin, text, goes_on)
+    let mut records = Records::new(alloc, origin, text.as_slice());
+    gather(alloc, &mut records)
 }
 
-// The records of a text, which goes on past its limit or not.
-fn read_entries(
-    alloc: Global,
-    origin: &Name,
-    text: &[u8],
-    goes_on: bool,
-) -> Result<Vec<Record>, ReadFault>
-    requires { length text.now ≤ 16777216 }
-    ensures ok { IfOk result (λ found. TextMeans origin.now [] goes_on text.now
-        (records found.items)) }
+// All records that are still to come.
+fn gather(alloc: Global, entries: &mut Records<'_>) -> Result<Vec<Record>, ReadFault>
+    requires { given_so_far entries.old ≡ 0 }
+    ensures ok { IfOk result (λ found. StillGives entries.old (records found.items)) }
     ensures few { IfOk result (λ found. length found.items ≤ most_records) }
     ensures err { IfErr result (λ f. f.code ≢ ReadCode.NoMemory
-        → TextMeans origin.now [] goes_on text.now (fault_at (fault_of f.code) f.line)) }
+        → StillGives entries.old (fault_at (fault_of f.code) f.line)) }
     ensures source { IfErr result (λ f. f.code ≢ ReadCode.SourceFailed) }
     ensures memory { IfErr result (λ f. f.code ≡ ReadCode.NoMemory → f.line ≡ 0) }
 {
-    let mut reader = Reader::new(alloc, origin);
-    let mut words = Vec::new(alloc);
-    let mut rest = text;
-    'entries: while !rest.is_empty() {
-        let line = reader.line;
-        match reader.take_entry(rest, goes_on, &mut words) {
-            Ok(others) => rest = others,
-            Err(code) => return Err(entry_fault(code, line)),
-        }
+    let mut found = Vec::new(alloc);
+    'records: while entries.advance()? {
+        push_last(alloc, &mut found, entries)?;
     }
-    if goes_on {
-        return Err(entry_fault(ReadCode::TooLong, reader.line));
-    }
-    Ok(reader.records)
+    Ok(found)
 }
 
-// The fault of an entry that begins on this line.
-fn entry_fault(code: ReadCode, line: u32) -> ReadFault
-    ensures code { result.code ≡ code }
-    ensures line { code ≢ ReadCode.NoMemory → result.line ≡ line }
-    ensures memory { code ≡ ReadCode.NoMemory → result.line ≡ 0 }
+// Adds a copy of the record that was gone on to last.
+fn push_last(alloc: Global, found: &mut Vec<Record>, entries: &Records<'_>) -> Result<(), ReadFault>
+    ensures ok { OnOk result (found.new.items ≡ found.old.items ++ came true entries.now) }
+    ensures err { IfErr result (λ f. (f.code ≡ ReadCode.NoMemory) × (f.line ≡ 0)) }
 {
-    match code {
-        ReadCode::NoMemory => ReadFault { code, line: 0 },
-        _ => ReadFault { code, line },
+    if let Some(last) = entries.record() {
+        let copy = last.copied(alloc)?;
+        found.push(copy)?;
     }
+    Ok(())
 }
 
 impl Reader {
-    fn new(alloc: Global, origin: &Name) -> Reader
+    pub(crate) fn new(alloc: Global, origin: &Name) -> Reader
         ensures known { Knows origin.now [] result }
         ensures line { result.line ≡ 1 }
-        ensures records { result.records.items ≡ [] }
+        ensures none { result.count ≡ 0 }
     {
         Reader {
             alloc,
@@ -119,25 +104,31 @@ impl Reader {
             default_ttl: None,
             stated_ttl: None,
             line: 1,
-            records: Vec::new(alloc),
+            last: None,
+            count: 0,
         }
     }
 
-    // Takes the entry that a text begins with, and gives the text after it.
-    fn take_entry<'a>(
+    /// Takes the entry that a text begins with: gives whether it is a record, which is the last one
+    /// then, and the text after it.
+    pub(crate) fn take_entry<'a>(
         &mut self,
         text: &'a [u8],
         goes_on: bool,
         words: &mut Vec<Word<'a>>,
-    ) -> Result<&'a [u8], ReadCode>
+    ) -> Result<(bool, &'a [u8]), ReadCode>
         requires some { text.now ≢ [] }
         requires fits { self.old.line + length text.now ≤ 16777217 }
-        ensures ok { IfOk result (λ rest. (o : DomainName) (earlier : List Entry)
+        ensures ok { IfOk result (λ x. (o : DomainName) (earlier : List Entry)
             → Knows o earlier self.old → self.old.line ≡ line_after earlier
-            → EntryDone o earlier goes_on text.now rest.now self.old self.new) }
-        ensures shorter { IfOk result (λ rest. length rest.now < length text.now) }
-        ensures lines { IfOk result (λ rest. self.new.line + length rest.now
+            → EntryDone o earlier goes_on text.now x.1.now (handed x.0 self.new.last) self.old self.new) }
+        ensures counted { IfOk result (λ x.
+            self.new.count ≡ self.old.count + length (handed x.0 self.new.last)) }
+        ensures some { IfOk result (λ x. IsTrue x.0 → IsSome self.new.last) }
+        ensures shorter { IfOk result (λ x. length x.1.now < length text.now) }
+        ensures lines { IfOk result (λ x. self.new.line + length x.1.now
             ≤ self.old.line + length text.now) }
+        ensures stays { IfErr result (λ _. self.new.line ≡ self.old.line) }
         ensures err { IfErr result (λ code. code ≢ ReadCode.NoMemory
             → (o : DomainName) (earlier : List Entry) → Knows o earlier self.old
             → TextMeans o earlier goes_on text.now
@@ -147,32 +138,38 @@ impl Reader {
         words.clear();
         let end = read_entry(text, words)?;
         check_end(&end, goes_on)?;
-        self.take_words(begins_blank(text), words.as_slice())?;
+        let taken = self.take_words(begins_blank(text), words.as_slice())?;
         self.line += end.lines;
-        Ok(end.rest)
+        Ok((taken, end.rest))
     }
 
     // Takes what the words of an entry say.
-    fn take_words(&mut self, is_blank_led: bool, words: &[Word<'_>]) -> Result<(), ReadCode>
-        ensures ok { OnOk result ((o : DomainName) (earlier : List Entry) (e : Entry)
+    fn take_words(&mut self, is_blank_led: bool, words: &[Word<'_>]) -> Result<bool, ReadCode>
+        ensures ok { IfOk result (λ taken. (o : DomainName) (earlier : List Entry) (e : Entry)
             → Knows o earlier self.old → kind_of e ≡ kind_by_words is_blank_led words.now
-            → EntryTaken o earlier e self.old self.new) }
-        ensures line { OnOk result (self.new.line ≡ self.old.line) }
+            → EntryTaken o earlier e (handed taken self.new.last) self.old self.new) }
+        ensures counted { IfOk result (λ taken.
+            self.new.count ≡ self.old.count + length (handed taken self.new.last)) }
+        ensures some { IfOk result (λ taken. IsTrue taken → IsSome self.new.last) }
+        ensures line { self.new.line ≡ self.old.line }
         ensures err { IfErr result (λ code. code ≢ ReadCode.NoMemory
             → (o : DomainName) (earlier : List Entry) → Knows o earlier self.old
             → KindGives o earlier (kind_by_words is_blank_led words.now) (faulty (fault_of code))) }
         ensures source { IfErr result (λ code. code ≢ ReadCode.SourceFailed) }
     {
         let Some((first, others)) = words.split_first() else {
-            return Ok(());
+            return Ok(false);
         };
         if is_blank_led {
-            return self.take_unowned(words);
+            self.take_unowned(words)?;
+            return Ok(true);
         }
         if is_directive(first) {
-            return self.take_directive(first.raw, others);
+            self.take_directive(first.raw, others)?;
+            return Ok(false);
         }
-        self.take_owned(first, others)
+        self.take_owned(first, others)?;
+        Ok(true)
     }
 
     // Takes a directive: its name, and the words after it.
@@ -180,8 +177,9 @@ impl Reader {
         ensures ok { OnOk result ((o : DomainName) (earlier : List Entry) (e : Entry)
             → Knows o earlier self.old → kind_of e
             ≡ directive (text_in_lower_case name.now) words.now
-            → EntryTaken o earlier e self.old self.new) }
-        ensures line { OnOk result (self.new.line ≡ self.old.line) }
+            → EntryTaken o earlier e [] self.old self.new) }
+        ensures counted { self.new.count ≡ self.old.count }
+        ensures line { self.new.line ≡ self.old.line }
         ensures err { IfErr result (λ code. code ≢ ReadCode.NoMemory
             → (o : DomainName) (earlier : List Entry) → Knows o earlier self.old
             → KindGives o earlier (directive (text_in_lower_case name.now) words.now)
@@ -201,8 +199,9 @@ impl Reader {
     fn take_origin(&mut self, words: &[Word<'_>]) -> Result<(), ReadCode>
         ensures ok { OnOk result ((o : DomainName) (earlier : List Entry) (e : Entry)
             → Knows o earlier self.old → kind_of e ≡ directive (codes "$origin") words.now
-            → EntryTaken o earlier e self.old self.new) }
-        ensures line { OnOk result (self.new.line ≡ self.old.line) }
+            → EntryTaken o earlier e [] self.old self.new) }
+        ensures counted { self.new.count ≡ self.old.count }
+        ensures line { self.new.line ≡ self.old.line }
         ensures err { IfErr result (λ code. (o : DomainName) (earlier : List Entry)
             → Knows o earlier self.old
             → KindGives o earlier (directive (codes "$origin") words.now)
@@ -220,8 +219,9 @@ impl Reader {
     fn take_default_ttl(&mut self, words: &[Word<'_>]) -> Result<(), ReadCode>
         ensures ok { OnOk result ((o : DomainName) (earlier : List Entry) (e : Entry)
             → Knows o earlier self.old → kind_of e ≡ directive (codes "$ttl") words.now
-            → EntryTaken o earlier e self.old self.new) }
-        ensures line { OnOk result (self.new.line ≡ self.old.line) }
+            → EntryTaken o earlier e [] self.old self.new) }
+        ensures counted { self.new.count ≡ self.old.count }
+        ensures line { self.new.line ≡ self.old.line }
         ensures err { IfErr result (λ code. (o : DomainName) (earlier : List Entry)
             → Knows o earlier self.old
             → KindGives o earlier (directive (codes "$ttl") words.now) (faulty (fault_of code))) }
@@ -238,8 +238,11 @@ impl Reader {
     fn take_owned(&mut self, owner: &Word<'_>, words: &[Word<'_>]) -> Result<(), ReadCode>
         ensures ok { OnOk result ((o : DomainName) (earlier : List Entry) (e : Entry)
             → Knows o earlier self.old → kind_of e ≡ owned owner.now words.now
-            → EntryTaken o earlier e self.old self.new) }
-        ensures line { OnOk result (self.new.line ≡ self.old.line) }
+            → EntryTaken o earlier e (handed true self.new.last) self.old self.new) }
+        ensures counted { OnOk result (self.new.count
+            ≡ self.old.count + length (handed true self.new.last)) }
+        ensures some { OnOk result (IsSome self.new.last) }
+        ensures line { self.new.line ≡ self.old.line }
         ensures err { IfErr result (λ code. code ≢ ReadCode.NoMemory
             → (o : DomainName) (earlier : List Entry) → Knows o earlier self.old
             → KindGives o earlier (owned owner.now words.now) (faulty (fault_of code))) }
@@ -256,14 +259,17 @@ impl Reader {
     fn take_unowned(&mut self, words: &[Word<'_>]) -> Result<(), ReadCode>
         ensures ok { OnOk result ((o : DomainName) (earlier : List Entry) (e : Entry)
             → Knows o earlier self.old → kind_of e ≡ unowned words.now
-            → EntryTaken o earlier e self.old self.new) }
-        ensures line { OnOk result (self.new.line ≡ self.old.line) }
+            → EntryTaken o earlier e (handed true self.new.last) self.old self.new) }
+        ensures counted { OnOk result (self.new.count
+            ≡ self.old.count + length (handed true self.new.last)) }
+        ensures some { OnOk result (IsSome self.new.last) }
+        ensures line { self.new.line ≡ self.old.line }
         ensures err { IfErr result (λ code. code ≢ ReadCode.NoMemory
             → (o : DomainName) (earlier : List Entry) → Knows o earlier self.old
             → KindGives o earlier (unowned words.now) (faulty (fault_of code))) }
         ensures source { IfErr result (λ code. code ≢ ReadCode.SourceFailed) }
     {
-        let Some(last) = self.records.last() else {
+        let Some(last) = &self.last else {
             return Err(ReadCode::NoOwner);
         };
         let owner = last.owner.copied();
@@ -276,7 +282,10 @@ impl Reader {
         ensures ok { OnOk result ((o : DomainName) (earlier : List Entry)
             → Knows o earlier self.old → RecordTaken o earlier owner
             (fields words.now) self.old self.new) }
-        ensures line { OnOk result (self.new.line ≡ self.old.line) }
+        ensures counted { OnOk result (self.new.count
+            ≡ self.old.count + length (handed true self.new.last)) }
+        ensures some { OnOk result (IsSome self.new.last) }
+        ensures line { self.new.line ≡ self.old.line }
         ensures err { IfErr result (λ code. code ≢ ReadCode.NoMemory
             → (o : DomainName) (earlier : List Entry) → Knows o earlier self.old
             → RecordGives o earlier no_owner (λ n. n ≡ owner) (fields words.now)
@@ -286,7 +295,9 @@ impl Reader {
         let fields = Fields::of(words);
         let record = self.read_record(owner, &fields)?;
         self.stated_ttl = last_stated(fields.ttl.is_some(), record.ttl, self.stated_ttl);
-        push_record(&mut self.records, record)
+        self.last = Some(record);
+        self.count += 1;
+        Ok(())
     }
 
     // The record of an owner and of the fields after it.
@@ -295,12 +306,13 @@ impl Reader {
         ensures ok { IfOk result (λ r. (o : DomainName) (earlier : List Entry)
             → Knows o earlier self.now → RecordGives o earlier no_owner
             (λ n. n ≡ owner) fields.now (gives (r ∷ []))) }
-        ensures few { IfOk result (λ r. length self.now.records.items < most_records) }
         ensures owner { IfOk result (λ r. r.owner ≡ owner) }
+        ensures few { IfOk result (λ r. self.now.count < most_records) }
         ensures ttl { IfOk result (λ r. IfSome fields.now.ttl (λ w. TtlSays w r.ttl)) }
         ensures err { IfErr result (λ code. code ≢ ReadCode.NoMemory
             → (o : DomainName) (earlier : List Entry) → Knows o earlier self.now
-            → RecordGives o earlier no_owner (λ n. n ≡ owner) fields.now (faulty (fault_of code))) }
+            → RecordGives o earlier no_owner (λ n. n ≡ owner) fields.now
+            (faulty (fault_of code))) }
         ensures source { IfErr result (λ code. code ≢ ReadCode.SourceFailed) }
     {
         let Ok(stated) = stated_ttl(fields.ttl) else {
@@ -316,7 +328,7 @@ impl Reader {
             return Err(ReadCode::NoTtl);
         };
         let rdata = self.read_data(rtype, words)?;
-        if self.records.len() >= MOST_RECORDS {
+        if self.count >= MOST_RECORDS {
             return Err(ReadCode::TooManyRecords);
         }
         Ok(Record {
@@ -344,14 +356,6 @@ impl Reader {
     {
         Ok(Rdata::read_words(self.alloc, rtype, words, &self.origin)?)
     }
-}
-
-fn push_record(records: &mut Vec<Record>, last: Record) -> Result<(), ReadCode>
-    ensures ok { OnOk result (records.new.items ≡ records.old.items ++ last ∷ []) }
-    ensures bound { length records.new.items ≤ length records.old.items + 1 }
-    ensures err { IfErr result (λ code. code ≡ ReadCode.NoMemory) }
-{
-    Ok(records.push(last)?)
 }
 
 // The TTL that was stated last, after a record that states one or not.

@@ -1,6 +1,9 @@
 //! Records of a zone file.
+ghost use Rattle.std.specs.Prelude.{◌≡◌, IfOk};
+
 use dns_name::Name;
 use dns_rdata::{RType, Rdata};
+use std::alloc::{AllocError, Global};
 use std::marker::Model;
 
 /// A record of class IN (RFC 1035 3.2.1). Its owner and the names in its data are in lower case,
@@ -31,4 +34,18 @@ impl Model for Record {
     } };
 
     ghost invariant = { λ r. IsKept r.owner r.ttl r.rtype.0 r.rdata };
+}
+
+impl Record {
+    /// A second record with the same values. Memory is taken once, for the data.
+    pub fn copied(&self, alloc: Global) -> Result<Record, AllocError>
+        ensures { IfOk result (λ copy. copy ≡ self.now) }
+    {
+        Ok(Record {
+            owner: self.owner.copied(),
+            ttl: self.ttl,
+            rtype: self.rtype,
+            rdata: self.rdata.copied(alloc)?,
+        })
+    }
 }

@@ -1,13 +1,14 @@
 //! What the reader of zone files keeps from entry to entry.
-ghost use Rattle.std.specs.Prelude.{◌≤◌, length};
+ghost use Rattle.std.specs.Prelude.{◌+◌, ◌≤◌, length};
 ghost use Rattle.std.specs.Option.{ForSome};
 ghost use Rattle.dns_spec.specs.Meaning.{most_records};
 
 use crate::record::Record;
 use dns_name::Name;
+use dns_rdata::Word;
 use std::alloc::Global;
 
-/// What the entries so far give to those after them, and their records.
+/// What the entries so far give to those after them.
 #[derive(Drop)]
 pub(crate) struct Reader {
     pub(crate) alloc: Global,
@@ -19,9 +20,22 @@ pub(crate) struct Reader {
     pub(crate) stated_ttl: Option<u32>,
     /// The line on which the next entry begins, counted from 1.
     pub(crate) line: u32,
-    /// The records so far.
-    pub(crate) records: Vec<Record>,
+    /// The last record.
+    pub(crate) last: Option<Record>,
+    /// How many records there were so far.
+    pub(crate) count: usize,
     ghost default_short: { ForSome default_ttl (λ n. n ≤ 2147483647) },
     ghost stated_short: { ForSome stated_ttl (λ n. n ≤ 2147483647) },
-    ghost few: { length records.items ≤ most_records },
+    ghost few: { count ≤ most_records },
+}
+
+/// The records of the text of a zone file, one after another, up to its first fault (RFC 1035
+/// section 5).
+#[derive(Drop)]
+pub struct Records<'a> {
+    pub(crate) reader: Reader,
+    pub(crate) words: Vec<Word<'a>>,
+    pub(crate) rest: &'a [u8],
+    pub(crate) goes_on: bool,
+    ghost fits: { reader.line + length rest.now ≤ 16777217 },
 }

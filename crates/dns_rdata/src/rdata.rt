@@ -56,6 +56,15 @@ impl Rdata {
         Ok(data_of(rtype, octets))
     }
 
+    /// A second datum of the same octets. Memory is taken once.
+    pub fn copied(&self, alloc: Global) -> Result<Rdata, AllocError>
+        ensures { IfOk result (λ copy. copy ≡ self.now) }
+    {
+        Ok(Rdata {
+            octets: copied(alloc, self.octets())?,
+        })
+    }
+
     /// The data that octets are, in the memory that they have: `NotOfType` where `from_wire` says
     /// it.
     pub(crate) fn from_octets(rtype: RType, octets: Vec<u8>) -> Result<Rdata, RdataFault>

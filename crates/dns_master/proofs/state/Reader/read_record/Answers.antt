@@ -42,8 +42,8 @@ returns-in_err-rdata-clause-err c =
     (ttl-or f.ttl _ _ _ stated (ttl-or _ _ _ _ known.default_is known.stated_is)) c.in-Some-ttl_in_force.ttl (search rules) c.args.self.now.origin known.origin_is known.no_other
     (subst (λ ws. Nothing (Says c.in-Some.rtype.0 ws c.args.self.now.origin)) words reported.1)))
 
-pub returns-then-len-ge-MOST_RECORDS-clause-err : goal.returns-then-len-ge-MOST_RECORDS-clause-err
-returns-then-len-ge-MOST_RECORDS-clause-err c = λ _ o earlier known.
+pub returns-then-self-ge-MOST_RECORDS-clause-err : goal.returns-then-self-ge-MOST_RECORDS-clause-err
+returns-then-self-ge-MOST_RECORDS-clause-err c = λ _ o earlier known.
     let f = c.args.fields.now in
     let stated : TtlOf f.ttl c.in-Ok.stated = subst (λ (x : Fields). TtlOf x.ttl c.in-Ok.stated) c.fields.view_is c.in-Ok.ensures in
     let is_in : is_other_class f.class ≡ false = ap (λ (x : Fields). is_other_class x.class) (sym c.fields.view_is) ∙ search rules in

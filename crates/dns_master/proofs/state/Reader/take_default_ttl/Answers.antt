@@ -5,7 +5,7 @@ use Rattle.dns_master.proofs.state.Reader.take_default_ttl.Goals as goal
 
 pub returns-clause-ok : goal.returns-clause-ok
 returns-clause-ok c = λ o earlier e known is.
-    default-taken o earlier e _ _ known refl refl c.args.words.now c.in-Some.ttl is ((c.read_default_ttl.ensures c.in-Some.ttl).0 c.in-Some.is) refl refl
+    default-taken o earlier e _ _ known refl refl refl c.args.words.now c.in-Some.ttl is ((c.read_default_ttl.ensures c.in-Some.ttl).0 c.in-Some.is) refl refl
 
 pub returns-in_default-clause-err : goal.returns-in_default-clause-err
 returns-in_default-clause-err c = λ o earlier known.

@@ -21,17 +21,17 @@ returns-in_err-check_end-clause-err c =
     entry-ends_faulty o earlier c.args.goes_on c.args.text.now c.in_ok-end.end.rest.now _ _ c.in_ok-end.end.is_ended c.in_ok-end.end.is_open read
     c.in_err-check_end.ensures.err.0 (fault_of c.in_err-check_end.field-0.0) c.in_err-check_end.ensures.err.1)
 
-pub returns-in_err-take_words-clause-err : goal.returns-in_err-take_words-clause-err
-returns-in_err-take_words-clause-err c =
-    fault_handed_on c.from_residual-in_err-take_words.result c.in_err-take_words.field-0.0 _ c.from_residual-in_err-take_words.ensures.1 (λ other o earlier known.
+pub returns-in_err-taken-clause-err : goal.returns-in_err-taken-clause-err
+returns-in_err-taken-clause-err c =
+    fault_handed_on c.from_residual-in_err-taken.result c.in_err-taken.field-0.0 _ c.from_residual-in_err-taken.ensures.1 (λ other o earlier known.
     let read = subst (λ before. EntryRead c.args.text.now before c.read_entry.new.words.items c.in_ok-end.end.lines (outcome_of c.in_ok-end.end.is_ended c.in_ok-end.end.is_open c.in_ok-end.end.rest.now))
     c.clear.ensures.items c.in_ok-end.ensures.ok in
     let sort : kind_of (ended read.tokens) ≡ kind_by_words c.begins_blank.result c.as_slice.result.now =
     same_sort c.args.text.now read.tokens c.read_entry.new.words.items _ read.reads read.words
     ∙ ap (λ b. kind_by_words b c.read_entry.new.words.items) (sym c.begins_blank.ensures) ∙ ap (kind_by_words c.begins_blank.result) (sym c.as_slice.ensures.value) in
     entry-faulty o earlier c.args.goes_on c.args.text.now c.in_ok-end.end.rest.now _ _ c.in_ok-end.end.is_ended c.in_ok-end.end.is_open read
-    c.in_ok-check_end.ensures.ok (fault_of c.in_err-take_words.field-0.0)
-    (subst (λ (s : EntryKind). KindGives o earlier s (faulty (fault_of c.in_err-take_words.field-0.0))) (sym sort) (c.in_err-take_words.ensures.err other o earlier known)))
+    c.in_ok-check_end.ensures.ok (fault_of c.in_err-taken.field-0.0)
+    (subst (λ (s : EntryKind). KindGives o earlier s (faulty (fault_of c.in_err-taken.field-0.0))) (sym sort) (c.in_err-taken.ensures.err other o earlier known)))
 
 pub returns-clause-ok : goal.returns-clause-ok
 returns-clause-ok c = λ o earlier known line.
@@ -40,16 +40,14 @@ returns-clause-ok c = λ o earlier known line.
     let sort : kind_of (ended read.tokens) ≡ kind_by_words c.begins_blank.result c.as_slice.result.now =
     same_sort c.args.text.now read.tokens c.read_entry.new.words.items _ read.reads read.words
     ∙ ap (λ b. kind_by_words b c.read_entry.new.words.items) (sym c.begins_blank.ensures) ∙ ap (kind_by_words c.begins_blank.result) (sym c.as_slice.ensures.value) in
-    let done = c.in_ok-take_words.ensures.ok o earlier (ended read.tokens) known sort in
+    let done = c.in_ok-taken.ensures.ok o earlier (ended read.tokens) known sort in
     record {
       entry = ended read.tokens;
-      taken = done.taken;
       known = done.known;
-      line_is = ap (λ n. n + c.in_ok-end.end.lines) (c.in_ok-take_words.ensures.line ∙ line)
+      line_is = ap (λ n. n + c.in_ok-end.end.lines) (c.in_ok-taken.ensures.line ∙ line)
           ∙ sym (entry-line o earlier c.args.goes_on c.args.text.now c.in_ok-end.end.rest.now _ _ c.in_ok-end.end.is_ended c.in_ok-end.end.is_open read);
-      records = done.records;
       means = entry-means o earlier c.args.goes_on c.args.text.now c.in_ok-end.end.rest.now _ _ c.in_ok-end.end.is_ended c.in_ok-end.end.is_open read
-          c.in_ok-check_end.ensures.ok done.taken done.given;
+          c.in_ok-check_end.ensures.ok _ done.given;
     }
 
 pub returns-clause-shorter : goal.returns-clause-shorter

@@ -5,7 +5,7 @@ use Rattle.dns_master.proofs.state.Reader.take_origin.Goals as goal
 
 pub returns-clause-ok : goal.returns-clause-ok
 returns-clause-ok c = λ o earlier e known is.
-    origin-taken o earlier e _ _ known refl refl c.args.words.now is ((c.read_origin.ensures c.in-Some.origin).0 c.in-Some.is)
+    origin-taken o earlier e _ _ known refl refl refl c.args.words.now is ((c.read_origin.ensures c.in-Some.origin).0 c.in-Some.is)
     (λ n h. same_Some n c.in-Some.origin (sym ((c.read_origin.ensures n).1 h) ∙ c.in-Some.is)) refl
 
 pub returns-in_default-clause-err : goal.returns-in_default-clause-err

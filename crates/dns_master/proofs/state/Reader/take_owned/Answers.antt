@@ -1,4 +1,4 @@
-use Rattle.std.proofs.Common.{◌≡◌, ◌≢◌, List}
+use Rattle.std.proofs.Common.{◌≡◌, ◌≢◌, true, List}
 use Rattle.dns_spec.specs.Names.{DomainName}
 use Rattle.dns_spec.specs.ZoneText.{Entry}
 use Rattle.dns_spec.specs.FileFaults.{bad_owner, no_owner}
@@ -7,7 +7,7 @@ use Rattle.dns_spec.proofs.DataWords.LoweredData.{folded-folded}
 use Rattle.dns_master.specs.Codes.{fault_of}
 use Rattle.dns_master.specs.declared.fault.ReadCode.{ReadCode}
 use Rattle.dns_master.specs.declared.fault.ReadCode.TheVariants.{NoMemory}
-use Rattle.dns_master.specs.ReaderForm.{Knows, RecordTaken, EntryTaken}
+use Rattle.dns_master.specs.ReaderForm.{Knows, RecordTaken, EntryTaken, handed}
 use Rattle.dns_name.proofs.Results.{OnOk-map, IfErr-map}
 use Rattle.dns_master.proofs.KnowsSteps.{owned-taken, given-owner}
 use Rattle.dns_master.proofs.state.Reader.take_owned.Goals as goal
@@ -20,7 +20,7 @@ returns-clause-ok c =
     let all : ((o : DomainName) (earlier : List Entry) → Knows o earlier c.args.self.now
     → RecordTaken o earlier c.fold_in_place.new.self (fields c.args.words.now) c.args.self.now c.take_record.new.self)
     → (o : DomainName) (earlier : List Entry) (e : Entry) → Knows o earlier c.args.self.now → kind_of e ≡ owned c.args.owner.now c.args.words.now
-    → EntryTaken o earlier e c.args.self.now c.take_record.new.self =
+    → EntryTaken o earlier e (handed true c.take_record.new.self.last) c.args.self.now c.take_record.new.self =
     λ taken o earlier e known is.
     let named = (c.read_name.ensures c.in-Some.owner).0 c.in-Some.is in
     owned-taken o earlier e _ _ known c.args.owner.now c.args.words.now c.in-Some.owner c.fold_in_place.new.self is

@@ -1,13 +1,12 @@
 use Rattle.std.proofs.Common.{arith, List, ◌≡◌, [], ◌∷◌, ◌++◌, subst, sym, ap, ◌∙◌, refl, Some, if◌then◌else◌, IfSome}
 use Rattle.std.specs.Option.{is_some}
 use Rattle.dns_spec.specs.Names.{DomainName}
-use Rattle.dns_spec.specs.ZoneText.{Entry}
 use Rattle.dns_spec.specs.Records.{ResourceRecord}
+use Rattle.dns_spec.specs.ZoneText.{Entry}
 use Rattle.dns_spec.specs.FileFaults.{no_owner}
 use Rattle.dns_spec.specs.Meaning.{Fields, RecordGives, TtlSays, fields, faulty, gives}
 use Rattle.dns_master.specs.Codes.{fault_of}
-use Rattle.dns_master.specs.ReaderForm.{Knows, RecordTaken}
-use Rattle.dns_name.proofs.Results.{fault_handed_on, OnOk-map}
+use Rattle.dns_name.proofs.Results.{fault_handed_on}
 use Rattle.dns_master.proofs.RecordSteps.{last-stated, copied-some}
 use Rattle.dns_master.proofs.state.Reader.take_record.Goals as goal
 
@@ -17,7 +16,7 @@ returns-in_err-record-clause-err c = fault_handed_on c.from_residual.result c.in
     (c.in_err-record.ensures.err other o earlier known))
 
 pub returns-clause-ok : goal.returns-clause-ok
-returns-clause-ok c =
+returns-clause-ok c = λ o earlier known.
     let now : c.last_stated-self.result ≡ (if is_some (fields c.args.words.now).ttl then Some c.in_ok-record.record.ttl else c.args.self.now.stated_ttl) =
     let some : c.is_some.result ≡ is_some (fields c.args.words.now).ttl =
     c.is_some.ensures ∙ sym (copied-some c.fields.inside.ttl) ∙ ap (λ (f : Fields). is_some f.ttl) (c.fields.view_is ∙ c.of-fields.ensures) in
@@ -25,36 +24,17 @@ returns-clause-ok c =
     c.last_stated-self.ensures
     ∙ ap (λ b. if b then Some c.record.inside.ttl else c.args.self.now.stated_ttl) some
     ∙ ap (λ n. if is_some (fields c.args.words.now).ttl then Some n else c.args.self.now.stated_ttl) same in
-    let all : c.push_record.new.records.items ≡ c.args.self.now.records.items ++ c.in_ok-record.record ∷ []
-    → (o : DomainName) (earlier : List Entry) → Knows o earlier c.args.self.now
-    → RecordTaken o earlier c.args.owner (fields c.args.words.now) c.args.self.now
-    (record {
-      alloc = c.args.self.now.alloc;
-      origin = c.args.self.now.origin;
-      default_ttl = c.args.self.now.default_ttl;
-      stated_ttl = c.last_stated-self.result;
-      line = c.args.self.now.line;
-      records = c.push_record.new.records;
-      default_short = _;
-      stated_short = _;
-      few = _;
-    }) =
-    λ grown o earlier known. record {
+    record {
       taken = c.in_ok-record.record;
+      last_is = refl;
+      owner_is = c.in_ok-record.ensures.owner;
       given = subst (λ (f : Fields). RecordGives o earlier no_owner (λ n. n ≡ c.args.owner) f (gives (c.in_ok-record.record ∷ []))) c.of-fields.ensures
           (c.in_ok-record.ensures.ok o earlier known);
-      owner_is = c.in_ok-record.ensures.owner;
       origin_is = refl;
       default_is = refl;
       stated_is = λ w h.
           let reported : IfSome (fields c.args.words.now).ttl (λ x. TtlSays x c.in_ok-record.record.ttl) =
           subst (λ (f : Fields). IfSome f.ttl (λ x. TtlSays x c.in_ok-record.record.ttl)) c.of-fields.ensures c.in_ok-record.ensures.ttl in
           rw now (last-stated (fields c.args.words.now).ttl w c.in_ok-record.record.ttl c.args.self.now.stated_ttl reported h);
-      records = grown;
-    } in
-    OnOk-map _ all c.push_record.ensures.ok
-
-pub invariant_of-self-clause-few : goal.invariant_of-self-clause-few
-invariant_of-self-clause-few c =
-    let room = c.in_ok-record.ensures.few in
-    omega (arith, c.push_record.ensures.bound, room)
+      count_is = refl;
+    }

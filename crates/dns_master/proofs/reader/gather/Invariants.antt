@@ -1,0 +1,14 @@
+use Rattle.std.proofs.Common.{◌≡◌, length}
+use Rattle.dns_master.specs.RecordsForm.{given_so_far, octets_left}
+use Rattle.dns_master.proofs.EntriesLoop.{SoFar}
+use Rattle.dns_master.proofs.reader.gather.Given as goal
+
+-- what the records that are found, and those still to come, say of the text, it means
+abbrev pub invariant-records : goal.invariant-records
+invariant-records l = record {
+  so_far : SoFar l.initial.entries l.found.items l.entries;
+  count : length l.found.items ≡ given_so_far l.entries;
+}
+
+abbrev pub decreases-records : goal.decreases-records
+decreases-records l = octets_left l.entries
