@@ -5,6 +5,7 @@ mod directive;
 mod entry;
 mod fault;
 mod fields;
+mod gathers;
 mod reader;
 mod record;
 mod run;
@@ -15,6 +16,7 @@ mod token;
 mod words;
 
 pub use fault::{ReadCode, ReadFault};
-pub use reader::{MOST_RECORDS, read_zone};
+pub use gathers::Gathers;
+pub use reader::{MOST_RECORDS, read_into, read_zone};
 pub use record::Record;
 pub use state::Records;

@@ -18,6 +18,7 @@ use crate::directive::{is_directive, read_default_ttl, read_origin};
 use crate::entry::{begins_blank, check_end, read_entry};
 use crate::fault::{ReadCode, ReadFault};
 use crate::fields::{Fields, is_other_class, stated_ttl, type_and_words};
+use crate::gathers::{Gathers, WholeRecords};
 use crate::record::Record;
 use crate::source::read_text;
 use crate::state::{Reader, Records};
@@ -55,39 +56,69 @@ pub fn read_zone<R: Read>(
         ⊎ (f.code ≡ ReadCode.NoMemory) → f.line ≡ 0) }
     ensures counted { source.new.failures ≡ failures_after_read source.old.failures result }
 {
+    let mut whole = WholeRecords {
+        alloc,
+        records: Vec::new(alloc),
+    };
+    read_into(alloc, origin, source, &mut whole)?;
+    Ok(whole.records)
+}
+
+/// Reads the zone file of a source, as `read_zone` does, and adds each record to what the caller
+/// keeps them in, which has none before.
+///
+/// After a fault it has some of the records before the faulty entry.
+pub fn read_into<R: Read, G: Gathers>(
+    alloc: Global,
+    origin: &Name,
+    source: &mut Tally<R>,
+    found: &mut G,
+) -> Result<(), ReadFault>
+    requires room { source.old.failures < 2 ^ 64 - 1 }
+    requires nothing { G.gathered found.old ≡ [] }
+    ensures ok { OnOk result (GivesMeaning (R.remaining source.old.device) origin.now
+        (records (G.gathered found.new))) }
+    ensures fault { IfErr result (λ f. f.code ≢ ReadCode.SourceFailed → f.code ≢ ReadCode.NoMemory
+        → GivesMeaning (R.remaining source.old.device) origin.now
+        (fault_at (fault_of f.code) f.line)) }
+    ensures few { OnOk result (length (G.gathered found.new) ≤ most_records) }
+    ensures line { IfErr result (λ f. (f.code ≡ ReadCode.SourceFailed)
+        ⊎ (f.code ≡ ReadCode.NoMemory) → f.line ≡ 0) }
+    ensures counted { source.new.failures ≡ failures_after_read source.old.failures result }
+{
     let text = match read_text(alloc, source) {
         Ok(text) => text,
         Err(code) => return Err(ReadFault { code, line: 0 }),
     };
-    let mut records = Records::new(alloc, origin, text.as_slice());
-    gather(alloc, &mut records)
+    let mut entries = Records::new(alloc, origin, text.as_slice());
+    gather(&mut entries, found)
 }
 
-// All records that are still to come.
-fn gather(alloc: Global, entries: &mut Records<'_>) -> Result<Vec<Record>, ReadFault>
-    requires { given_so_far entries.old ≡ 0 }
-    ensures ok { IfOk result (λ found. StillGives entries.old (records found.items)) }
-    ensures few { IfOk result (λ found. length found.items ≤ most_records) }
+// Adds all records that are still to come.
+fn gather<G: Gathers>(entries: &mut Records<'_>, found: &mut G) -> Result<(), ReadFault>
+    requires first { given_so_far entries.old ≡ 0 }
+    requires nothing { G.gathered found.old ≡ [] }
+    ensures ok { OnOk result (StillGives entries.old (records (G.gathered found.new))) }
+    ensures few { OnOk result (length (G.gathered found.new) ≤ most_records) }
     ensures err { IfErr result (λ f. f.code ≢ ReadCode.NoMemory
         → StillGives entries.old (fault_at (fault_of f.code) f.line)) }
     ensures source { IfErr result (λ f. f.code ≢ ReadCode.SourceFailed) }
     ensures memory { IfErr result (λ f. f.code ≡ ReadCode.NoMemory → f.line ≡ 0) }
 {
-    let mut found = Vec::new(alloc);
     'records: while entries.advance()? {
-        push_last(alloc, &mut found, entries)?;
+        add_last(entries, found)?;
     }
-    Ok(found)
+    Ok(())
 }
 
-// Adds a copy of the record that was gone on to last.
-fn push_last(alloc: Global, found: &mut Vec<Record>, entries: &Records<'_>) -> Result<(), ReadFault>
-    ensures ok { OnOk result (found.new.items ≡ found.old.items ++ came true entries.now) }
+// Adds the record that was gone on to last.
+fn add_last<G: Gathers>(entries: &Records<'_>, found: &mut G) -> Result<(), ReadFault>
+    ensures ok { OnOk result (G.gathered found.new
+        ≡ G.gathered found.old ++ came true entries.now) }
     ensures err { IfErr result (λ f. (f.code ≡ ReadCode.NoMemory) × (f.line ≡ 0)) }
 {
     if let Some(last) = entries.record() {
-        let copy = last.copied(alloc)?;
-        found.push(copy)?;
+        found.add(last)?;
     }
     Ok(())
 }

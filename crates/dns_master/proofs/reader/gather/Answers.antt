@@ -7,21 +7,21 @@ use Rattle.dns_master.proofs.EntriesLoop.{SoFar, more-records, all-records, coun
 use Rattle.dns_master.proofs.reader.gather.Goals as goal
 
 pub returns-in_err-advance-clause-err : goal.returns-in_err-advance-clause-err
-returns-in_err-advance-clause-err c =
+returns-in_err-advance-clause-err g c =
     fault_handed_on c.from_residual.result c.in_err-advance.field-0.0 _ c.from_residual.ensures.1 (λ other.
     c.records.invariant.so_far (fault_at (fault_of c.in_err-advance.field-0.0.code) c.in_err-advance.field-0.0.line) (c.in_err-advance.ensures.err other))
 
 pub records-preserved : goal.records-preserved
-records-preserved c =
-    let grown : c.push_last.new.found.items ≡ c.records.found.items ++ came true c.advance.new.self = c.in_ok-push_last.ensures.ok in
+records-preserved g c =
+    let grown : (g.G.Gathers.gathered c.add_last.new.found) ≡ (g.G.Gathers.gathered c.records.found) ++ came true c.advance.new.self = c.in_ok-add_last.ensures.ok in
     record {
       so_far = subst (λ found. SoFar c.args.entries.now found c.advance.new.self) (sym grown)
-          (more-records c.args.entries.now c.records.entries c.advance.new.self c.records.found.items (came true c.advance.new.self) c.records.invariant.so_far
+          (more-records c.args.entries.now c.records.entries c.advance.new.self (g.G.Gathers.gathered c.records.found) (came true c.advance.new.self) c.records.invariant.so_far
           (subst (λ b. SoFar c.records.entries (came b c.advance.new.self) c.advance.new.self) c.if-branch.true c.in_ok-advance.ensures.ok));
-      count = count-more c.records.entries c.advance.new.self c.records.found.items c.push_last.new.found.items true grown c.records.invariant.count
+      count = count-more c.records.entries c.advance.new.self (g.G.Gathers.gathered c.records.found) (g.G.Gathers.gathered c.add_last.new.found) true grown c.records.invariant.count
           (subst (λ b. given_so_far c.advance.new.self ≡ given_so_far c.records.entries + length (came b c.advance.new.self)) c.if-branch.true c.in_ok-advance.ensures.counted);
     }
 
 pub returns-clause-ok : goal.returns-clause-ok
-returns-clause-ok c =
-    all-records c.args.entries.now c.records.entries c.records.found.items c.records.invariant.so_far (c.in_ok-advance.ensures.end c.if-branch.false)
+returns-clause-ok g c =
+    all-records c.args.entries.now c.records.entries (g.G.Gathers.gathered c.records.found) c.records.invariant.so_far (c.in_ok-advance.ensures.end c.if-branch.false)

@@ -5,10 +5,10 @@ use Rattle.dns_master.proofs.reader.gather.Given as goal
 
 -- what the records that are found, and those still to come, say of the text, it means
 abbrev pub invariant-records : goal.invariant-records
-invariant-records l = record {
-  so_far : SoFar l.initial.entries l.found.items l.entries;
-  count : length l.found.items ≡ given_so_far l.entries;
+invariant-records g l = record {
+  so_far : SoFar l.initial.entries (g.G.Gathers.gathered l.found) l.entries;
+  count : length (g.G.Gathers.gathered l.found) ≡ given_so_far l.entries;
 }
 
 abbrev pub decreases-records : goal.decreases-records
-decreases-records l = octets_left l.entries
+decreases-records g l = octets_left l.entries
