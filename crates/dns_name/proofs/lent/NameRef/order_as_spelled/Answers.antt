@@ -1,6 +1,6 @@
 use Rattle.std.proofs.Common.{◌∙◌, ◌-◌, drop, ap}
 use Rattle.dns_name.proofs.OrderLemmas.{order_is}
-use Rattle.dns_name.proofs.name.Name.order_as_spelled.Goals as goal
+use Rattle.dns_name.proofs.lent.NameRef.order_as_spelled.Goals as goal
 
 pub returns : goal.returns
 returns c =

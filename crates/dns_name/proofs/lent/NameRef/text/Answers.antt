@@ -2,7 +2,7 @@ use Rattle.std.proofs.Common.{◌≡◌, [], ◌∷◌, ◌++◌, ap, ◌∙◌,
 use Rattle.dns_spec.specs.Names.{Octets}
 use Rattle.dns_spec.specs.NameText.{label_text}
 use Rattle.dns_name.proofs.WrittenLemmas.{NameSoFar-next, NameSoFar-room}
-use Rattle.dns_name.proofs.name.Name.text.Goals as goal
+use Rattle.dns_name.proofs.lent.NameRef.text.Goals as goal
 
 appended : (text new octets l : Octets) → new ≡ text ++ label_text octets → octets ≡ l → new ≡ text ++ label_text l
 appended text new octets l e f = e ∙ ap (λ k. text ++ label_text k) f

@@ -1,5 +1,5 @@
 use Rattle.dns_name.proofs.WireLemmas.{same_from_octets}
-use Rattle.dns_name.proofs.name.Name.same.Goals as goal
+use Rattle.dns_name.proofs.lent.NameRef.same.Goals as goal
 
 pub returns : goal.returns
 returns c =

@@ -3,7 +3,7 @@ use Rattle.dns_spec.specs.Names.{Octets, DomainName, wire, same, at_or_below}
 use Rattle.dns_spec.proofs.DomainNames.NameLaws.{at_or_below-short, at_or_below-long}
 use Rattle.dns_name.specs.WireForm.{labels_of, IsWireForm}
 use Rattle.dns_name.proofs.WireLemmas.{IsWireForm-wire, labels_of_spelled, same_from_octets}
-use Rattle.dns_name.proofs.name.Name.at_or_below.Goals as goal
+use Rattle.dns_name.proofs.lent.NameRef.at_or_below.Goals as goal
 
 pub labels-init : goal.labels-init
 labels-init c =

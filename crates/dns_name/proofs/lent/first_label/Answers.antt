@@ -3,7 +3,7 @@ use Rattle.std.proofs.lemmas.Bool.{false≢true}
 use Rattle.dns_spec.specs.Names.{Octets, is_label}
 use Rattle.dns_name.specs.WireForm.{labels_of, IsWireForm}
 use Rattle.dns_name.proofs.WireLemmas.{BeginsWithLabel, BeginsWithLabel-IsWireForm, labels_of-zero, IsWireForm-nil}
-use Rattle.dns_name.proofs.name.first_label.Goals as goal
+use Rattle.dns_name.proofs.lent.first_label.Goals as goal
 
 split_there : (xs : Octets) (x : ℕ) (ys label rest : Octets) → BeginsWithLabel xs x ys → label ≡ take x ys → rest ≡ drop x ys → (labels_of xs ≡ label ∷ labels_of rest) × IsWireForm rest
 split_there xs x ys label rest first e f = (rw (e, f) first.labels, rw f first.rest)

@@ -2,7 +2,7 @@ use Rattle.std.proofs.Common.{rules, ◌≡◌, Ordering, refl, sym, ◌∙◌}
 use Rattle.std.specs.Ordering.{ordering_then}
 use Rattle.dns_spec.specs.Names.{Octets, label_order}
 use Rattle.dns_name.proofs.OrderLemmas.{order_next, order_stays}
-use Rattle.dns_name.proofs.name.order_of_labels.Goals as goal
+use Rattle.dns_name.proofs.lent.order_of_labels.Goals as goal
 
 compared : (xs ys l k : Octets) (a order next : Ordering) → xs ≡ l → ys ≡ k → a ≡ label_order xs ys → next ≡ ordering_then a order → next ≡ ordering_then (label_order l k) order
 compared xs ys l k a order next e f g h = h ∙ rw (g, e, f) refl

@@ -3,7 +3,7 @@ use Rattle.std.specs.Cmp.Lexicographic.{slice_cmp}
 use Rattle.std.specs.Ordering.{ordering_then}
 use Rattle.dns_spec.specs.Names.{DomainName, label_order}
 use Rattle.std.specs.declared.cmp.Ordering.{Ordering}
-use Rattle.dns_name.proofs.name.order_of_labels.Given as goal
+use Rattle.dns_name.proofs.lent.order_of_labels.Given as goal
 
 -- the order of names of as many labels, and `after` where they are equal
 abbrev order_then : DomainName → DomainName → Ordering → Ordering

@@ -1,7 +1,7 @@
 use Rattle.std.proofs.Common.{◌≡◌, ℕ, drop, ap, ◌∙◌, arith}
 use Rattle.dns_spec.specs.Names.{DomainName}
 use Rattle.dns_name.proofs.OrderLemmas.{drop-next}
-use Rattle.dns_name.proofs.name.Name.without_first.Goals as goal
+use Rattle.dns_name.proofs.lent.NameRef.without_first.Goals as goal
 
 dropped : (s n : DomainName) (j k : ℕ) → s ≡ drop j n → j ≡ k → s ≡ drop k n
 dropped s n j k e f = e ∙ ap (λ i. drop i n) f
