@@ -6,11 +6,11 @@ ghost use Rattle.dns_spec.specs.Checks.{is_origin, count, owns_such, is_address_
 ghost use Rattle.dns_spec.specs.Data.{type_ns, type_cname};
 ghost use Rattle.dns_zone.specs.OwnerForm.{IsPlaced, is_server_alias, is_server_lost};
 
+use crate::entry::Entry;
 use crate::lookup::has_type;
 use crate::sets::{have_large_set, have_many_sets, have_other_ttls};
 use crate::survey::Survey;
-use dns_master::Record;
-use dns_name::Name;
+use dns_name::NameRef;
 use dns_rdata::RType;
 use std::marker::Model;
 
@@ -18,10 +18,10 @@ use std::marker::Model;
 #[derive(Drop)]
 pub(crate) struct Owner<'a> {
     survey: &'a Survey<'a>,
-    name: &'a Name,
-    own: &'a [Record],
+    name: &'a NameRef<'a>,
+    own: &'a [Entry],
     // Records of other owners, which come after.
-    after: &'a [Record],
+    after: &'a [Entry],
 }
 
 impl<'a> Model for Owner<'a> {
@@ -39,9 +39,9 @@ impl<'a> Owner<'a> {
     /// of their owners.
     pub(crate) fn new(
         survey: &'a Survey<'a>,
-        name: &'a Name,
-        own: &'a [Record],
-        after: &'a [Record],
+        name: &'a NameRef<'a>,
+        own: &'a [Entry],
+        after: &'a [Entry],
     ) -> Owner<'a>
         requires { IsPlaced survey.now name.now own.now after.now }
         ensures { result ≡ record { zone = survey.now; name = name.now } }
@@ -149,7 +149,7 @@ impl<'a> Owner<'a> {
     }
 
     // The same of one record, which may be of any type.
-    fn judged_server(&self, listed: &Record, owner_is_cut: bool) -> (bool, bool)
+    fn judged_server(&self, listed: &Entry, owner_is_cut: bool) -> (bool, bool)
         requires { owner_is_cut ≡ is_cut self.now.zone self.now.name }
         ensures alias { result.0 ≡ is_server_alias self.now.zone listed.now }
         ensures lost { result.1 ≡ is_server_lost self.now.zone self.now.name listed.now }

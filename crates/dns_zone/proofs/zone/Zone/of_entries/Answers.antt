@@ -7,7 +7,7 @@ use Rattle.dns_spec.proofs.ZoneChecks.FaultOrder.{folded_folded}
 use Rattle.dns_zone.specs.ZoneForm.{IsBuilt}
 use Rattle.dns_zone.specs.TreeForm.{IsTree}
 use Rattle.dns_zone.proofs.BuiltZone.{found_of_read, built}
-use Rattle.dns_zone.proofs.zone.Zone.build.Goals as goal
+use Rattle.dns_zone.proofs.zone.Zone.of_entries.Goals as goal
 
 pub faults-requires-clause-lower : goal.faults-requires-clause-lower
 faults-requires-clause-lower c =
