@@ -1,3 +1,4 @@
+pub mod Entries
 pub mod KnownRecords
 pub mod BuiltZone
 pub mod PrintedRecords
