@@ -14,9 +14,9 @@ pub record IsLaid (n : DomainName) (d own zs : Octets) : Type 0 where
   pub spelled : own ≡ wire n
   pub is_name : is_name n ≡ true
 
-pub laid_in_turn : (n : DomainName) (d own data xs ys zs : Octets) → xs ≡ [] → ys ≡ xs ++ own → zs ≡ ys ++ data → own ≡ wire n → data ≡ d
+pub laid_in_turn : (n : DomainName) (d own others xs ys zs : Octets) → xs ≡ [] → ys ≡ xs ++ own → zs ≡ ys ++ others → own ≡ wire n → others ≡ d
     → is_name n ≡ true → IsLaid n d own zs
-laid_in_turn n d own data xs ys zs e f g h k ok = record {
+laid_in_turn n d own others xs ys zs e f g h k ok = record {
   whole = rw (g, f, e, k) refl;
   spelled = h;
   is_name = ok;

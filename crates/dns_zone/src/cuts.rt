@@ -55,7 +55,10 @@ fn is_delegation(origin: &NameRef<'_>, listed: &Entry) -> bool
 }
 
 /// The cuts that are not after the name in canonical order.
-pub(crate) fn not_after<'a, 'b>(cuts: &'b [&'a Keyed<'a>], name: &NameRef<'_>) -> &'b [&'a Keyed<'a>]
+pub(crate) fn not_after<'a, 'b>(
+    cuts: &'b [&'a Keyed<'a>],
+    name: &NameRef<'_>,
+) -> &'b [&'a Keyed<'a>]
     requires apart { AreApart (after cuts.now) }
     requires lower { folded name.now ≡ name.now }
     ensures { after result.now ≡ filter

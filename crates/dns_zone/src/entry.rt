@@ -39,19 +39,19 @@ impl Model for Entry {
 
 impl Entry {
     /// The same record as it was read. Memory is taken once, for its octets.
-    pub(crate) fn of(alloc: Global, record: &Record) -> Result<Entry, AllocError>
-        ensures { IfOk result (λ entry. entry ≡ record.now) }
+    pub(crate) fn of(alloc: Global, listed: &Record) -> Result<Entry, AllocError>
+        ensures { IfOk result (λ entry. entry ≡ listed.now) }
     {
-        let owner = record.owner.octets();
-        let data = record.rdata.octets();
+        let owner = listed.owner.octets();
+        let data = listed.rdata.octets();
         let mut octets = Vec::with_capacity(alloc, owner.len() + data.len())?;
         octets.extend_from_slice(owner)?;
         octets.extend_from_slice(data)?;
         Ok(Entry {
             octets,
             owner_octets: owner.len() as u8,
-            rtype: record.rtype,
-            ttl: record.ttl,
+            rtype: listed.rtype,
+            ttl: listed.ttl,
         })
     }
 

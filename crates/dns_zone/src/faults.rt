@@ -97,7 +97,11 @@ fn report(
 }
 
 // Adds the faults of a name that fails these of the checks from the first on.
-fn add_failed(name: &NameRef<'_>, failed: &[bool], found: &mut Vec<CheckFault>) -> Result<(), AllocError>
+fn add_failed(
+    name: &NameRef<'_>,
+    failed: &[bool],
+    found: &mut Vec<CheckFault>,
+) -> Result<(), AllocError>
     requires { length failed.now ≤ 15 }
     ensures { OnOk result (found.new.items ≡ found.old.items ++ failed_from name.now 1 failed.now) }
 {

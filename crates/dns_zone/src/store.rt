@@ -51,11 +51,11 @@ impl Store {
     }
 
     /// Adds a record after those that it has. Where no memory was found, it has those that it had.
-    pub fn add(&mut self, record: &Record) -> Result<(), AllocError>
-        ensures added { OnOk result (self.new ≡ self.old ++ record.now ∷ []) }
+    pub fn add(&mut self, listed: &Record) -> Result<(), AllocError>
+        ensures added { OnOk result (self.new ≡ self.old ++ listed.now ∷ []) }
         ensures unchanged { OnErr result (self.new ≡ self.old) }
     {
-        let entry = Entry::of(self.alloc, record)?;
+        let entry = Entry::of(self.alloc, listed)?;
         self.entries.push(entry)?;
         Ok(())
     }

@@ -175,7 +175,12 @@ impl<'a> Survey<'a> {
 
     // The records at the name, by their types. Those of a server below `owner` mostly come soon
     // after those of `owner`.
-    fn at_server<'b>(&'b self, name: &NameRef<'_>, owner: &NameRef<'_>, after: &'b [Entry]) -> &'b [Entry]
+    fn at_server<'b>(
+        &'b self,
+        name: &NameRef<'_>,
+        owner: &NameRef<'_>,
+        after: &'b [Entry],
+    ) -> &'b [Entry]
         requires lower { folded name.now ≡ name.now }
         requires after { HasOwners self.now after.now }
         ensures own { result.now ≡ at self.now name.now }
@@ -191,7 +196,12 @@ impl<'a> Survey<'a> {
 
     // The same where they are those of one of the first owners of the records. It ends where an
     // owner is not below `cut` or has many records, so that few records are looked at.
-    fn at_near<'b>(&self, name: &NameRef<'_>, cut: &NameRef<'_>, records: &'b [Entry]) -> Option<&'b [Entry]>
+    fn at_near<'b>(
+        &self,
+        name: &NameRef<'_>,
+        cut: &NameRef<'_>,
+        records: &'b [Entry],
+    ) -> Option<&'b [Entry]>
         requires { HasOwners self.now records.now }
         ensures { IfSome result (λ own. IsOwner self.now name.now own.now) }
     {
@@ -212,7 +222,13 @@ impl<'a> Survey<'a> {
     }
 
     // Whether a name that owns these records lacks an address that a server of `owner` needs.
-    fn lacks_address(&self, target: &NameRef<'_>, own: &[Entry], owner: &NameRef<'_>, owner_is_cut: bool) -> bool
+    fn lacks_address(
+        &self,
+        target: &NameRef<'_>,
+        own: &[Entry],
+        owner: &NameRef<'_>,
+        owner_is_cut: bool,
+    ) -> bool
         requires lower { folded target.now ≡ target.now }
         requires own { own.now ≡ at self.now target.now }
         requires by_types { IsNonDecreasingBy (λ (r : ResourceRecord). r.rtype) own.now }

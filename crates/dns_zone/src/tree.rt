@@ -32,7 +32,11 @@ pub(crate) struct Rows {
 }
 
 /// The rows of all names of a zone. Memory is taken for 24 octets for each name.
-pub(crate) fn rows_of(alloc: Global, origin: &NameRef<'_>, records: &[Entry]) -> Result<Rows, AllocError>
+pub(crate) fn rows_of(
+    alloc: Global,
+    origin: &NameRef<'_>,
+    records: &[Entry],
+) -> Result<Rows, AllocError>
     requires { IsBuilt (record { origin = origin.now; records = records.now }) }
     ensures { IfOk result (λ t. IsTree origin.now records.now t.rows.items t.bounds.items) }
 {

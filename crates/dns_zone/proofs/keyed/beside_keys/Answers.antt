@@ -18,8 +18,7 @@ split_at-requires c =
 
 pub invariant_of-push : goal.invariant_of-push
 invariant_of-push c =
-    let rest : c.records.rest.now ≡ c.in-Some.listed.now ∷ c.in-Some.others.now = search rules in
-    (
+    let rest : c.records.rest.now ≡ c.in-Some.listed.now ∷ c.in-Some.others.now = search rules in (
       c.split_at.ensures.front ∙ (first_cut _ _ _ _ _ _ rest c.records.invariant.1 refl (c.octets.ensures.value ∙ ap wire c.owner.ensures.value)).1,
       subst (λ (n : DomainName). folded n ≡ n) c.owner.ensures.value c.owner.ensures.lower,
     )
