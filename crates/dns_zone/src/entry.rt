@@ -1,7 +1,7 @@
 //! Records as a zone keeps them: in few octets.
 ghost use Rattle.std.specs.Prelude.{◌≡◌, IfOk};
 ghost use Rattle.dns_spec.specs.Names.{folded};
-ghost use Rattle.dns_spec.specs.Data.{Valid};
+ghost use Rattle.dns_spec.specs.Data.{Valid, lower_case};
 
 use dns_master::Record;
 use dns_name::NameRef;
@@ -68,6 +68,7 @@ impl Entry {
     pub(crate) fn rdata(&self) -> &[u8]
         ensures value { result.now ≡ self.now.rdata }
         ensures valid { Valid self.now.rtype self.now.rdata }
+        ensures lower { lower_case self.now.rtype self.now.rdata ≡ self.now.rdata }
     {
         let count = self.owner_octets as usize;
         self.octets.as_slice().split_at(count).1

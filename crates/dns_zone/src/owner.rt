@@ -22,16 +22,21 @@ pub(crate) struct Owner<'a> {
     own: &'a [Entry],
     // Records of other owners, which come after.
     after: &'a [Entry],
+    // Whether the name is the zone's origin.
+    stands_first: bool,
 }
 
 impl<'a> Model for Owner<'a> {
+    ghost use Rattle.std.specs.Prelude.{◌≡◌};
+    ghost use Rattle.dns_spec.specs.Checks.{is_origin};
     ghost use Rattle.dns_zone.specs.OwnerForm.{NameOfZone, IsPlaced};
 
     ghost Value = { NameOfZone };
 
     ghost view = { λ o. record { zone = o.survey.now; name = o.name.now } };
 
-    ghost invariant = { λ o. IsPlaced o.survey.now o.name.now o.own.now o.after.now };
+    ghost invariant = { λ o. IsPlaced o.survey.now o.name.now o.own.now o.after.now
+        × (o.stands_first ≡ is_origin o.survey.now o.name.now) };
 }
 
 impl<'a> Owner<'a> {
@@ -51,6 +56,7 @@ impl<'a> Owner<'a> {
             name,
             own,
             after,
+            stands_first: name.same(survey.origin()),
         }
     }
 
@@ -198,7 +204,7 @@ impl<'a> Owner<'a> {
     fn is_origin(&self) -> bool
         ensures { result ≡ is_origin self.now.zone self.now.name }
     {
-        self.name.same(self.survey.origin())
+        self.stands_first
     }
 
     fn owns(&self, rtype: RType) -> bool

@@ -19,7 +19,7 @@ use crate::entry::Entry;
 use crate::keyed::Keyed;
 use crate::lookup::{count_in_front, has_type, records_at};
 use crate::target::target;
-use dns_name::{Name, NameRef};
+use dns_name::NameRef;
 use dns_rdata::RType;
 use std::alloc::{AllocError, Global};
 use std::marker::Model;
@@ -112,15 +112,12 @@ impl<'a> Survey<'a> {
         }
     }
 
-    fn is_alias(&self, target: &Name) -> bool
+    fn is_alias(&self, target: &NameRef<'_>) -> bool
+        requires { folded target.now ≡ target.now }
         ensures { result ≡ (at_or_below target.now self.now.origin
             && owns self.now target.now type_cname) }
     {
-        if !target.lent().at_or_below(self.origin) {
-            return false;
-        }
-        let lower = target.fold();
-        self.owns(&lower.lent(), RType::CNAME)
+        target.at_or_below(self.origin) && self.owns(target, RType::CNAME)
     }
 
     /// Whether the record's target is a name of the zone that owns a CNAME (RFC 2181 10.3), and
@@ -150,11 +147,12 @@ impl<'a> Survey<'a> {
 
     fn judged_name(
         &self,
-        target: &Name,
+        target: &NameRef<'_>,
         owner: &NameRef<'_>,
         owner_is_cut: bool,
         after: &[Entry],
     ) -> (bool, bool)
+        requires lower { folded target.now ≡ target.now }
         requires cut { owner_is_cut ≡ is_cut self.now owner.now }
         requires after { HasOwners self.now after.now }
         ensures alias { result.0 ≡ (at_or_below target.now self.now.origin
@@ -162,14 +160,12 @@ impl<'a> Survey<'a> {
         ensures lost { result.1 ≡ (at_or_below target.now self.now.origin
             && lacks_address self.now owner.now target.now) }
     {
-        if !target.lent().at_or_below(self.origin) {
+        if !target.at_or_below(self.origin) {
             return (false, false);
         }
-        let lower = target.fold();
-        let lower = lower.lent();
-        let own = self.at_server(&lower, owner, after);
+        let own = self.at_server(target, owner, after);
         let is_alias = has_type(own, RType::CNAME);
-        let is_lost = self.lacks_address(&lower, own, owner, owner_is_cut);
+        let is_lost = self.lacks_address(target, own, owner, owner_is_cut);
         (is_alias, is_lost)
     }
 

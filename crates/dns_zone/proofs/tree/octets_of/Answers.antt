@@ -1,6 +1,5 @@
 use Rattle.std.proofs.Common.{ap, sym, ◌∙◌, drop}
 use Rattle.dns_spec.specs.Names.{DomainName, wire}
-use Rattle.dns_spec.specs.Records.{ResourceRecord}
 use Rattle.dns_name.specs.WireForm.{labels_of}
 use Rattle.dns_name.proofs.WireLemmas.{IsWireForm-wire}
 use Rattle.dns_zone.specs.TreeForm.{row_octets, row_name}

@@ -2,10 +2,10 @@ use Rattle.std.proofs.Common.{◌∷◌, sym, ap, ◌∙◌, subst}
 use Rattle.dns_spec.specs.Data.{first_name}
 use Rattle.dns_rdata.specs.Parts.{part_for, IsLent}
 use Rattle.dns_rdata.proofs.PartsLoop.{walked, none_left}
-use Rattle.dns_rdata.proofs.rdata.Rdata.target.Goals as goal
+use Rattle.dns_rdata.proofs.rdata.Rdata.target_lent.Goals as goal
 
-pub from_octets-requires : goal.from_octets-requires
-from_octets-requires c =
+pub new-requires : goal.new-requires
+new-requires c =
     let w = walked _ _ _ c.parts.invariant.names c.in-Some.ensures.steps in
     subst IsLent c.in-Name.is w.lent
 
