@@ -3,13 +3,15 @@
 #![tactic(auto)]
 
 mod label;
+mod lent;
 mod name;
 mod tally;
 mod text;
 mod written;
 
 pub use label::Label;
-pub use name::{Labels, Name, first_label};
+pub use lent::{Labels, NameRef, first_label};
+pub use name::Name;
 pub use tally::{SinkFailed, SourceFailed, Tally};
 pub use text::{NameFault, first_octet};
 

@@ -1,19 +1,17 @@
 //! Domain names in their wire form.
-ghost use Rattle.std.specs.Prelude.{⊤, ◌≡◌, ℕ, ◌+◌, ◌≤◌, ◌↔◌, List, [], ◌∷◌, ◌++◌, length, map, reverse, drop, IsTrue, IfSome, MatchOption};
+ghost use Rattle.std.specs.Prelude.{⊤, ◌≡◌, ℕ, ◌+◌, ◌≤◌, ◌↔◌, List, [], ◌∷◌, ◌++◌, length, map, IsTrue};
 ghost use Rattle.std.specs.Bool.{OnTrue, OnFalse};
 ghost use Rattle.std.specs.Char.{to_ascii_lowercase};
 ghost use Rattle.std.specs.Cmp.{nat_eq_equiv, partial_equiv_from_equiv};
 ghost use Rattle.std.specs.Cmp.Lexicographic.{lists_per, lists_equiv};
-ghost use Rattle.std.specs.Cmp.Lexicographic.{slice_cmp};
-ghost use Rattle.std.specs.Ordering.{ordering_then};
-ghost use Rattle.std.specs.Iterator.{YieldsFirst, item_count};
 ghost use Rattle.arrayvec.specs.ArrayVec.{array_vec_len};
-ghost use Rattle.dns_spec.specs.Names.{is_name, wire, folded, same, at_or_below, below, names_equal, label_order, name_order};
+ghost use Rattle.dns_spec.specs.Names.{is_name, wire, folded, same, at_or_below, below, names_equal, name_order};
 ghost use Rattle.dns_spec.specs.Checks.{first_is_asterisk};
 ghost use Rattle.dns_name.specs.TextForm.{Appended};
 ghost use Rattle.dns_name.specs.WireForm.{labels_of, IsWireForm};
 
 use crate::label::Label;
+use crate::lent::{Labels, NameRef};
 use arrayvec::ArrayVec;
 use std::alloc::AllocError;
 use std::cmp::Ordering;
@@ -91,11 +89,19 @@ impl Name {
         self.octets.as_slice()
     }
 
+    /// The name, lent.
+    pub fn lent(&self) -> NameRef<'_>
+        ensures value { result ≡ self.now }
+        ensures is_name { IsTrue (is_name self.now) }
+    {
+        NameRef::new(self.octets.as_slice())
+    }
+
     /// How many labels there are, without the root: 2 of `www.example.`
     pub fn label_count(&self) -> usize
         ensures { result ≡ length self.now }
     {
-        self.labels().count()
+        self.lent().label_count()
     }
 
     /// The labels in order, the nearest to the root last.
@@ -106,9 +112,7 @@ impl Name {
         ensures is_name { IsTrue (is_name self.now) }
         ensures count { length self.now ≤ 127 }
     {
-        Labels {
-            octets: self.octets.as_slice(),
-        }
+        self.lent().labels()
     }
 }
 
@@ -137,7 +141,7 @@ impl Name {
     pub fn same(&self, other: &Name) -> bool
         ensures { result ≡ same self.now other.now }
     {
-        same_octets(self.octets(), other.octets())
+        self.lent().same(&other.lent())
     }
 
     /// Whether the name is `ancestor` or a name below it: whether its last labels are those of
@@ -145,22 +149,14 @@ impl Name {
     pub fn at_or_below(&self, ancestor: &Name) -> bool
         ensures { result ≡ at_or_below self.now ancestor.now }
     {
-        let target = ancestor.octets();
-        let mut suffix = self.octets();
-        'labels: while suffix.len() > target.len() {
-            let Some((_, rest)) = first_label(suffix) else {
-                return false;
-            };
-            suffix = rest;
-        }
-        same_octets(suffix, target)
+        self.lent().at_or_below(&ancestor.lent())
     }
 
     /// Whether the name is below `ancestor`: at or below it, and not the same name (RFC 1034 3.1).
     pub fn below(&self, ancestor: &Name) -> bool
         ensures { result ≡ below self.now ancestor.now }
     {
-        self.label_count() > ancestor.label_count() && self.at_or_below(ancestor)
+        self.lent().below(&ancestor.lent())
     }
 
     /// Whether the name is a wildcard: whether its first label is `*` alone (RFC 4592 2.1.1).
@@ -169,10 +165,7 @@ impl Name {
     pub fn is_wildcard(&self) -> bool
         ensures { result ≡ first_is_asterisk self.now }
     {
-        match self.labels().next() {
-            Some(label) => label.octets() == b"*".as_slice(),
-            None => false,
-        }
+        self.lent().is_wildcard()
     }
 
     /// Which of two names comes first in the canonical order (RFC 4034 6.1).
@@ -182,7 +175,8 @@ impl Name {
     pub fn order(&self, other: &Name) -> Ordering
         ensures { result ≡ name_order self.now other.now }
     {
-        self.fold().order_as_spelled(&other.fold())
+        let (own, others) = (self.fold(), other.fold());
+        own.lent().order_as_spelled(&others.lent())
     }
 
     /// The same of two names in lower case, of which no copy is made: what many names are sorted
@@ -192,35 +186,7 @@ impl Name {
         requires other { folded other.now ≡ other.now }
         ensures { result ≡ name_order self.now other.now }
     {
-        self.order_as_spelled(other)
-    }
-
-    // Labels are compared from the right, with regard to case.
-    fn order_as_spelled(&self, other: &Name) -> Ordering
-        ensures { result ≡ slice_cmp label_order (reverse self.now) (reverse other.now) }
-    {
-        if let Some(order) = order_of_siblings(self, other) {
-            return order;
-        }
-        let (own_count, other_count) = (self.label_count(), other.label_count());
-        let shared = own_count.min(other_count);
-        let longer = own_count.cmp(&other_count);
-        order_of_labels(
-            self.without_first(own_count - shared),
-            other.without_first(other_count - shared),
-            longer,
-        )
-    }
-
-    // The labels without the first `extra` ones.
-    fn without_first(&self, extra: usize) -> Labels<'_>
-        ensures { result ≡ drop extra self.now }
-    {
-        let mut labels = self.labels();
-        'extra: for _ in 0..extra {
-            labels.next();
-        }
-        labels
+        self.lent().order_in_lower_case(&other.lent())
     }
 
     /// The name whose wire form the octets are, as the octets of a name in data. It takes no
@@ -278,96 +244,6 @@ impl Eq for Name {
     ghost laws = { lists_equiv (lists_equiv nat_eq_equiv) };
 }
 
-/// The labels of a name that are still to come.
-#[derive(Drop)]
-pub struct Labels<'a> {
-    octets: &'a [u8],
-}
-
-impl<'a> Model for Labels<'a> {
-    ghost use Rattle.dns_spec.specs.Names.{DomainName};
-    ghost use Rattle.dns_name.specs.WireForm.{labels_of, IsWireForm};
-
-    ghost Value = { DomainName };
-
-    ghost view = { λ l. labels_of l.octets.now };
-
-    ghost invariant = { λ l. IsWireForm l.octets.now };
-}
-
-impl<'a> Iterator for Labels<'a> {
-    type Item = Label<'a>;
-
-    ghost next_gives = { YieldsFirst (λ s. s) };
-
-    ghost remaining = { item_count (λ s. s) };
-
-    fn next(&mut self) -> Option<Label<'a>> {
-        let (label, rest) = first_label(self.octets)?;
-        self.octets = rest;
-        Some(label)
-    }
-}
-
-impl Labels<'_> {
-    // Whether the labels that are still to come are the same, octet by octet.
-    fn are_those_of(&self, other: &Labels<'_>) -> bool
-        ensures { OnTrue result (self.now ≡ other.now) }
-    {
-        self.octets == other.octets
-    }
-}
-
-/// The first label of a name in wire form, and the wire form of the rest: of `www.example.`, `www`
-/// and `example.` The root has none.
-pub fn first_label(octets: &[u8]) -> Option<(Label<'_>, &[u8])>
-    requires { IsWireForm octets.now }
-    ensures { MatchOption result (labels_of octets.now ≡ [])
-        (λ x. (labels_of octets.now ≡ x.0 ∷ labels_of x.1.now) × IsWireForm x.1.now) }
-{
-    let (length, rest) = octets.split_first()?;
-    let length = *length as usize;
-    if length == 0 {
-        return None;
-    }
-    let (label, rest) = rest.split_at(length);
-    Some((Label::new(label)?, rest))
-}
-
-// The order of two names below one name, which is that of their first labels. Most names of a zone
-// are such, so that their labels need not be counted.
-fn order_of_siblings(one: &Name, other: &Name) -> Option<Ordering>
-    ensures { IfSome result (λ order. order ≡ slice_cmp label_order (reverse one.now)
-        (reverse other.now)) }
-{
-    let (mut left, mut right) = (one.labels(), other.labels());
-    let (first, second) = (left.next()?, right.next()?);
-    if !left.are_those_of(&right) {
-        return None;
-    }
-    Some(first.octets().cmp(second.octets()))
-}
-
-// The order of as many labels on both sides, compared from the right, and `longer` where they are
-// equal. Names of a zone mostly differ in their first labels alone, and what is equal after a label
-// need not be walked.
-fn order_of_labels(left: Labels<'_>, right: Labels<'_>, longer: Ordering) -> Ordering
-    requires { length left ≡ length right }
-    ensures { result ≡ ordering_then (slice_cmp label_order (reverse left.entry)
-        (reverse right.entry)) longer }
-{
-    let mut left = left;
-    let mut right = right;
-    let mut order = longer;
-    'labels: while let (Some(l), Some(r)) = (left.next(), right.next()) {
-        order = l.octets().cmp(r.octets()).then(order);
-        if left.are_those_of(&right) {
-            return order;
-        }
-    }
-    order
-}
-
 // Appends octets that there is room for.
 fn append_octets(octets: &mut ArrayVec<u8, MAX_OCTETS>, part: &[u8])
     requires { array_vec_len octets.old + length part.now ≤ MAX_OCTETS }
@@ -383,11 +259,4 @@ fn lower_case(octets: &mut ArrayVec<u8, MAX_OCTETS>)
     ensures { octets.new.items ≡ map to_ascii_lowercase octets.old.items }
 {
     octets.as_mut_slice().make_ascii_lowercase();
-}
-
-// Octets that are compared are mostly in one case, which costs less to see.
-fn same_octets(left: &[u8], right: &[u8]) -> bool
-    ensures { IsTrue result ↔ (map to_ascii_lowercase left.now ≡ map to_ascii_lowercase right.now) }
-{
-    left == right || left.eq_ignore_ascii_case(right)
 }

@@ -5,6 +5,7 @@ ghost use Rattle.dns_spec.specs.NameText.{is_special, octet_text, label_text, na
 ghost use Rattle.dns_spec.specs.Report.{bare_name_text};
 ghost use Rattle.dns_name.specs.Counted.{Writes};
 
+use crate::lent::NameRef;
 use crate::name::Name;
 use crate::tally::{SinkFailed, Tally};
 use arrayvec::ArrayVec;
@@ -26,7 +27,7 @@ impl Name {
         requires { sink.old.failures < 2 ^ 64 - 1 }
         ensures { Writes W.contents sink.old sink.new result (name_text self.now) }
     {
-        sink.write_all(self.text().as_slice())
+        self.lent().write_text(sink)
     }
 
     /// Writes the name as most programs print it: its labels with a dot between them, and the root
@@ -38,7 +39,19 @@ impl Name {
         requires { sink.old.failures < 2 ^ 64 - 1 }
         ensures { Writes W.contents sink.old sink.new result (bare_name_text self.now) }
     {
-        sink.write_all(self.bare_text().as_slice())
+        sink.write_all(self.lent().bare_text().as_slice())
+    }
+}
+
+impl NameRef<'_> {
+    /// Writes the name as it stands in a zone file, as `Name::write_text` does (RFC 1035 5.1).
+    ///
+    /// Where the writer fails, a beginning of the text was written, and the failure is counted.
+    pub fn write_text<W: Write>(&self, sink: &mut Tally<W>) -> Result<(), SinkFailed>
+        requires { sink.old.failures < 2 ^ 64 - 1 }
+        ensures { Writes W.contents sink.old sink.new result (name_text self.now) }
+    {
+        sink.write_all(self.text().as_slice())
     }
 
     // The name as it is written, but for the dot after its last label.

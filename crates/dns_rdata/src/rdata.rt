@@ -9,7 +9,7 @@ use crate::fault::RdataFault;
 use crate::parts::{Part, Parts, are_cut, first_part};
 use crate::rtype::RType;
 use crate::table::{Piece, pieces_of_type};
-use dns_name::Name;
+use dns_name::{Name, NameRef};
 use std::alloc::{AllocError, Global};
 use std::marker::Model;
 
@@ -106,10 +106,19 @@ impl Rdata {
         requires { Valid rtype.0 octets.now }
         ensures { result ≡ target rtype.0 octets.now }
     {
+        let target = Rdata::target_lent(rtype, octets)?;
+        Some(target.to_name())
+    }
+
+    /// The first name in valid data, as `target` gives it, lent from where it stands.
+    pub fn target_lent(rtype: RType, octets: &[u8]) -> Option<NameRef<'_>>
+        requires { Valid rtype.0 octets.now }
+        ensures { result ≡ target rtype.0 octets.now }
+    {
         let mut parts = Rdata::parts(rtype, octets);
         'parts: while let Some(part) = parts.next() {
             if let Part::Name(octets) = part {
-                return Some(Name::from_octets(octets));
+                return Some(NameRef::new(octets));
             }
         }
         None

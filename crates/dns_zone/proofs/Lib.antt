@@ -1,3 +1,5 @@
+pub mod Entries
+pub mod Targets
 pub mod KnownRecords
 pub mod BuiltZone
 pub mod PrintedRecords

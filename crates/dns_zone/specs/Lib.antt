@@ -1,3 +1,4 @@
+pub mod EntryForm
 pub mod ZoneForm
 pub mod Nodes
 pub mod SetForm

@@ -1,15 +1,15 @@
 //! Records brought near to canonical order by few moves.
 //!
-//! A record has 300 octets, and a sort moves what it sorts again and again. So places are sorted in
-//! the records' stead, by short keys first, and each record is moved once.
+//! A sort compares whole names, which takes time. So places are sorted in the records' stead, by
+//! short keys first, and each record is moved once.
 ghost use Rattle.std.specs.Prelude.{◌≡◌, ◌<◌, ◌++◌, All, length, take, replicate, IfOk};
 ghost use Rattle.std.specs.List.Sorted.{IsPermutation};
 ghost use Rattle.std.specs.Ordering.{nat_cmp, ordering_then};
 ghost use Rattle.dns_spec.specs.Records.{record_order};
 
+use crate::entry::Entry;
 use crate::order::record_order;
-use dns_master::Record;
-use dns_name::Name;
+use dns_name::NameRef;
 use std::alloc::{AllocError, Global};
 use std::cmp::Ordering;
 
@@ -32,7 +32,7 @@ const TO_HIGH_BIT: u128 = 0x3f3f_3f3f_3f3f_3f3f_3f3f_3f3f_3f3f_3f3f;
 struct Place<'a> {
     key: u128,
     at: usize,
-    listed: &'a Record,
+    listed: &'a Entry,
 }
 
 /// Moves records into the order of their keys, and those of one key into canonical order. Where all
@@ -42,8 +42,8 @@ struct Place<'a> {
 /// Memory is taken for 40 octets for each record.
 pub(crate) fn arrange(
     alloc: Global,
-    origin: &Name,
-    records: &mut [Record],
+    origin: &NameRef<'_>,
+    records: &mut [Entry],
 ) -> Result<(), AllocError>
     ensures { IsPermutation records.old records.new }
 {
@@ -53,7 +53,7 @@ pub(crate) fn arrange(
 }
 
 // For each record how many come before it.
-fn ranks(alloc: Global, origin: &Name, records: &[Record]) -> Result<Vec<usize>, AllocError>
+fn ranks(alloc: Global, origin: &NameRef<'_>, records: &[Entry]) -> Result<Vec<usize>, AllocError>
     ensures count { IfOk result (λ ranks. length ranks.items ≡ length records.now) }
     ensures below { IfOk result (λ ranks. All (λ r. r < length records.now) ranks.items) }
 {
@@ -67,8 +67,8 @@ fn ranks(alloc: Global, origin: &Name, records: &[Record]) -> Result<Vec<usize>,
 // The place of each record.
 fn places<'a>(
     alloc: Global,
-    origin: &Name,
-    records: &'a [Record],
+    origin: &NameRef<'_>,
+    records: &'a [Entry],
 ) -> Result<Vec<Place<'a>>, AllocError>
     ensures count { IfOk result (λ places. length places.items ≡ length records.now) }
     ensures below { IfOk result (λ places.
@@ -79,7 +79,7 @@ fn places<'a>(
     let mut rest = records;
     let mut at = 0;
     'records: while let Some((listed, others)) = rest.split_first() {
-        let key = key_after(places.as_slice(), origin_count, &listed.owner);
+        let key = key_after(places.as_slice(), origin_count, &listed.owner());
         places.push(Place { key, at, listed })?;
         rest = others;
         at += 1;
@@ -88,10 +88,10 @@ fn places<'a>(
 }
 
 // The key of an owner, which is mostly that of the record before.
-fn key_after(places: &[Place<'_>], origin_count: usize, owner: &Name) -> u128 {
+fn key_after(places: &[Place<'_>], origin_count: usize, owner: &NameRef<'_>) -> u128 {
     if let Some(last) = places.last() {
         let before = last.listed;
-        if before.owner == *owner {
+        if before.owner() == *owner {
             return last.key;
         }
     }
@@ -100,7 +100,7 @@ fn key_after(places: &[Place<'_>], origin_count: usize, owner: &Name) -> u128 {
 
 // The first octets that the key of an owner has after that of the origin, by which most owners of a
 // zone differ. A label further right comes first, so each moves those before it back.
-fn key_below(origin_count: usize, owner: &Name) -> u128 {
+fn key_below(origin_count: usize, owner: &NameRef<'_>) -> u128 {
     let count = owner.label_count().saturating_sub(origin_count);
     let mut labels = owner.labels();
     let mut key = 0;
@@ -164,7 +164,7 @@ fn note_ranks(places: &[Place<'_>], ranks: &mut [usize])
 }
 
 // Moves each record to the place that its rank names.
-fn put_in_places(records: &mut [Record], ranks: &mut [usize])
+fn put_in_places(records: &mut [Entry], ranks: &mut [usize])
     requires count { length ranks.old ≡ length records.old }
     requires below { All (λ r. r < length records.old) ranks.old }
     ensures { IsPermutation records.old records.new }
@@ -175,7 +175,7 @@ fn put_in_places(records: &mut [Record], ranks: &mut [usize])
 }
 
 // Moves records to their places from the place `at`, until the record that belongs there has come.
-fn settle(records: &mut [Record], ranks: &mut [usize], at: usize)
+fn settle(records: &mut [Entry], ranks: &mut [usize], at: usize)
     requires at { at < length records.old }
     requires count { length ranks.old ≡ length records.old }
     requires below { All (λ r. r < length records.old) ranks.old }

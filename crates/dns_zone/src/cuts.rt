@@ -8,10 +8,10 @@ ghost use Rattle.dns_spec.specs.Data.{type_ns};
 ghost use Rattle.dns_zone.specs.ZoneForm.{AreOrdered};
 ghost use Rattle.dns_zone.specs.CutForm.{after, AreTopmost, AreApart, last_passes};
 
+use crate::entry::Entry;
 use crate::key::Key;
 use crate::keyed::Keyed;
-use dns_master::Record;
-use dns_name::Name;
+use dns_name::NameRef;
 use dns_rdata::RType;
 use std::alloc::{AllocError, Global};
 
@@ -22,7 +22,7 @@ use std::alloc::{AllocError, Global};
 /// enough to look at the cut that was found last.
 pub(crate) fn topmost_cuts<'a>(
     alloc: Global,
-    origin: &Name,
+    origin: &NameRef<'_>,
     records: &'a [Keyed<'a>],
 ) -> Result<Vec<&'a Keyed<'a>>, AllocError>
     requires { AreOrdered records.now }
@@ -39,23 +39,26 @@ pub(crate) fn topmost_cuts<'a>(
 }
 
 // Whether the record makes a cut that is not at or below the last of the cuts.
-fn is_topmost(origin: &Name, cuts: &[&Keyed<'_>], listed: &Keyed<'_>) -> bool
+fn is_topmost(origin: &NameRef<'_>, cuts: &[&Keyed<'_>], listed: &Keyed<'_>) -> bool
     ensures { result ≡ ((listed.now.rtype == type_ns && below listed.now.owner origin.now)
         && not (last_passes (λ (c : ResourceRecord). at_or_below listed.now.owner c.owner)
         (after cuts.now))) }
 {
     let record = listed.listed();
-    is_delegation(origin, record) && !is_covered(cuts, &record.owner)
+    is_delegation(origin, record) && !is_covered(cuts, &record.owner())
 }
 
-fn is_delegation(origin: &Name, listed: &Record) -> bool
+fn is_delegation(origin: &NameRef<'_>, listed: &Entry) -> bool
     ensures { result ≡ (listed.now.rtype == type_ns && below listed.now.owner origin.now) }
 {
-    listed.rtype == RType::NS && listed.owner.below(origin)
+    listed.rtype == RType::NS && listed.owner().below(origin)
 }
 
 /// The cuts that are not after the name in canonical order.
-pub(crate) fn not_after<'a, 'b>(cuts: &'b [&'a Keyed<'a>], name: &Name) -> &'b [&'a Keyed<'a>]
+pub(crate) fn not_after<'a, 'b>(
+    cuts: &'b [&'a Keyed<'a>],
+    name: &NameRef<'_>,
+) -> &'b [&'a Keyed<'a>]
     requires apart { AreApart (after cuts.now) }
     requires lower { folded name.now ≡ name.now }
     ensures { after result.now ≡ filter
@@ -66,28 +69,28 @@ pub(crate) fn not_after<'a, 'b>(cuts: &'b [&'a Keyed<'a>], name: &Name) -> &'b [
 }
 
 /// Whether the name is at or below the last of the cuts.
-pub(crate) fn is_covered(cuts: &[&Keyed<'_>], name: &Name) -> bool
+pub(crate) fn is_covered(cuts: &[&Keyed<'_>], name: &NameRef<'_>) -> bool
     ensures { result ≡ last_passes (λ (c : ResourceRecord). at_or_below name.now c.owner)
         (after cuts.now) }
 {
     match cuts.last() {
         Some(cut) => {
             let listed = cut.listed();
-            name.at_or_below(&listed.owner)
+            name.at_or_below(&listed.owner())
         }
         None => false,
     }
 }
 
 /// Whether the name is below the last of the cuts.
-pub(crate) fn is_below_last(cuts: &[&Keyed<'_>], name: &Name) -> bool
+pub(crate) fn is_below_last(cuts: &[&Keyed<'_>], name: &NameRef<'_>) -> bool
     ensures { result ≡ last_passes (λ (c : ResourceRecord). below name.now c.owner)
         (after cuts.now) }
 {
     match cuts.last() {
         Some(cut) => {
             let listed = cut.listed();
-            name.below(&listed.owner)
+            name.below(&listed.owner())
         }
         None => false,
     }

@@ -7,13 +7,13 @@ ghost use Rattle.dns_zone.specs.ZoneForm.{AreOrdered};
 ghost use Rattle.dns_zone.specs.OwnerForm.{IsOwner};
 ghost use Rattle.dns_zone.specs.ReportedForm.{HasOwners, failed_from, owners_once, reported_around, reported_at};
 
+use crate::entry::Entry;
 use crate::fault::CheckFault;
 use crate::keyed::{beside_keys, keys_of};
 use crate::lookup::{count_at, count_before, count_in_front};
 use crate::owner::Owner;
 use crate::survey::Survey;
-use dns_master::Record;
-use dns_name::Name;
+use dns_name::NameRef;
 use std::alloc::{AllocError, Global};
 
 /// The faults of the zone of these records, by the order of owners, then by code. They are reported
@@ -22,8 +22,8 @@ use std::alloc::{AllocError, Global};
 /// An error only where memory for the list of faults, for keys or for cuts was not found.
 pub(crate) fn faults(
     alloc: Global,
-    origin: &Name,
-    records: &[Record],
+    origin: &NameRef<'_>,
+    records: &[Entry],
 ) -> Result<Vec<CheckFault>, AllocError>
     requires ordered { AreOrdered records.now }
     requires lower { folded origin.now ≡ origin.now }
@@ -43,10 +43,10 @@ pub(crate) fn faults(
 // Adds the faults of the owners before a name, of the name, and of the owners after it.
 fn report_around(
     survey: &Survey<'_>,
-    before: &[Record],
-    name: &Name,
-    own: &[Record],
-    after: &[Record],
+    before: &[Entry],
+    name: &NameRef<'_>,
+    own: &[Entry],
+    after: &[Entry],
     found: &mut Vec<CheckFault>,
 ) -> Result<(), AllocError>
     requires before { HasOwners survey.now before.now }
@@ -63,7 +63,7 @@ fn report_around(
 // Adds the faults of all owners of records that stand by them.
 fn report_owners(
     survey: &Survey<'_>,
-    records: &[Record],
+    records: &[Entry],
     found: &mut Vec<CheckFault>,
 ) -> Result<(), AllocError>
     requires { HasOwners survey.now records.now }
@@ -72,8 +72,9 @@ fn report_owners(
 {
     let mut rest = records;
     'owners: while let Some((first, _)) = rest.split_first() {
-        let (own, others) = rest.split_at(count_in_front(rest, &first.owner));
-        report(survey, &first.owner, own, others, found)?;
+        let owner = first.owner();
+        let (own, others) = rest.split_at(count_in_front(rest, &owner));
+        report(survey, &owner, own, others, found)?;
         rest = others;
     }
     Ok(())
@@ -82,9 +83,9 @@ fn report_owners(
 // Adds the faults of a name, whose records these are, and after which come others.
 fn report(
     survey: &Survey<'_>,
-    name: &Name,
-    own: &[Record],
-    after: &[Record],
+    name: &NameRef<'_>,
+    own: &[Entry],
+    after: &[Entry],
     found: &mut Vec<CheckFault>,
 ) -> Result<(), AllocError>
     requires own { IsOwner survey.now name.now own.now }
@@ -96,7 +97,11 @@ fn report(
 }
 
 // Adds the faults of a name that fails these of the checks from the first on.
-fn add_failed(name: &Name, failed: &[bool], found: &mut Vec<CheckFault>) -> Result<(), AllocError>
+fn add_failed(
+    name: &NameRef<'_>,
+    failed: &[bool],
+    found: &mut Vec<CheckFault>,
+) -> Result<(), AllocError>
     requires { length failed.now ≤ 15 }
     ensures { OnOk result (found.new.items ≡ found.old.items ++ failed_from name.now 1 failed.now) }
 {
@@ -112,12 +117,12 @@ fn add_failed(name: &Name, failed: &[bool], found: &mut Vec<CheckFault>) -> Resu
     Ok(())
 }
 
-fn add(name: &Name, code: u8, found: &mut Vec<CheckFault>) -> Result<(), AllocError>
+fn add(name: &NameRef<'_>, code: u8, found: &mut Vec<CheckFault>) -> Result<(), AllocError>
     ensures { OnOk result (found.new.items ≡ found.old.items
         ++ record { owner = name.now; code = code } ∷ []) }
 {
     found.push(CheckFault {
-        owner: name.copied(),
+        owner: name.to_name(),
         code,
     })?;
     Ok(())

@@ -5,7 +5,7 @@ ghost use Rattle.dns_name.specs.WireForm.{labels_of, IsWireForm};
 ghost use Rattle.dns_zone.specs.KeyForm.{raised, ended, name_key};
 
 use arrayvec::ArrayVec;
-use dns_name::{Name, first_label};
+use dns_name::{NameRef, first_label};
 use std::marker::Model;
 
 const MAX_OCTETS: usize = 255;
@@ -35,7 +35,7 @@ impl Key {
 
     /// The key of a name: its labels from the right, each ended, so that one which begins another
     /// comes first.
-    pub(crate) fn of(name: &Name) -> Key
+    pub(crate) fn of(name: &NameRef<'_>) -> Key
         ensures { result ≡ name_key name.now }
     {
         let mut key = Key::new();
@@ -44,7 +44,7 @@ impl Key {
     }
 
     /// Makes it the key of a name. Where many are made in turn, that moves no octets but theirs.
-    pub(crate) fn make_that_of(&mut self, name: &Name)
+    pub(crate) fn make_that_of(&mut self, name: &NameRef<'_>)
         ensures { self.new ≡ name_key name.now }
     {
         self.octets.clear();

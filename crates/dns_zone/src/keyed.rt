@@ -3,9 +3,9 @@ ghost use Rattle.std.specs.Prelude.{◌≡◌, ◌∷◌, ◌++◌, IfOk, OnOk};
 ghost use Rattle.dns_spec.specs.Names.{folded, name_order};
 ghost use Rattle.dns_zone.specs.KeyForm.{name_key, shares_key, keys_left};
 
+use crate::entry::Entry;
 use crate::key::Key;
-use dns_master::Record;
-use dns_name::Name;
+use dns_name::NameRef;
 use std::alloc::{AllocError, Global};
 use std::cmp::Ordering;
 use std::marker::Model;
@@ -14,7 +14,7 @@ use std::marker::Model;
 #[derive(Drop)]
 pub(crate) struct Keyed<'a> {
     key: &'a [u8],
-    listed: &'a Record,
+    listed: &'a Entry,
 }
 
 impl<'a> Model for Keyed<'a> {
@@ -33,14 +33,14 @@ impl<'a> Model for Keyed<'a> {
 
 impl<'a> Keyed<'a> {
     /// The record itself.
-    pub(crate) fn listed(&self) -> &'a Record
+    pub(crate) fn listed(&self) -> &'a Entry
         ensures { result.now ≡ self.now }
     {
         self.listed
     }
 
     /// How the owner stands to a name in lower case, whose key this is.
-    pub(crate) fn order(&self, name: &Name, key: &Key) -> Ordering
+    pub(crate) fn order(&self, name: &NameRef<'_>, key: &Key) -> Ordering
         requires lower { folded name.now ≡ name.now }
         requires key { key.now ≡ name_key name.now }
         ensures { result ≡ name_order self.now.owner name.now }
@@ -50,7 +50,7 @@ impl<'a> Keyed<'a> {
 }
 
 /// The keys of the owners of records, one after another, those of neighbours of one owner once.
-pub(crate) fn keys_of(alloc: Global, records: &[Record]) -> Result<Vec<u8>, AllocError>
+pub(crate) fn keys_of(alloc: Global, records: &[Entry]) -> Result<Vec<u8>, AllocError>
     ensures { IfOk result (λ keys. keys.items ≡ keys_left records.now) }
 {
     let mut keys = Vec::new(alloc);
@@ -65,8 +65,8 @@ pub(crate) fn keys_of(alloc: Global, records: &[Record]) -> Result<Vec<u8>, Allo
 
 // Adds the key of a record's owner, where it is not that of the next. `key` is room to make it in.
 fn add_key(
-    first: &Record,
-    others: &[Record],
+    first: &Entry,
+    others: &[Entry],
     key: &mut Key,
     keys: &mut Vec<u8>,
 ) -> Result<(), AllocError>
@@ -76,16 +76,16 @@ fn add_key(
     if shares_key(first, others) {
         return Ok(());
     }
-    key.make_that_of(&first.owner);
+    key.make_that_of(&first.owner());
     keys.extend_from_slice(key.octets())
 }
 
 // Whether the next record has the same owner.
-fn shares_key(first: &Record, others: &[Record]) -> bool
+fn shares_key(first: &Entry, others: &[Entry]) -> bool
     ensures { result ≡ shares_key first.now others.now }
 {
     match others.first() {
-        Some(next) => first.owner == next.owner,
+        Some(next) => first.owner() == next.owner(),
         None => false,
     }
 }
@@ -93,7 +93,7 @@ fn shares_key(first: &Record, others: &[Record]) -> bool
 /// Records beside their keys. Memory is taken for 24 octets for each record.
 pub(crate) fn beside_keys<'a>(
     alloc: Global,
-    records: &'a [Record],
+    records: &'a [Entry],
     keys: &'a [u8],
 ) -> Result<Vec<Keyed<'a>>, AllocError>
     requires { keys.now ≡ keys_left records.now }
@@ -103,7 +103,7 @@ pub(crate) fn beside_keys<'a>(
     let mut rest = records;
     let mut left = keys;
     'records: while let Some((listed, others)) = rest.split_first() {
-        let (key, after) = left.split_at(listed.owner.octets().len() - 1);
+        let (key, after) = left.split_at(listed.owner().octets().len() - 1);
         keyed.push(Keyed { key, listed })?;
         left = later_keys(listed, others, left, after);
         rest = others;
@@ -113,7 +113,7 @@ pub(crate) fn beside_keys<'a>(
 
 // The keys that are left after a record: all where the next record has its owner, else those after
 // its own.
-fn later_keys<'a>(first: &Record, others: &[Record], keys: &'a [u8], after: &'a [u8]) -> &'a [u8]
+fn later_keys<'a>(first: &Entry, others: &[Entry], keys: &'a [u8], after: &'a [u8]) -> &'a [u8]
     requires keys { keys.now ≡ keys_left (first.now ∷ others.now) }
     requires after { keys.now ≡ name_key first.now.owner ++ after.now }
     ensures { result.now ≡ keys_left others.now }

@@ -4,6 +4,7 @@
 
 mod arranged;
 mod cuts;
+mod entry;
 mod fault;
 mod faults;
 mod key;
@@ -19,6 +20,7 @@ mod search;
 mod set;
 mod sets;
 mod steps;
+mod store;
 mod survey;
 mod target;
 mod tree;
@@ -29,6 +31,7 @@ pub use node::Node;
 pub use printed::{PrintFault, print};
 pub use set::RecordSet;
 pub use steps::Steps;
+pub use store::Store;
 pub use zone::Zone;
 
 #[cfg(test)]

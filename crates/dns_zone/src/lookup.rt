@@ -7,10 +7,10 @@ ghost use Rattle.dns_spec.specs.Names.{folded, same, at_or_below, name_order};
 ghost use Rattle.dns_spec.specs.Records.{ResourceRecord};
 ghost use Rattle.dns_zone.specs.ZoneForm.{AreOrdered, IsFront};
 
+use crate::entry::Entry;
 use crate::key::Key;
 use crate::keyed::Keyed;
-use dns_master::Record;
-use dns_name::Name;
+use dns_name::NameRef;
 use dns_rdata::RType;
 
 // How many records are looked at before all are: most owners have few records, and most names few
@@ -20,9 +20,9 @@ const NEAR: usize = 4;
 /// The records whose owner is the name, which stand side by side.
 pub(crate) fn records_at<'a>(
     keyed: &[Keyed<'_>],
-    records: &'a [Record],
-    name: &Name,
-) -> &'a [Record]
+    records: &'a [Entry],
+    name: &NameRef<'_>,
+) -> &'a [Entry]
     requires keyed { keyed.now ≡ records.now }
     requires ordered { AreOrdered records.now }
     requires lower { folded name.now ≡ name.now }
@@ -33,7 +33,7 @@ pub(crate) fn records_at<'a>(
 }
 
 /// How many of the records have an owner that comes before the name.
-pub(crate) fn count_before(records: &[Keyed<'_>], name: &Name) -> usize
+pub(crate) fn count_before(records: &[Keyed<'_>], name: &NameRef<'_>) -> usize
     requires ordered { AreOrdered records.now }
     requires lower { folded name.now ≡ name.now }
     ensures bound { result ≤ length records.now }
@@ -47,7 +47,7 @@ pub(crate) fn count_before(records: &[Keyed<'_>], name: &Name) -> usize
 }
 
 /// How many of the records have the name as owner, where these stand in front.
-pub(crate) fn count_at(records: &[Record], name: &Name) -> usize
+pub(crate) fn count_at(records: &[Entry], name: &NameRef<'_>) -> usize
     requires in_front { IsPartitionedBy
         (λ (r : ResourceRecord). same r.owner name.now) records.now }
     requires lower { folded name.now ≡ name.now }
@@ -67,7 +67,7 @@ pub(crate) fn count_at(records: &[Record], name: &Name) -> usize
 }
 
 // The same where it is at most `near`, and a record stands there; or nothing.
-fn count_at_among(records: &[Record], name: &Name, near: usize) -> Option<usize>
+fn count_at_among(records: &[Entry], name: &NameRef<'_>, near: usize) -> Option<usize>
     requires in_front { IsPartitionedBy
         (λ (r : ResourceRecord). same r.owner name.now) records.now }
     requires lower { folded name.now ≡ name.now }
@@ -82,7 +82,7 @@ fn count_at_among(records: &[Record], name: &Name, near: usize) -> Option<usize>
 }
 
 /// How many of the records have owners at or below the name, where these stand in front.
-pub(crate) fn count_under(records: &[Record], name: &Name) -> usize
+pub(crate) fn count_under(records: &[Entry], name: &NameRef<'_>) -> usize
     requires { IsPartitionedBy (λ (r : ResourceRecord). at_or_below r.owner name.now) records.now }
     ensures bound { result ≤ length records.now }
     ensures own { take result records.now
@@ -96,24 +96,24 @@ pub(crate) fn count_under(records: &[Record], name: &Name) -> usize
     if let Some(count) = count_under_among(records, name, NEAR) {
         return count;
     }
-    records.partition_point(|listed| listed.owner.at_or_below(name))
+    records.partition_point(|listed| listed.owner().at_or_below(name))
 }
 
 // The same where it is at most `near`, and a record stands there; or nothing.
-fn count_under_among(records: &[Record], name: &Name, near: usize) -> Option<usize>
+fn count_under_among(records: &[Entry], name: &NameRef<'_>, near: usize) -> Option<usize>
     requires { IsPartitionedBy (λ (r : ResourceRecord). at_or_below r.owner name.now) records.now }
     ensures { IfSome result
         (λ k. IsFront (λ (r : ResourceRecord). at_or_below r.owner name.now) records.now k) }
 {
     let next = records.get(near)?;
-    if next.owner.at_or_below(name) {
+    if next.owner().at_or_below(name) {
         return None;
     }
-    Some(records[..near].partition_point(|listed| listed.owner.at_or_below(name)))
+    Some(records[..near].partition_point(|listed| listed.owner().at_or_below(name)))
 }
 
 /// How many records stand in front whose owner is the name. They are passed one by one.
-pub(crate) fn count_in_front(records: &[Record], name: &Name) -> usize
+pub(crate) fn count_in_front(records: &[Entry], name: &NameRef<'_>) -> usize
     requires { folded name.now ≡ name.now }
     ensures value { result ≡ prefix_len
         (λ (r : ResourceRecord). same r.owner name.now) records.now }
@@ -126,7 +126,7 @@ pub(crate) fn count_in_front(records: &[Record], name: &Name) -> usize
 }
 
 /// Whether one of the records is of the type, where they stand by their types.
-pub(crate) fn has_type(records: &[Record], rtype: RType) -> bool
+pub(crate) fn has_type(records: &[Entry], rtype: RType) -> bool
     requires { IsNonDecreasingBy (λ (r : ResourceRecord). r.rtype) records.now }
     ensures { result ≡ list_any (λ (r : ResourceRecord). r.rtype == rtype.0) records.now }
 {
@@ -137,7 +137,7 @@ pub(crate) fn has_type(records: &[Record], rtype: RType) -> bool
 }
 
 /// The records of a type, where they stand by their types.
-pub(crate) fn of_type<'a>(records: &'a [Record], rtype: RType) -> &'a [Record]
+pub(crate) fn of_type<'a>(records: &'a [Entry], rtype: RType) -> &'a [Entry]
     requires { IsNonDecreasingBy (λ (r : ResourceRecord). r.rtype) records.now }
     ensures { result.now ≡ filter (λ (r : ResourceRecord). r.rtype == rtype.0) records.now }
 {
@@ -146,7 +146,7 @@ pub(crate) fn of_type<'a>(records: &'a [Record], rtype: RType) -> &'a [Record]
 }
 
 // How many of the records are of the type, where these stand in front.
-fn count_of(records: &[Record], rtype: RType) -> usize
+fn count_of(records: &[Entry], rtype: RType) -> usize
     requires { IsPartitionedBy (λ (r : ResourceRecord). r.rtype == rtype.0) records.now }
     ensures bound { result ≤ length records.now }
     ensures own { take result records.now
@@ -156,7 +156,7 @@ fn count_of(records: &[Record], rtype: RType) -> usize
 }
 
 // How many of the records are of a type below this one.
-fn count_below(records: &[Record], rtype: RType) -> usize
+fn count_below(records: &[Entry], rtype: RType) -> usize
     requires { IsNonDecreasingBy (λ (r : ResourceRecord). r.rtype) records.now }
     ensures bound { result ≤ length records.now }
     ensures others { drop result records.now
@@ -165,9 +165,9 @@ fn count_below(records: &[Record], rtype: RType) -> usize
     records.partition_point(|listed| listed.rtype.0 < rtype.0)
 }
 
-fn is_at(listed: &Record, name: &Name) -> bool
+fn is_at(listed: &Entry, name: &NameRef<'_>) -> bool
     requires { folded name.now ≡ name.now }
     ensures { result ≡ same listed.now.owner name.now }
 {
-    listed.owner == *name
+    listed.owner() == *name
 }

@@ -10,6 +10,7 @@ ghost use Rattle.dns_zone.specs.Nodes.{IsNode, IsSetOf};
 ghost use Rattle.dns_zone.specs.NodeForm.{zone_of_tree, IsZoneTree, IsNodeAt};
 ghost use Rattle.dns_zone.specs.TreeForm.{kids_at};
 
+use crate::entry::Entry;
 use crate::lookup::of_type;
 use crate::row::Row;
 use crate::search::find;
@@ -17,7 +18,6 @@ use crate::set::{RecordSet, lent_set};
 use crate::steps::Steps;
 use crate::tree::Tree;
 use arrayvec::ArrayVec;
-use dns_master::Record;
 use dns_name::Label;
 use dns_rdata::RType;
 use std::marker::Model;
@@ -109,7 +109,7 @@ impl<'z> Node<'z> {
     }
 
     // The records of the name, by their types.
-    fn own(&self) -> &'z [Record]
+    fn own(&self) -> &'z [Entry]
         ensures own { result.now ≡ at self.now.zone self.now.name }
         ensures by_types { IsNonDecreasingBy (λ (r : ResourceRecord). r.rtype) result.now }
         ensures node { IsNode self.now.zone self.now.name }

@@ -3,22 +3,22 @@ ghost use Rattle.std.specs.Prelude.{◌≡◌};
 ghost use Rattle.dns_spec.specs.Names.{folded, name_order};
 ghost use Rattle.dns_spec.specs.Records.{record_order};
 
-use dns_master::Record;
-use dns_name::Name;
+use crate::entry::Entry;
+use dns_name::NameRef;
 use std::cmp::Ordering;
 
 // Which of two records comes first: by owner, type and data, and those that agree in these by TTL.
-pub(crate) fn record_order(one: &Record, other: &Record) -> Ordering
+pub(crate) fn record_order(one: &Entry, other: &Entry) -> Ordering
     ensures { result ≡ record_order one.now other.now }
 {
-    owner_order(&one.owner, &other.owner)
+    owner_order(&one.owner(), &other.owner())
         .then_with(|| one.rtype.0.cmp(&other.rtype.0))
-        .then_with(|| one.rdata.octets().cmp(other.rdata.octets()))
+        .then_with(|| one.rdata().cmp(other.rdata()))
         .then_with(|| one.ttl.cmp(&other.ttl))
 }
 
 // Many records that are compared have one owner, which costs less to see.
-fn owner_order(one: &Name, other: &Name) -> Ordering
+fn owner_order(one: &NameRef<'_>, other: &NameRef<'_>) -> Ordering
     requires one { folded one.now ≡ one.now }
     requires other { folded other.now ≡ other.now }
     ensures { result ≡ name_order one.now other.now }

@@ -7,18 +7,18 @@ ghost use Rattle.dns_spec.specs.ZonePrinted.{IsReadRecord};
 ghost use Rattle.dns_zone.specs.ZoneForm.{AreOrdered};
 
 use crate::arranged::arrange;
+use crate::entry::Entry;
 use crate::order::record_order;
-use dns_master::Record;
-use dns_name::Name;
+use dns_name::NameRef;
 use std::alloc::{AllocError, Global};
 
 // The records, each once, in canonical order (RFC 4034 6.1, 6.3, RFC 2181 5). The sort here moves
 // nothing where the records are arranged already, and they mostly are.
 pub(crate) fn ordered(
     alloc: Global,
-    origin: &Name,
-    mut records: Vec<Record>,
-) -> Result<Vec<Record>, AllocError>
+    origin: &NameRef<'_>,
+    mut records: Vec<Entry>,
+) -> Result<Vec<Entry>, AllocError>
     ensures records { IfOk result (λ kept. kept.items
         ≡ sort_by record_order (distinct records_equal records.items)) }
     ensures in_order { IfOk result (λ kept. AreOrdered kept.items) }
@@ -34,7 +34,7 @@ pub(crate) fn ordered(
 
 // Leaves each record out that is equal to the one before. `dedup_by` moves all records, and mostly
 // none is left out.
-fn leave_out_duplicates(records: &mut Vec<Record>)
+fn leave_out_duplicates(records: &mut Vec<Entry>)
     ensures kept { records.new.items ≡ dedup records_equal records.old.items }
     ensures bound { length records.new.items ≤ length records.old.items }
 {
@@ -44,7 +44,7 @@ fn leave_out_duplicates(records: &mut Vec<Record>)
 }
 
 // Whether a record is equal to the one before. Where none is, none is to be left out.
-fn has_duplicate(records: &[Record]) -> bool
+fn has_duplicate(records: &[Entry]) -> bool
     ensures { OnFalse result (dedup records_equal records.now ≡ records.now) }
 {
     let mut rest = records;
@@ -58,7 +58,7 @@ fn has_duplicate(records: &[Record]) -> bool
 }
 
 // Whether the next record is equal to this one.
-fn is_duplicate(first: &Record, others: &[Record]) -> bool
+fn is_duplicate(first: &Entry, others: &[Entry]) -> bool
     ensures { OnFalse result (dedup records_equal (first.now ∷ others.now)
         ≡ first.now ∷ dedup records_equal others.now) }
 {
@@ -70,17 +70,17 @@ fn is_duplicate(first: &Record, others: &[Record]) -> bool
 
 // Whether two records are equal in owner, type, data and TTL (RFC 2181 5). Neighbours mostly differ
 // by type or owner.
-fn records_equal(one: &Record, other: &Record) -> bool
+fn records_equal(one: &Entry, other: &Entry) -> bool
     ensures { result ≡ records_equal one.now other.now }
 {
     one.rtype == other.rtype
         && one.ttl == other.ttl
-        && one.owner.same(&other.owner)
-        && one.rdata.octets() == other.rdata.octets()
+        && one.owner().same(&other.owner())
+        && one.rdata() == other.rdata()
 }
 
 // What each record keeps is known once it is read. Nothing else is done.
-fn know_each(records: &[Record])
+fn know_each(records: &[Entry])
     ensures { All IsReadRecord records.now }
 {
     'records: for each in records {
@@ -88,12 +88,12 @@ fn know_each(records: &[Record])
     }
 }
 
-fn know(one: &Record)
+fn know(one: &Entry)
     ensures { IsReadRecord one.now }
 {
     let _type = one.rtype.0;
-    know_octets(one.owner.octets());
-    know_octets(one.rdata.octets());
+    know_octets(one.owner().octets());
+    know_octets(one.rdata());
 }
 
 fn know_octets(_octets: &[u8])

@@ -6,11 +6,11 @@ ghost use Rattle.dns_spec.specs.Checks.{is_origin, count, owns_such, is_address_
 ghost use Rattle.dns_spec.specs.Data.{type_ns, type_cname};
 ghost use Rattle.dns_zone.specs.OwnerForm.{IsPlaced, is_server_alias, is_server_lost};
 
+use crate::entry::Entry;
 use crate::lookup::has_type;
 use crate::sets::{have_large_set, have_many_sets, have_other_ttls};
 use crate::survey::Survey;
-use dns_master::Record;
-use dns_name::Name;
+use dns_name::NameRef;
 use dns_rdata::RType;
 use std::marker::Model;
 
@@ -18,20 +18,25 @@ use std::marker::Model;
 #[derive(Drop)]
 pub(crate) struct Owner<'a> {
     survey: &'a Survey<'a>,
-    name: &'a Name,
-    own: &'a [Record],
+    name: &'a NameRef<'a>,
+    own: &'a [Entry],
     // Records of other owners, which come after.
-    after: &'a [Record],
+    after: &'a [Entry],
+    // Whether the name is the zone's origin.
+    stands_first: bool,
 }
 
 impl<'a> Model for Owner<'a> {
+    ghost use Rattle.std.specs.Prelude.{◌≡◌};
+    ghost use Rattle.dns_spec.specs.Checks.{is_origin};
     ghost use Rattle.dns_zone.specs.OwnerForm.{NameOfZone, IsPlaced};
 
     ghost Value = { NameOfZone };
 
     ghost view = { λ o. record { zone = o.survey.now; name = o.name.now } };
 
-    ghost invariant = { λ o. IsPlaced o.survey.now o.name.now o.own.now o.after.now };
+    ghost invariant = { λ o. IsPlaced o.survey.now o.name.now o.own.now o.after.now
+        × (o.stands_first ≡ is_origin o.survey.now o.name.now) };
 }
 
 impl<'a> Owner<'a> {
@@ -39,9 +44,9 @@ impl<'a> Owner<'a> {
     /// of their owners.
     pub(crate) fn new(
         survey: &'a Survey<'a>,
-        name: &'a Name,
-        own: &'a [Record],
-        after: &'a [Record],
+        name: &'a NameRef<'a>,
+        own: &'a [Entry],
+        after: &'a [Entry],
     ) -> Owner<'a>
         requires { IsPlaced survey.now name.now own.now after.now }
         ensures { result ≡ record { zone = survey.now; name = name.now } }
@@ -51,6 +56,7 @@ impl<'a> Owner<'a> {
             name,
             own,
             after,
+            stands_first: name.same(survey.origin()),
         }
     }
 
@@ -149,7 +155,7 @@ impl<'a> Owner<'a> {
     }
 
     // The same of one record, which may be of any type.
-    fn judged_server(&self, listed: &Record, owner_is_cut: bool) -> (bool, bool)
+    fn judged_server(&self, listed: &Entry, owner_is_cut: bool) -> (bool, bool)
         requires { owner_is_cut ≡ is_cut self.now.zone self.now.name }
         ensures alias { result.0 ≡ is_server_alias self.now.zone listed.now }
         ensures lost { result.1 ≡ is_server_lost self.now.zone self.now.name listed.now }
@@ -198,7 +204,7 @@ impl<'a> Owner<'a> {
     fn is_origin(&self) -> bool
         ensures { result ≡ is_origin self.now.zone self.now.name }
     {
-        self.name.same(self.survey.origin())
+        self.stands_first
     }
 
     fn owns(&self, rtype: RType) -> bool

@@ -10,8 +10,8 @@ ghost use Rattle.dns_spec.specs.ZonePrinted.{HasZoneType, record_line, soa_first
 ghost use Rattle.dns_name.specs.Counted.{Writes};
 ghost use Rattle.dns_zone.specs.ZoneForm.{is_chosen};
 
+use crate::entry::Entry;
 use crate::zone::Zone;
-use dns_master::Record;
 use dns_name::{SinkFailed, Tally};
 use dns_rdata::{RType, Rdata};
 use itoa::Buffer;
@@ -47,7 +47,7 @@ pub fn print<W: Write>(zone: &Zone, sink: &mut Tally<W>) -> Result<(), PrintFaul
 }
 
 // The SOA first, then the others in order.
-fn write_records<W: Write>(records: &[Record], sink: &mut Tally<W>) -> Result<(), SinkFailed>
+fn write_records<W: Write>(records: &[Entry], sink: &mut Tally<W>) -> Result<(), SinkFailed>
     requires { sink.old.failures < 2 ^ 64 - 1 }
     ensures { Writes W.contents sink.old sink.new result
         (flat_map record_line (soa_first records.now)) }
@@ -59,7 +59,7 @@ fn write_records<W: Write>(records: &[Record], sink: &mut Tally<W>) -> Result<()
 // Those of the records that are an SOA, or those that are none, in order.
 fn write_chosen<W: Write>(
     is_soa: bool,
-    records: &[Record],
+    records: &[Entry],
     sink: &mut Tally<W>,
 ) -> Result<(), SinkFailed>
     requires { sink.old.failures < 2 ^ 64 - 1 }
@@ -74,18 +74,18 @@ fn write_chosen<W: Write>(
     Ok(())
 }
 
-fn is_chosen(is_soa: bool, listed: &Record) -> bool
+fn is_chosen(is_soa: bool, listed: &Entry) -> bool
     ensures { result ≡ is_chosen is_soa listed.now }
 {
     (listed.rtype == RType::SOA) == is_soa
 }
 
 // A record on a line of its own.
-fn write_record<W: Write>(listed: &Record, sink: &mut Tally<W>) -> Result<(), SinkFailed>
+fn write_record<W: Write>(listed: &Entry, sink: &mut Tally<W>) -> Result<(), SinkFailed>
     requires { sink.old.failures < 2 ^ 64 - 1 }
     ensures { Writes W.contents sink.old sink.new result (record_line listed.now) }
 {
-    listed.owner.write_text(sink)?;
+    listed.owner().write_text(sink)?;
     write_ttl(listed.ttl, sink)?;
     listed.rtype.write_text(sink)?;
     write_data(listed, sink)
@@ -103,12 +103,12 @@ fn write_ttl<W: Write>(ttl: u32, sink: &mut Tally<W>) -> Result<(), SinkFailed>
 }
 
 // The data after a space, and the end of the line.
-fn write_data<W: Write>(listed: &Record, sink: &mut Tally<W>) -> Result<(), SinkFailed>
+fn write_data<W: Write>(listed: &Entry, sink: &mut Tally<W>) -> Result<(), SinkFailed>
     requires { sink.old.failures < 2 ^ 64 - 1 }
     ensures { Writes W.contents sink.old sink.new result
         (codes " " ++ data_text listed.now.rtype listed.now.rdata ++ codes "\n") }
 {
     sink.write_all(b" ")?;
-    Rdata::write_text(listed.rtype, listed.rdata.octets(), sink)?;
+    Rdata::write_text(listed.rtype, listed.rdata(), sink)?;
     sink.write_all(b"\n")
 }

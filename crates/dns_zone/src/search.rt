@@ -5,17 +5,17 @@ ghost use Rattle.dns_spec.specs.Meaning.{most_records};
 ghost use Rattle.dns_spec.proofs.Records.SortedOnce.{Each, Among, Rises};
 ghost use Rattle.dns_zone.specs.TreeForm.{row_label, row_name, row_at, IsRow};
 
+use crate::entry::Entry;
 use crate::row::Row;
 use crate::steps::Steps;
 use crate::tree::octets_of;
-use dns_master::Record;
 use dns_name::first_label;
 use std::cmp::Ordering;
 
 /// Which of the children has the label, if one has it. Each comparison is counted: they are at most
 /// 17, since 100,000 children are fewer than 2 ^ 17.
 pub(crate) fn find(
-    records: &[Record],
+    records: &[Entry],
     kids: &[Row],
     label: &[u8],
     steps: &mut Steps<'_>,
@@ -52,7 +52,7 @@ pub(crate) fn find(
 }
 
 // The first label of a row's name. The root has none.
-fn label_of<'a>(records: &'a [Record], row: &Row) -> &'a [u8]
+fn label_of<'a>(records: &'a [Entry], row: &Row) -> &'a [u8]
     requires { IsRow records.now row.now (row_name records.now row.now) }
     ensures { result.now ≡ row_label records.now row.now }
 {

@@ -3,7 +3,7 @@ ghost use Rattle.std.specs.Prelude.{◌≡◌, ◌<◌, [], length, get_or};
 ghost use Rattle.dns_spec.specs.Sets.{set_of};
 ghost use Rattle.dns_zone.specs.SetForm.{AreOfType, data_of};
 
-use dns_master::Record;
+use crate::entry::Entry;
 use dns_rdata::{RType, SetView};
 use std::marker::Model;
 
@@ -13,7 +13,7 @@ use std::marker::Model;
 pub struct RecordSet<'z> {
     rtype: RType,
     ttl: u32,
-    records: &'z [Record],
+    records: &'z [Entry],
 }
 
 impl<'z> Model for RecordSet<'z> {
@@ -28,7 +28,7 @@ impl<'z> Model for RecordSet<'z> {
 }
 
 // The set that records of one type and one TTL make; no records make none.
-pub(crate) fn lent_set<'z>(records: &'z [Record]) -> Option<RecordSet<'z>>
+pub(crate) fn lent_set<'z>(records: &'z [Entry]) -> Option<RecordSet<'z>>
     requires { AreOfType records.now }
     ensures { result ≡ set_of records.now }
 {
@@ -60,10 +60,10 @@ impl SetView for RecordSet<'_> {
     }
 }
 
-fn data_at(records: &[Record], i: usize) -> &[u8]
+fn data_at(records: &[Entry], i: usize) -> &[u8]
     requires { i < length (data_of records.now) }
     ensures { result.now ≡ get_or (data_of records.now) i [] }
 {
     let record = &records[i];
-    record.rdata.octets()
+    record.rdata()
 }

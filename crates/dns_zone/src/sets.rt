@@ -2,7 +2,7 @@
 ghost use Rattle.std.specs.Prelude.{◌≡◌, drop, nat_lt};
 ghost use Rattle.dns_zone.specs.SetWalks.{begins_with_type, next_differs, neighbours_differ, repeats_after, sets_ended};
 
-use dns_master::Record;
+use crate::entry::Entry;
 use dns_rdata::RType;
 
 // The most records of an RRset that is served.
@@ -12,7 +12,7 @@ const MOST_OF_A_SET: usize = 64;
 const MOST_SETS: usize = 32;
 
 /// Whether neighbours of one type have different TTLs (RFC 2181 5.2).
-pub(crate) fn have_other_ttls(own: &[Record]) -> bool
+pub(crate) fn have_other_ttls(own: &[Entry]) -> bool
     ensures { result ≡ neighbours_differ own.now }
 {
     let mut rest = own;
@@ -26,7 +26,7 @@ pub(crate) fn have_other_ttls(own: &[Record]) -> bool
 }
 
 /// Whether an RRset has more than 64 records.
-pub(crate) fn have_large_set(own: &[Record]) -> bool
+pub(crate) fn have_large_set(own: &[Entry]) -> bool
     ensures { result ≡ repeats_after 63 own.now }
 {
     let mut rest = own;
@@ -40,7 +40,7 @@ pub(crate) fn have_large_set(own: &[Record]) -> bool
 }
 
 /// Whether there are more than 32 RRsets.
-pub(crate) fn have_many_sets(own: &[Record]) -> bool
+pub(crate) fn have_many_sets(own: &[Entry]) -> bool
     ensures { result ≡ nat_lt 32 (sets_ended own.now) }
 {
     let mut rest = own;
@@ -59,7 +59,7 @@ pub(crate) fn have_many_sets(own: &[Record]) -> bool
 }
 
 // Whether the 64th record after is of the same type.
-fn is_repeated(one: &Record, others: &[Record]) -> bool
+fn is_repeated(one: &Entry, others: &[Entry]) -> bool
     ensures { result ≡ begins_with_type one.now.rtype (drop 63 others.now) }
 {
     if others.len() < MOST_OF_A_SET {
@@ -68,7 +68,7 @@ fn is_repeated(one: &Record, others: &[Record]) -> bool
     begins_with_type(&others[MOST_OF_A_SET - 1..], one.rtype)
 }
 
-fn begins_with_type(records: &[Record], rtype: RType) -> bool
+fn begins_with_type(records: &[Entry], rtype: RType) -> bool
     ensures { result ≡ begins_with_type rtype.0 records.now }
 {
     match records.first() {
@@ -77,7 +77,7 @@ fn begins_with_type(records: &[Record], rtype: RType) -> bool
     }
 }
 
-fn next_differs(one: &Record, others: &[Record]) -> bool
+fn next_differs(one: &Entry, others: &[Entry]) -> bool
     ensures { result ≡ next_differs one.now others.now }
 {
     match others.first() {

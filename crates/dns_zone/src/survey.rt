@@ -15,11 +15,11 @@ ghost use Rattle.dns_zone.specs.OwnerForm.{IsOwner};
 ghost use Rattle.dns_zone.specs.ReportedForm.{HasOwners};
 
 use crate::cuts::{is_below_last, is_covered, not_after, topmost_cuts};
+use crate::entry::Entry;
 use crate::keyed::Keyed;
 use crate::lookup::{count_in_front, has_type, records_at};
 use crate::target::target;
-use dns_master::Record;
-use dns_name::Name;
+use dns_name::NameRef;
 use dns_rdata::RType;
 use std::alloc::{AllocError, Global};
 use std::marker::Model;
@@ -32,8 +32,8 @@ const NEAR_RECORDS: usize = 16;
 /// The zone of an origin and of records in canonical order, whose checks are asked for.
 #[derive(Drop)]
 pub(crate) struct Survey<'a> {
-    origin: &'a Name,
-    records: &'a [Record],
+    origin: &'a NameRef<'a>,
+    records: &'a [Entry],
     // The same records beside their keys.
     keyed: &'a [Keyed<'a>],
     // An NS record of each cut that is below no other.
@@ -57,8 +57,8 @@ impl<'a> Survey<'a> {
     /// cuts was found.
     pub(crate) fn new(
         alloc: Global,
-        origin: &'a Name,
-        records: &'a [Record],
+        origin: &'a NameRef<'a>,
+        records: &'a [Entry],
         keyed: &'a [Keyed<'a>],
     ) -> Result<Survey<'a>, AllocError>
         requires keyed { keyed.now ≡ records.now }
@@ -77,7 +77,7 @@ impl<'a> Survey<'a> {
     }
 
     /// The name at and below which the zone speaks.
-    pub(crate) fn origin(&self) -> &Name
+    pub(crate) fn origin(&self) -> &NameRef<'_>
         ensures value { result.now ≡ self.now.origin }
         ensures lower { folded result.now ≡ result.now }
     {
@@ -85,7 +85,7 @@ impl<'a> Survey<'a> {
     }
 
     // The records at the name, by their types.
-    fn at(&self, name: &Name) -> &'a [Record]
+    fn at(&self, name: &NameRef<'_>) -> &'a [Entry]
         requires { folded name.now ≡ name.now }
         ensures own { result.now ≡ at self.now name.now }
         ensures by_types { IsNonDecreasingBy (λ (r : ResourceRecord). r.rtype) result.now }
@@ -94,7 +94,7 @@ impl<'a> Survey<'a> {
     }
 
     /// Whether the name owns a record of the type.
-    pub(crate) fn owns(&self, name: &Name, rtype: RType) -> bool
+    pub(crate) fn owns(&self, name: &NameRef<'_>, rtype: RType) -> bool
         requires { folded name.now ≡ name.now }
         ensures { result ≡ owns self.now name.now rtype.0 }
     {
@@ -102,7 +102,7 @@ impl<'a> Survey<'a> {
     }
 
     /// Whether the record's target is a name of the zone that owns a CNAME.
-    pub(crate) fn is_target_alias(&self, listed: &Record) -> bool
+    pub(crate) fn is_target_alias(&self, listed: &Entry) -> bool
         ensures { result ≡ option_map_or (λ m. at_or_below m self.now.origin
             && owns self.now m type_cname) (target listed.now.rtype listed.now.rdata) false }
     {
@@ -112,14 +112,12 @@ impl<'a> Survey<'a> {
         }
     }
 
-    fn is_alias(&self, target: &Name) -> bool
+    fn is_alias(&self, target: &NameRef<'_>) -> bool
+        requires { folded target.now ≡ target.now }
         ensures { result ≡ (at_or_below target.now self.now.origin
             && owns self.now target.now type_cname) }
     {
-        if !target.at_or_below(self.origin) {
-            return false;
-        }
-        self.owns(&target.fold(), RType::CNAME)
+        target.at_or_below(self.origin) && self.owns(target, RType::CNAME)
     }
 
     /// Whether the record's target is a name of the zone that owns a CNAME (RFC 2181 10.3), and
@@ -127,10 +125,10 @@ impl<'a> Survey<'a> {
     /// record stands at `owner`, and the records of other owners come `after`.
     pub(crate) fn judged_target(
         &self,
-        listed: &Record,
-        owner: &Name,
+        listed: &Entry,
+        owner: &NameRef<'_>,
         owner_is_cut: bool,
-        after: &[Record],
+        after: &[Entry],
     ) -> (bool, bool)
         requires cut { owner_is_cut ≡ is_cut self.now owner.now }
         requires after { HasOwners self.now after.now }
@@ -149,11 +147,12 @@ impl<'a> Survey<'a> {
 
     fn judged_name(
         &self,
-        target: &Name,
-        owner: &Name,
+        target: &NameRef<'_>,
+        owner: &NameRef<'_>,
         owner_is_cut: bool,
-        after: &[Record],
+        after: &[Entry],
     ) -> (bool, bool)
+        requires lower { folded target.now ≡ target.now }
         requires cut { owner_is_cut ≡ is_cut self.now owner.now }
         requires after { HasOwners self.now after.now }
         ensures alias { result.0 ≡ (at_or_below target.now self.now.origin
@@ -164,16 +163,20 @@ impl<'a> Survey<'a> {
         if !target.at_or_below(self.origin) {
             return (false, false);
         }
-        let lower = target.fold();
-        let own = self.at_server(&lower, owner, after);
+        let own = self.at_server(target, owner, after);
         let is_alias = has_type(own, RType::CNAME);
-        let is_lost = self.lacks_address(&lower, own, owner, owner_is_cut);
+        let is_lost = self.lacks_address(target, own, owner, owner_is_cut);
         (is_alias, is_lost)
     }
 
     // The records at the name, by their types. Those of a server below `owner` mostly come soon
     // after those of `owner`.
-    fn at_server<'b>(&'b self, name: &Name, owner: &Name, after: &'b [Record]) -> &'b [Record]
+    fn at_server<'b>(
+        &'b self,
+        name: &NameRef<'_>,
+        owner: &NameRef<'_>,
+        after: &'b [Entry],
+    ) -> &'b [Entry]
         requires lower { folded name.now ≡ name.now }
         requires after { HasOwners self.now after.now }
         ensures own { result.now ≡ at self.now name.now }
@@ -189,18 +192,24 @@ impl<'a> Survey<'a> {
 
     // The same where they are those of one of the first owners of the records. It ends where an
     // owner is not below `cut` or has many records, so that few records are looked at.
-    fn at_near<'b>(&self, name: &Name, cut: &Name, records: &'b [Record]) -> Option<&'b [Record]>
+    fn at_near<'b>(
+        &self,
+        name: &NameRef<'_>,
+        cut: &NameRef<'_>,
+        records: &'b [Entry],
+    ) -> Option<&'b [Entry]>
         requires { HasOwners self.now records.now }
         ensures { IfSome result (λ own. IsOwner self.now name.now own.now) }
     {
         let mut rest = records;
         'owners: for _ in 0..NEAR_OWNERS {
             let (first, _) = rest.split_first()?;
-            if !ends_in(&first.owner, cut) || has_many(first, rest) {
+            let owner = first.owner();
+            if !ends_in(&owner, cut) || has_many(first, rest) {
                 return None;
             }
-            let (own, others) = rest.split_at(count_in_front(rest, &first.owner));
-            if first.owner == *name {
+            let (own, others) = rest.split_at(count_in_front(rest, &owner));
+            if owner == *name {
                 return Some(own);
             }
             rest = others;
@@ -209,7 +218,13 @@ impl<'a> Survey<'a> {
     }
 
     // Whether a name that owns these records lacks an address that a server of `owner` needs.
-    fn lacks_address(&self, target: &Name, own: &[Record], owner: &Name, owner_is_cut: bool) -> bool
+    fn lacks_address(
+        &self,
+        target: &NameRef<'_>,
+        own: &[Entry],
+        owner: &NameRef<'_>,
+        owner_is_cut: bool,
+    ) -> bool
         requires lower { folded target.now ≡ target.now }
         requires own { own.now ≡ at self.now target.now }
         requires by_types { IsNonDecreasingBy (λ (r : ResourceRecord). r.rtype) own.now }
@@ -222,7 +237,7 @@ impl<'a> Survey<'a> {
         !self.is_at_or_below_cut(target) || owner_is_cut && target.at_or_below(owner)
     }
 
-    fn has_address(&self, name: &Name, own: &[Record]) -> bool
+    fn has_address(&self, name: &NameRef<'_>, own: &[Entry]) -> bool
         requires own { own.now ≡ at self.now name.now }
         requires by_types { IsNonDecreasingBy (λ (r : ResourceRecord). r.rtype) own.now }
         ensures { result ≡ has_address self.now name.now }
@@ -231,7 +246,7 @@ impl<'a> Survey<'a> {
     }
 
     /// Whether the name is at or below a cut (RFC 1034 4.2).
-    pub(crate) fn is_at_or_below_cut(&self, name: &Name) -> bool
+    pub(crate) fn is_at_or_below_cut(&self, name: &NameRef<'_>) -> bool
         requires { folded name.now ≡ name.now }
         ensures { result ≡ at_or_below_cut self.now name.now }
     {
@@ -240,7 +255,7 @@ impl<'a> Survey<'a> {
 
     /// Whether the name is below a cut. A cut is below the origin, so what is below a cut has two
     /// labels more than the origin at least: that costs no search.
-    pub(crate) fn is_below_cut(&self, name: &Name) -> bool
+    pub(crate) fn is_below_cut(&self, name: &NameRef<'_>) -> bool
         requires { folded name.now ≡ name.now }
         ensures { result ≡ below_cut self.now name.now }
     {
@@ -252,7 +267,7 @@ impl<'a> Survey<'a> {
 }
 
 // Whether the octets of a name end in those of another, as they do where it is at or below that.
-fn ends_in(name: &Name, other: &Name) -> bool {
+fn ends_in(name: &NameRef<'_>, other: &NameRef<'_>) -> bool {
     let octets = name.octets();
     match octets.len().checked_sub(other.octets().len()) {
         Some(front) => &octets[front..] == other.octets(),
@@ -261,9 +276,9 @@ fn ends_in(name: &Name, other: &Name) -> bool {
 }
 
 // Whether the first of the records has the owner of one that comes long after.
-fn has_many(first: &Record, records: &[Record]) -> bool {
+fn has_many(first: &Entry, records: &[Entry]) -> bool {
     match records.get(NEAR_RECORDS) {
-        Some(far) => far.owner == first.owner,
+        Some(far) => far.owner() == first.owner(),
         None => false,
     }
 }

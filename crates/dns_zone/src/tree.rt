@@ -9,17 +9,17 @@ ghost use Rattle.dns_zone.specs.ZoneForm.{IsBuilt, IsCanonical};
 ghost use Rattle.dns_zone.specs.TreeForm.{owners, row_octets, row_name, row_at, IsRow, IsTree};
 ghost use Rattle.dns_zone.specs.TreeSteps.{IsChildOf, IsNext, IsKidAt, AddsKids};
 
+use crate::entry::Entry;
 use crate::lookup::{count_at, count_under};
 use crate::row::Row;
-use dns_master::Record;
-use dns_name::{Name, first_label};
+use dns_name::{Name, NameRef, first_label};
 use std::alloc::{AllocError, Global};
 
 /// The names of a zone, and its records in canonical order.
 #[derive(Drop)]
 pub(crate) struct Tree {
     pub(crate) origin: Name,
-    pub(crate) records: Vec<Record>,
+    pub(crate) records: Vec<Entry>,
     pub(crate) rows: Vec<Row>,
     pub(crate) bounds: Vec<usize>,
 }
@@ -32,7 +32,11 @@ pub(crate) struct Rows {
 }
 
 /// The rows of all names of a zone. Memory is taken for 24 octets for each name.
-pub(crate) fn rows_of(alloc: Global, origin: &Name, records: &[Record]) -> Result<Rows, AllocError>
+pub(crate) fn rows_of(
+    alloc: Global,
+    origin: &NameRef<'_>,
+    records: &[Entry],
+) -> Result<Rows, AllocError>
     requires { IsBuilt (record { origin = origin.now; records = records.now }) }
     ensures { IfOk result (λ t. IsTree origin.now records.now t.rows.items t.bounds.items) }
 {
@@ -51,7 +55,7 @@ pub(crate) fn rows_of(alloc: Global, origin: &Name, records: &[Record]) -> Resul
 }
 
 // The row of the origin: all records of a zone are at or below it, and the first is its own.
-fn origin_row(origin: &Name, records: &[Record]) -> Row
+fn origin_row(origin: &NameRef<'_>, records: &[Entry]) -> Row
     requires { IsBuilt (record { origin = origin.now; records = records.now }) }
     ensures { IsRow records.now result origin.now }
 {
@@ -64,7 +68,7 @@ fn origin_row(origin: &Name, records: &[Record]) -> Row
 }
 
 // Adds the rows of a row's children after all rows.
-fn add_kids(records: &[Record], number: usize, rows: &mut Vec<Row>) -> Result<(), AllocError>
+fn add_kids(records: &[Entry], number: usize, rows: &mut Vec<Row>) -> Result<(), AllocError>
     requires canonical { IsCanonical records.now }
     requires number { number < length rows.old.items }
     requires row { IsRow records.now (row_at rows.old.items number)
@@ -85,27 +89,27 @@ fn add_kids(records: &[Record], number: usize, rows: &mut Vec<Row>) -> Result<()
 }
 
 // The wire form of a row's name.
-pub(crate) fn octets_of<'a>(records: &'a [Record], row: &Row) -> &'a [u8]
+pub(crate) fn octets_of<'a>(records: &'a [Entry], row: &Row) -> &'a [u8]
     requires { IsRow records.now row.now (row_name records.now row.now) }
     ensures octets { result.now ≡ row_octets records.now row.now }
     ensures wire { IsWireForm result.now }
     ensures name { labels_of result.now ≡ row_name records.now row.now }
 {
     let first = &records[row.first as usize];
-    first.owner.octets().split_at(row.place as usize).1
+    first.owner().octets().split_at(row.place as usize).1
 }
 
 // The row of a child of the name of `parent`: the one that the record at `next` is at or below.
-fn kid_at(records: &[Record], parent: &[u8], next: usize) -> Row
+fn kid_at(records: &[Entry], parent: &[u8], next: usize) -> Row
     requires canonical { IsCanonical records.now }
     requires parent { IsWireForm parent.now }
     requires next { IsNext records.now (labels_of parent.now) next }
     ensures { IsKidAt records.now (labels_of parent.now) next result }
 {
     let record = &records[next];
-    let owner = record.owner.octets();
+    let owner = record.owner().octets();
     let octets = child_octets(owner, parent);
-    let name = Name::from_octets(octets);
+    let name = NameRef::new(octets);
     let (_, others) = records.split_at(next);
     let own = count_at(others, &name);
     let (_, after) = others.split_at(own);

@@ -10,12 +10,14 @@ ghost use Rattle.dns_spec.specs.ZonePrinted.{is_soa};
 ghost use Rattle.dns_zone.specs.ZoneForm.{IsBuilt, ReportsFaults};
 ghost use Rattle.dns_zone.specs.NodeForm.{zone_of_tree, IsZoneTree};
 
+use crate::entry::Entry;
 use crate::fault::BuildFault;
 use crate::faults::faults;
 use crate::ordered::ordered;
+use crate::store::Store;
 use crate::tree::{Rows, Tree, rows_of};
 use dns_master::Record;
-use dns_name::Name;
+use dns_name::{Name, NameRef};
 use dns_rdata::{RType, Rdata};
 use std::alloc::Global;
 use std::marker::Model;
@@ -52,13 +54,33 @@ impl Zone {
         ensures faults { IfErr result (λ fault. ReportsFaults fault
             (zone_of origin.now records.items)) }
     {
+        let mut store = Store::new(alloc);
+        'records: for listed in records.as_slice() {
+            store.add(listed)?;
+        }
+        drop(records);
+        store.build(alloc, origin)
+    }
+
+    // The same of records as a zone keeps them.
+    pub(crate) fn of_entries(
+        alloc: Global,
+        origin: &Name,
+        records: Vec<Entry>,
+    ) -> Result<Zone, BuildFault>
+        requires { length records.items ≤ most_records }
+        ensures ok { IfOk result (λ zone. zone ≡ ordered_zone origin.now records.items) }
+        ensures passes { IfOk result (λ zone. faults (zone_of origin.now records.items) ≡ []) }
+        ensures faults { IfErr result (λ fault. ReportsFaults fault
+            (zone_of origin.now records.items)) }
+    {
         let origin = origin.fold();
-        let records = ordered(alloc, &origin, records)?;
-        let found = faults(alloc, &origin, records.as_slice())?;
+        let records = ordered(alloc, &origin.lent(), records)?;
+        let found = faults(alloc, &origin.lent(), records.as_slice())?;
         if !found.is_empty() {
             return Err(BuildFault::Faults(found));
         }
-        let Rows { rows, bounds } = rows_of(alloc, &origin, records.as_slice())?;
+        let Rows { rows, bounds } = rows_of(alloc, &origin.lent(), records.as_slice())?;
         Ok(Zone {
             tree: Tree {
                 origin,
@@ -82,7 +104,7 @@ impl Zone {
     pub fn serial(&self) -> u32
         ensures { result ≡ zone_serial self.now }
     {
-        serial_at(&self.tree.origin, self.tree.records.as_slice())
+        serial_at(&self.tree.origin.lent(), self.tree.records.as_slice())
     }
 
     // Its names.
@@ -94,7 +116,7 @@ impl Zone {
     }
 
     // Its records, in canonical order.
-    pub(crate) fn records(&self) -> &[Record]
+    pub(crate) fn records(&self) -> &[Entry]
         ensures records { result.now ≡ self.now.records }
         ensures built { IsBuilt self.now }
     {
@@ -103,13 +125,13 @@ impl Zone {
 }
 
 // The serial number of the first SOA at the origin, or 0 where there is none.
-fn serial_at(origin: &Name, records: &[Record]) -> u32
+fn serial_at(origin: &NameRef<'_>, records: &[Entry]) -> u32
     ensures { result ≡ first_serial
         (filter is_soa (filter (λ (r : ResourceRecord). same r.owner origin.now) records.now)) }
 {
     'records: for listed in records {
-        if listed.owner.same(origin) && listed.rtype == RType::SOA {
-            return Rdata::soa_serial(listed.rdata.octets());
+        if listed.owner().same(origin) && listed.rtype == RType::SOA {
+            return Rdata::soa_serial(listed.rdata());
         }
     }
     0

@@ -65,6 +65,26 @@ fn compared_names(rt: HostRuntime) -> Result<(), Fail> {
 }
 
 #[test]
+fn lent_names(rt: HostRuntime) -> Result<(), Fail> {
+    let (name, above) = (name_of(&[b"www", b"example"])?, name_of(&[b"example"])?);
+    let (lent, lent_above) = (name.lent(), above.lent());
+    assert_eq!(rt; lent.octets(), WWW_EXAMPLE.as_slice());
+    assert_eq!(rt; lent.label_count(), 2);
+    let label = lent.labels().next().ok_or("a first label")?;
+    assert_eq!(rt; label.octets(), b"www".as_slice());
+    assert!(rt; lent.to_name() == name);
+    assert!(rt; lent == name.lent());
+    assert!(rt; lent != lent_above);
+    let upper = name_of(&[b"WWW", b"Example"])?;
+    assert!(rt; lent.same(&upper.lent()));
+    assert!(rt; lent.at_or_below(&lent_above));
+    assert!(rt; lent.below(&lent_above));
+    assert!(rt; !lent_above.below(&lent));
+    assert!(rt; !lent.is_wildcard());
+    Ok(())
+}
+
+#[test]
 fn names_above(rt: HostRuntime) -> Result<(), Fail> {
     let name = name_of(&[b"www", b"example"])?;
     assert!(rt; name.at_or_below(&name));

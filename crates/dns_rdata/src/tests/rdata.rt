@@ -194,6 +194,9 @@ fn targets(rt: HostRuntime) -> Result<(), Fail> {
         let target = Rdata::target(rtype, octets);
         let found = target.as_ref().map(|name| name.octets());
         assert_eq!(rt; found, wanted, "at {octets:?}");
+        let lent = Rdata::target_lent(rtype, octets);
+        let found = lent.as_ref().map(|name| name.octets());
+        assert_eq!(rt; found, wanted, "at {octets:?}");
     }
     Ok(())
 }

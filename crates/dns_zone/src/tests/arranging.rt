@@ -1,6 +1,7 @@
 //! Records that are arranged before they are sorted.
 
 use crate::arranged::arrange;
+use crate::entry::Entry;
 use crate::order::record_order;
 use dns_master::read_zone;
 use dns_name::{Name, Tally};
@@ -27,14 +28,17 @@ long-first-label A 192.0.2.1
 #[test]
 fn records_are_arranged_in_canonical_order(rt: HostRuntime) -> Result<(), Fail> {
     let origin = Name::read_text(b"example.", &Name::root())?;
-    let mut records = read_zone(rt.alloc(), &origin, &mut Tally::new(TURNED))?;
-    arrange(rt.alloc(), &origin, records.as_mut_slice())?;
+    let mut records = Vec::new(rt.alloc());
+    for listed in &read_zone(rt.alloc(), &origin, &mut Tally::new(TURNED))? {
+        records.push(Entry::of(rt.alloc(), listed)?)?;
+    }
+    arrange(rt.alloc(), &origin.lent(), records.as_mut_slice())?;
     assert_eq!(rt; records.len(), 13);
     for (one, next) in records.iter().zip(records.iter().skip(1)) {
         assert!(rt;
             record_order(one, next).is_lt(),
             "at {:?}",
-            next.owner.octets()
+            next.owner().octets()
         );
     }
     Ok(())

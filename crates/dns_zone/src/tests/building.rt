@@ -1,7 +1,9 @@
 //! Zones that are built, and faults that are reported.
 
-use super::texts::{built, file_with};
-use crate::BuildFault;
+use super::texts::{PRINTED, built, file_with};
+use crate::{BuildFault, Store, print};
+use dns_master::read_zone;
+use dns_name::{Name, Tally};
 use std::test::Fail;
 
 // A fault: the owner's wire form, and the number of the code.
@@ -65,5 +67,26 @@ fn faults_are_reported(rt: HostRuntime) -> Result<(), Fail> {
             assert_eq!(rt; fault.code, *code);
         }
     }
+    Ok(())
+}
+
+#[test]
+fn a_zone_is_built_of_a_store(rt: HostRuntime) -> Result<(), Fail> {
+    let origin = Name::read_text(b"example.", &Name::root())?;
+    let text = file_with(rt.alloc(), b"")?;
+    let mut store = Store::new(rt.alloc());
+    for listed in &read_zone(rt.alloc(), &origin, &mut Tally::new(text.as_slice()))? {
+        store.add(listed)?;
+    }
+    assert_eq!(rt; store.count(), 9);
+    if store.count() > 100_000 {
+        return Err("nine records are too many".into());
+    }
+    let Ok(zone) = store.build(rt.alloc(), &origin) else {
+        panic!(rt; "no zone of a store");
+    };
+    let mut sink = Tally::new(Vec::new(rt.alloc()));
+    assert_eq!(rt; print(&zone, &mut sink), Ok(()));
+    assert_eq!(rt; sink.into_inner().as_slice(), PRINTED);
     Ok(())
 }

@@ -6,5 +6,5 @@ use Rattle.dns_zone.proofs.cuts.is_below_last.Goals as goal
 
 pub returns-in-Some : goal.returns-in-Some
 returns-in-Some c =
-    c.below.ensures ∙ ap (λ (r : ResourceRecord). below c.args.name.now r.owner) (c.listed.view_is ∙ c.listed-listed.ensures)
+    c.below.ensures ∙ ap (below c.args.name.now) c.owner.ensures.value ∙ ap (λ (r : ResourceRecord). below c.args.name.now r.owner) c.listed-listed.ensures
     ∙ last_is (λ (r : ResourceRecord). below c.args.name.now r.owner) c.in-Some.cut.now c.args.cuts.now c.in-Some.ensures.value

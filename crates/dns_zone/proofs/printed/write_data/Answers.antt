@@ -9,7 +9,7 @@ use Rattle.dns_zone.proofs.printed.write_data.Goals as goal
 pub returns-in_err-write_text : goal.returns-in_err-write_text
 returns-in_err-write_text g c =
     let r = c.args.listed.now in
-    let text = ap (data_text c.listed.inside.rtype.0) c.octets.ensures.value ∙ ap (λ (r : ResourceRecord). data_text r.rtype r.rdata) c.listed.view_is in
+    let text = ap (data_text c.listed.inside.rtype.0) c.rdata.ensures.value ∙ ap (λ (s : ResourceRecord). data_text s.rtype c.args.listed.now.rdata) c.listed.view_is in
     let begun = Writes-same text c.in_err-write_text.ensures in
     record {
       ok = search rules;
@@ -23,6 +23,6 @@ returns-in_err-write_text g c =
 pub returns : goal.returns
 returns g c =
     let r = c.args.listed.now in
-    let text = ap (data_text c.listed.inside.rtype.0) c.octets.ensures.value ∙ ap (λ (r : ResourceRecord). data_text r.rtype r.rdata) c.listed.view_is in
+    let text = ap (data_text c.listed.inside.rtype.0) c.rdata.ensures.value ∙ ap (λ (s : ResourceRecord). data_text s.rtype c.args.listed.now.rdata) c.listed.view_is in
     Writes-after (codes " ") (data_text r.rtype r.rdata ++ codes "\n") c.in_ok-write_all.ensures.ok c.in_ok-write_all.ensures.counted
     (Writes-after (data_text r.rtype r.rdata) (codes "\n") (subst (Appends _ _) text c.in_ok-write_text.ensures.ok) c.in_ok-write_text.ensures.counted c.write_all-2.ensures)

@@ -12,7 +12,7 @@ use Rattle.dns_zone.proofs.printed.write_record.Goals as goal
 pub returns-in_err-write_ttl : goal.returns-in_err-write_ttl
 returns-in_err-write_ttl g c =
     let r = c.args.listed.now in
-    let owner = subst (Appends _ _) (ap (λ (r : ResourceRecord). name_text r.owner) c.listed.view_is) c.in_ok-write_text.ensures.ok in
+    let owner = subst (Appends _ _) (ap name_text c.owner.ensures.value) c.in_ok-write_text.ensures.ok in
     let ttl = Writes-same (ap (λ (r : ResourceRecord). ttl_part r.ttl) c.listed.view_is) c.in_err-write_ttl.ensures in
     let others = type_text r.rtype ++ data_part r.rtype r.rdata in
     record {
@@ -28,7 +28,7 @@ returns-in_err-write_ttl g c =
 pub returns-in_err-write_text-2 : goal.returns-in_err-write_text-2
 returns-in_err-write_text-2 g c =
     let r = c.args.listed.now in
-    let owner = subst (Appends _ _) (ap (λ (r : ResourceRecord). name_text r.owner) c.listed.view_is) c.in_ok-write_text.ensures.ok in
+    let owner = subst (Appends _ _) (ap name_text c.owner.ensures.value) c.in_ok-write_text.ensures.ok in
     let ttl = subst (Appends _ _) (ap (λ (r : ResourceRecord). ttl_part r.ttl) c.listed.view_is) c.in_ok-write_ttl.ensures.ok in
     let rtype = Writes-same (ap (λ (r : ResourceRecord). type_text r.rtype) c.listed.view_is) c.in_err-write_text-2.ensures in
     let last = data_part r.rtype r.rdata in
@@ -46,7 +46,7 @@ returns-in_err-write_text-2 g c =
 pub returns : goal.returns
 returns g c =
     let r = c.args.listed.now in
-    let owner = subst (Appends _ _) (ap (λ (r : ResourceRecord). name_text r.owner) c.listed.view_is) c.in_ok-write_text.ensures.ok in
+    let owner = subst (Appends _ _) (ap name_text c.owner.ensures.value) c.in_ok-write_text.ensures.ok in
     let ttl = subst (Appends _ _) (ap (λ (r : ResourceRecord). ttl_part r.ttl) c.listed.view_is) c.in_ok-write_ttl.ensures.ok in
     let rtype = subst (Appends _ _) (ap (λ (r : ResourceRecord). type_text r.rtype) c.listed.view_is) c.in_ok-write_text-2.ensures.ok in
     let last = data_part r.rtype r.rdata in

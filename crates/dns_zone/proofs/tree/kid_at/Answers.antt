@@ -14,7 +14,7 @@ pub child_octets-octets-requires-clause-owner : goal.child_octets-octets-require
 child_octets-octets-requires-clause-owner c =
     let r = c.index-records-next.result in
     let spelled =
-    c.octets-owner.ensures.value ∙ ap (λ (q : ResourceRecord). wire q.owner) c.record.view_is in
+    c.octets-owner.ensures.value ∙ ap wire c.owner.ensures.value in
     IsWireForm-wire c.octets-owner.result.now r.owner spelled
     (owner_name c.args.records.now c.requires.canonical (labels_of c.args.parent.now) c.args.next
     c.requires.next r c.index-records-next.is)
@@ -25,7 +25,7 @@ child_octets-octets-requires-clause-below c =
     let n = labels_of c.args.parent.now in
     let r = c.index-records-next.result in
     let spelled =
-    c.octets-owner.ensures.value ∙ ap (λ (q : ResourceRecord). wire q.owner) c.record.view_is in
+    c.octets-owner.ensures.value ∙ ap wire c.owner.ensures.value in
     let name =
     owner_name rs c.requires.canonical n c.args.next c.requires.next r c.index-records-next.is
     in
@@ -39,7 +39,7 @@ child_octets-octets-requires-clause-lower c =
     let n = labels_of c.args.parent.now in
     let r = c.index-records-next.result in
     let spelled =
-    c.octets-owner.ensures.value ∙ ap (λ (q : ResourceRecord). wire q.owner) c.record.view_is in
+    c.octets-owner.ensures.value ∙ ap wire c.owner.ensures.value in
     let name =
     owner_name rs c.requires.canonical n c.args.next c.requires.next r c.index-records-next.is
     in
@@ -58,8 +58,8 @@ pub count_at-own-requires-clause-in_front : goal.count_at-own-requires-clause-in
 count_at-own-requires-clause-in_front c =
     let n = labels_of c.args.parent.now in
     let spelled =
-    c.octets-owner.ensures.value ∙ ap (λ (q : ResourceRecord). wire q.owner) c.record.view_is in
-    parted is_at c.from_octets-name.ensures.value c.split_at.ensures.back
+    c.octets-owner.ensures.value ∙ ap wire c.owner.ensures.value in
+    parted is_at c.new-name.ensures.value c.split_at.ensures.back
     (own_front c.args.records.now c.requires.canonical n c.args.next c.requires.next _
     c.index-records-next.is c.child_octets-octets.result.now
     (subst (λ (o : Octets). IsChildOf n o c.child_octets-octets.result.now) spelled
@@ -69,8 +69,8 @@ pub count_under-requires : goal.count_under-requires
 count_under-requires c =
     let n = labels_of c.args.parent.now in
     let spelled =
-    c.octets-owner.ensures.value ∙ ap (λ (q : ResourceRecord). wire q.owner) c.record.view_is in
-    parted is_under c.from_octets-name.ensures.value c.split_at-2.ensures.back
+    c.octets-owner.ensures.value ∙ ap wire c.owner.ensures.value in
+    parted is_under c.new-name.ensures.value c.split_at-2.ensures.back
     (parted_drop (is_under (labels_of c.child_octets-octets.result.now)) c.split_at.result.1.now
     c.count_at-own.result
     (subst
@@ -90,9 +90,9 @@ returns c =
     let octets = c.child_octets-octets.result.now in
     let back = c.split_at.ensures.back in
     let after = c.split_at-2.ensures.back in
-    let named = c.from_octets-name.ensures.value in
+    let named = c.new-name.ensures.value in
     let spelled =
-    c.octets-owner.ensures.value ∙ ap (λ (q : ResourceRecord). wire q.owner) c.record.view_is in
+    c.octets-owner.ensures.value ∙ ap wire c.owner.ensures.value in
     let child =
     subst (λ (o : Octets). IsChildOf n o octets) spelled c.child_octets-octets.ensures in
     let own = c.count_at-own.result in

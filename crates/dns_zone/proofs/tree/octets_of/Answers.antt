@@ -1,6 +1,5 @@
 use Rattle.std.proofs.Common.{ap, sym, ◌∙◌, drop}
 use Rattle.dns_spec.specs.Names.{DomainName, wire}
-use Rattle.dns_spec.specs.Records.{ResourceRecord}
 use Rattle.dns_name.specs.WireForm.{labels_of}
 use Rattle.dns_name.proofs.WireLemmas.{IsWireForm-wire}
 use Rattle.dns_zone.specs.TreeForm.{row_octets, row_name}
@@ -13,7 +12,7 @@ returns-clause-octets c =
     let p = c.args.row.now.place in
     c.split_at.ensures.back
     ∙ ap (drop p)
-    (c.octets.ensures.value ∙ ap (λ (q : ResourceRecord). wire q.owner) c.first.view_is)
+    (c.octets.ensures.value ∙ ap wire c.owner.ensures.value)
     ∙ ap (λ (k : DomainName). drop p (wire k))
     (sym (owner_at c.args.records.now c.args.row.now.first c.index-records-row.result
     c.requires.some c.index-records-row.is))

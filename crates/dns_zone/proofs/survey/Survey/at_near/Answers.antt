@@ -11,13 +11,13 @@ returns-then-eq c =
     let own = c.split_at.result.0.now in
     let rest_is : c.owners.rest.now ≡ c.in_ok-first.first.now ∷ c.in_ok-first.field-0-1.now =
     search rules in
-    let name_is : c.first.inside.owner ≡ c.in_ok-first.first.now.owner = search rules in
-    let same : names_equal c.first.inside.owner c.args.name.now ≡ true = search rules in
+    let name_is : c.owner-owner.result ≡ c.in_ok-first.first.now.owner = search rules in
+    let same : names_equal c.owner-owner.result c.args.name.now ≡ true = search rules in
     subst (λ (n : DomainName). IsOwner z n own)
-    ((names_equal-decides c.first.inside.owner c.args.name.now).0 same)
-    (step z c.first.inside.owner c.in_ok-first.first.now c.in_ok-first.field-0-1.now
+    ((names_equal-decides c.owner-owner.result c.args.name.now).0 same)
+    (step z c.owner-owner.result c.in_ok-first.first.now c.in_ok-first.field-0-1.now
     c.owners.rest.now own c.split_at.result.1.now c.count_in_front.result name_is
-    c.first.invariant.low rest_is c.owners.invariant
+    c.owner-owner.ensures.lower rest_is c.owners.invariant
     (record {
       count = c.count_in_front.ensures.value;
       own_is = c.split_at.ensures.front;
@@ -28,10 +28,10 @@ pub owners-preserved : goal.owners-preserved
 owners-preserved c =
     let rest_is : c.owners.rest.now ≡ c.in_ok-first.first.now ∷ c.in_ok-first.field-0-1.now =
     search rules in
-    let name_is : c.first.inside.owner ≡ c.in_ok-first.first.now.owner = search rules in
-    (step c.args.self.now c.first.inside.owner c.in_ok-first.first.now c.in_ok-first.field-0-1.now
+    let name_is : c.owner-owner.result ≡ c.in_ok-first.first.now.owner = search rules in
+    (step c.args.self.now c.owner-owner.result c.in_ok-first.first.now c.in_ok-first.field-0-1.now
     c.owners.rest.now c.split_at.result.0.now c.split_at.result.1.now c.count_in_front.result
-    name_is c.first.invariant.low rest_is c.owners.invariant
+    name_is c.owner-owner.ensures.lower rest_is c.owners.invariant
     (record {
       count = c.count_in_front.ensures.value;
       own_is = c.split_at.ensures.front;

@@ -1,0 +1,38 @@
+use Rattle.std.proofs.Common.{◌≡◌, ◌≤◌, ◌<◌, ◌∷◌, length, ap, sym, ◌∙◌, arith}
+use Rattle.dns_spec.specs.Names.{Octets, DomainName, wire, same, at_or_below}
+use Rattle.dns_spec.proofs.DomainNames.NameLaws.{at_or_below-short, at_or_below-long}
+use Rattle.dns_name.specs.WireForm.{labels_of, IsWireForm}
+use Rattle.dns_name.proofs.WireLemmas.{IsWireForm-wire, labels_of_spelled, same_from_octets}
+use Rattle.dns_name.proofs.lent.NameRef.at_or_below.Goals as goal
+
+pub labels-init : goal.labels-init
+labels-init c =
+    let octets = c.octets-suffix.ensures in (
+      IsWireForm-wire _ _ octets.value octets.is_name,
+      ap (λ n. at_or_below n c.args.ancestor.now) (labels_of_spelled _ _ octets.value octets.is_name),
+    )
+
+-- a suffix that is longer than the name sought goes on after its first label
+one_on : (xs ys : Octets) (l : Octets) (n a : DomainName) → IsWireForm xs → labels_of xs ≡ l ∷ n → ys ≡ wire a → length ys < length xs → at_or_below n a ≡ at_or_below (labels_of xs) a
+one_on xs ys l n a form e f longer =
+    let w : wire (l ∷ n) ≡ xs = ap wire (sym e) ∙ form.wire_is in
+    let after = at_or_below-long l n a (omega (arith, ap length w, ap length f)) in
+    sym (ap (λ m. at_or_below m a) e ∙ after)
+
+pub labels-preserved : goal.labels-preserved
+labels-preserved c =
+    let first = c.in-Some.ensures in (
+      first.1,
+      one_on _ _ _ _ _ c.labels.invariant.0 first.0 c.octets-target.ensures.value c.labels-test.true ∙ c.labels.invariant.1,
+    )
+
+-- a suffix that is no longer decides
+decides : (xs ys : Octets) (a : DomainName) → IsWireForm xs → ys ≡ wire a → length xs ≤ length ys → at_or_below (labels_of xs) a ≡ same (labels_of xs) a
+decides xs ys a form f short = at_or_below-short (labels_of xs) a (omega (arith, ap length form.wire_is, ap length f))
+
+pub returns : goal.returns
+returns c =
+    let form = c.labels.invariant.0 in
+    let target = c.octets-target.ensures in
+    same_from_octets _ _ _ _ _ (sym form.wire_is) target.value form.is_name target.is_name c.same_octets.ensures
+    ∙ sym (decides _ _ _ form target.value c.labels-test.false) ∙ c.labels.invariant.1

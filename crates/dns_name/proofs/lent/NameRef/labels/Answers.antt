@@ -1,0 +1,7 @@
+use Rattle.std.proofs.Common.{ap, sym, ◌∙◌}
+use Rattle.dns_spec.proofs.DomainNames.NameLaws.{length-is_name}
+use Rattle.dns_spec.specs.Names.{is_name}
+use Rattle.dns_name.proofs.lent.NameRef.labels.Goals as goal
+
+pub returns-clause-count : goal.returns-clause-count
+returns-clause-count c = length-is_name _ (ap is_name (sym c.self.view_is) ∙ c.self.invariant.is_name)

@@ -1,0 +1,18 @@
+use Rattle.std.proofs.Common.{◌≡◌, [], ◌∷◌, ◌++◌, ap, ◌∙◌, arith}
+use Rattle.dns_spec.specs.Names.{Octets}
+use Rattle.dns_spec.specs.NameText.{label_text}
+use Rattle.dns_name.proofs.WrittenLemmas.{NameSoFar-next, NameSoFar-room}
+use Rattle.dns_name.proofs.lent.NameRef.text.Goals as goal
+
+appended : (text new octets l : Octets) → new ≡ text ++ label_text octets → octets ≡ l → new ≡ text ++ label_text l
+appended text new octets l e f = e ∙ ap (λ k. text ++ label_text k) f
+
+pub push-requires : goal.push-requires
+push-requires c =
+    let new = appended _ _ _ c.in-Some.label c.append_label.ensures c.octets.ensures.value in
+    (omega arith, NameSoFar-room _ _ _ _ _ _ c.labels.invariant c.in-Some.ensures.steps new)
+
+pub labels-preserved : goal.labels-preserved
+labels-preserved c =
+    let new = appended _ _ _ c.in-Some.label c.append_label.ensures c.octets.ensures.value in
+    NameSoFar-next _ _ _ _ _ _ c.labels.invariant c.in-Some.ensures.steps (c.push.ensures.items ∙ ap (λ t. t ++ 46 ∷ []) new)

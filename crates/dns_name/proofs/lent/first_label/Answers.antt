@@ -1,0 +1,30 @@
+use Rattle.std.proofs.Common.{◌≡◌, ℕ, ◌∷◌, true, take, drop, ap, ◌∙◌}
+use Rattle.std.proofs.lemmas.Bool.{false≢true}
+use Rattle.dns_spec.specs.Names.{Octets, is_label}
+use Rattle.dns_name.specs.WireForm.{labels_of, IsWireForm}
+use Rattle.dns_name.proofs.WireLemmas.{BeginsWithLabel, BeginsWithLabel-IsWireForm, labels_of-zero, IsWireForm-nil}
+use Rattle.dns_name.proofs.lent.first_label.Goals as goal
+
+split_there : (xs : Octets) (x : ℕ) (ys label rest : Octets) → BeginsWithLabel xs x ys → label ≡ take x ys → rest ≡ drop x ys → (labels_of xs ≡ label ∷ labels_of rest) × IsWireForm rest
+split_there xs x ys label rest first e f = (rw (e, f) first.labels, rw f first.rest)
+
+pub returns-in_err-length : goal.returns-in_err-length
+returns-in_err-length c = absurd (IsWireForm-nil _ c.requires c.in_err-length.ensures.cases)
+
+pub returns-then-length-eq0 : goal.returns-then-length-eq0
+returns-then-length-eq0 c = labels_of-zero _ _ _ c.requires c.in_ok-length.ensures.cases.0 c.if-length-eq0.true
+
+pub split_at-requires : goal.split_at-requires
+split_at-requires c =
+    (BeginsWithLabel-IsWireForm _ _ _ c.requires c.in_ok-length.ensures.cases.0 c.if-length-eq0.false).fits
+
+pub returns-in_err-new : goal.returns-in_err-new
+returns-in_err-new c =
+    let first = BeginsWithLabel-IsWireForm _ _ _ c.requires c.in_ok-length.ensures.cases.0 c.if-length-eq0.false in
+    let ok : is_label c.split_at.result.0.now ≡ true = ap is_label c.split_at.ensures.front ∙ first.label in
+    absurd (false≢true (c.in_err-new.ensures.some.1 ok))
+
+pub returns : goal.returns
+returns c =
+    let first = BeginsWithLabel-IsWireForm _ _ _ c.requires c.in_ok-length.ensures.cases.0 c.if-length-eq0.false in
+    split_there _ _ _ _ _ first (c.in_ok-new.ensures.octets ∙ c.split_at.ensures.front) c.split_at.ensures.back

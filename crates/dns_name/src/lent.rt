@@ -1,0 +1,281 @@
+//! Domain names that are lent as their wire form, and their labels.
+ghost use Rattle.std.specs.Prelude.{◌≡◌, ◌≤◌, ◌↔◌, [], ◌∷◌, length, map, reverse, drop, IsTrue, IfSome, MatchOption};
+ghost use Rattle.std.specs.Bool.{OnTrue};
+ghost use Rattle.std.specs.Char.{to_ascii_lowercase};
+ghost use Rattle.std.specs.Cmp.{nat_eq_equiv, partial_equiv_from_equiv};
+ghost use Rattle.std.specs.Cmp.Lexicographic.{lists_per, lists_equiv};
+ghost use Rattle.std.specs.Cmp.Lexicographic.{slice_cmp};
+ghost use Rattle.std.specs.Ordering.{ordering_then};
+ghost use Rattle.std.specs.Iterator.{YieldsFirst, item_count};
+ghost use Rattle.dns_spec.specs.Names.{is_name, wire, folded, same, at_or_below, below, names_equal, label_order, name_order};
+ghost use Rattle.dns_spec.specs.Checks.{first_is_asterisk};
+ghost use Rattle.dns_name.specs.WireForm.{labels_of, IsWireForm};
+
+use crate::label::Label;
+use crate::name::Name;
+use std::cmp::Ordering;
+use std::marker::Model;
+
+/// A domain name that is lent: its wire form, from where it stands. The root has no label
+/// (RFC 1034 3.1, RFC 1035 3.1).
+#[derive(Drop)]
+pub struct NameRef<'a> {
+    octets: &'a [u8],
+}
+
+impl<'a> Model for NameRef<'a> {
+    ghost use Rattle.dns_spec.specs.Names.{DomainName};
+    ghost use Rattle.dns_name.specs.WireForm.{labels_of, IsWireForm};
+
+    ghost Value = { DomainName };
+
+    ghost view = { λ n. labels_of n.octets.now };
+
+    ghost invariant = { λ n. IsWireForm n.octets.now };
+}
+
+impl<'a> NameRef<'a> {
+    /// The name whose wire form the octets are, as the octets of a name in data.
+    pub fn new(octets: &'a [u8]) -> NameRef<'a>
+        requires { IsWireForm octets.now }
+        ensures value { result ≡ labels_of octets.now }
+        ensures is_name { IsTrue (is_name result) }
+    {
+        NameRef { octets }
+    }
+
+    /// A name of its own with the same octets. It takes no memory.
+    pub fn to_name(&self) -> Name
+        ensures value { result ≡ self.now }
+        ensures is_name { IsTrue (is_name result) }
+    {
+        Name::from_octets(self.octets)
+    }
+
+    /// The wire form: each label after its length, and the length 0 of the root (RFC 1035 3.1).
+    pub fn octets(&self) -> &'a [u8]
+        ensures value { result.now ≡ wire self.now }
+        ensures bound { length result.now ≤ 255 }
+        ensures is_name { IsTrue (is_name self.now) }
+    {
+        self.octets
+    }
+
+    /// How many labels there are, without the root: 2 of `www.example.`
+    pub fn label_count(&self) -> usize
+        ensures { result ≡ length self.now }
+    {
+        self.labels().count()
+    }
+
+    /// The labels in order, the nearest to the root last.
+    ///
+    /// There are at most 127, since each has two octets or more on the wire.
+    pub fn labels(&self) -> Labels<'a>
+        ensures labels { result ≡ self.now }
+        ensures is_name { IsTrue (is_name self.now) }
+        ensures count { length self.now ≤ 127 }
+    {
+        Labels {
+            octets: self.octets,
+        }
+    }
+}
+
+/// How names are compared (RFC 1035 2.3.3).
+impl NameRef<'_> {
+    /// Whether the names are the same, without regard to the case of ASCII letters.
+    pub fn same(&self, other: &NameRef<'_>) -> bool
+        ensures { result ≡ same self.now other.now }
+    {
+        same_octets(self.octets(), other.octets())
+    }
+
+    /// Whether the name is `ancestor` or a name below it: whether its last labels are those of
+    /// `ancestor`, without regard to the case of ASCII letters (RFC 1034 3.1).
+    pub fn at_or_below(&self, ancestor: &NameRef<'_>) -> bool
+        ensures { result ≡ at_or_below self.now ancestor.now }
+    {
+        let target = ancestor.octets();
+        let mut suffix = self.octets();
+        'labels: while suffix.len() > target.len() {
+            let Some((_, rest)) = first_label(suffix) else {
+                return false;
+            };
+            suffix = rest;
+        }
+        same_octets(suffix, target)
+    }
+
+    /// Whether the name is below `ancestor`: at or below it, and not the same name (RFC 1034 3.1).
+    pub fn below(&self, ancestor: &NameRef<'_>) -> bool
+        ensures { result ≡ below self.now ancestor.now }
+    {
+        self.label_count() > ancestor.label_count() && self.at_or_below(ancestor)
+    }
+
+    /// Whether the name is a wildcard: whether its first label is `*` alone (RFC 4592 2.1.1).
+    ///
+    /// `*.example.` is one, and `a.*.example.` and `**.example.` are none.
+    pub fn is_wildcard(&self) -> bool
+        ensures { result ≡ first_is_asterisk self.now }
+    {
+        match self.labels().next() {
+            Some(label) => label.octets() == b"*".as_slice(),
+            None => false,
+        }
+    }
+
+    /// Which of two names in lower case comes first in the canonical order (RFC 4034 6.1): what
+    /// many names are sorted by.
+    ///
+    /// Labels are compared from the right. A label comes before one that it begins, and a name
+    /// before all names below it.
+    pub fn order_in_lower_case(&self, other: &NameRef<'_>) -> Ordering
+        requires this { folded self.now ≡ self.now }
+        requires other { folded other.now ≡ other.now }
+        ensures { result ≡ name_order self.now other.now }
+    {
+        self.order_as_spelled(other)
+    }
+
+    // Labels are compared from the right, with regard to case.
+    pub(crate) fn order_as_spelled(&self, other: &NameRef<'_>) -> Ordering
+        ensures { result ≡ slice_cmp label_order (reverse self.now) (reverse other.now) }
+    {
+        if let Some(order) = order_of_siblings(self, other) {
+            return order;
+        }
+        let (own_count, other_count) = (self.label_count(), other.label_count());
+        let shared = own_count.min(other_count);
+        let longer = own_count.cmp(&other_count);
+        order_of_labels(
+            self.without_first(own_count - shared),
+            other.without_first(other_count - shared),
+            longer,
+        )
+    }
+
+    // The labels without the first `extra` ones.
+    fn without_first(&self, extra: usize) -> Labels<'_>
+        ensures { result ≡ drop extra self.now }
+    {
+        let mut labels = self.labels();
+        'extra: for _ in 0..extra {
+            labels.next();
+        }
+        labels
+    }
+}
+
+/// Octet by octet, so that names which differ in case are different: `same` has no regard to case.
+impl PartialEq for NameRef<'_> {
+    ghost eq = { names_equal };
+
+    ghost laws = { lists_per (lists_per (partial_equiv_from_equiv nat_eq_equiv)) };
+
+    fn eq(&self, other: &Self) -> bool {
+        self.octets() == other.octets()
+    }
+}
+
+impl Eq for NameRef<'_> {
+    ghost laws = { lists_equiv (lists_equiv nat_eq_equiv) };
+}
+
+/// The labels of a name that are still to come.
+#[derive(Drop)]
+pub struct Labels<'a> {
+    octets: &'a [u8],
+}
+
+impl<'a> Model for Labels<'a> {
+    ghost use Rattle.dns_spec.specs.Names.{DomainName};
+    ghost use Rattle.dns_name.specs.WireForm.{labels_of, IsWireForm};
+
+    ghost Value = { DomainName };
+
+    ghost view = { λ l. labels_of l.octets.now };
+
+    ghost invariant = { λ l. IsWireForm l.octets.now };
+}
+
+impl<'a> Iterator for Labels<'a> {
+    type Item = Label<'a>;
+
+    ghost next_gives = { YieldsFirst (λ s. s) };
+
+    ghost remaining = { item_count (λ s. s) };
+
+    fn next(&mut self) -> Option<Label<'a>> {
+        let (label, rest) = first_label(self.octets)?;
+        self.octets = rest;
+        Some(label)
+    }
+}
+
+impl Labels<'_> {
+    // Whether the labels that are still to come are the same, octet by octet.
+    fn are_those_of(&self, other: &Labels<'_>) -> bool
+        ensures { OnTrue result (self.now ≡ other.now) }
+    {
+        self.octets == other.octets
+    }
+}
+
+/// The first label of a name in wire form, and the wire form of the rest: of `www.example.`, `www`
+/// and `example.` The root has none.
+pub fn first_label(octets: &[u8]) -> Option<(Label<'_>, &[u8])>
+    requires { IsWireForm octets.now }
+    ensures { MatchOption result (labels_of octets.now ≡ [])
+        (λ x. (labels_of octets.now ≡ x.0 ∷ labels_of x.1.now) × IsWireForm x.1.now) }
+{
+    let (length, rest) = octets.split_first()?;
+    let length = *length as usize;
+    if length == 0 {
+        return None;
+    }
+    let (label, rest) = rest.split_at(length);
+    Some((Label::new(label)?, rest))
+}
+
+// The order of two names below one name, which is that of their first labels. Most names of a zone
+// are such, so that their labels need not be counted.
+fn order_of_siblings(one: &NameRef<'_>, other: &NameRef<'_>) -> Option<Ordering>
+    ensures { IfSome result (λ order. order ≡ slice_cmp label_order (reverse one.now)
+        (reverse other.now)) }
+{
+    let (mut left, mut right) = (one.labels(), other.labels());
+    let (first, second) = (left.next()?, right.next()?);
+    if !left.are_those_of(&right) {
+        return None;
+    }
+    Some(first.octets().cmp(second.octets()))
+}
+
+// The order of as many labels on both sides, compared from the right, and `longer` where they are
+// equal. Names of a zone mostly differ in their first labels alone, and what is equal after a label
+// need not be walked.
+fn order_of_labels(left: Labels<'_>, right: Labels<'_>, longer: Ordering) -> Ordering
+    requires { length left ≡ length right }
+    ensures { result ≡ ordering_then (slice_cmp label_order (reverse left.entry)
+        (reverse right.entry)) longer }
+{
+    let mut left = left;
+    let mut right = right;
+    let mut order = longer;
+    'labels: while let (Some(l), Some(r)) = (left.next(), right.next()) {
+        order = l.octets().cmp(r.octets()).then(order);
+        if left.are_those_of(&right) {
+            return order;
+        }
+    }
+    order
+}
+
+// Octets that are compared are mostly in one case, which costs less to see.
+fn same_octets(left: &[u8], right: &[u8]) -> bool
+    ensures { IsTrue result ↔ (map to_ascii_lowercase left.now ≡ map to_ascii_lowercase right.now) }
+{
+    left == right || left.eq_ignore_ascii_case(right)
+}

@@ -1,0 +1,14 @@
+use Rattle.std.proofs.Common.{◌≡◌, All, length}
+use Rattle.dns_spec.specs.Data.{first_name, target}
+use Rattle.dns_rdata.specs.Parts.{HasName}
+use Rattle.dns_rdata.proofs.rdata.Rdata.target_lent.Given as goal
+
+-- the first name is still to come
+abbrev pub invariant-parts : goal.invariant-parts
+invariant-parts l = record {
+  names : All HasName l.parts;
+  first : first_name l.parts ≡ target l.fn.rtype.0 l.octets;
+}
+
+abbrev pub decreases-parts : goal.decreases-parts
+decreases-parts l = length l.parts

@@ -1,0 +1,43 @@
+-- The owner and the data of a record stand in its octets, one after the other.
+use Rattle.std.proofs.Common.{◌≡◌, ℕ, true, [], ◌++◌, length, take, drop, refl, ap, ◌∙◌, arith, length-append}
+use Rattle.std.proofs.Math.Seq.{take-append_seam, drop-append_seam}
+use Rattle.dns_spec.specs.Names.{Octets, DomainName, wire, is_name}
+use Rattle.dns_spec.specs.Records.{ResourceRecord}
+use Rattle.dns_name.proofs.WireLemmas.{labels_of_spelled, IsWireForm-wire}
+use Rattle.dns_master.specs.RecordForm.{IsKept}
+use Rattle.dns_zone.specs.EntryForm.{owner_in, data_in, IsEntry}
+
+-- octets zs of a record of owner n and data d, whose wire form is own
+pub record IsLaid (n : DomainName) (d own zs : Octets) : Type 0 where
+  pub whole : zs ≡ own ++ d
+  pub spelled : own ≡ wire n
+  pub is_name : is_name n ≡ true
+
+pub laid_in_turn : (n : DomainName) (d own others xs ys zs : Octets) → xs ≡ [] → ys ≡ xs ++ own → zs ≡ ys ++ others → own ≡ wire n → others ≡ d
+    → is_name n ≡ true → IsLaid n d own zs
+laid_in_turn n d own others xs ys zs e f g h k ok = record {
+  whole = rw (g, f, e, k) refl;
+  spelled = h;
+  is_name = ok;
+}
+
+module _ (n : DomainName) (d own zs : Octets) (laid : IsLaid n d own zs) where
+  owner_octets : take (length own) zs ≡ wire n
+  owner_octets = ap (take (length own)) laid.whole ∙ take-append_seam own d ∙ laid.spelled
+
+  pub owner_is : owner_in (length own) zs ≡ n
+  owner_is = labels_of_spelled (take (length own) zs) n owner_octets laid.is_name
+
+  pub data_is : data_in (length own) zs ≡ d
+  data_is = ap (drop (length own)) laid.whole ∙ drop-append_seam own d
+
+  pub entry_kept : (ttl t : ℕ) → IsKept n ttl t d → IsEntry (length own) zs ttl t
+  entry_kept ttl t kept = record {
+    fits = omega (arith, ap length laid.whole, length-append own d);
+    wire = IsWireForm-wire (take (length own) zs) n owner_octets laid.is_name;
+    kept = rw (owner_is, data_is) kept;
+  }
+
+  pub entry_is : (ttl t : ℕ) → ◌≡◌ {A = ResourceRecord} (record { owner = owner_in (length own) zs; ttl = ttl; rtype = t; rdata = data_in (length own) zs })
+      (record { owner = n; ttl = ttl; rtype = t; rdata = d })
+  entry_is ttl t = rw (owner_is, data_is) refl

@@ -1,0 +1,76 @@
+//! Records as a zone keeps them: in few octets.
+ghost use Rattle.std.specs.Prelude.{◌≡◌, IfOk};
+ghost use Rattle.dns_spec.specs.Names.{folded};
+ghost use Rattle.dns_spec.specs.Data.{Valid, lower_case};
+
+use dns_master::Record;
+use dns_name::NameRef;
+use dns_rdata::RType;
+use std::alloc::{AllocError, Global};
+use std::marker::Model;
+
+/// A record: 32 octets, and one piece of memory that has its owner and its data.
+#[derive(Drop)]
+pub(crate) struct Entry {
+    // The owner's wire form, and the data after it.
+    octets: Vec<u8>,
+    owner_octets: u8,
+    /// Its type.
+    pub(crate) rtype: RType,
+    /// How many seconds it may be kept.
+    pub(crate) ttl: u32,
+}
+
+impl Model for Entry {
+    ghost use Rattle.dns_spec.specs.Records.{ResourceRecord};
+    ghost use Rattle.dns_zone.specs.EntryForm.{owner_in, data_in, IsEntry};
+
+    ghost Value = { ResourceRecord };
+
+    ghost view = { λ e. record {
+      owner = owner_in e.owner_octets e.octets.items;
+      ttl = e.ttl;
+      rtype = e.rtype.0;
+      rdata = data_in e.owner_octets e.octets.items;
+    } };
+
+    ghost invariant = { λ e. IsEntry e.owner_octets e.octets.items e.ttl e.rtype.0 };
+}
+
+impl Entry {
+    /// The same record as it was read. Memory is taken once, for its octets.
+    pub(crate) fn of(alloc: Global, listed: &Record) -> Result<Entry, AllocError>
+        ensures { IfOk result (λ entry. entry ≡ listed.now) }
+    {
+        let owner = listed.owner.octets();
+        let data = listed.rdata.octets();
+        let mut octets = Vec::with_capacity(alloc, owner.len() + data.len())?;
+        octets.extend_from_slice(owner)?;
+        octets.extend_from_slice(data)?;
+        Ok(Entry {
+            octets,
+            owner_octets: owner.len() as u8,
+            rtype: listed.rtype,
+            ttl: listed.ttl,
+        })
+    }
+
+    /// The name that it stands at, in lower case.
+    pub(crate) fn owner(&self) -> NameRef<'_>
+        ensures value { result ≡ self.now.owner }
+        ensures lower { folded result ≡ result }
+    {
+        let count = self.owner_octets as usize;
+        NameRef::new(self.octets.as_slice().split_at(count).0)
+    }
+
+    /// Its data.
+    pub(crate) fn rdata(&self) -> &[u8]
+        ensures value { result.now ≡ self.now.rdata }
+        ensures valid { Valid self.now.rtype self.now.rdata }
+        ensures lower { lower_case self.now.rtype self.now.rdata ≡ self.now.rdata }
+    {
+        let count = self.owner_octets as usize;
+        self.octets.as_slice().split_at(count).1
+    }
+}
