@@ -8,9 +8,9 @@ ghost use Rattle.dns_tools.specs.Stops.{source_failures_after, sink_failures_aft
 
 use crate::fault::Stop;
 use crate::report::{write_check_faults, write_loaded, write_read_fault};
-use dns_master::{ReadCode, ReadFault, read_zone};
+use dns_master::{ReadCode, ReadFault};
 use dns_name::{Name, Tally};
-use dns_zone::{BuildFault, CheckFault, Zone, print};
+use dns_zone::{BuildFault, CheckFault, Store, Zone, print};
 use std::alloc::Global;
 use std::io::{Read, Write};
 
@@ -46,7 +46,7 @@ pub fn check_zone<R: Read, W: Write>(
     ensures sink { sink.new.failures ≡ sink_failures_after sink.old.failures result }
 {
     let origin = origin.fold();
-    let records = match read_zone(alloc, &origin, source) {
+    let records = match Store::read(alloc, &origin, source) {
         Ok(records) => records,
         Err(fault) => {
             return match fault.code {
@@ -56,7 +56,7 @@ pub fn check_zone<R: Read, W: Write>(
             };
         }
     };
-    match Zone::build(alloc, &origin, records) {
+    match records.build(alloc, &origin) {
         Ok(zone) => report_zone(flags, &zone, sink),
         Err(BuildFault::Faults(faults)) => report_check_faults(flags, faults.as_slice(), sink),
         Err(BuildFault::NoMemory) => Err(Stop::Memory),

@@ -5,9 +5,9 @@ ghost use Rattle.dns_tools.specs.Load.{LoadedAs, failures_after_load, fault_of_r
 
 use crate::fault::Stop;
 use crate::report::{write_check_faults, write_read_fault};
-use dns_master::{ReadCode, ReadFault, read_zone};
+use dns_master::{ReadCode, ReadFault};
 use dns_name::{Name, SinkFailed, Tally};
-use dns_zone::{BuildFault, CheckFault, Zone};
+use dns_zone::{BuildFault, CheckFault, Store, Zone};
 use std::alloc::Global;
 use std::io::{Read, Write};
 
@@ -52,8 +52,8 @@ pub fn load<R: Read>(alloc: Global, origin: &Name, source: &mut Tally<R>) -> Res
     ensures meaning { LoadedAs (R.remaining source.old.device) origin.now result }
 {
     let origin = origin.fold();
-    let records = read_zone(alloc, &origin, source)?;
-    match Zone::build(alloc, &origin, records) {
+    let records = Store::read(alloc, &origin, source)?;
+    match records.build(alloc, &origin) {
         Ok(zone) => Ok(zone),
         Err(BuildFault::Faults(faults)) => Err(LoadFault::Refused(Refusal::Zone(faults))),
         Err(BuildFault::NoMemory) => Err(LoadFault::Stopped(Stop::Memory)),

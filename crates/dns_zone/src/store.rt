@@ -1,17 +1,19 @@
 //! Records that are gathered one after another, until a zone is made of them.
-ghost use Rattle.std.specs.Prelude.{◌≡◌, ◌≤◌, [], ◌∷◌, ◌++◌, length, IfOk, OnOk, OnErr};
-ghost use Rattle.std.specs.Result.{IfErr};
+ghost use Rattle.std.specs.Prelude.{◌≡◌, ◌≢◌, ◌⊎◌, ◌-◌, ◌^◌, ◌<◌, ◌≤◌, [], ◌∷◌, ◌++◌, length, IfOk, IfErr, OnOk, OnErr};
 ghost use Rattle.dns_spec.specs.Records.{zone_of, ordered_zone};
 ghost use Rattle.dns_spec.specs.Checks.{faults};
-ghost use Rattle.dns_spec.specs.Meaning.{most_records};
+ghost use Rattle.dns_spec.specs.Meaning.{most_records, records, fault_at};
+ghost use Rattle.dns_master.specs.Codes.{fault_of, failures_after_read};
+ghost use Rattle.dns_master.specs.SourceForm.{GivesMeaning};
 ghost use Rattle.dns_zone.specs.ZoneForm.{ReportsFaults};
 
 use crate::entry::Entry;
 use crate::fault::BuildFault;
 use crate::zone::Zone;
-use dns_master::Record;
-use dns_name::Name;
+use dns_master::{Gathers, ReadCode, ReadFault, Record, read_into};
+use dns_name::{Name, Tally};
 use std::alloc::{AllocError, Global};
+use std::io::Read;
 use std::marker::Model;
 
 /// Records of a zone, in the order in which they were added.
@@ -41,6 +43,32 @@ impl Store {
             alloc,
             entries: Vec::new(alloc),
         }
+    }
+
+    /// The records of the zone file of a source, relative to the origin of the zone, as `read_zone`
+    /// gives them in a list (RFC 1035 section 5).
+    ///
+    /// Its faults are those of `read_zone`.
+    pub fn read<R: Read>(
+        alloc: Global,
+        origin: &Name,
+        source: &mut Tally<R>,
+    ) -> Result<Store, ReadFault>
+        requires { source.old.failures < 2 ^ 64 - 1 }
+        ensures ok { IfOk result (λ found. GivesMeaning (R.remaining source.old.device) origin.now
+            (records found)) }
+        ensures fault { IfErr result (λ f. f.code ≢ ReadCode.SourceFailed
+            → f.code ≢ ReadCode.NoMemory
+            → GivesMeaning (R.remaining source.old.device) origin.now
+            (fault_at (fault_of f.code) f.line)) }
+        ensures few { IfOk result (λ found. length found ≤ most_records) }
+        ensures line { IfErr result (λ f. (f.code ≡ ReadCode.SourceFailed)
+            ⊎ (f.code ≡ ReadCode.NoMemory) → f.line ≡ 0) }
+        ensures counted { source.new.failures ≡ failures_after_read source.old.failures result }
+    {
+        let mut store = Store::new(alloc);
+        read_into(alloc, origin, source, &mut store)?;
+        Ok(store)
     }
 
     /// How many records it has.
@@ -73,5 +101,13 @@ impl Store {
     {
         let Store { entries, .. } = self;
         Zone::of_entries(alloc, origin, entries)
+    }
+}
+
+impl Gathers for Store {
+    ghost gathered = { λ s. s };
+
+    fn add(&mut self, one: &Record) -> Result<(), AllocError> {
+        Store::add(self, one)
     }
 }

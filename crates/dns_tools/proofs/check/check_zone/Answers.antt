@@ -12,11 +12,11 @@ returns-in_default-clause-report g c =
 
 pub returns-in-Ok-build-clause-report : goal.returns-in-Ok-build-clause-report
 returns-in-Ok-build-clause-report g c =
-    zone_checked _ c.args.origin.now _ (options_of c.args.flags) c.in-Ok.records.items _ _ _ _ c.fold-origin.ensures c.in-Ok.ensures.ok c.in-Ok-build.ensures.ok c.in-Ok-build.ensures.passes
+    zone_checked _ c.args.origin.now _ (options_of c.args.flags) c.in-Ok.records _ _ _ _ c.fold-origin.ensures c.in-Ok.ensures.ok c.in-Ok-build.ensures.ok c.in-Ok-build.ensures.passes
     c.report_zone.ensures.written
 
 pub returns-in-Err-Faults-clause-report : goal.returns-in-Err-Faults-clause-report
 returns-in-Err-Faults-clause-report g c =
     let reported = reported_as c.build.result (Faults c.in-Err-Faults.faults) _ (search rules) c.build.ensures.faults in
-    faults_checked _ c.args.origin.now _ (options_of c.args.flags) c.in-Ok.records.items _ _ _ _ c.fold-origin.ensures c.in-Ok.ensures.ok
+    faults_checked _ c.args.origin.now _ (options_of c.args.flags) c.in-Ok.records _ _ _ _ c.fold-origin.ensures c.in-Ok.ensures.ok
     (c.as_slice.ensures.value ∙ reported.0) reported.1 c.report_check_faults.ensures.written
