@@ -1,14 +1,16 @@
 -- The length of data is written after the data, into octets that no name passes over.
-use Rattle.std.proofs.Common.{◌≡◌, ◌+◌, ◌-◌, ◌∙◌, ℕ, true, All, List, [], ◌∷◌, ◌++◌, length, take, drop, refl, sym, ap, ap₂, subst, subst₂, arith, append_assoc, append-nil, length-append}
+use Rattle.std.proofs.Common.{◌≡◌, ◌+◌, ◌-◌, ◌∙◌, ℕ, Bool, true, false, All, List, [], ◌∷◌, ◌++◌, length, take, drop, refl, sym, ap, ap₂, subst, subst₂, arith, append_assoc, append-nil, length-append}
+use Rattle.std.proofs.lemmas.List.{take_at, drop_at}
 use Rattle.std.proofs.lemmas.List.Elements.{All-head, All-tail}
+use Rattle.std.specs.Bool.{OnTrue}
 use Rattle.dns_spec.specs.Names.{Octets}
-use Rattle.dns_spec.specs.Data.{Part, octets, name, laid_parts}
-use Rattle.dns_spec.specs.Layout.{Placed, Laid, laid_front, shared_octets, data_laid}
+use Rattle.dns_spec.specs.Data.{class_in, Part, octets, name, laid_parts}
+use Rattle.dns_spec.specs.Layout.{Placed, Laid, laid_front, octets16, octets32, shared_octets, data_laid}
 use Rattle.dns_rdata.specs.Parts.{HasName}
 use Rattle.dns_wire.specs.Kept.{Kept}
-use Rattle.dns_wire.specs.Writing.{Holds, StandsIn, new_places}
+use Rattle.dns_wire.specs.Writing.{Holds, IsWritten, StandsIn, new_places, tail_laid}
 use Rattle.dns_wire.proofs.NameWritten.{holds_octets, holds_name}
-use Rattle.dns_wire.proofs.DataWritten.{data-octets, data-name, data-none}
+use Rattle.dns_wire.proofs.DataWritten.{data-octets, data-name, data-none, numbers_of, tail_written}
 
 -- data that is laid out spells its names, whatever octets stand before it
 pub data_stands : (head : Octets → ℕ) (ps : List Part) (ms : List Placed) (b : Octets) (ks : List Kept) → All HasName ps → Holds head ms b ks
@@ -37,3 +39,56 @@ data_stands head (name n ∷ ps) ms b ks names holds =
 -- the places of names are those of any octets that spell the names there
 pub holds_again : {head : Octets → ℕ} {ms : List Placed} {b b' : Octets} {ks ks' : List Kept} → Holds head ms b ks → Holds head ms b' ks' → Holds head ms b' ks
 holds_again here there = record { spelled = there.spelled; before = there.before; after_header = there.after_header; answers = here.answers }
+
+pub stands_elsewhere : {head : Octets → ℕ} {limit : ℕ} {ms : List Placed} {b₀ b b' : Octets} {ks ks' : List Kept} {fits : Bool} (ps : List Part) → All HasName ps
+    → IsWritten head limit ms b₀ (data_laid ms (length b₀) ps) fits b' ks' → Holds head ms b ks → length b ≡ length b₀
+    → OnTrue fits (StandsIn head ms b (data_laid ms (length b) ps) ks')
+stands_elsewhere {head} {limit} {ms} {b₀} {b} {b'} {ks} {ks'} {fits} ps names done holds same = go fits done.holds
+  where
+    go : (t : Bool) → OnTrue t (Holds head (ms ++ (data_laid ms (length b₀) ps).names) b' ks') → OnTrue t (StandsIn head ms b (data_laid ms (length b) ps) ks')
+    go false h = tt
+    go true h =
+        let here : Holds head (ms ++ (data_laid ms (length b) ps).names) b' ks' = subst (λ p. Holds head (ms ++ (data_laid ms p ps).names) b' ks') (sym same) h in
+        holds_again here (data_stands head ps ms b ks names holds).1
+
+-- the eighth and ninth of ten octets are written over, and those after them stay
+pub patched : (b y z w after now : Octets) → length y ≡ 8 → length z ≡ 2 → after ≡ (b ++ ((y ++ z) ++ [])) ++ w
+    → now ≡ take (length b + 8) after ++ (octets16 (length after - length b - 10) ++ drop (length b + 10) after)
+    → now ≡ (b ++ ((y ++ octets16 (length w)) ++ [])) ++ w
+patched b y z w after now eight two is set =
+    let whole : after ≡ (b ++ y) ++ (z ++ w) =
+    is ∙ append_assoc b ((y ++ z) ++ []) w ∙ ap (λ x. b ++ (x ++ w)) (append-nil (y ++ z)) ∙ ap (λ x. b ++ x) (append_assoc y z w) ∙ sym (append_assoc b y (z ++ w)) in
+    let split : after ≡ ((b ++ y) ++ z) ++ w = whole ∙ sym (append_assoc (b ++ y) z w) in
+    let first : length (b ++ y) ≡ length b + 8 = length-append b y ∙ ap (λ k. length b + k) eight in
+    let both : length ((b ++ y) ++ z) ≡ length b + 10 = omega (arith, length-append (b ++ y) z, first, two) in
+    let front : take (length b + 8) after ≡ b ++ y = ap (take (length b + 8)) whole ∙ take_at (b ++ y) (z ++ w) (length b + 8) first in
+    let back : drop (length b + 10) after ≡ w = ap (drop (length b + 10)) split ∙ drop_at ((b ++ y) ++ z) w (length b + 10) both in
+    let long : length after - length b - 10 ≡ length w = omega (arith, ap length split, length-append ((b ++ y) ++ z) w, both) in
+    let n = octets16 (length w) in
+    set ∙ ap₂ (λ x k. x ++ (octets16 k ++ drop (length b + 10) after)) front long ∙ ap (λ x. (b ++ y) ++ (n ++ x)) back
+    ∙ append_assoc b y (n ++ w) ∙ ap (λ x. b ++ x) (sym (append_assoc y n w)) ∙ ap (λ x. b ++ (x ++ w)) (sym (append-nil (y ++ n))) ∙ sym (append_assoc b ((y ++ n) ++ []) w)
+
+-- so the tail of a record, whose length of data was 0 at first, is written with its length
+pub tail_patched : {head : Octets → ℕ} {limit : ℕ} {ms : List Placed} {b b' after now : Octets} {ks ks' : List Kept} (t ttl : ℕ) (o : Octets)
+    → b' ≡ b ++ (numbers_of t ttl 0 ++ []) → Holds head ms b ks → IsWritten head limit ms b' (data_laid ms (length b') (laid_parts t o)) true after ks'
+    → ((c : Octets) → Holds head ms c ks → length c ≡ length b' → StandsIn head ms c (data_laid ms (length c) (laid_parts t o)) ks')
+    → now ≡ take (length b + 8) after ++ (octets16 (length after - length b - 10) ++ drop (length b + 10) after)
+    → IsWritten head limit ms b (tail_laid ms (length b) t ttl o) true now ks'
+tail_patched {head} {limit} {ms} {b} {b'} {after} {now} {ks} {ks'} t ttl o own holds done elsewhere set =
+    let ps = laid_parts t o in
+    let w = (data_laid ms (length b') ps).written in
+    let y : Octets = octets16 t ++ octets16 class_in ++ octets32 ttl in
+    let numbers : Octets = numbers_of t ttl (length w) ++ [] in
+    let c = b ++ numbers in
+    let place : length b' ≡ length b + 10 = ap length own ∙ length-append b (numbers_of t ttl 0 ++ []) in
+    let there : length c ≡ length b + 10 = length-append b numbers in
+    let same : length c ≡ length b' = there ∙ sym place in
+    let is : w ≡ (data_laid ms (length c) ps).written = ap (λ p. (data_laid ms p ps).written) (sym same) in
+    let laid : now ≡ c ++ w = patched b y (octets16 0) w after now refl refl (done.written ∙ ap (λ x. x ++ w) own) set in
+    let fits = done.exactly.0 refl in
+    let again : IsWritten head limit ms c (data_laid ms (length c) ps) true now ks' = record {
+      exactly = (λ yes. omega (arith, fits, same, length-append b' w, length-append c (data_laid ms (length c) ps).written, ap length is), λ h. refl);
+      written = laid ∙ ap (λ x. c ++ x) is;
+      holds = elsewhere c (holds_octets numbers holds) same;
+    } in
+    tail_written t ttl (length w) o refl (ap (λ p. length (data_laid ms p ps).written) place) again

@@ -177,7 +177,7 @@ unmeasured {limit = limit} {ms} {b'} b ps z e ten done =
     omega (arith, over, at, length-append b' (data_laid ms (length b') ps).written, ap (λ p. length (data_laid ms p ps).written) at)
 
 -- what follows an owner
-abbrev numbers_of : ℕ → ℕ → ℕ → Octets
+abbrev pub numbers_of : ℕ → ℕ → ℕ → Octets
 numbers_of t ttl k = octets16 t ++ octets16 class_in ++ octets32 ttl ++ octets16 k
 
 pub tail_written : {head : Octets → ℕ} {limit : ℕ} {ms : List Placed} {b b' b'' : Octets} {ks : List Kept} {fits : Bool} (t ttl k : ℕ) (o : Octets) → b' ≡ b ++ (numbers_of t ttl k ++ [])
