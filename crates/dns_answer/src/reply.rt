@@ -112,11 +112,18 @@ pub fn respond_in<const N: usize, const SIZE: usize>(
     ensures { Responds steps.old steps.new datagram.now SIZE result out.new }
 {
     let origin = steps.origin();
-    match read_query(datagram) {
+    let query = read_query(datagram);
+    match &query {
         QueryRead::Absent => None,
-        QueryRead::Refused(head) => Some(put_refusal(head, None, draft, out)),
+        QueryRead::Refused(Head { id, flags }) => {
+            let head = Head {
+                id: *id,
+                flags: *flags,
+            };
+            Some(put_refusal(head, None, draft, out))
+        }
         QueryRead::Query(head, question) => {
-            Some(put_reply(steps, origin, &head, &question, draft, out))
+            Some(put_reply(steps, origin, head, question, draft, out))
         }
     }
 }

@@ -1,6 +1,10 @@
 -- The length of data is written after the data, into octets that no name passes over.
-use Rattle.std.proofs.Common.{◌≡◌, ◌+◌, ◌-◌, ◌∙◌, ℕ, Bool, true, false, All, List, [], ◌∷◌, ◌++◌, length, take, drop, refl, sym, ap, ap₂, subst, subst₂, arith, append_assoc, append-nil, length-append}
-use Rattle.std.proofs.lemmas.List.{take_at, drop_at}
+use Rattle.std.proofs.Common.{◌≡◌, ◌+◌, ◌-◌, ◌≤◌, ◌∙◌, ℕ, Bool, true, false, All, List, [], ◌∷◌, ◌++◌, length, take, drop, refl, sym, ap, ap₂, subst, subst₂, arith, append_assoc, append-nil, length-append}
+use borrow.Rule.Slice.PartMut.{put_mid}
+use Rattle.std.specs.List.{between, refill}
+use Rattle.std.proofs.lemmas.List.{take_at, drop_at, drop-drop, drop_all, length-take, length-drop}
+use Rattle.std.proofs.lemmas.Slice.{between_to_end}
+use Rattle.std.proofs.Math.Seq.{take-append-add}
 use Rattle.std.proofs.lemmas.List.Elements.{All-head, All-tail}
 use Rattle.std.specs.Bool.{OnTrue}
 use Rattle.dns_spec.specs.Names.{Octets}
@@ -8,7 +12,7 @@ use Rattle.dns_spec.specs.Data.{class_in, Part, octets, name, laid_parts}
 use Rattle.dns_spec.specs.Layout.{Placed, Laid, laid_front, octets16, octets32, shared_octets, data_laid}
 use Rattle.dns_rdata.specs.Parts.{HasName}
 use Rattle.dns_wire.specs.Kept.{Kept}
-use Rattle.dns_wire.specs.Writing.{Holds, IsWritten, StandsIn, new_places, tail_laid}
+use Rattle.dns_wire.specs.Writing.{Extends, Holds, IsWritten, StandsIn, new_places, tail_laid}
 use Rattle.dns_wire.proofs.NameWritten.{holds_octets, holds_name}
 use Rattle.dns_wire.proofs.DataWritten.{data-octets, data-name, data-none, numbers_of, tail_written}
 
@@ -51,6 +55,20 @@ stands_elsewhere {head} {limit} {ms} {b₀} {b} {b'} {ks} {ks'} {fits} ps names 
         let here : Holds head (ms ++ (data_laid ms (length b) ps).names) b' ks' = subst (λ p. Holds head (ms ++ (data_laid ms p ps).names) b' ks') (sym same) h in
         holds_again here (data_stands head ps ms b ks names holds).1
 
+-- two octets of a list, written through a part of it that goes to its end
+pub put_over : (xs r ys o : Octets) (a : ℕ) → r ≡ xs → length o ≡ 2 → a + 2 ≤ length xs → ys ≡ o ++ drop 2 (between a (length r) r)
+    → refill (length xs) xs (put_mid a (length r - a) r ys) ≡ take a xs ++ (o ++ drop (a + 2) xs)
+put_over xs r ys o a whole two inside is =
+    let part : between a (length r) r ≡ drop a xs = ap (λ z. between a (length z) z) whole ∙ between_to_end xs a (length xs) (omega arith) in
+    let own : ys ≡ o ++ drop (a + 2) xs = is ∙ ap (λ z. o ++ drop 2 z) part ∙ ap (λ z. o ++ z) (drop-drop 2 a xs) in
+    let none : drop (length xs - a) (drop a xs) ≡ [] = drop_all (length xs - a) (drop a xs) (omega (arith, length-drop a xs)) in
+    let list = take a xs ++ (o ++ drop (a + 2) xs) in
+    let now : put_mid a (length r - a) r ys ≡ list =
+    ap (λ z. put_mid a (length z - a) z ys) whole ∙ ap (λ z. take a xs ++ (ys ++ z)) none ∙ ap (λ z. take a xs ++ z) (append-nil ys) ∙ ap (λ z. take a xs ++ z) own in
+    let long : length list ≡ length xs =
+    omega (arith, inside, two, length-append (take a xs) (o ++ drop (a + 2) xs), length-append o (drop (a + 2) xs), length-take a xs, length-drop (a + 2) xs) in
+    ap (refill (length xs) xs) now ∙ take_at list (drop (length list) xs) (length xs) long
+
 -- the eighth and ninth of ten octets are written over, and those after them stay
 pub patched : (b y z w after now : Octets) → length y ≡ 8 → length z ≡ 2 → after ≡ (b ++ ((y ++ z) ++ [])) ++ w
     → now ≡ take (length b + 8) after ++ (octets16 (length after - length b - 10) ++ drop (length b + 10) after)
@@ -89,6 +107,19 @@ tail_patched {head} {limit} {ms} {b} {b'} {after} {now} {ks} {ks'} t ttl o own h
     let again : IsWritten head limit ms c (data_laid ms (length c) ps) true now ks' = record {
       exactly = (λ yes. omega (arith, fits, same, length-append b' w, length-append c (data_laid ms (length c) ps).written, ap length is), λ h. refl);
       written = laid ∙ ap (λ x. c ++ x) is;
-      holds = elsewhere c (holds_octets numbers holds) same;
+      holds = subst (λ x. Holds head (ms ++ (data_laid ms (length c) ps).names) x ks') (sym (laid ∙ ap (λ x. c ++ x) is)) (elsewhere c (holds_octets numbers holds) same);
     } in
     tail_written t ttl (length w) o refl (ap (λ p. length (data_laid ms p ps).written) place) again
+
+-- what stands before those ten octets stays as well
+pub patched_extends : (b after now : Octets) (ks ks' ks'' : List Kept) (x : Octets) → Extends b ks after ks' → now ≡ take (length b + 8) after ++ x → ks'' ≡ ks'
+    → Extends b ks now ks''
+patched_extends b after now ks ks' ks'' x grown set same =
+    let more = grown.more_octets in
+    let front : take (length b + 8) after ≡ b ++ take 8 more = ap (take (length b + 8)) grown.octets ∙ take-append-add b more 8 in
+    record {
+      more_octets = take 8 more ++ x;
+      octets = set ∙ ap (λ z. z ++ x) front ∙ append_assoc b (take 8 more) x;
+      more_places = grown.more_places;
+      places = same ∙ grown.places;
+    }

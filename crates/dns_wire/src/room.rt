@@ -371,8 +371,8 @@ impl<const N: usize, const SIZE: usize> Room<N, SIZE> {
         requires sound { IsSoundRoom self.old }
         requires numbers { at + 10 ≤ length self.old.octets.items }
         ensures octets { self.new.octets.items ≡ take (at + 8) self.old.octets.items
-            ++ octets16 (length self.old.octets.items - at - 10)
-            ++ drop (at + 10) self.old.octets.items }
+            ++ (octets16 (length self.old.octets.items - at - 10)
+            ++ drop (at + 10) self.old.octets.items) }
         ensures places { self.new.places ≡ self.old.places }
         ensures limit { self.new.limit ≡ self.old.limit }
         ensures sound { IsSoundRoom self.new }
