@@ -112,18 +112,11 @@ pub fn respond_in<const N: usize, const SIZE: usize>(
     ensures { Responds steps.old steps.new datagram.now SIZE result out.new }
 {
     let origin = steps.origin();
-    let query = read_query(datagram);
-    match &query {
+    match read_query(datagram) {
         QueryRead::Absent => None,
-        QueryRead::Refused(Head { id, flags }) => {
-            let head = Head {
-                id: *id,
-                flags: *flags,
-            };
-            Some(put_refusal(head, None, draft, out))
-        }
+        QueryRead::Refused(head) => Some(put_refusal(head, None, draft, out)),
         QueryRead::Query(head, question) => {
-            Some(put_reply(steps, origin, head, question, draft, out))
+            Some(put_reply(steps, origin, &head, &question, draft, out))
         }
     }
 }
