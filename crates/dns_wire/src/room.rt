@@ -187,8 +187,8 @@ impl<const N: usize, const SIZE: usize> Room<N, SIZE> {
         ensures written { (ms : List Placed) → HasNames self.old (H.numbers hash.old) ms
             → HasWritten self.old self.new (H.numbers hash.old) ms
             (data_laid ms (length self.old.octets.items) (laid_parts rtype.0 rdata.now)) result }
-        ensures elsewhere { (ms : List Placed) (b : Octets) → HasNames self.old (H.numbers hash.old) ms
-            → Holds (H.numbers hash.old) ms b self.old.places
+        ensures elsewhere { (ms : List Placed) (b : Octets)
+            → HasNames self.old (H.numbers hash.old) ms → Holds (H.numbers hash.old) ms b self.old.places
             → length b ≡ length self.old.octets.items
             → OnTrue result (StandsIn (H.numbers hash.old) ms b
             (data_laid ms (length b) (laid_parts rtype.0 rdata.now)) self.new.places) }
@@ -365,8 +365,8 @@ impl<const N: usize, const SIZE: usize> Room<N, SIZE> {
         true
     }
 
-    // Writes the length of a record's data, which ends the message, where 10 octets stand before the
-    // data for the numbers of the record, from this place on.
+    // Writes the length of the data that ends the message into the last two of the 10 octets before
+    // it, which begin at this place.
     fn put_length(&mut self, at: usize)
         requires sound { IsSoundRoom self.old }
         requires numbers { at + 10 ≤ length self.old.octets.items }

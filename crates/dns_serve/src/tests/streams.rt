@@ -129,7 +129,10 @@ fn sessions_in_one_room(rt: HostRuntime) -> Result<(), Fail> {
         let mut sink = Tally::new(Vec::new(alloc));
         let answer = serve_stream_in(&zone, &mut source, &mut sink, 9, &mut room);
         assert_eq!(rt; answer.map(|count| count as usize), Ok(messages.len()));
-        assert!(rt; sink.into_inner() == frames(alloc, replies)?, "of {messages}");
+        assert!(rt;
+            sink.into_inner() == frames(alloc, replies)?,
+            "of {messages}"
+        );
     }
     Ok(())
 }
