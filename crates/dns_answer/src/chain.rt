@@ -104,12 +104,54 @@ fn seek_target<'z, const N: usize, const SIZE: usize>(
         target result }
     ensures took { TookFrom steps.old steps.new qtype 15 (first.now ∷ target ∷ []) target }
 {
+    let sought = [first.copied(), target.copied()];
+    match seek_one(
+        &target,
+        depth,
+        qtype,
+        MOST_SOUGHT - 2,
+        &sought,
+        apex,
+        steps,
+        draft,
+    ) {
+        Sought::Last(verdict) => verdict,
+        Sought::Alias(next, below) => {
+            seek_rest(first, &target, next, below, qtype, apex, steps, draft)
+        }
+    }
+}
+
+// Seeks the target of the second alias, `depth` labels below the origin, and after it those of the
+// others. Few answers follow as many, and need room for all names that may be sought.
+#[inline(never)]
+fn seek_rest<'z, const N: usize, const SIZE: usize>(
+    first: &Name,
+    second: &Name,
+    target: Name,
+    depth: usize,
+    qtype: u16,
+    apex: &Node<'z>,
+    steps: &mut Steps<'z>,
+    draft: &mut Draft<N, SIZE>,
+) -> Verdict
+    requires apex { IsApex steps.old.zone apex.now }
+    requires below { IsTrue (at_or_below target steps.old.zone.origin) }
+    requires depth { length target ≡ length steps.old.zone.origin + depth }
+    requires few { depth ≤ 127 }
+    requires room { HasRoom steps.old (129 * (14 + 129)) }
+    ensures seeks { Seeks draft.old draft.new steps.old.zone qtype 14
+        (first.now ∷ second.now ∷ target ∷ []) target result }
+    ensures took { TookFrom steps.old steps.new qtype 14 (first.now ∷ second.now ∷ target ∷ [])
+        target }
+{
     let mut sought: ArrayVec<Name, MOST_SOUGHT> = ArrayVec::new();
     sought.push(first.copied());
+    sought.push(second.copied());
     sought.push(target.copied());
     let mut name = target;
     let mut depth = depth;
-    let mut more = MOST_SOUGHT - 2;
+    let mut more = MOST_SOUGHT - 3;
     'names: loop {
         match seek_one(
             &name,

@@ -10,7 +10,7 @@ mod turn;
 
 pub use datagrams::{Datagrams, Failed};
 pub use fault::{StreamFault, TurnFault};
-pub use stream::serve_stream;
+pub use stream::{StreamRoom, serve_stream, serve_stream_in};
 pub use turn::udp_turn;
 
 #[cfg(test)]

@@ -30,6 +30,9 @@ const MOST_FRAME: usize = 65_537;
 /// message read are written, and a beginning of that one; nothing after that message is read. Of a
 /// message the first 512 octets are kept, the rest is read and let go. Nothing is tried again, and
 /// no memory is taken.
+///
+/// The room of the replies, some 181,000 octets, is filled first. Who serves many streams, or has
+/// little stack, keeps a `StreamRoom`, and calls `serve_stream_in`.
 pub fn serve_stream<R: Read, W: Write>(
     zone: &Zone,
     source: &mut Tally<R>,
@@ -49,29 +52,24 @@ pub fn serve_stream<R: Read, W: Write>(
     ensures source { source.new.failures ≡ source_failures_after source.old.failures result }
     ensures sink { sink.new.failures ≡ sink_failures_after sink.old.failures result }
 {
-    let mut room = Room::new();
-    let mut served = 0;
-    'messages: while served < most {
-        if !serve_message(zone, source, sink, &mut room)? {
-            break;
-        }
-        served += 1;
-    }
-    Ok(served)
+    serve_stream_in(zone, source, sink, most, &mut StreamRoom::new())
 }
 
-// Room for what is kept of a message, for its reply after its length, and for the reply while it is made. It is filled
-// once for all messages.
+/// Room for a session: for what is kept of a message, for its reply after its length, and for the
+/// reply while it is made. It is filled once, and lent to `serve_stream_in` for one session after
+/// the other.
 #[derive(Drop)]
-struct Room {
+pub struct StreamRoom {
     message: [u8; MOST_KEPT],
     reply: [u8; MOST_FRAME],
     draft: TcpDraft,
 }
 
-impl Room {
-    fn new() -> Room {
-        Room {
+impl StreamRoom {
+    /// Room in which nothing was served. It has some 181,000 octets, which stand in the value
+    /// itself.
+    pub fn new() -> StreamRoom {
+        StreamRoom {
             message: [0; MOST_KEPT],
             reply: [0; MOST_FRAME],
             draft: TcpDraft::new(),
@@ -79,12 +77,46 @@ impl Room {
     }
 }
 
+/// Reads messages and writes their replies, in room that is lent: all of what `serve_stream` says.
+///
+/// Nothing is left of the sessions that were served in the room before, and nothing is filled in
+/// its size. No memory is taken.
+pub fn serve_stream_in<R: Read, W: Write>(
+    zone: &Zone,
+    source: &mut Tally<R>,
+    sink: &mut Tally<W>,
+    most: u32,
+    room: &mut StreamRoom,
+) -> Result<u32, StreamFault>
+    requires source { source.old.failures < 2 ^ 64 - 1 }
+    requires sink { sink.old.failures < 2 ^ 64 - 1 }
+    ensures session { SessionOf (reply_over_tcp zone.now) most
+        (record {
+          unread = R.remaining source.old.device;
+          left = R.remaining source.new.device;
+          held = W.contents sink.old.device;
+          holds = W.contents sink.new.device;
+        })
+        result }
+    ensures source { source.new.failures ≡ source_failures_after source.old.failures result }
+    ensures sink { sink.new.failures ≡ sink_failures_after sink.old.failures result }
+{
+    let mut served = 0;
+    'messages: while served < most {
+        if !serve_message(zone, source, sink, room)? {
+            break;
+        }
+        served += 1;
+    }
+    Ok(served)
+}
+
 // Reads a message and writes its reply: false at the end of the source.
 fn serve_message<R: Read, W: Write>(
     zone: &Zone,
     source: &mut Tally<R>,
     sink: &mut Tally<W>,
-    room: &mut Room,
+    room: &mut StreamRoom,
 ) -> Result<bool, StreamFault>
     requires source { source.old.failures < 2 ^ 64 - 1 }
     requires sink { sink.old.failures < 2 ^ 64 - 1 }

@@ -5,7 +5,7 @@ ghost use Rattle.dns_tools.specs.Turns.{TakesTurns};
 use crate::fault::{FaultWord, TurnWord};
 use crate::socket::Socket;
 use dns_name::Tally;
-use dns_serve::{Datagrams, serve_stream, udp_turn};
+use dns_serve::{Datagrams, StreamRoom, serve_stream_in, udp_turn};
 use dns_zone::Zone;
 use std::alloc::Global;
 use std::io::{self, BufReader, Read, Write};
@@ -85,12 +85,13 @@ fn say_of_turn(rt: &impl Eprint, are_said: bool, word: TurnWord) -> bool {
 /// read, or no octet came for ten seconds, `S2` where it could not be written, or none was taken
 /// for ten seconds, `S3` where it ended inside a message. Such a turn counts.
 ///
-/// `bind` where the address can't be had.
+/// `bind` where the address can't be had. The room is lent for one connection after the other.
 pub fn serve_connections<R>(
     rt: &R,
     zone: &Zone,
     address: &str,
     turns: u32,
+    room: &mut StreamRoom,
 ) -> Result<bool, FaultWord>
 where
     R: Net<Listener = TcpListener, Stream = TcpStream> + Eprint + AllocGlobal,
@@ -100,7 +101,7 @@ where
         return Err(FaultWord::NotBound);
     };
     let mut connections = Connections { listener, asked: 0 };
-    Ok(take_connections(rt, zone, &mut connections, turns))
+    Ok(take_connections(rt, zone, &mut connections, turns, room))
 }
 
 fn listening<R: Net<Listener = TcpListener, Stream = TcpStream>>(
@@ -124,13 +125,14 @@ fn take_connections<R: Eprint + AllocGlobal>(
     zone: &Zone,
     connections: &mut Connections,
     turns: u32,
+    room: &mut StreamRoom,
 ) -> bool
     requires { connections.old.asked + turns < 2 ^ 64 }
     ensures { connections.new.asked ≡ connections.old.asked + turns }
 {
     let mut are_said = true;
     'connections: for _ in 0..turns {
-        if let Err(word) = connections.serve_next(rt.alloc(), zone) {
+        if let Err(word) = connections.serve_next(rt.alloc(), zone, room) {
             are_said = say_of_turn(rt, are_said, word);
         }
     }
@@ -139,7 +141,12 @@ fn take_connections<R: Eprint + AllocGlobal>(
 
 impl Connections {
     // Asks for a connection, and answers its messages.
-    fn serve_next(&mut self, alloc: Global, zone: &Zone) -> Result<(), TurnWord>
+    fn serve_next(
+        &mut self,
+        alloc: Global,
+        zone: &Zone,
+        room: &mut StreamRoom,
+    ) -> Result<(), TurnWord>
         requires { self.old.asked < 2 ^ 64 - 1 }
         ensures { self.new.asked ≡ self.old.asked + 1 }
     {
@@ -147,12 +154,17 @@ impl Connections {
         let Ok((stream, _)) = self.listener.accept() else {
             return Err(TurnWord::NotAccepted);
         };
-        serve_peer(alloc, zone, &stream)
+        serve_peer(alloc, zone, &stream, room)
     }
 }
 
 // Answers the messages of a connection, with a peer that keeps within the time.
-fn serve_peer(alloc: Global, zone: &Zone, stream: &TcpStream) -> Result<(), TurnWord> {
+fn serve_peer(
+    alloc: Global,
+    zone: &Zone,
+    stream: &TcpStream,
+    room: &mut StreamRoom,
+) -> Result<(), TurnWord> {
     let patience = Duration::from_secs(PATIENCE);
     if stream.set_read_timeout(Some(patience)).is_err() {
         return Err(TurnWord::StreamNotRead);
@@ -163,8 +175,8 @@ fn serve_peer(alloc: Global, zone: &Zone, stream: &TcpStream) -> Result<(), Turn
     // Questions that come together are read together. Where there is no memory for that, the stream
     // is read as it is.
     match BufReader::new(alloc, stream) {
-        Ok(source) => serve_session(zone, source, stream),
-        Err(_) => serve_session(zone, stream, stream),
+        Ok(source) => serve_session(zone, source, stream, room),
+        Err(_) => serve_session(zone, stream, stream, room),
     }
 }
 
@@ -173,9 +185,10 @@ fn serve_session<R: Read + Drop, W: Write + Drop>(
     zone: &Zone,
     source: R,
     sink: W,
+    room: &mut StreamRoom,
 ) -> Result<(), TurnWord> {
     let mut source = Tally::new(source);
     let mut sink = Tally::new(sink);
-    serve_stream(zone, &mut source, &mut sink, MOST_MESSAGES)?;
+    serve_stream_in(zone, &mut source, &mut sink, MOST_MESSAGES, room)?;
     Ok(())
 }

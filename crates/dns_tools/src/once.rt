@@ -4,7 +4,7 @@ ghost use Rattle.std.specs.Prelude.{[], false, length, codes, take, vec_len, vec
 ghost use Rattle.std.specs.Prelude.{Some, Ok, Err, OnOk, OnErr, IfOk, IfErr, IfSome, IfNone, IsErr};
 ghost use Rattle.hex.specs.Hex.{decode_of};
 ghost use Rattle.std.specs.Bool.{OnTrue, OnFalse};
-ghost use Rattle.std.specs.Option.{is_some};
+ghost use Rattle.std.specs.Option.{is_some, option_map};
 ghost use Rattle.std.specs.Io.KnownBytes.{Appends};
 ghost use Rattle.dns_spec.specs.DataText.{hex_octets};
 ghost use Rattle.dns_spec.specs.Names.{Octets};
@@ -20,7 +20,7 @@ ghost use Rattle.dns_tools.specs.declared.once.TheConstants.{MOST_DIGITS, MOST_O
 ghost use Rattle.dns_tools.specs.declared.once.TheConstants.{MOST_ANSWER, ANSWERS, DIGITS};
 
 use crate::fault::Stop;
-use dns_answer::{Limit, respond};
+use dns_answer::{Limit, TcpDraft, UdpDraft, respond_in};
 use dns_name::{SinkFailed, Tally};
 use dns_zone::{Steps, Zone};
 use std::alloc::{AllocError, Global};
@@ -93,6 +93,7 @@ struct Exchange<'z> {
     // Where a line is spelled as octets.
     datagram: Vec<u8>,
     reply: Vec<u8>,
+    drafts: Drafts,
     answers: Vec<u8>,
     are_all_messages: bool,
     ghost line_fits: { vec_len line ≤ MOST_DIGITS },
@@ -117,6 +118,7 @@ impl<'z> Exchange<'z> {
             is_overlong: false,
             datagram: vec![in alloc; 0; MOST_OCTETS]?,
             reply: vec![in alloc; 0; limit.octets()]?,
+            drafts: Drafts::new(alloc)?,
             answers: Vec::with_capacity(alloc, ANSWERS)?,
             are_all_messages: true,
         })
@@ -303,6 +305,7 @@ impl<'z> Exchange<'z> {
         if !answer(
             self.zone,
             self.limit,
+            &mut self.drafts,
             line,
             datagram,
             reply,
@@ -344,11 +347,49 @@ impl<'z> Exchange<'z> {
     }
 }
 
+// Room for replies while they are made. That of the longest is not on the stack.
+#[derive(Drop)]
+struct Drafts {
+    udp: UdpDraft,
+    tcp: Box<TcpDraft>,
+}
+
+impl Drafts {
+    fn new(alloc: Global) -> Result<Drafts, AllocError> {
+        Ok(Drafts {
+            udp: UdpDraft::new(),
+            tcp: Box::new(alloc, TcpDraft::new())?,
+        })
+    }
+
+    // Writes the reply to a datagram in front of the buffer, and answers its length. `None` where
+    // it gets none.
+    fn respond(
+        &mut self,
+        zone: &Zone,
+        limit: Limit,
+        datagram: &[u8],
+        out: &mut [u8],
+    ) -> Option<usize>
+        requires { length out.old ≡ limit_of limit }
+        ensures octets { option_map (λ len. take len out.new) result
+            ≡ reply_within limit zone.now datagram.now }
+        ensures fits { IfSome result (λ len. len ≤ limit_of limit) }
+    {
+        let mut steps = Steps::new(zone);
+        match limit {
+            Limit::Udp => respond_in(&mut steps, datagram, &mut self.udp, out),
+            Limit::Tcp => respond_in(&mut steps, datagram, &mut self.tcp, out),
+        }
+    }
+}
+
 // Answers a line that is a message, with room for its octets and for those of the reply. False,
 // with nothing answered, where it is none.
 fn answer(
     zone: &Zone,
     limit: Limit,
+    drafts: &mut Drafts,
     line: &[u8],
     datagram: &mut [u8],
     reply: &mut [u8],
@@ -367,7 +408,7 @@ fn answer(
     let Some(len) = octets_of(line, datagram) else {
         return false;
     };
-    match respond(&mut Steps::new(zone), &datagram[..len], limit, reply) {
+    match drafts.respond(zone, limit, &datagram[..len], reply) {
         Some(len) => put_reply(answers, &reply[..len]),
         None => put(answers, b"none\n"),
     }

@@ -12,16 +12,16 @@ use Rattle.dns_wire.specs.Writing.{Holds, IsWritten, Extends, shown, tail_laid}
 use Rattle.dns_wire.proofs.NameWritten.{holds_octets}
 
 -- data after octets, and after a name
-data-octets : (ms : List Placed) (p : ℕ) (o : Octets) (ps : List Part) → data_laid ms p (octets o ∷ ps) ≡ laid_front o [] (data_laid ms (p + length o) ps)
+pub data-octets : (ms : List Placed) (p : ℕ) (o : Octets) (ps : List Part) → data_laid ms p (octets o ∷ ps) ≡ laid_front o [] (data_laid ms (p + length o) ps)
 unfolding data_laid
 data-octets ms p o ps = refl
 
-data-name : (ms : List Placed) (p : ℕ) (n : DomainName) (ps : List Part)
+pub data-name : (ms : List Placed) (p : ℕ) (n : DomainName) (ps : List Part)
     → data_laid ms p (name n ∷ ps) ≡ laid_front (shared_octets ms n) ((n, p) ∷ []) (data_laid (ms ++ (n, p) ∷ []) (p + length (shared_octets ms n)) ps)
 unfolding data_laid
 data-name ms p n ps = refl
 
-data-none : (ms : List Placed) (p : ℕ) → data_laid ms p [] ≡ record { written = []; names = [] }
+pub data-none : (ms : List Placed) (p : ℕ) → data_laid ms p [] ≡ record { written = []; names = [] }
 unfolding data_laid
 data-none ms p = refl
 
@@ -177,7 +177,7 @@ unmeasured {limit = limit} {ms} {b'} b ps z e ten done =
     omega (arith, over, at, length-append b' (data_laid ms (length b') ps).written, ap (λ p. length (data_laid ms p ps).written) at)
 
 -- what follows an owner
-abbrev numbers_of : ℕ → ℕ → ℕ → Octets
+abbrev pub numbers_of : ℕ → ℕ → ℕ → Octets
 numbers_of t ttl k = octets16 t ++ octets16 class_in ++ octets32 ttl ++ octets16 k
 
 pub tail_written : {head : Octets → ℕ} {limit : ℕ} {ms : List Placed} {b b' b'' : Octets} {ks : List Kept} {fits : Bool} (t ttl k : ℕ) (o : Octets) → b' ≡ b ++ (numbers_of t ttl k ++ [])

@@ -9,5 +9,6 @@ mod SpelledLemmas
 mod Suffixes
 mod NameWritten
 mod DataWritten
+mod DataPatched
 mod RecordsWritten
 mod DraftLemmas

@@ -64,6 +64,10 @@ pub record Holds (head : Octets → ℕ) (ms : List Placed) (b : Octets) (ks : L
   pub after_header : 12 ≤ length b
   pub answers : Answers head ms ks
 
+-- What was laid out after octets b spells its names in them, and these are their places.
+abbrev pub StandsIn : (Octets → ℕ) → List Placed → Octets → Laid → List Kept → Type 0
+StandsIn head ms b laid ks = Holds head (ms ++ laid.names) (b ++ laid.written) ks
+
 -- a writer's room: N places and so many octets, of which a limit may be used
 pub record IsSound (N size limit : ℕ) (b : Octets) (ks : List Kept) : Type 0 where
   pub within : length b ≤ limit

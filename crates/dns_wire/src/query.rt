@@ -1,5 +1,6 @@
 //! Queries, read: a header and one question (RFC 1035 4.1).
-ghost use Rattle.std.specs.Prelude.{◌≡◌, ℕ, ◌+◌, ◌≤◌, true, false, length, IfSome};
+ghost use Rattle.std.specs.Prelude.{◌≡◌, ℕ, ◌+◌, ◌≤◌, [], true, false, length, IfSome};
+ghost use Rattle.std.specs.Option.{option_map};
 ghost use Rattle.dns_spec.specs.ComputedReading.{name_at};
 ghost use Rattle.dns_spec.specs.Query.{field16, head_of, reply_head, refusal_head, is_ignored, counts_are_one_question, question_at, query_read};
 ghost use Rattle.dns_wire.specs.QueryForm.{as_read, code_of};
@@ -87,9 +88,18 @@ pub fn read_query(datagram: &[u8]) -> QueryRead
     if !counts_are_one_question(datagram) {
         return QueryRead::Refused(head.reply(false, false, Rcode::FormatError));
     }
-    match read_question(datagram) {
+    // The name is read to where it stays, since to move it costs more than to read it.
+    let mut name = Name::root();
+    match read_question(datagram, &mut name) {
         None => QueryRead::Refused(head.reply(false, false, Rcode::FormatError)),
-        Some(question) => QueryRead::Query(head, question),
+        Some((qtype, qclass)) => QueryRead::Query(
+            head,
+            Question {
+                name,
+                qtype,
+                qclass,
+            },
+        ),
     }
 }
 
@@ -119,37 +129,35 @@ fn counts_are_one_question(datagram: &[u8]) -> bool
         && field(datagram, 10) == 0
 }
 
-// The question that is all that stands after the header.
+// The type and the class of the question that is all that stands after the header. Its name takes
+// the place of the root.
 #[tactic(auto, unfolding(dns_spec::specs::Query::question_at))]
-fn read_question(datagram: &[u8]) -> Option<Question>
-    ensures { result ≡ question_at datagram.now }
+fn read_question(datagram: &[u8], name: &mut Name) -> Option<(u16, u16)>
+    requires { name.old ≡ [] }
+    ensures { option_map (λ n. record { qname = name.new; qtype = n.0; qclass = n.1 }) result
+        ≡ question_at datagram.now }
 {
-    let (name, at) = read_name(datagram)?;
+    let at = read_name(datagram, name)?;
     if datagram.len() != at + 4 {
         return None;
     }
-    let qtype = field(datagram, at);
-    let qclass = field(datagram, at + 2);
-    Some(Question {
-        name,
-        qtype,
-        qclass,
-    })
+    Some((field(datagram, at), field(datagram, at + 2)))
 }
 
-// The name at the first place after the header, and the place after it. No pointer is lawful there,
-// since its place would have to be before that one and after the header (RFC 1035 4.1.4).
-fn read_name(datagram: &[u8]) -> Option<(Name, usize)>
-    ensures name { result ≡ name_at datagram.now 12 }
-    ensures within { IfSome result (λ r. r.1 ≤ length datagram.now) }
+// The name at the first place after the header, which takes the place of the root, and the place
+// after it. No pointer is lawful there, since its place would have to be before that one and after
+// the header (RFC 1035 4.1.4).
+fn read_name(datagram: &[u8], name: &mut Name) -> Option<usize>
+    requires { name.old ≡ [] }
+    ensures name { option_map (λ at. (name.new, at)) result ≡ name_at datagram.now 12 }
+    ensures within { IfSome result (λ at. at ≤ length datagram.now) }
 {
-    let mut name = Name::root();
     let mut at = HEADER_OCTETS;
     'labels: while at < datagram.len() {
         let length = datagram[at] as usize;
         at += 1;
         if length == 0 {
-            return Some((name, at));
+            return Some(at);
         }
         if length > datagram.len() - at {
             return None;

@@ -1,11 +1,11 @@
 //! The room of a writer: octets up to a limit, and the places of suffixes in them. Names are laid
 //! out here (RFC 1035 4.1.4).
-ghost use Rattle.std.specs.Prelude.{◌≡◌, ◌↔◌, List, ◌+◌, ◌*◌, ◌≤◌, ◌<◌, ◌^◌, [], ◌∷◌, ◌++◌, length, take, replicate, min, All, IsTrue, IfSome, IsNone};
+ghost use Rattle.std.specs.Prelude.{◌≡◌, ◌↔◌, List, ◌+◌, ◌-◌, ◌*◌, ◌≤◌, ◌<◌, ◌^◌, [], ◌∷◌, ◌++◌, length, take, drop, replicate, min, All, IsTrue, IfSome, IsNone};
 ghost use Rattle.std.specs.Bool.{OnTrue, OnFalse};
-ghost use Rattle.dns_spec.specs.Names.{DomainName, wire, is_name};
+ghost use Rattle.dns_spec.specs.Names.{Octets, DomainName, wire, is_name};
 ghost use Rattle.dns_spec.specs.Data.{Valid, class_in, compresses, laid_parts};
 ghost use Rattle.dns_spec.specs.Layout.{Placed, question_octets, octets16, octets32, pointer, shared_octets, cost, data_laid, record_laid};
-ghost use Rattle.dns_wire.specs.Writing.{front_size, pointed_place, new_places, end_octets, Grows, AfterLabel, Holds, shown, tail_laid, records_laid};
+ghost use Rattle.dns_wire.specs.Writing.{front_size, pointed_place, new_places, end_octets, Grows, AfterLabel, Holds, StandsIn, shown, tail_laid, records_laid};
 ghost use Rattle.dns_wire.specs.Kept.{IsKept, SpelledAt, NoneSpelled};
 ghost use Rattle.dns_wire.specs.Rooms.{IsSoundRoom, HasNames, HasGrown, HasWritten};
 ghost use Rattle.dns_spec.specs.Sets.{records_at};
@@ -187,6 +187,11 @@ impl<const N: usize, const SIZE: usize> Room<N, SIZE> {
         ensures written { (ms : List Placed) → HasNames self.old (H.numbers hash.old) ms
             → HasWritten self.old self.new (H.numbers hash.old) ms
             (data_laid ms (length self.old.octets.items) (laid_parts rtype.0 rdata.now)) result }
+        ensures elsewhere { (ms : List Placed) (b : Octets)
+            → HasNames self.old (H.numbers hash.old) ms → Holds (H.numbers hash.old) ms b self.old.places
+            → length b ≡ length self.old.octets.items
+            → OnTrue result (StandsIn (H.numbers hash.old) ms b
+            (data_laid ms (length b) (laid_parts rtype.0 rdata.now)) self.new.places) }
         ensures extends { HasGrown self.old self.new }
         ensures limit { self.new.limit ≡ self.old.limit }
         ensures same { H.numbers hash.new ≡ H.numbers hash.old }
@@ -349,50 +354,31 @@ impl<const N: usize, const SIZE: usize> Room<N, SIZE> {
         ensures same { H.numbers hash.new ≡ H.numbers hash.old }
         ensures sound { IsSoundRoom self.new }
     {
-        let Some(length) = self.data_length(hash, rtype, rdata) else {
+        let at = self.octets.len();
+        if !self.append(&record_numbers(rtype, ttl, 0), &[]) {
             return false;
-        };
-        let numbers = record_numbers(rtype, ttl, length);
-        self.append(&numbers, &[]) && self.put_data(hash, rtype, rdata)
+        }
+        if !self.put_data(hash, rtype, rdata) {
+            return false;
+        }
+        self.put_length(at);
+        true
     }
 
-    // The length of data that is laid out 10 octets further on. `None` where it does not fit.
-    // Nothing is written.
-    fn data_length<H: SuffixHash>(
-        &mut self,
-        hash: &mut H,
-        rtype: RType,
-        rdata: &[u8],
-    ) -> Option<u16>
+    // Writes the length of the data that ends the message into the last two of the 10 octets before
+    // it, which begin at this place.
+    fn put_length(&mut self, at: usize)
         requires sound { IsSoundRoom self.old }
-        requires valid { Valid rtype.0 rdata.now }
-        requires shared { IsTrue (compresses rtype.0) }
-        ensures some { (ms : List Placed) → HasNames self.old (H.numbers hash.old) ms
-            → IfSome result (λ k. k ≡ length (data_laid ms (length self.old.octets.items + 10)
-            (laid_parts rtype.0 rdata.now)).written) }
-        ensures none { (ms : List Placed) → HasNames self.old (H.numbers hash.old) ms
-            → IsNone result → self.old.limit < length self.old.octets.items + (10
-            + length (data_laid ms (length self.old.octets.items + 10)
-            (laid_parts rtype.0 rdata.now)).written) }
-        ensures octets { self.new.octets.items ≡ self.old.octets.items }
+        requires numbers { at + 10 ≤ length self.old.octets.items }
+        ensures octets { self.new.octets.items ≡ take (at + 8) self.old.octets.items
+            ++ (octets16 (length self.old.octets.items - at - 10)
+            ++ drop (at + 10) self.old.octets.items) }
         ensures places { self.new.places ≡ self.old.places }
         ensures limit { self.new.limit ≡ self.old.limit }
-        ensures same { H.numbers hash.new ≡ H.numbers hash.old }
         ensures sound { IsSoundRoom self.new }
     {
-        let octets = self.octets.len();
-        let places = self.places.len();
-        if !self.append(&[0; 10], &[]) {
-            return None;
-        }
-        let fits = self.put_data(hash, rtype, rdata);
-        let end = self.octets.len();
-        self.take_back(octets, places);
-        if fits {
-            Some((end - octets - 10) as u16)
-        } else {
-            None
-        }
+        let length = (self.octets.len() - at - 10) as u16;
+        BigEndian::write_u16(&mut self.octets.as_mut_slice()[at + 8..], length);
     }
 
     // Appends the front of a name and what ends it: a pointer to a place, or the root's length.

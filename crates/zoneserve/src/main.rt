@@ -4,6 +4,7 @@
 #![tactic(auto)]
 
 use dns_name::Tally;
+use dns_serve::StreamRoom;
 use dns_tools::{
     FaultWord, LoadFault, Refusal, Service, exit_status, finish, given_words, load_zone, open_file,
     run_once, say, serve_connections, serve_datagrams, serve_words, write_refusal,
@@ -52,7 +53,13 @@ where
             return Ok(exit_status(&outcome));
         }
         Service::Udp { address, turns } => serve_datagrams(rt, zone, address, *turns)?,
-        Service::Tcp { address, turns } => serve_connections(rt, zone, address, *turns)?,
+        Service::Tcp { address, turns } => {
+            // The room of all sessions is taken before the first, and not from the stack.
+            let Ok(mut room) = Box::new(rt.alloc(), StreamRoom::new()) else {
+                return Err(FaultWord::NoMemory);
+            };
+            serve_connections(rt, zone, address, *turns, &mut room)?
+        }
     };
     Ok(if are_said { 0 } else { 2 })
 }

@@ -1,6 +1,6 @@
 use super::devices::{Kept, Pieces};
 use super::zones::{WWW, WWW_REPLY, sample};
-use crate::{StreamFault, serve_stream};
+use crate::{StreamFault, StreamRoom, serve_stream, serve_stream_in};
 use dns_name::Tally;
 use std::alloc::Global;
 use std::test::Fail;
@@ -114,6 +114,25 @@ fn messages_and_their_replies(rt: HostRuntime) -> Result<(), Fail> {
             assert_eq!(rt; left.unread, unread, "of {messages}");
             assert_eq!(rt; left.failures, (0, 0));
         }
+    }
+    Ok(())
+}
+
+#[test]
+fn sessions_in_one_room(rt: HostRuntime) -> Result<(), Fail> {
+    let alloc = rt.alloc();
+    let zone = sample(alloc)?;
+    let mut room = StreamRoom::new();
+    for (messages, replies) in [("wal", "WR"), ("w", "W"), ("", ""), ("lw", "RW")] {
+        let input = frames(alloc, messages)?;
+        let mut source = Tally::new(input.as_slice());
+        let mut sink = Tally::new(Vec::new(alloc));
+        let answer = serve_stream_in(&zone, &mut source, &mut sink, 9, &mut room);
+        assert_eq!(rt; answer.map(|count| count as usize), Ok(messages.len()));
+        assert!(rt;
+            sink.into_inner() == frames(alloc, replies)?,
+            "of {messages}"
+        );
     }
     Ok(())
 }

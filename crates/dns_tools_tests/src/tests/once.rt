@@ -46,6 +46,22 @@ const WWW_REPLY: &str =
     "12348400000100010000000003777777076578616d706c650000010001c00c0001000100000e100004c000020a";
 
 #[test]
+fn replies_over_tcp(rt: HostRuntime) -> Result<(), Fail> {
+    let alloc = rt.alloc();
+    let Ok(zone) = load_zone(alloc, &example()?, &mut Tally::new(Z0.as_bytes())) else {
+        return Err("the sample zone is refused".into());
+    };
+    let input = format!(in alloc; "{WWW}\n00\n{WWW}\n")?;
+    let mut source = Tally::new(input.as_bytes());
+    let mut sink = Tally::new(Vec::new(alloc));
+    let outcome = run_once(alloc, &zone, Limit::Tcp, &mut source, &mut sink);
+    assert!(rt; outcome == Ok(true));
+    let wanted = format!(in alloc; "{WWW_REPLY}\nnone\n{WWW_REPLY}\n")?;
+    assert!(rt; sink.into_inner().as_slice() == wanted.as_bytes());
+    Ok(())
+}
+
+#[test]
 fn replies_to_one_message(rt: HostRuntime) -> Result<(), Fail> {
     let rows = [
         (WWW, WWW_REPLY),

@@ -1,47 +1,60 @@
-use Rattle.std.proofs.Common.{◌≡◌, ◌+◌, ◌∷◌, [], ◌++◌, ◌∙◌, ap₂, refl, sym, ap, subst, arith, length, length-append}
+use Rattle.std.proofs.Common.{rules, ◌≡◌, ◌+◌, ◌∷◌, [], length, refl, sym, ap, ap₂, subst, ◌∙◌, arith}
+use Rattle.dns_spec.specs.Names.{at_or_below}
 use Rattle.dns_spec.specs.Records.{ZoneContents}
+use Rattle.dns_answer.specs.Walks.{IsApex}
 use Rattle.dns_answer.specs.Seeking.{Seeks, TookFrom, LeadsTo, LedOn}
 use Rattle.dns_answer.proofs.SeekSteps.{led-begin, led-seeks, led-took, led-further}
+use Rattle.dns_answer.proofs.chain.seek_target.Given as given
 use Rattle.dns_answer.proofs.chain.seek_target.Goals as goal
-
-pub names-init : goal.names-init
-names-init g c =
-    let first = c.push.ensures.items ∙ ap (λ xs. xs ++ c.copied.result ∷ []) c.new-sought.ensures in
-    let both : c.push-2.new.self.items ≡ c.args.first.now ∷ c.args.target ∷ [] =
-    c.push-2.ensures.items ∙ ap (λ xs. xs ++ c.copied-2.result ∷ []) first ∙ ap₂ (λ a b. a ∷ b ∷ []) c.copied.ensures.value c.copied-2.ensures.value in
-    record {
-      led = subst (λ ks. LedOn c.args.draft.now c.args.draft.now c.args.steps.now c.args.steps.now c.args.qtype 15 15 (c.args.first.now ∷ c.args.target ∷ []) ks c.args.target c.args.target)
-          (sym both) (led-begin c.args.draft.now c.args.steps.now c.args.qtype 15 (c.args.first.now ∷ c.args.target ∷ []) c.args.target c.args.target refl c.requires.below);
-      deep = c.requires.depth;
-      few = c.requires.few;
-      room = c.requires.room;
-      count = omega (arith, ap length both);
-    }
 
 pub returns-in-Last-clause-seeks : goal.returns-in-Last-clause-seeks
 returns-in-Last-clause-seeks g c =
-    led-seeks _ _ _ _ _ _ _ _ _ _ _ _ _ c.names.invariant.led
-    (subst (λ ks. Seeks c.names.draft c.seek_one.new.draft c.names.steps.zone c.args.qtype c.names.more ks c.names.name c.in-Last.verdict) c.as_slice.ensures.value c.in-Last.ensures.seeks)
+    subst (λ ks. Seeks c.args.draft.now c.seek_one.new.draft c.args.steps.now.zone c.args.qtype 15 ks c.args.target c.in-Last.verdict)
+    (ap₂ (λ a b. a ∷ b ∷ []) c.copied.ensures.value c.copied-2.ensures.value) c.in-Last.ensures.seeks
 
 pub returns-in-Last-clause-took : goal.returns-in-Last-clause-took
 returns-in-Last-clause-took g c =
-    led-took _ _ _ _ _ _ _ _ _ _ _ _ c.names.invariant.led
-    (subst (λ ks. TookFrom c.names.steps c.seek_one.new.steps c.args.qtype c.names.more ks c.names.name) c.as_slice.ensures.value c.in-Last.ensures.took)
+    subst (λ ks. TookFrom c.args.steps.now c.seek_one.new.steps c.args.qtype 15 ks c.args.target)
+    (ap₂ (λ a b. a ∷ b ∷ []) c.copied.ensures.value c.copied-2.ensures.value) c.in-Last.ensures.took
 
-pub names-preserved : goal.names-preserved
-names-preserved g c =
-    let next = subst (λ ks. LeadsTo c.names.draft c.seek_one.new.draft c.names.steps c.seek_one.new.steps c.args.qtype c.names.more ks c.names.name c.in-Alias.target c.in-Alias.below)
-    c.as_slice.ensures.value c.in-Alias.ensures in
-    let led = c.names.invariant.led in
-    let room = c.names.invariant.room in
-    let items = c.push-in-Alias.ensures.items in
-    record {
-      led = led-further _ _ _ _ _ _ _ _ _ _ _ _ _ _ _ _ led next (items ∙ ap (λ m. c.names.sought.items ++ m ∷ []) c.copied-in-Alias.ensures.value);
-      deep = next.deep ∙ ap (λ (z : ZoneContents). length z.origin + c.in-Alias.below) led.zone;
-      few = next.few;
-      room = record {
-        visits = omega (arith, next.took.visits, next.more, room.visits);
-        comparisons = omega (arith, next.took.visits, next.took.comparisons, next.more, room.comparisons);
-      };
-      count = omega (arith, ap length items, length-append c.names.sought.items (c.copied-in-Alias.result ∷ []), next.more, c.names.invariant.count);
-    }
+pub seek_rest-requires : goal.seek_rest-requires
+seek_rest-requires g c =
+    let next = c.in-Alias.ensures in
+    let same_zone = next.took.zone in (
+      search rules,
+      (
+        subst (λ z. IsApex z c.args.apex.now) (sym same_zone) c.requires.apex,
+        (
+          ap (λ (z : ZoneContents). at_or_below c.in-Alias.next z.origin) same_zone ∙ next.below,
+          (
+            next.deep ∙ ap (λ (z : ZoneContents). length z.origin + c.in-Alias.below) (sym same_zone),
+            (
+              next.few,
+              record {
+                visits = omega (arith, next.took.visits, c.requires.room.visits);
+                comparisons = omega (arith, next.took.visits, next.took.comparisons, c.requires.room.comparisons);
+              },
+            ),
+          ),
+        ),
+      ),
+    )
+
+module _ (g : given.Over) (c : goal.After-seek_rest g) where
+  led : LedOn c.args.draft.now c.seek_one.new.draft c.args.steps.now c.seek_one.new.steps c.args.qtype 15 14 (c.args.first.now ∷ c.args.target ∷ []) (c.args.first.now ∷ c.args.target ∷ c.in-Alias.next ∷ []) c.args.target c.in-Alias.next
+  led =
+      let next = subst (λ ks. LeadsTo c.args.draft.now c.seek_one.new.draft c.args.steps.now c.seek_one.new.steps c.args.qtype 15 ks c.args.target c.in-Alias.next c.in-Alias.below)
+      (ap₂ (λ a b. a ∷ b ∷ []) c.copied.ensures.value c.copied-2.ensures.value) c.in-Alias.ensures in
+      led-further c.args.draft.now c.args.draft.now c.seek_one.new.draft c.args.steps.now c.args.steps.now c.seek_one.new.steps c.args.qtype 15 15
+      (c.args.first.now ∷ c.args.target ∷ []) (c.args.first.now ∷ c.args.target ∷ []) (c.args.first.now ∷ c.args.target ∷ c.in-Alias.next ∷ []) c.args.target c.args.target c.in-Alias.next c.in-Alias.below
+      (led-begin c.args.draft.now c.args.steps.now c.args.qtype 15 (c.args.first.now ∷ c.args.target ∷ []) c.args.target c.args.target refl c.requires.below) next refl
+
+pub returns-in-Alias-clause-seeks : goal.returns-in-Alias-clause-seeks
+returns-in-Alias-clause-seeks g c =
+    led-seeks c.args.draft.now c.seek_one.new.draft c.seek_rest.new.draft c.args.steps.now c.seek_one.new.steps c.args.qtype 15 14 (c.args.first.now ∷ c.args.target ∷ [])
+    (c.args.first.now ∷ c.args.target ∷ c.in-Alias.next ∷ []) c.args.target c.in-Alias.next c.seek_rest.result (led g c) c.seek_rest.ensures.seeks
+
+pub returns-in-Alias-clause-took : goal.returns-in-Alias-clause-took
+returns-in-Alias-clause-took g c =
+    led-took c.args.draft.now c.seek_one.new.draft c.args.steps.now c.seek_one.new.steps c.seek_rest.new.steps c.args.qtype 15 14 (c.args.first.now ∷ c.args.target ∷ [])
+    (c.args.first.now ∷ c.args.target ∷ c.in-Alias.next ∷ []) c.args.target c.in-Alias.next (led g c) c.seek_rest.ensures.took

@@ -1,4 +1,4 @@
-use Rattle.std.proofs.Common.{rules, ◌≡◌, ◌∙◌, ap, sym, take}
+use Rattle.std.proofs.Common.{ap, sym}
 use Rattle.std.specs.Option.{is_some}
 use Rattle.dns_tools.specs.Exchanges.{reply_within}
 use Rattle.dns_tools.proofs.LineDigits.{line_read, line_refused}
@@ -13,15 +13,13 @@ returns-in-Some-respond-clause-message c = sym (ap is_some (line_read c.args.lin
 
 pub returns-in-Some-respond-clause-answered : goal.returns-in-Some-respond-clause-answered
 returns-in-Some-respond-clause-answered c =
-    let zone : c.new.result.zone ≡ c.args.zone.now = search rules in
     answered_by (reply_within c.args.limit c.args.zone.now) c.args.line.now _ _ _ _ (line_read c.args.line.now _ c.in-Some.ensures.some)
-    (c.in-Some-respond.ensures.octets ∙ ap (λ z. reply_within c.args.limit z (take c.in-Some.len c.octets_of.new.datagram)) zone) c.put_reply.ensures.items
+    c.in-Some-respond.ensures.octets c.put_reply.ensures.items
 
 pub returns-in-None-clause-message : goal.returns-in-None-clause-message
 returns-in-None-clause-message c = sym (ap is_some (line_read c.args.line.now _ c.in-Some.ensures.some))
 
 pub returns-in-None-clause-answered : goal.returns-in-None-clause-answered
 returns-in-None-clause-answered c =
-    let zone : c.new.result.zone ≡ c.args.zone.now = search rules in
     answered_by (reply_within c.args.limit c.args.zone.now) c.args.line.now _ _ _ _ (line_read c.args.line.now _ c.in-Some.ensures.some)
-    (c.in-None.ensures.octets ∙ ap (λ z. reply_within c.args.limit z (take c.in-Some.len c.octets_of.new.datagram)) zone) c.put.ensures.items
+    c.in-None.ensures.octets c.put.ensures.items

@@ -7,8 +7,8 @@ use Rattle.dns_wire.proofs.query.read_name.Goals as goal
 pub labels-init : goal.labels-init
 labels-init c =
     record {
-      name_is = rw c.root-name.ensures (read_on-start c.args.datagram.now);
-      is_name = ap is_name c.root-name.ensures;
+      name_is = rw c.requires (read_on-start c.args.datagram.now);
+      is_name = ap is_name c.requires;
     }
 
 pub returns-then-length-eq0-clause-name : goal.returns-then-length-eq0-clause-name

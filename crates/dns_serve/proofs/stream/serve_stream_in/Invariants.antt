@@ -1,7 +1,7 @@
 use Rattle.std.proofs.Common.{◌≡◌, ◌-◌, ◌≤◌, ℕ}
 use Rattle.dns_serve.specs.Streams.{reply_over_tcp}
 use Rattle.dns_serve.proofs.Sessions.{Done}
-use Rattle.dns_serve.proofs.stream.serve_stream.Given as goal
+use Rattle.dns_serve.proofs.stream.serve_stream_in.Given as goal
 
 -- so many messages were read and answered, and no device has failed
 abbrev pub invariant-messages : goal.invariant-messages

@@ -1,7 +1,7 @@
 use Rattle.std.proofs.Common.{rules, arith}
 use Rattle.std.proofs.lemmas.Result.{err_from_is_err_and}
 use Rattle.dns_serve.proofs.Sessions.{done_none, done_more, served_most, served_all, failed, next_answered, next_none}
-use Rattle.dns_serve.proofs.stream.serve_stream.Goals as goal
+use Rattle.dns_serve.proofs.stream.serve_stream_in.Goals as goal
 
 pub returns-in_err-serve_message-clause-session : goal.returns-in_err-serve_message-clause-session
 returns-in_err-serve_message-clause-session g c =
