@@ -109,6 +109,9 @@ fn many_owners_below_one_name(rt: HostRuntime) -> Result<(), Fail> {
     let (outcome, output) = checked(alloc, &example()?, PRINT, text.as_str(), ALL)?;
     assert_eq!(rt; outcome, Ok(true));
     assert!(rt; output.as_slice() == wanted.as_str().as_bytes());
+    text.push_str("n A 192.0.2.2\n")?;
+    let (_, output) = checked(alloc, &example()?, PRINT, text.as_str(), ALL)?;
+    assert_eq!(rt; output.as_slice(), b"line 100002: R14\n".as_slice());
     Ok(())
 }
 
