@@ -75,5 +75,6 @@ fn say(said: &mut Vec<u8>, words: &[u8], number: u32) -> Result<(), AllocError> 
     let mut digits = Buffer::new();
     said.extend_from_slice(words)?;
     said.extend_from_slice(digits.format(number).as_bytes())?;
-    said.push(b'\n')
+    said.push(b'\n')?;
+    Ok(())
 }

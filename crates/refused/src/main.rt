@@ -74,5 +74,6 @@ pub(crate) fn add_digits(said: &mut Vec<u8>, octets: &[u8]) -> Result<(), AllocE
             said.push(digit.copied().unwrap_or(b'?'))?;
         }
     }
-    said.push(b'\n')
+    said.push(b'\n')?;
+    Ok(())
 }
