@@ -37,8 +37,7 @@ fn run(
 const ANSWER: &str =
     "12348400000100010000000003777777076578616d706c650000010001c00c0001000100000e100004c000020a";
 
-const PRINTED: &str =
-    "header 1234 8400 1 1 0 0\nquestion www.example. IN A\n\
+const PRINTED: &str = "header 1234 8400 1 1 0 0\nquestion www.example. IN A\n\
     answer www.example. 3600 IN A 192.0.2.10\n";
 
 #[test]
