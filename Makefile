@@ -82,7 +82,7 @@ speed: built
 # Runs the programs on bad days: refused memory, failing calls of the system, bad streams, signals. It is no part of the
 # gate.
 faults: built
-	@tools/is-built crates/refused/out/refused || (cd crates/refused && rt run -- data/large.zone)
+	@tools/is-built crates/refused/out/refused || (cd crates/refused && rt run -- data/large.zone >/dev/null)
 	tools/faults $(PROGRAMS) crates/refused/out/refused
 
 # Tries wrong bodies that say they have no memory, which no contract refuses: each has to fail a test. It is no part of the
