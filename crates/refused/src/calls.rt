@@ -1,7 +1,7 @@
 //! Calls that take memory.
 
 use crate::samples::{FILE, MESSAGE};
-use dns_master::read_zone;
+use dns_master::{Record, read_zone};
 use dns_name::{Name, Tally};
 use dns_tools::{Flags, Stop, check_zone};
 use dns_wire::read_message;
@@ -47,7 +47,11 @@ pub(crate) fn read_and_build(alloc: Global, said: &mut Vec<u8>) -> Result<(), Al
         Ok(records) => records,
         Err(fault) => return say(said, b"read_zone: fault ", u32::from(fault.code.number())),
     };
-    say(said, b"read_zone: the last TTL is ", last_ttl(&records))?;
+    say(
+        said,
+        b"read_zone: the last TTL is ",
+        last_ttl(records.as_slice()),
+    )?;
     match Zone::build(alloc, &example(), records) {
         Ok(zone) => say(said, b"build: serial ", zone.serial()),
         Err(BuildFault::Faults(_)) => said.extend_from_slice(b"build: faults\n"),
@@ -55,8 +59,8 @@ pub(crate) fn read_and_build(alloc: Global, said: &mut Vec<u8>) -> Result<(), Al
     }
 }
 
-fn last_ttl(records: &Vec<dns_master::Record>) -> u32 {
-    match records.as_slice().last() {
+fn last_ttl(records: &[Record]) -> u32 {
+    match records.last() {
         Some(record) => record.ttl,
         None => 0,
     }
