@@ -1,4 +1,4 @@
-.PHONY: run programs built install uninstall clean package examples docs-check test misuse clients speed faults hostile messages memory bench
+.PHONY: run programs built install uninstall clean package examples docs-check test misuse clients speed faults caught hostile messages worst memory bench
 
 PREFIX ?= /usr/local
 NAMES = zonecheck zoneserve dnsmsg
@@ -82,7 +82,13 @@ speed: built
 # Runs the programs on bad days: refused memory, failing calls of the system, bad streams, signals. It is no part of the
 # gate.
 faults: built
-	tools/faults $(PROGRAMS)
+	@tools/is-built crates/refused/out/refused || (cd crates/refused && rt run -- data/large.zone >/dev/null)
+	tools/faults $(PROGRAMS) crates/refused/out/refused
+
+# Tries wrong bodies that say they have no memory, which no contract refuses: each has to fail a test. It is no part of the
+# gate.
+caught:
+	tools/caught
 
 # Gives a million datagrams that were changed at random to zoneserve, and 100,000 such files to zonecheck, and compares what
 # they answer with what plain programs in another language do.
@@ -93,6 +99,10 @@ hostile: built
 # Gives broken messages to dnsmsg, and times the worst one. It is no part of the gate.
 messages: built
 	tools/messages crates/dnsmsg/out/dnsmsg
+
+# Measures the programs on the inputs that cost the most. It decides nothing, and is no part of the gate.
+worst: built
+	tools/worst $(PROGRAMS)
 
 # Refuses each program each of its allocations in turn. It proves nothing, and is no part of the gate.
 memory:

@@ -1,10 +1,11 @@
-/* An allocator that refuses one request, to be preloaded: REFUSE is its number, from 1. Where it comes to that, the file
-   named by REFUSED is made. */
+/* An allocator that refuses one request, to be preloaded: REFUSE is its number, from 1, and with a plus after it all later
+   ones are refused too. Where it comes to that, the file named by REFUSED is made. */
 #define _GNU_SOURCE
 #include <dlfcn.h>
 #include <errno.h>
 #include <fcntl.h>
 #include <stdlib.h>
+#include <string.h>
 #include <unistd.h>
 
 static int is_refused(void)
@@ -12,7 +13,7 @@ static int is_refused(void)
     static long number;
     const char *wanted = getenv("REFUSE");
     const char *mark = getenv("REFUSED");
-    if (!wanted || ++number != atol(wanted))
+    if (!wanted || ++number < atol(wanted) || (number > atol(wanted) && !strchr(wanted, '+')))
         return 0;
     if (mark)
         close(open(mark, O_CREAT | O_WRONLY, 0600));

@@ -19,22 +19,24 @@ const ONE: &[usize] = &[1];
 
 const ANY: &[usize] = &[3, 1, 65_536, 2, 7];
 
-// A source that gives a text in pieces of such lengths, until its calls are used up: then it fails.
+// A source that gives a text in pieces of such lengths. The call `fails_at`, counted from 0, fails,
+// and later ones work.
 #[derive(Drop)]
 struct Pieces<'a> {
     text: &'a [u8],
     lengths: &'a [usize],
     calls: usize,
-    most_calls: usize,
+    fails_at: usize,
 }
 
 impl Read for Pieces<'_> {
     fn read(&mut self, buf: &mut [u8]) -> io::Result<usize> {
-        if self.calls >= self.most_calls {
+        let call = self.calls;
+        self.calls = call.saturating_add(1);
+        if call == self.fails_at {
             return Err(io::Error::from(ErrorKind::Other));
         }
-        let length = self.lengths.get(self.calls % self.lengths.len().max(1));
-        self.calls += 1;
+        let length = self.lengths.get(call % self.lengths.len().max(1));
         let most = length.copied().unwrap_or(1).min(buf.len());
         self.text.read(&mut buf[..most])
     }
@@ -57,32 +59,33 @@ impl Read for Endless {
     }
 }
 
-// What comes of the text in pieces, and how many calls have failed.
+// What comes of the text in pieces, how many calls have failed, and how many were made.
 fn read(
     alloc: Global,
     lengths: &[usize],
-    most_calls: usize,
-) -> Result<(Result<Vec<Record>, ReadFault>, u64), Fail> {
+    fails_at: usize,
+) -> Result<(Result<Vec<Record>, ReadFault>, u64, usize), Fail> {
     let origin = example()?;
     let mut source = Tally::new(Pieces {
         text: TEXT,
         lengths,
         calls: 0,
-        most_calls,
+        fails_at,
     });
     let read = read_zone(alloc, &origin, &mut source);
-    Ok((read, source.failures()))
+    let failures = source.failures();
+    Ok((read, failures, source.into_inner().calls))
 }
 
 #[test]
 fn pieces_of_any_length(rt: HostRuntime) -> Result<(), Fail> {
     for lengths in [ONE, ANY] {
-        let (read, failures) = read(rt.alloc(), lengths, 1000)?;
+        let (read, failures, _) = read(rt.alloc(), lengths, 1000)?;
         let records = read?;
         assert_eq!(rt; failures, 0);
         assert_eq!(rt; records.len(), 3);
-        let soa =
-            b"\x02ns\x07example\x00\x01h\x07example\x00\x00\x00\x00\x01\x00\x00\x00\x02\x00\x00\x00\x03\x00\x00\x00\x04\x00\x00\x00\x05";
+        let soa = b"\x02ns\x07example\x00\x01h\x07example\x00\x00\x00\x00\x01\x00\x00\x00\x02\
+            \x00\x00\x00\x03\x00\x00\x00\x04\x00\x00\x00\x05";
         assert_eq!(rt; records[0].rdata.octets(), soa.as_slice());
         assert_eq!(rt; records[1].rdata.octets(), b"\xc0\x00\x02\x01".as_slice());
         assert_eq!(rt; records[2].rdata.octets(), b"\x03a b\x01\"".as_slice());
@@ -100,12 +103,14 @@ fn a_source_that_fails_at_each_call(rt: HostRuntime) -> Result<(), Fail> {
         code: ReadCode::SourceFailed,
         line: 0,
     };
-    for calls in 0..=TEXT.len() {
-        let (read, failures) = read(rt.alloc(), ONE, calls)?;
-        assert_eq!(rt; read.err(), Some(wanted), "after {calls} calls");
-        assert_eq!(rt; failures, 1, "after {calls} calls");
+    for fails_at in 0..=TEXT.len() {
+        let (read, failures, calls) = read(rt.alloc(), ONE, fails_at)?;
+        assert_eq!(rt; read.err(), Some(wanted), "after {fails_at} calls");
+        assert_eq!(rt; failures, 1, "after {fails_at} calls");
+        // It is not asked again, though it would work.
+        assert_eq!(rt; calls, fails_at + 1);
     }
-    let (read, failures) = read(rt.alloc(), ONE, TEXT.len() + 1)?;
+    let (read, failures, _) = read(rt.alloc(), ONE, TEXT.len() + 1)?;
     assert!(rt; read.is_ok());
     assert_eq!(rt; failures, 0);
     Ok(())

@@ -27,7 +27,8 @@ const MIXED_MEANS: [Meant<'static>; 6] = [
         b"\x07example\x00",
         60,
         6,
-        b"\x02ns\x07example\x00\x01h\x07example\x00\x00\x00\x00\x01\x00\x00\x00\x02\x00\x00\x00\x03\x00\x00\x00\x04\x00\x00\x00\x05",
+        b"\x02ns\x07example\x00\x01h\x07example\x00\x00\x00\x00\x01\x00\x00\x00\x02\
+        \x00\x00\x00\x03\x00\x00\x00\x04\x00\x00\x00\x05",
     ),
     (b"\x07example\x00", 60, 2, b"\x02ns\x07example\x00"),
     (b"\x02ns\x07example\x00", 60, 1, b"\xc0\x00\x02\x01"),
@@ -45,7 +46,8 @@ const OWNERS: [Case<'static>; 7] = [
     (b"", &[]),
     (b"\n ; c\r\n\t\n( )\n(\n)", &[]),
     (
-        b"A.B 1 A 192.0.2.1\n A 192.0.2.2\n\n$ORIGIN x.\n\tA 192.0.2.3\ny A 192.0.2.4\n A 192.0.2.5",
+        b"A.B 1 A 192.0.2.1\n A 192.0.2.2\n\n$ORIGIN x.\n\tA 192.0.2.3\n\
+        y A 192.0.2.4\n A 192.0.2.5",
         &[
             (b"\x01a\x01b\x07example\x00", 1, 1, b"\xc0\x00\x02\x01"),
             (b"\x01a\x01b\x07example\x00", 1, 1, b"\xc0\x00\x02\x02"),
@@ -105,7 +107,8 @@ const OWNERS: [Case<'static>; 7] = [
 
 const TTLS: [Case<'static>; 4] = [
     (
-        b"a 5 A 192.0.2.1\nb A 192.0.2.1\nc 6 IN A 192.0.2.1\nd IN A 192.0.2.1\ne IN 7 A 192.0.2.1\n A 192.0.2.1",
+        b"a 5 A 192.0.2.1\nb A 192.0.2.1\nc 6 IN A 192.0.2.1\n\
+        d IN A 192.0.2.1\ne IN 7 A 192.0.2.1\n A 192.0.2.1",
         &[
             (b"\x01a\x07example\x00", 5, 1, b"\xc0\x00\x02\x01"),
             (b"\x01b\x07example\x00", 5, 1, b"\xc0\x00\x02\x01"),
@@ -116,7 +119,8 @@ const TTLS: [Case<'static>; 4] = [
         ],
     ),
     (
-        b"$TTL 3\na A 192.0.2.1\na 5 A 192.0.2.1\na A 192.0.2.1\n$TTL 4\na A 192.0.2.1\na 6 A 192.0.2.1\n A 192.0.2.1",
+        b"$TTL 3\na A 192.0.2.1\na 5 A 192.0.2.1\na A 192.0.2.1\n\
+        $TTL 4\na A 192.0.2.1\na 6 A 192.0.2.1\n A 192.0.2.1",
         &[
             (b"\x01a\x07example\x00", 3, 1, b"\xc0\x00\x02\x01"),
             (b"\x01a\x07example\x00", 5, 1, b"\xc0\x00\x02\x01"),

@@ -43,10 +43,18 @@ fn session(alloc: Global, input: &[u8], most: u32, devices: Devices) -> Result<L
     });
     let answer = serve_stream(&zone, &mut source, &mut sink, most);
     let failures = (source.failures(), sink.failures());
+    let (source, sink) = (source.into_inner(), sink.into_inner());
+    // Both would work again after their failure.
+    if (source.calls_left == u32::MAX) != (answer == Err(StreamFault::SourceFailed)) {
+        return Err(Fail::new("a source that is asked after its failure"));
+    }
+    if (sink.calls_left == u32::MAX) != (answer == Err(StreamFault::SinkFailed)) {
+        return Err(Fail::new("a sink that is asked after its failure"));
+    }
     Ok(Left {
         answer,
-        written: sink.into_inner().text,
-        unread: source.into_inner().text.len(),
+        written: sink.text,
+        unread: source.text.len(),
         failures,
     })
 }
@@ -213,5 +221,24 @@ fn each_write_fails_in_turn(rt: HostRuntime) -> Result<(), Fail> {
             assert!(rt; wanted.as_slice().starts_with(left.written.as_slice()));
         }
     }
+    Ok(())
+}
+
+#[test]
+fn a_sink_that_takes_nothing_fails(rt: HostRuntime) -> Result<(), Fail> {
+    let zone = sample(rt.alloc())?;
+    let input = frames(rt.alloc(), "waw")?;
+    let mut source = Tally::new(input.as_slice());
+    let mut sink = Tally::new(Kept {
+        text: Vec::new(rt.alloc()),
+        most: 0,
+        calls_left: 9,
+    });
+    let answer = serve_stream(&zone, &mut source, &mut sink, 9);
+    assert_eq!(rt; answer, Err(StreamFault::SinkFailed));
+    assert_eq!(rt; sink.failures(), 1);
+    assert_eq!(rt; sink.into_inner().calls_left, 8);
+    // The first message was read, after its length.
+    assert_eq!(rt; input.len().saturating_sub(source.into_inner().len()), 31);
     Ok(())
 }

@@ -50,11 +50,11 @@ const QUIET_PRINT: Flags = Flags {
     print: true,
 };
 
-// What a check of a text answers, and what it writes to a sink that takes so many octets a call.
+// What a check of a text answers, and what it writes, by devices that move so many octets a call.
 fn checked(alloc: Global, text: &[u8], flags: Flags, most: usize) -> Result<(bool, Vec<u8>), Fail> {
     let mut source = Tally::new(Pieces {
         text,
-        most: 4096,
+        most,
         calls_left: 100_000,
     });
     let mut sink = Tally::new(Kept {
@@ -229,6 +229,18 @@ fn sinks_and_sources_that_fail(rt: HostRuntime) -> Result<(), Fail> {
         let sink = sink.into_inner();
         assert_eq!(rt; sink.calls_left, u32::MAX, "asked after its failure");
         assert_eq!(rt; sink.text.as_slice(), &LOADED.as_bytes()[..written]);
+    }
+    for flags in [PLAIN, PRINT] {
+        let mut sink = Tally::new(Kept {
+            text: Vec::new(alloc),
+            most: 0,
+            calls_left: 9,
+        });
+        let mut source = Tally::new(SAMPLE.as_bytes());
+        let outcome = check_zone(alloc, &example()?, flags, &mut source, &mut sink);
+        assert_eq!(rt; outcome, Err(Stop::Sink), "a sink that takes nothing");
+        assert_eq!(rt; sink.failures(), 1);
+        assert_eq!(rt; sink.into_inner().calls_left, 8);
     }
     for calls in 0..4 {
         let mut sink = Tally::new(Vec::new(alloc));

@@ -113,6 +113,19 @@ fn many_owners_below_one_name(rt: HostRuntime) -> Result<(), Fail> {
 }
 
 #[test]
+fn a_record_more_than_a_file_may_have(rt: HostRuntime) -> Result<(), Fail> {
+    let alloc = rt.alloc();
+    let mut text = String::from_str(alloc, LEAST)?;
+    for number in 2..MOST_RECORDS {
+        text.push_str(format!(in alloc; "n{number} A 192.0.2.2\n")?.as_str())?;
+    }
+    let (outcome, output) = checked(alloc, &example()?, PLAIN, text.as_str(), ALL)?;
+    assert_eq!(rt; outcome, Ok(false));
+    assert_eq!(rt; output.as_slice(), b"line 100002: R14\n".as_slice());
+    Ok(())
+}
+
+#[test]
 fn owners_of_127_labels(rt: HostRuntime) -> Result<(), Fail> {
     let alloc = rt.alloc();
     let origin = Name::read_text(b"a", &Name::root())?;

@@ -1,7 +1,8 @@
 ghost use Rattle.std.specs.Prelude.{◌≡◌};
 
 use crate::tests::plain::plain_message;
-use crate::{WireFault, read_message};
+use crate::{Message, WireFault, read_message};
+use std::alloc::{AllocError, Global};
 use std::test::Fail;
 
 // `www.example` A, answered by 192.0.2.10 at a pointer to the question.
@@ -46,8 +47,8 @@ fn a_message_is_read(rt: HostRuntime) -> Result<(), Fail> {
     assert_eq!(rt; record.owner.octets(), b"\x07example\x00".as_slice());
     assert_eq!(rt; (record.rtype.0, record.rclass, record.ttl), (6, 1, 300));
     assert_eq!(rt; record.data_type().0, 6);
-    let data =
-        b"\x02ns\x07example\x00\x0ahostmaster\x07example\x00\x00\x00\x00\x01\x00\x00\x1c\x20\x00\x00\x03\x84\x00\x12\x75\x00\x00\x00\x01\x2c";
+    let data = b"\x02ns\x07example\x00\x0ahostmaster\x07example\x00\x00\x00\x00\x01\
+        \x00\x00\x1c\x20\x00\x00\x03\x84\x00\x12\x75\x00\x00\x00\x01\x2c";
     assert_eq!(rt; record.rdata.as_slice(), data.as_slice());
     Ok(())
 }
@@ -101,14 +102,50 @@ fn pointers_to_each_place(rt: HostRuntime) -> Result<(), Fail> {
             let mut octets = NAME_ERROR;
             octets[place] = 0xc0 + (target / 256) as u8;
             octets[place + 1] = (target % 256) as u8;
-            let found = fault(rt, &octets);
-            assert_eq!(rt; found == 0, plain_message(&octets), "{place} to {target}");
-            if target < 12 || target >= run {
-                assert_eq!(rt; found, 3, "{place} to {target}");
+            let plain = plain_message(rt.alloc(), &octets);
+            match read_message(rt.alloc(), &octets) {
+                Ok(message) => {
+                    let read = spelled(rt.alloc(), &message)?;
+                    assert!(rt; plain == Some(read), "{place} to {target}");
+                }
+                Err(fault) => {
+                    assert!(rt; plain.is_none(), "{place} to {target}");
+                    let is_before = target >= 12 && target < run;
+                    assert!(rt; is_before || fault.code() == 3, "{place} to {target}");
+                }
             }
         }
     }
     Ok(())
+}
+
+// A message as octets, with names whole and without the lengths of data.
+fn spelled(alloc: Global, message: &Message) -> Result<Vec<u8>, AllocError> {
+    let mut octets = Vec::new(alloc);
+    for number in [message.head.id, message.head.flags] {
+        octets.extend_from_slice(&number.to_be_bytes())?;
+    }
+    let sections = [&message.answers, &message.authorities, &message.additionals];
+    let counts = sections.map(|records| records.len());
+    for count in [message.questions.len(), counts[0], counts[1], counts[2]] {
+        let count = u16::try_from(count).unwrap_or(u16::MAX);
+        octets.extend_from_slice(&count.to_be_bytes())?;
+    }
+    for question in message.questions.as_slice() {
+        octets.extend_from_slice(question.name.octets())?;
+        octets.extend_from_slice(&question.qtype.to_be_bytes())?;
+        octets.extend_from_slice(&question.qclass.to_be_bytes())?;
+    }
+    for records in sections {
+        for record in records.as_slice() {
+            octets.extend_from_slice(record.owner.octets())?;
+            octets.extend_from_slice(&record.rtype.0.to_be_bytes())?;
+            octets.extend_from_slice(&record.rclass.to_be_bytes())?;
+            octets.extend_from_slice(&record.ttl.to_be_bytes())?;
+            octets.extend_from_slice(record.rdata.as_slice())?;
+        }
+    }
+    Ok(octets)
 }
 
 #[test]
@@ -118,11 +155,9 @@ fn a_label_of_pointer_octets(rt: HostRuntime) -> Result<(), Fail> {
     let Ok(message) = read_message(rt.alloc(), &octets) else {
         return Err("a pointer to the last octet of the question".into());
     };
-    let lengths = message.authorities[0]
-        .owner
-        .labels()
-        .map(|label| label.octets().len());
-    assert!(rt; lengths.eq([1_usize, 29]), "the lengths of its labels");
+    // A label of the one octet c0, one of 29 octets, and the end.
+    assert!(rt; octets[29..].starts_with(b"\x01\xc0\x1d"));
+    assert_eq!(rt; message.authorities[0].owner.octets(), &octets[29..62]);
     Ok(())
 }
 
