@@ -1,6 +1,7 @@
 //! Records that files mean.
 
-use super::reading::records;
+use super::reading::{example, records};
+use dns_master::{Record, Records};
 use std::process::Abort;
 use std::test::Fail;
 
@@ -194,15 +195,27 @@ const WORDS: [Case<'static>; 5] = [
 ];
 
 fn compare<R: Abort + AllocGlobal>(rt: &R, text: &[u8], meant: &[Meant<'_>]) -> Result<(), Fail> {
-    let records = records(rt.alloc(), text)?;
-    assert_eq!(rt; records.len(), meant.len(), "of {text:?}");
-    for (record, (owner, ttl, rtype, octets)) in records.iter().zip(meant) {
-        assert_eq!(rt; record.owner.octets(), *owner, "of {text:?}");
-        assert_eq!(rt; record.ttl, *ttl, "of {text:?}");
-        assert_eq!(rt; record.rtype.0, *rtype, "of {text:?}");
-        assert_eq!(rt; record.rdata.octets(), *octets, "of {text:?}");
+    let listed = records(rt.alloc(), text)?;
+    assert_eq!(rt; listed.len(), meant.len(), "of {text:?}");
+    let origin = example()?;
+    let mut entries = Records::new(rt.alloc(), &origin, text);
+    for (record, wanted) in listed.iter().zip(meant) {
+        judge(rt, text, record, wanted);
+        assert!(rt; entries.advance()?, "of {text:?}");
+        assert!(rt; entries.record().is_some(), "of {text:?}");
+        if let Some(lent) = entries.record() {
+            judge(rt, text, lent, wanted);
+        }
     }
+    assert!(rt; !entries.advance()?, "of {text:?}");
     Ok(())
+}
+
+fn judge<R: Abort>(rt: &R, text: &[u8], record: &Record, (owner, ttl, rtype, octets): &Meant<'_>) {
+    assert_eq!(rt; record.owner.octets(), *owner, "of {text:?}");
+    assert_eq!(rt; record.ttl, *ttl, "of {text:?}");
+    assert_eq!(rt; record.rtype.0, *rtype, "of {text:?}");
+    assert_eq!(rt; record.rdata.octets(), *octets, "of {text:?}");
 }
 
 #[test]
