@@ -9,6 +9,7 @@ pub mod AtName
 pub mod Types
 pub mod SetTests
 pub mod NameTree
+pub mod NameEnds
 pub mod AboveCuts
 pub mod TopmostLoop
 pub mod OwnRecords

@@ -2,7 +2,7 @@
 //!
 //! A sort compares whole names, which takes time. So places are sorted in the records' stead, by
 //! short keys first, and each record is moved once.
-ghost use Rattle.std.specs.Prelude.{◌≡◌, ◌<◌, ◌++◌, All, length, take, replicate, IfOk};
+ghost use Rattle.std.specs.Prelude.{◌≡◌, ◌<◌, ◌≤◌, All, length, IfOk};
 ghost use Rattle.std.specs.List.Sorted.{IsPermutation};
 ghost use Rattle.std.specs.Ordering.{nat_cmp, ordering_then};
 ghost use Rattle.dns_spec.specs.Records.{record_order};
@@ -13,19 +13,32 @@ use dns_name::NameRef;
 use std::alloc::{AllocError, Global};
 use std::cmp::Ordering;
 
-// How many octets of an owner's key are kept.
-const KEY_OCTETS: usize = 16;
+// How many octets of an owner's key are kept, and how many of them make a half: 6 bits for each.
+const KEY_OCTETS: usize = 20;
+
+const HALF_OCTETS: usize = 10;
+
+const OCTET_BITS: u32 = 6;
 
 // The most labels that these are of: each has an octet at least, and its end.
-const KEY_LABELS: usize = 8;
+const KEY_LABELS: usize = 10;
 
-// Of 16 octets the highest bit of each, the other bits, and what gives those from 65 on the highest
-// bit.
-const HIGH_BITS: u128 = 0x8080_8080_8080_8080_8080_8080_8080_8080;
-
-const LOW_BITS: u128 = 0x7f7f_7f7f_7f7f_7f7f_7f7f_7f7f_7f7f_7f7f;
-
-const TO_HIGH_BIT: u128 = 0x3f3f_3f3f_3f3f_3f3f_3f3f_3f3f_3f3f_3f3f;
+// How octets in lower case stand to each other, in 6 bits. The end of a label has 0. Those that names
+// mostly have, as letters, digits, `-` and `_`, have a rank of their own; those below 45 share one, and
+// so do those from 132 on.
+const RANKS: [u8; 256] = [
+    1, 1, 1, 1, 1, 1, 1, 1, 1, 1, 1, 1, 1, 1, 1, 1, 1, 1, 1, 1, 1, 1, 1, 1, 1, 1, 1, 1, 1, 1, 1, 1,
+    1, 1, 1, 1, 1, 1, 1, 1, 1, 1, 1, 1, 1, 2, 3, 4, 5, 6, 7, 8, 9, 10, 11, 12, 13, 14, 15, 16, 17,
+    18, 19, 20, 21, 22, 23, 24, 25, 26, 27, 28, 29, 30, 31, 32, 33, 34, 35, 36, 37, 38, 39, 40, 41,
+    42, 43, 44, 45, 46, 47, 22, 23, 24, 25, 26, 27, 28, 29, 30, 31, 32, 33, 34, 35, 36, 37, 38, 39,
+    40, 41, 42, 43, 44, 45, 46, 47, 48, 49, 50, 51, 52, 53, 54, 55, 56, 57, 58, 59, 60, 61, 62, 63,
+    63, 63, 63, 63, 63, 63, 63, 63, 63, 63, 63, 63, 63, 63, 63, 63, 63, 63, 63, 63, 63, 63, 63, 63,
+    63, 63, 63, 63, 63, 63, 63, 63, 63, 63, 63, 63, 63, 63, 63, 63, 63, 63, 63, 63, 63, 63, 63, 63,
+    63, 63, 63, 63, 63, 63, 63, 63, 63, 63, 63, 63, 63, 63, 63, 63, 63, 63, 63, 63, 63, 63, 63, 63,
+    63, 63, 63, 63, 63, 63, 63, 63, 63, 63, 63, 63, 63, 63, 63, 63, 63, 63, 63, 63, 63, 63, 63, 63,
+    63, 63, 63, 63, 63, 63, 63, 63, 63, 63, 63, 63, 63, 63, 63, 63, 63, 63, 63, 63, 63, 63, 63, 63,
+    63, 63, 63,
+];
 
 // A record, where it stands, and the first octets of its owner's key.
 #[derive(Drop)]
@@ -36,8 +49,8 @@ struct Place<'a> {
 }
 
 /// Moves records into the order of their keys, and those of one key into canonical order. Where all
-/// owners are in the zone that is the canonical order, but nothing here says so: who needs it
-/// sorts, which then moves nothing.
+/// owners are in the zone and of letters, digits, `-` and `_` that is the canonical order, but
+/// nothing here says so: who needs it sorts, which then moves nothing.
 ///
 /// Memory is taken for 40 octets for each record.
 pub(crate) fn arrange(
@@ -118,28 +131,26 @@ fn key_below(origin_count: usize, owner: &NameRef<'_>) -> u128 {
 
 // A key after a label of so many octets and its end.
 fn moved_back(key: u128, count: usize) -> u128 {
-    let bits = 8 * (count.min(KEY_OCTETS) as u32) + 8;
+    let bits = OCTET_BITS * (count.min(KEY_OCTETS) as u32 + 1);
     key.checked_shr(bits).unwrap_or(0)
 }
 
-// The first octets of a label as a key has them: those below 65 are one more, all at once.
+// The first octets of a label by their ranks, the first highest.
 fn key_of_label(octets: &[u8]) -> u128 {
-    let leading = u128::from_be_bytes(leading_octets(octets));
-    let bits = 8 * (octets.len().min(KEY_OCTETS) as u32);
-    let unused = u128::MAX.checked_shr(bits).unwrap_or(0);
-    let others = ((leading & LOW_BITS).wrapping_add(TO_HIGH_BIT) | leading) & HIGH_BITS;
-    let one_more = (others ^ HIGH_BITS) & !unused;
-    leading.wrapping_add(one_more >> 7)
+    let (front, others) = octets.split_at(octets.len().min(HALF_OCTETS));
+    let (back, _) = others.split_at(others.len().min(HALF_OCTETS));
+    u128::from(half_key(front)) << 68 | u128::from(half_key(back)) << 8
 }
 
-// The first octets, with zeros where there are fewer.
-fn leading_octets(octets: &[u8]) -> [u8; KEY_OCTETS]
-    ensures { result ≡ take 16 (octets.now ++ replicate 16 0) }
+// The ranks of at most 10 octets, in 60 bits.
+fn half_key(octets: &[u8]) -> u64
+    requires { length octets.now ≤ 10 }
 {
-    let mut leading = [0; KEY_OCTETS];
-    let count = octets.len().min(KEY_OCTETS);
-    leading[..count].copy_from_slice(&octets[..count]);
-    leading
+    let mut key = 0_u64;
+    for octet in octets {
+        key = key << OCTET_BITS | u64::from(RANKS[*octet as usize]);
+    }
+    key << (OCTET_BITS * (HALF_OCTETS - octets.len()) as u32)
 }
 
 fn place_order(one: &Place<'_>, other: &Place<'_>) -> Ordering

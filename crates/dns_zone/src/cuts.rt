@@ -8,6 +8,7 @@ ghost use Rattle.dns_spec.specs.Data.{type_ns};
 ghost use Rattle.dns_zone.specs.ZoneForm.{AreOrdered};
 ghost use Rattle.dns_zone.specs.CutForm.{after, AreTopmost, AreApart, last_passes};
 
+use crate::above::is_at_or_below;
 use crate::entry::Entry;
 use crate::key::Key;
 use crate::keyed::Keyed;
@@ -70,13 +71,14 @@ pub(crate) fn not_after<'a, 'b>(
 
 /// Whether the name is at or below the last of the cuts.
 pub(crate) fn is_covered(cuts: &[&Keyed<'_>], name: &NameRef<'_>) -> bool
+    requires { folded name.now ≡ name.now }
     ensures { result ≡ last_passes (λ (c : ResourceRecord). at_or_below name.now c.owner)
         (after cuts.now) }
 {
     match cuts.last() {
         Some(cut) => {
             let listed = cut.listed();
-            name.at_or_below(&listed.owner())
+            is_at_or_below(name, &listed.owner())
         }
         None => false,
     }

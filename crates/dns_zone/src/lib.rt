@@ -2,6 +2,7 @@
 //! canonical text.
 #![tactic(auto)]
 
+mod above;
 mod arranged;
 mod cuts;
 mod entry;

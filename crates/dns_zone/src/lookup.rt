@@ -7,6 +7,7 @@ ghost use Rattle.dns_spec.specs.Names.{folded, same, at_or_below, name_order};
 ghost use Rattle.dns_spec.specs.Records.{ResourceRecord};
 ghost use Rattle.dns_zone.specs.ZoneForm.{AreOrdered, IsFront};
 
+use crate::above::is_at_or_below;
 use crate::entry::Entry;
 use crate::key::Key;
 use crate::keyed::Keyed;
@@ -83,7 +84,9 @@ fn count_at_among(records: &[Entry], name: &NameRef<'_>, near: usize) -> Option<
 
 /// How many of the records have owners at or below the name, where these stand in front.
 pub(crate) fn count_under(records: &[Entry], name: &NameRef<'_>) -> usize
-    requires { IsPartitionedBy (λ (r : ResourceRecord). at_or_below r.owner name.now) records.now }
+    requires in_front { IsPartitionedBy
+        (λ (r : ResourceRecord). at_or_below r.owner name.now) records.now }
+    requires lower { folded name.now ≡ name.now }
     ensures bound { result ≤ length records.now }
     ensures own { take result records.now
         ≡ filter (λ (r : ResourceRecord). at_or_below r.owner name.now) records.now }
@@ -96,20 +99,22 @@ pub(crate) fn count_under(records: &[Entry], name: &NameRef<'_>) -> usize
     if let Some(count) = count_under_among(records, name, NEAR) {
         return count;
     }
-    records.partition_point(|listed| listed.owner().at_or_below(name))
+    records.partition_point(|listed| is_under(listed, name))
 }
 
 // The same where it is at most `near`, and a record stands there; or nothing.
 fn count_under_among(records: &[Entry], name: &NameRef<'_>, near: usize) -> Option<usize>
-    requires { IsPartitionedBy (λ (r : ResourceRecord). at_or_below r.owner name.now) records.now }
+    requires in_front { IsPartitionedBy
+        (λ (r : ResourceRecord). at_or_below r.owner name.now) records.now }
+    requires lower { folded name.now ≡ name.now }
     ensures { IfSome result
         (λ k. IsFront (λ (r : ResourceRecord). at_or_below r.owner name.now) records.now k) }
 {
     let next = records.get(near)?;
-    if next.owner().at_or_below(name) {
+    if is_under(next, name) {
         return None;
     }
-    Some(records[..near].partition_point(|listed| listed.owner().at_or_below(name)))
+    Some(records[..near].partition_point(|listed| is_under(listed, name)))
 }
 
 /// How many records stand in front whose owner is the name. They are passed one by one.
@@ -163,6 +168,13 @@ fn count_below(records: &[Entry], rtype: RType) -> usize
         ≡ filter (λ (r : ResourceRecord). not (nat_lt r.rtype rtype.0)) records.now }
 {
     records.partition_point(|listed| listed.rtype.0 < rtype.0)
+}
+
+fn is_under(listed: &Entry, name: &NameRef<'_>) -> bool
+    requires { folded name.now ≡ name.now }
+    ensures { result ≡ at_or_below listed.now.owner name.now }
+{
+    is_at_or_below(&listed.owner(), name)
 }
 
 fn is_at(listed: &Entry, name: &NameRef<'_>) -> bool

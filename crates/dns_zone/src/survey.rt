@@ -14,6 +14,7 @@ ghost use Rattle.dns_zone.specs.CutForm.{after, AreTopmost, AreApart, last_passe
 ghost use Rattle.dns_zone.specs.OwnerForm.{IsOwner};
 ghost use Rattle.dns_zone.specs.ReportedForm.{HasOwners};
 
+use crate::above::{ends_in, is_at_or_below};
 use crate::cuts::{is_below_last, is_covered, not_after, topmost_cuts};
 use crate::entry::Entry;
 use crate::keyed::Keyed;
@@ -117,7 +118,7 @@ impl<'a> Survey<'a> {
         ensures { result ≡ (at_or_below target.now self.now.origin
             && owns self.now target.now type_cname) }
     {
-        target.at_or_below(self.origin) && self.owns(target, RType::CNAME)
+        is_at_or_below(target, self.origin()) && self.owns(target, RType::CNAME)
     }
 
     /// Whether the record's target is a name of the zone that owns a CNAME (RFC 2181 10.3), and
@@ -160,7 +161,7 @@ impl<'a> Survey<'a> {
         ensures lost { result.1 ≡ (at_or_below target.now self.now.origin
             && lacks_address self.now owner.now target.now) }
     {
-        if !target.at_or_below(self.origin) {
+        if !is_at_or_below(target, self.origin()) {
             return (false, false);
         }
         let own = self.at_server(target, owner, after);
@@ -263,15 +264,6 @@ impl<'a> Survey<'a> {
             return false;
         }
         is_below_last(not_after(self.cuts.as_slice(), name), name)
-    }
-}
-
-// Whether the octets of a name end in those of another, as they do where it is at or below that.
-fn ends_in(name: &NameRef<'_>, other: &NameRef<'_>) -> bool {
-    let octets = name.octets();
-    match octets.len().checked_sub(other.octets().len()) {
-        Some(front) => &octets[front..] == other.octets(),
-        None => false,
     }
 }
 

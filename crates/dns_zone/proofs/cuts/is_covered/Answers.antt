@@ -6,5 +6,5 @@ use Rattle.dns_zone.proofs.cuts.is_covered.Goals as goal
 
 pub returns-in-Some : goal.returns-in-Some
 returns-in-Some c =
-    c.at_or_below.ensures ∙ ap (at_or_below c.args.name.now) c.owner.ensures.value ∙ ap (λ (r : ResourceRecord). at_or_below c.args.name.now r.owner) c.listed-listed.ensures
+    c.is_at_or_below.ensures ∙ ap (at_or_below c.args.name.now) c.owner.ensures.value ∙ ap (λ (r : ResourceRecord). at_or_below c.args.name.now r.owner) c.listed-listed.ensures
     ∙ last_is (λ (r : ResourceRecord). at_or_below c.args.name.now r.owner) c.in-Some.cut.now c.args.cuts.now c.in-Some.ensures.value

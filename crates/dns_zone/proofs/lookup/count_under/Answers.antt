@@ -10,7 +10,7 @@ returns-clause-own c =
     let p = λ (r : ResourceRecord). at_or_below r.owner c.args.name.now in
     let rs = c.args.records.now in
     (halves p rs _ c.partition_point.ensures.bound
-    (IsPartitionPoint-from_clause p rs _ c.partition_point.ensures.partitioned c.requires
+    (IsPartitionPoint-from_clause p rs _ c.partition_point.ensures.partitioned c.requires.in_front
     (λ a r q k. search rules))).0
 
 pub returns-clause-others : goal.returns-clause-others
@@ -18,5 +18,5 @@ returns-clause-others c =
     let p = λ (r : ResourceRecord). at_or_below r.owner c.args.name.now in
     let rs = c.args.records.now in
     (halves p rs _ c.partition_point.ensures.bound
-    (IsPartitionPoint-from_clause p rs _ c.partition_point.ensures.partitioned c.requires
+    (IsPartitionPoint-from_clause p rs _ c.partition_point.ensures.partitioned c.requires.in_front
     (λ a r q k. search rules))).1

@@ -12,10 +12,10 @@ returns c =
     let n = c.args.near in
     let long : n < length rs = search rules in
     let next : (d : ResourceRecord) → get_or rs n d ≡ c.in_ok-next.next.now = search rules in
-    let fails : p c.in_ok-next.next.now ≡ false = ap (λ m. at_or_below m c.args.name.now) (sym c.owner.ensures.value) ∙ sym c.at_or_below.ensures ∙ c.if-at_or_below.false in
+    let fails : p c.in_ok-next.next.now ≡ false = sym c.is_under.ensures ∙ c.if-is_under.false in
     let bound : c.partition_point.result ≤ length (take n rs) = search rules in
     let all : c.partition_point.result ≤ length rs = search rules in
     let found = halves p rs _ all
-    (near_point p rs n _ long (λ d. ap p (next d) ∙ fails) c.requires bound
-    (IsPartitionPoint-from_clause p (take n rs) _ c.partition_point.ensures.partitioned (near_parted p rs n long c.requires) (λ a r q k. search rules))) in
+    (near_point p rs n _ long (λ d. ap p (next d) ∙ fails) c.requires.in_front bound
+    (IsPartitionPoint-from_clause p (take n rs) _ c.partition_point.ensures.partitioned (near_parted p rs n long c.requires.in_front) (λ a r q k. search rules))) in
     record { bound = all; passing = found.0; others = found.1 }

@@ -65,8 +65,8 @@ count_at-own-requires-clause-in_front c =
     (subst (λ (o : Octets). IsChildOf n o c.child_octets-octets.result.now) spelled
     c.child_octets-octets.ensures))
 
-pub count_under-requires : goal.count_under-requires
-count_under-requires c =
+pub count_under-requires-clause-in_front : goal.count_under-requires-clause-in_front
+count_under-requires-clause-in_front c =
     let n = labels_of c.args.parent.now in
     let spelled =
     c.octets-owner.ensures.value ∙ ap wire c.owner.ensures.value in
