@@ -13,7 +13,7 @@ ghost use Rattle.dns_answer.specs.Targets.{addresses_of, side_items, side_nodes,
 
 use crate::draft::Draft;
 use crate::lookup::{Reached, or_apex, reach};
-use crate::names::depth_below;
+use crate::names::lent_depth_below;
 use dns_name::NameRef;
 use dns_rdata::{RType, SetView};
 use dns_wire::Section;
@@ -21,16 +21,16 @@ use dns_zone::{Node, RecordSet, Steps};
 
 /// Which targets are meant: all, or those at or below a cut, or the others.
 #[derive(Clone, Copy)]
-pub(crate) enum Side<'c> {
+pub(crate) enum Side<'c, 'n> {
     /// All of them.
     All,
     /// Those at or below the cut, without whose addresses the asker gets no further.
-    Inside(&'c NameRef<'c>),
+    Inside(&'c NameRef<'n>),
     /// Those that are not.
-    Outside(&'c NameRef<'c>),
+    Outside(&'c NameRef<'n>),
 }
 
-impl Side<'_> {
+impl Side<'_, '_> {
     // Whether the target is meant.
     fn takes(self, target: &NameRef<'_>) -> bool
         ensures { result ≡ side_takes self.entry target.now }
@@ -47,7 +47,7 @@ impl Side<'_> {
 /// target that stood before are not offered again.
 pub(crate) fn offer_addresses<'z, const N: usize, const SIZE: usize>(
     set: &RecordSet<'z>,
-    side: Side<'_>,
+    side: Side<'_, '_>,
     apex: &Node<'z>,
     steps: &mut Steps<'z>,
     draft: &mut Draft<N, SIZE>,
@@ -72,7 +72,7 @@ pub(crate) fn offer_addresses<'z, const N: usize, const SIZE: usize>(
 fn offer_target<'z, const N: usize, const SIZE: usize>(
     set: &RecordSet<'z>,
     i: usize,
-    side: Side<'_>,
+    side: Side<'_, '_>,
     apex: &Node<'z>,
     steps: &mut Steps<'z>,
     draft: &mut Draft<N, SIZE>,
@@ -97,7 +97,7 @@ fn offer_target<'z, const N: usize, const SIZE: usize>(
     if !side.takes(&target) {
         return;
     }
-    let Some(depth) = depth_below(&target, &steps.origin().lent()) else {
+    let Some(depth) = lent_depth_below(&target, &steps.origin().lent()) else {
         return;
     };
     if stood_before(set, i, &target) {
@@ -160,6 +160,6 @@ fn offer_type<const N: usize, const SIZE: usize>(
         (item additional (rrset node.now.zone node.now.name rtype.0)) }
 {
     if let Some(set) = node.set(rtype) {
-        draft.offer(Section::Additional, owner, set.ttl(), &set);
+        draft.offer_at(Section::Additional, owner, set.ttl(), &set);
     }
 }

@@ -13,10 +13,10 @@ ghost use Rattle.dns_answer.specs.Seeking.{Seeks, TookFrom, Followed, SoughtAs, 
 use crate::draft::Draft;
 use crate::ending::{QTYPE_ANY, Verdict, deny, offer_asked, refer};
 use crate::lookup::{Found, look_up, or_apex};
-use crate::names::{again, depth_below};
+use crate::names::depth_below;
 use arrayvec::ArrayVec;
-use dns_name::NameRef;
-use dns_rdata::{RType, SetView};
+use dns_name::Name;
+use dns_rdata::{RType, Rdata, SetView};
 use dns_wire::{Rcode, Section};
 use dns_zone::{Node, RecordSet, Steps};
 use std::slice::from_ref;
@@ -26,11 +26,11 @@ const MOST_SOUGHT: usize = 17;
 
 /// What seeking one name comes to.
 #[derive(Drop)]
-pub(crate) enum Sought<'z> {
+pub(crate) enum Sought {
     /// It is the last one sought.
     Last(Verdict),
-    /// Its alias leads to this name, lent out of the zone, so many labels below the origin.
-    Alias(NameRef<'z>, usize),
+    /// Its alias leads to this name, so many labels below the origin.
+    Alias(Name, usize),
 }
 
 /// What seeking the name of a question comes to.
@@ -44,7 +44,7 @@ pub(crate) struct Ended {
 /// Seeks the name of a question, `depth` labels below the origin, and after it the targets of
 /// aliases: offers the sets of the aliases, and those that the last name ends with.
 pub(crate) fn seek<'z, const N: usize, const SIZE: usize>(
-    name: &NameRef<'_>,
+    name: &Name,
     depth: usize,
     qtype: u16,
     apex: &Node<'z>,
@@ -76,7 +76,7 @@ pub(crate) fn seek<'z, const N: usize, const SIZE: usize>(
             is_led_on: false,
         },
         Sought::Alias(target, below) => Ended {
-            verdict: seek_target(name, &target, below, qtype, apex, steps, draft),
+            verdict: seek_target(name, target, below, qtype, apex, steps, draft),
             is_led_on: true,
         },
     }
@@ -87,8 +87,8 @@ pub(crate) fn seek<'z, const N: usize, const SIZE: usize>(
 // that were sought.
 #[inline(never)]
 fn seek_target<'z, const N: usize, const SIZE: usize>(
-    first: &NameRef<'_>,
-    target: &NameRef<'z>,
+    first: &Name,
+    target: Name,
     depth: usize,
     qtype: u16,
     apex: &Node<'z>,
@@ -96,17 +96,17 @@ fn seek_target<'z, const N: usize, const SIZE: usize>(
     draft: &mut Draft<N, SIZE>,
 ) -> Verdict
     requires apex { IsApex steps.old.zone apex.now }
-    requires below { IsTrue (at_or_below target.now steps.old.zone.origin) }
-    requires depth { length target.now ≡ length steps.old.zone.origin + depth }
+    requires below { IsTrue (at_or_below target steps.old.zone.origin) }
+    requires depth { length target ≡ length steps.old.zone.origin + depth }
     requires few { depth ≤ 127 }
     requires room { HasRoom steps.old (129 * (15 + 129)) }
-    ensures seeks { Seeks draft.old draft.new steps.old.zone qtype 15 (first.now ∷ target.now ∷ [])
-        target.now result }
-    ensures took { TookFrom steps.old steps.new qtype 15 (first.now ∷ target.now ∷ []) target.now }
+    ensures seeks { Seeks draft.old draft.new steps.old.zone qtype 15 (first.now ∷ target ∷ [])
+        target result }
+    ensures took { TookFrom steps.old steps.new qtype 15 (first.now ∷ target ∷ []) target }
 {
-    let sought = [again(first), again(target)];
+    let sought = [first.copied(), target.copied()];
     match seek_one(
-        target,
+        &target,
         depth,
         qtype,
         MOST_SOUGHT - 2,
@@ -117,7 +117,7 @@ fn seek_target<'z, const N: usize, const SIZE: usize>(
     ) {
         Sought::Last(verdict) => verdict,
         Sought::Alias(next, below) => {
-            seek_rest(first, target, next, below, qtype, apex, steps, draft)
+            seek_rest(first, &target, next, below, qtype, apex, steps, draft)
         }
     }
 }
@@ -126,9 +126,9 @@ fn seek_target<'z, const N: usize, const SIZE: usize>(
 // others. Few answers follow as many, and need room for all names that may be sought.
 #[inline(never)]
 fn seek_rest<'z, const N: usize, const SIZE: usize>(
-    first: &NameRef<'_>,
-    second: &NameRef<'z>,
-    target: NameRef<'z>,
+    first: &Name,
+    second: &Name,
+    target: Name,
     depth: usize,
     qtype: u16,
     apex: &Node<'z>,
@@ -145,10 +145,10 @@ fn seek_rest<'z, const N: usize, const SIZE: usize>(
     ensures took { TookFrom steps.old steps.new qtype 14 (first.now ∷ second.now ∷ target ∷ [])
         target }
 {
-    let mut sought: ArrayVec<NameRef<'_>, MOST_SOUGHT> = ArrayVec::new();
-    sought.push(again(first));
-    sought.push(again(second));
-    sought.push(again(&target));
+    let mut sought: ArrayVec<Name, MOST_SOUGHT> = ArrayVec::new();
+    sought.push(first.copied());
+    sought.push(second.copied());
+    sought.push(target.copied());
     let mut name = target;
     let mut depth = depth;
     let mut more = MOST_SOUGHT - 3;
@@ -165,7 +165,7 @@ fn seek_rest<'z, const N: usize, const SIZE: usize>(
         ) {
             Sought::Last(verdict) => return verdict,
             Sought::Alias(target, below) => {
-                sought.push(again(&target));
+                sought.push(target.copied());
                 name = target;
                 depth = below;
                 more -= 1;
@@ -176,15 +176,15 @@ fn seek_rest<'z, const N: usize, const SIZE: usize>(
 
 // Seeks one name: offers the set of its alias, or the sets that it ends an answer with.
 fn seek_one<'z, const N: usize, const SIZE: usize>(
-    name: &NameRef<'_>,
+    name: &Name,
     depth: usize,
     qtype: u16,
     more: usize,
-    sought: &[NameRef<'_>],
+    sought: &[Name],
     apex: &Node<'z>,
     steps: &mut Steps<'z>,
     draft: &mut Draft<N, SIZE>,
-) -> Sought<'z>
+) -> Sought
     requires apex { IsApex steps.old.zone apex.now }
     requires below { IsTrue (at_or_below name.now steps.old.zone.origin) }
     requires depth { length name.now ≡ length steps.old.zone.origin + depth }
@@ -205,7 +205,7 @@ fn seek_one<'z, const N: usize, const SIZE: usize>(
         return Sought::Last(offer_asked(node, name, qtype, apex, steps, draft));
     };
     draft.offer(Section::Answer, name, alias.ttl(), &alias);
-    let Some((target, depth)) = next_sought(&alias, more, sought, &steps.origin().lent()) else {
+    let Some((target, depth)) = next_sought(&alias, more, sought, steps.origin()) else {
         return Sought::Last(Verdict {
             rcode: Rcode::NoError,
             is_referral: false,
@@ -233,12 +233,12 @@ fn alias_at<'z>(node: &Node<'z>, qtype: u16) -> Option<RecordSet<'z>>
 
 // The name that is sought after an alias, and how many labels it has below the origin: the target,
 // where more may be sought and it is at or below the origin and was not sought yet.
-fn next_sought<'z>(
-    alias: &RecordSet<'z>,
+fn next_sought(
+    alias: &RecordSet<'_>,
     more: usize,
-    sought: &[NameRef<'_>],
-    origin: &NameRef<'_>,
-) -> Option<(NameRef<'z>, usize)>
+    sought: &[Name],
+    origin: &Name,
+) -> Option<(Name, usize)>
     requires some { 0 < length alias.now.rdata }
     requires valid { HasValidData alias.now }
     ensures next { NextIs alias.now more sought.now origin.now result }
@@ -246,7 +246,7 @@ fn next_sought<'z>(
     if more == 0 {
         return None;
     }
-    let Some(target) = alias.target(0) else {
+    let Some(target) = Rdata::target(alias.rtype(), alias.rdata(0)) else {
         return None;
     };
     let Some(depth) = depth_below(&target, origin) else {
@@ -259,7 +259,7 @@ fn next_sought<'z>(
 }
 
 // Whether a name was sought before.
-fn was_sought(sought: &[NameRef<'_>], name: &NameRef<'_>) -> bool
+fn was_sought(sought: &[Name], name: &Name) -> bool
     ensures { result ≡ list_any (same name.now) sought.now }
 {
     sought.iter().any(|earlier| name.same(earlier))

@@ -14,7 +14,7 @@ ghost use Rattle.dns_answer.specs.Ending.{Ends, TookTargets};
 
 use crate::addresses::{Side, offer_addresses};
 use crate::draft::Draft;
-use dns_name::{Name, NameRef};
+use dns_name::Name;
 use dns_rdata::{RType, Rdata, SetView};
 use dns_wire::{Rcode, Section};
 use dns_zone::{Node, RecordSet, Steps};
@@ -55,7 +55,7 @@ pub(crate) fn refer<'z, const N: usize, const SIZE: usize>(
     let Some(servers) = cut.set(RType::NS) else {
         unreachable!();
     };
-    draft.offer(Section::Authority, &owner, servers.ttl(), &servers);
+    draft.offer_at(Section::Authority, &owner, servers.ttl(), &servers);
     offer_addresses(&servers, Side::Inside(&owner), apex, steps, draft);
     let is_truncated = draft.is_full();
     offer_addresses(&servers, Side::Outside(&owner), apex, steps, draft);
@@ -87,7 +87,7 @@ pub(crate) fn deny<const N: usize, const SIZE: usize>(
         };
     };
     let ttl = soa.ttl().min(Rdata::soa_minimum(soa.rdata(0)));
-    draft.offer(Section::Authority, &origin.lent(), ttl, &soa);
+    draft.offer(Section::Authority, origin, ttl, &soa);
     Verdict {
         rcode,
         is_referral: false,
@@ -99,7 +99,7 @@ pub(crate) fn deny<const N: usize, const SIZE: usize>(
 /// targets; or says that there is none.
 pub(crate) fn offer_asked<'z, const N: usize, const SIZE: usize>(
     node: &Node<'z>,
-    name: &NameRef<'_>,
+    name: &Name,
     qtype: u16,
     apex: &Node<'z>,
     steps: &mut Steps<'z>,

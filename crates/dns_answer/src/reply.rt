@@ -169,7 +169,7 @@ fn judge(question: &Question, origin: &Name) -> Judged
     if is_meta_type(question.qtype) {
         return Judged::Refused(Rcode::NotImplemented);
     }
-    match depth_below(&question.name.lent(), &origin.lent()) {
+    match depth_below(&question.name, origin) {
         None => Judged::Refused(Rcode::Refused),
         Some(depth) => Judged::Answered(depth),
     }
@@ -239,7 +239,7 @@ fn offer_answer<'z, const N: usize, const SIZE: usize>(
 {
     let apex = steps.apex();
     let Ended { verdict, is_led_on } = seek(
-        &question.name.lent(),
+        &question.name,
         depth,
         question.qtype,
         &apex,

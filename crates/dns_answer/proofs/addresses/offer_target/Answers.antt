@@ -16,11 +16,11 @@ returns-then-not-takes-clause-offers g c =
     Offers-is _ _ [] _ (sym (ap (target_items c.args.steps.now.zone (side_takes c.args.side) (targets_of_first c.args.i c.args.set.now)) (is ∙ c.in-Some.is)
     ∙ items-untaken c.args.steps.now.zone (side_takes c.args.side) (targets_of_first c.args.i c.args.set.now) c.in-Some.target (sym c.if-not-takes.ensures))) (Offers-nothing _)
 
-pub returns-in_default-depth_below-clause-offers : goal.returns-in_default-depth_below-clause-offers
-returns-in_default-depth_below-clause-offers g c =
+pub returns-in_default-lent_depth_below-clause-offers : goal.returns-in_default-lent_depth_below-clause-offers
+returns-in_default-lent_depth_below-clause-offers g c =
     let is = sym c.target.ensures.value in
     Offers-is _ _ [] _ (sym (ap (target_items c.args.steps.now.zone (side_takes c.args.side) (targets_of_first c.args.i c.args.set.now)) (is ∙ c.in-Some.is)
-    ∙ items-outside c.args.steps.now.zone (side_takes c.args.side) (targets_of_first c.args.i c.args.set.now) c.in-Some.target (none-outside c.args.steps.now.zone c.in-Some.target c.requires.apex.exists.built (ap (at_or_below c.in-Some.target) (sym (c.lent.ensures.value ∙ c.origin.ensures.value)) ∙ c.in_default-depth_below.ensures)))) (Offers-nothing _)
+    ∙ items-outside c.args.steps.now.zone (side_takes c.args.side) (targets_of_first c.args.i c.args.set.now) c.in-Some.target (none-outside c.args.steps.now.zone c.in-Some.target c.requires.apex.exists.built (ap (at_or_below c.in-Some.target) (sym (c.lent.ensures.value ∙ c.origin.ensures.value)) ∙ c.in_default-lent_depth_below.ensures)))) (Offers-nothing _)
 
 pub returns-then-stood_before-clause-offers : goal.returns-then-stood_before-clause-offers
 returns-then-stood_before-clause-offers g c =

@@ -117,7 +117,7 @@ returns-in_default-next_sought g c =
     let here = found-at z s c.in-Records.node c.args.apex.now at_node c.in-Records.ensures.found c.requires.apex.node c.or_apex-node.ensures in
     let no_cut = c.in-Records.ensures.found.no_cut in
     let is = c.in-Some.ensures.alias in
-    let origin_is : c.lent.result ≡ z.origin = c.lent.ensures.value ∙ c.origin-2.ensures.value ∙ ap (λ (y : ZoneContents). y.origin) c.look_up.ensures.took.zone in
+    let origin_is : c.origin-2.result.now ≡ z.origin = c.origin-2.ensures.value ∙ ap (λ (y : ZoneContents). y.origin) c.look_up.ensures.took.zone in
     let next = subst (λ o. NextIs set c.args.more c.args.sought.now o None) origin_is c.in_default-next_sought.ensures.next in
     record {
       seeks = λ before were. seeks-alias z c.args.qtype c.args.more before s _ _ _ _
@@ -140,7 +140,7 @@ returns g c =
     let here = found-at z s c.in-Records.node c.args.apex.now at_node c.in-Records.ensures.found c.requires.apex.node c.or_apex-node.ensures in
     let no_cut = c.in-Records.ensures.found.no_cut in
     let is = c.in-Some.ensures.alias in
-    let origin_is : c.lent.result ≡ z.origin = c.lent.ensures.value ∙ c.origin-2.ensures.value ∙ ap (λ (y : ZoneContents). y.origin) c.look_up.ensures.took.zone in
+    let origin_is : c.origin-2.result.now ≡ z.origin = c.origin-2.ensures.value ∙ ap (λ (y : ZoneContents). y.origin) c.look_up.ensures.took.zone in
     let next = subst (λ o. NextIs set c.args.more c.args.sought.now o (Some (m, c.in-Some-next_sought.depth))) origin_is c.in-Some-next_sought.ensures.next in
     let first = c.in-Records.ensures.took in
     record {

@@ -23,5 +23,5 @@ returns g c =
     let here = ap (λ (v : ZoneNode). v.name) c.requires.apex.node in
     let item = soa-item z c.requires.apex.exists.built set c.min-ttl.result (sym (c.in-Some.ensures.set ∙ ap (λ n. set_of (rrset z n type_soa)) here))
     (ap (λ n. records_at n set.ttl set) (sym here) ∙ c.in-Some.ensures.kept.records ∙ ap (λ n. rrset z n set.rtype) here ∙ ap (rrset z z.origin) c.in-Some.ensures.rtype) (c.min-ttl.ensures ∙ (λ j. min (c.ttl.ensures j) ((c.soa_minimum.ensures ∙ ap soa_minimum c.rdata.ensures.value) j))) in
-    Ends-denied _ _ _ _ _ _ (item ∙ ap (λ n. record { section = authority; records = records_at n c.min-ttl.result set } ∷ []) (sym (c.lent.ensures.value ∙ c.requires.origin)))
-    (no_targets_of_set authority c.lent.result c.min-ttl.result set (ap (λ t. t == type_ns || t == type_mx || t == type_srv) c.in-Some.ensures.rtype)) c.offer.ensures refl refl c.is_full-2.ensures
+    Ends-denied _ _ _ _ _ _ (item ∙ ap (λ n. record { section = authority; records = records_at n c.min-ttl.result set } ∷ []) (sym c.requires.origin))
+    (no_targets_of_set authority c.args.origin.now c.min-ttl.result set (ap (λ t. t == type_ns || t == type_mx || t == type_srv) c.in-Some.ensures.rtype)) c.offer.ensures refl refl c.is_full-2.ensures
