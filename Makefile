@@ -113,3 +113,4 @@ memory:
 bench:
 	tools/bench
 	tools/bench-checker
+	tools/shapes crates/zonecheck/out/zonecheck

@@ -1,7 +1,7 @@
 //! Addresses of the targets of a set (RFC 1034 4.3.2 step 6).
 ghost use Rattle.std.specs.Prelude.{◌≡◌, ℕ, ◌+◌, ◌*◌, ◌≤◌, ◌<◌, [], ◌∷◌, ◌++◌, length, take, get_or, map, true, false, not, IsTrue};
 ghost use Rattle.std.specs.List.{list_any, filter};
-ghost use Rattle.dns_spec.specs.Names.{same, at_or_below};
+ghost use Rattle.dns_spec.specs.Names.{same, at_or_below, folded};
 ghost use Rattle.dns_spec.specs.Data.{target};
 ghost use Rattle.dns_spec.specs.Answer.{item};
 ghost use Rattle.dns_spec.specs.Records.{rrset};
@@ -13,26 +13,26 @@ ghost use Rattle.dns_answer.specs.Targets.{addresses_of, side_items, side_nodes,
 
 use crate::draft::Draft;
 use crate::lookup::{Reached, or_apex, reach};
-use crate::names::depth_below;
-use dns_name::Name;
-use dns_rdata::{RType, Rdata, SetView};
+use crate::names::lent_depth_below;
+use dns_name::NameRef;
+use dns_rdata::{RType, SetView};
 use dns_wire::Section;
 use dns_zone::{Node, RecordSet, Steps};
 
 /// Which targets are meant: all, or those at or below a cut, or the others.
 #[derive(Clone, Copy)]
-pub(crate) enum Side<'c> {
+pub(crate) enum Side<'c, 'n> {
     /// All of them.
     All,
     /// Those at or below the cut, without whose addresses the asker gets no further.
-    Inside(&'c Name),
+    Inside(&'c NameRef<'n>),
     /// Those that are not.
-    Outside(&'c Name),
+    Outside(&'c NameRef<'n>),
 }
 
-impl Side<'_> {
+impl Side<'_, '_> {
     // Whether the target is meant.
-    fn takes(self, target: &Name) -> bool
+    fn takes(self, target: &NameRef<'_>) -> bool
         ensures { result ≡ side_takes self.entry target.now }
     {
         match self {
@@ -47,7 +47,7 @@ impl Side<'_> {
 /// target that stood before are not offered again.
 pub(crate) fn offer_addresses<'z, const N: usize, const SIZE: usize>(
     set: &RecordSet<'z>,
-    side: Side<'_>,
+    side: Side<'_, '_>,
     apex: &Node<'z>,
     steps: &mut Steps<'z>,
     draft: &mut Draft<N, SIZE>,
@@ -72,7 +72,7 @@ pub(crate) fn offer_addresses<'z, const N: usize, const SIZE: usize>(
 fn offer_target<'z, const N: usize, const SIZE: usize>(
     set: &RecordSet<'z>,
     i: usize,
-    side: Side<'_>,
+    side: Side<'_, '_>,
     apex: &Node<'z>,
     steps: &mut Steps<'z>,
     draft: &mut Draft<N, SIZE>,
@@ -91,13 +91,13 @@ fn offer_target<'z, const N: usize, const SIZE: usize>(
     ensures few { target_nodes steps.old.zone (side_takes side.entry)
         (target set.now.rtype (get_or set.now.rdata i [])) ≤ 127 }
 {
-    let Some(target) = Rdata::target(set.rtype(), set.rdata(i)) else {
+    let Some(target) = set.target(i) else {
         return;
     };
     if !side.takes(&target) {
         return;
     }
-    let Some(depth) = depth_below(&target, steps.origin()) else {
+    let Some(depth) = lent_depth_below(&target, &steps.origin().lent()) else {
         return;
     };
     if stood_before(set, i, &target) {
@@ -107,13 +107,13 @@ fn offer_target<'z, const N: usize, const SIZE: usize>(
 }
 
 // Whether one of the first records of a set has the same target.
-fn stood_before(set: &RecordSet<'_>, count: usize, target: &Name) -> bool
+fn stood_before(set: &RecordSet<'_>, count: usize, target: &NameRef<'_>) -> bool
     requires valid { HasValidData set.now }
     requires inside { count ≤ length set.now.rdata }
     ensures { result ≡ list_any (same target.now) (targets_of_first count set.now) }
 {
     'earlier: for i in 0..count {
-        if let Some(earlier) = Rdata::target(set.rtype(), set.rdata(i)) {
+        if let Some(earlier) = set.target(i) {
             if target.same(&earlier) {
                 return true;
             }
@@ -122,10 +122,10 @@ fn stood_before(set: &RecordSet<'_>, count: usize, target: &Name) -> bool
     false
 }
 
-// Offers the addresses of one name: its A set, then its AAAA set, below a cut too, never by a
-// wildcard.
+// Offers the addresses of one name, in lower case: its A set, then its AAAA set, below a cut too,
+// never by a wildcard.
 fn offer_address<'z, const N: usize, const SIZE: usize>(
-    target: &Name,
+    target: &NameRef<'_>,
     depth: usize,
     apex: &Node<'z>,
     steps: &mut Steps<'z>,
@@ -134,6 +134,7 @@ fn offer_address<'z, const N: usize, const SIZE: usize>(
     requires apex { IsApex steps.old.zone apex.now }
     requires below { IsTrue (at_or_below target.now steps.old.zone.origin) }
     requires depth { length target.now ≡ length steps.old.zone.origin + depth }
+    requires lower { folded target.now ≡ target.now }
     requires room { HasRoom steps.old (depth + 1) }
     ensures offers { Offers draft.old draft.new (addresses_of steps.old.zone target.now) }
     ensures took { Took steps.old steps.new depth 1 }
@@ -143,16 +144,15 @@ fn offer_address<'z, const N: usize, const SIZE: usize>(
         Reached::Name(node) => node,
     };
     let node = or_apex(&node, &*apex);
-    let owner = target.fold();
-    offer_type(node, RType::A, &owner, draft);
-    offer_type(node, RType::AAAA, &owner, draft);
+    offer_type(node, RType::A, target, draft);
+    offer_type(node, RType::AAAA, target, draft);
 }
 
 // Offers the set of a type at a node, if there is one.
 fn offer_type<const N: usize, const SIZE: usize>(
     node: &Node<'_>,
     rtype: RType,
-    owner: &Name,
+    owner: &NameRef<'_>,
     draft: &mut Draft<N, SIZE>,
 )
     requires owner { node.now.name ≡ owner.now }
@@ -160,6 +160,6 @@ fn offer_type<const N: usize, const SIZE: usize>(
         (item additional (rrset node.now.zone node.now.name rtype.0)) }
 {
     if let Some(set) = node.set(rtype) {
-        draft.offer(Section::Additional, owner, set.ttl(), &set);
+        draft.offer_at(Section::Additional, owner, set.ttl(), &set);
     }
 }

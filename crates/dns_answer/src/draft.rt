@@ -8,7 +8,7 @@ ghost use Rattle.dns_wire.specs.Draft.{IsDraft, item_of};
 ghost use Rattle.dns_wire.specs.QuickNumbers.{quick_number};
 ghost use Rattle.dns_answer.specs.DraftForm.{Offers};
 
-use dns_name::Name;
+use dns_name::{Name, NameRef};
 use dns_rdata::SetView;
 use dns_wire::{Head, Page, Question, QuickHash, Section};
 use std::marker::Model;
@@ -71,6 +71,19 @@ impl<const N: usize, const SIZE: usize> Draft<N, SIZE> {
 
     /// Offers a set: it is put where there is room for all of it and no set before it was left out.
     pub(crate) fn offer<S: SetView>(&mut self, section: Section, owner: &Name, ttl: u32, set: &S)
+        ensures { Offers self.old self.new (item_of section owner.now ttl (S.set set.now) ∷ []) }
+    {
+        self.offer_at(section, &owner.lent(), ttl, set);
+    }
+
+    /// The same at an owner that is lent.
+    pub(crate) fn offer_at<S: SetView>(
+        &mut self,
+        section: Section,
+        owner: &NameRef<'_>,
+        ttl: u32,
+        set: &S,
+    )
         ensures { Offers self.old self.new (item_of section owner.now ttl (S.set set.now) ∷ []) }
     {
         if self.is_full {

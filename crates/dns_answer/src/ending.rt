@@ -51,13 +51,14 @@ pub(crate) fn refer<'z, const N: usize, const SIZE: usize>(
 {
     let mut name = Name::from_octets(octets);
     name.fold_in_place();
+    let owner = name.lent();
     let Some(servers) = cut.set(RType::NS) else {
         unreachable!();
     };
-    draft.offer(Section::Authority, &name, servers.ttl(), &servers);
-    offer_addresses(&servers, Side::Inside(&name), apex, steps, draft);
+    draft.offer_at(Section::Authority, &owner, servers.ttl(), &servers);
+    offer_addresses(&servers, Side::Inside(&owner), apex, steps, draft);
     let is_truncated = draft.is_full();
-    offer_addresses(&servers, Side::Outside(&name), apex, steps, draft);
+    offer_addresses(&servers, Side::Outside(&owner), apex, steps, draft);
     Verdict {
         rcode: Rcode::NoError,
         is_referral: true,

@@ -24,7 +24,7 @@ use crate::source::read_text;
 use crate::state::{Reader, Records};
 use crate::words::{is_word, read_name};
 use dns_name::{Name, Tally};
-use dns_rdata::{RType, Rdata, Word};
+use dns_rdata::{DataRoom, RType, Rdata, Word};
 use std::alloc::Global;
 use std::io::Read;
 
@@ -124,13 +124,12 @@ fn add_last<G: Gathers>(entries: &Records<'_>, found: &mut G) -> Result<(), Read
 }
 
 impl Reader {
-    pub(crate) fn new(alloc: Global, origin: &Name) -> Reader
+    pub(crate) fn new(origin: &Name) -> Reader
         ensures known { Knows origin.now [] result }
         ensures line { result.line ≡ 1 }
         ensures none { result.count ≡ 0 }
     {
         Reader {
-            alloc,
             origin: origin.copied(),
             default_ttl: None,
             stated_ttl: None,
@@ -147,6 +146,7 @@ impl Reader {
         text: &'a [u8],
         goes_on: bool,
         words: &mut Vec<Word<'a>>,
+        room: &mut DataRoom,
     ) -> Result<(bool, &'a [u8]), ReadCode>
         requires some { text.now ≢ [] }
         requires fits { self.old.line + length text.now ≤ 16777217 }
@@ -169,13 +169,18 @@ impl Reader {
         words.clear();
         let end = read_entry(text, words)?;
         check_end(&end, goes_on)?;
-        let taken = self.take_words(begins_blank(text), words.as_slice())?;
+        let taken = self.take_words(begins_blank(text), words.as_slice(), room)?;
         self.line += end.lines;
         Ok((taken, end.rest))
     }
 
     // Takes what the words of an entry say.
-    fn take_words(&mut self, is_blank_led: bool, words: &[Word<'_>]) -> Result<bool, ReadCode>
+    fn take_words(
+        &mut self,
+        is_blank_led: bool,
+        words: &[Word<'_>],
+        room: &mut DataRoom,
+    ) -> Result<bool, ReadCode>
         ensures ok { IfOk result (λ taken. (o : DomainName) (earlier : List Entry) (e : Entry)
             → Knows o earlier self.old → kind_of e ≡ kind_by_words is_blank_led words.now
             → EntryTaken o earlier e (handed taken self.new.last) self.old self.new) }
@@ -192,14 +197,14 @@ impl Reader {
             return Ok(false);
         };
         if is_blank_led {
-            self.take_unowned(words)?;
+            self.take_unowned(words, room)?;
             return Ok(true);
         }
         if is_directive(first) {
             self.take_directive(first.raw, others)?;
             return Ok(false);
         }
-        self.take_owned(first, others)?;
+        self.take_owned(first, others, room)?;
         Ok(true)
     }
 
@@ -266,7 +271,12 @@ impl Reader {
     }
 
     // Takes a record that states its owner: that word, and the words after it.
-    fn take_owned(&mut self, owner: &Word<'_>, words: &[Word<'_>]) -> Result<(), ReadCode>
+    fn take_owned(
+        &mut self,
+        owner: &Word<'_>,
+        words: &[Word<'_>],
+        room: &mut DataRoom,
+    ) -> Result<(), ReadCode>
         ensures ok { OnOk result ((o : DomainName) (earlier : List Entry) (e : Entry)
             → Knows o earlier self.old → kind_of e ≡ owned owner.now words.now
             → EntryTaken o earlier e (handed true self.new.last) self.old self.new) }
@@ -283,11 +293,11 @@ impl Reader {
             return Err(ReadCode::BadOwner);
         };
         owner.fold_in_place();
-        self.take_record(owner, words)
+        self.take_record(owner, words, room)
     }
 
     // Takes a record whose owner is that of the record before.
-    fn take_unowned(&mut self, words: &[Word<'_>]) -> Result<(), ReadCode>
+    fn take_unowned(&mut self, words: &[Word<'_>], room: &mut DataRoom) -> Result<(), ReadCode>
         ensures ok { OnOk result ((o : DomainName) (earlier : List Entry) (e : Entry)
             → Knows o earlier self.old → kind_of e ≡ unowned words.now
             → EntryTaken o earlier e (handed true self.new.last) self.old self.new) }
@@ -304,11 +314,16 @@ impl Reader {
             return Err(ReadCode::NoOwner);
         };
         let owner = last.owner.copied();
-        self.take_record(owner, words)
+        self.take_record(owner, words, room)
     }
 
     // Takes the record of an owner and of the words after it.
-    fn take_record(&mut self, owner: Name, words: &[Word<'_>]) -> Result<(), ReadCode>
+    fn take_record(
+        &mut self,
+        owner: Name,
+        words: &[Word<'_>],
+        room: &mut DataRoom,
+    ) -> Result<(), ReadCode>
         requires { folded owner ≡ owner }
         ensures ok { OnOk result ((o : DomainName) (earlier : List Entry)
             → Knows o earlier self.old → RecordTaken o earlier owner
@@ -324,15 +339,22 @@ impl Reader {
         ensures source { IfErr result (λ code. code ≢ ReadCode.SourceFailed) }
     {
         let fields = Fields::of(words);
-        let record = self.read_record(owner, &fields)?;
+        let record = self.read_record(owner, &fields, room)?;
         self.stated_ttl = last_stated(fields.ttl.is_some(), record.ttl, self.stated_ttl);
-        self.last = Some(record);
+        if let Some(before) = self.last.replace(record) {
+            room.take_back(before.rdata);
+        }
         self.count += 1;
         Ok(())
     }
 
     // The record of an owner and of the fields after it.
-    fn read_record(&self, owner: Name, fields: &Fields<'_, '_>) -> Result<Record, ReadCode>
+    fn read_record(
+        &self,
+        owner: Name,
+        fields: &Fields<'_, '_>,
+        room: &mut DataRoom,
+    ) -> Result<Record, ReadCode>
         requires { folded owner ≡ owner }
         ensures ok { IfOk result (λ r. (o : DomainName) (earlier : List Entry)
             → Knows o earlier self.now → RecordGives o earlier no_owner
@@ -358,7 +380,7 @@ impl Reader {
         let Some(ttl) = self.ttl_in_force(stated) else {
             return Err(ReadCode::NoTtl);
         };
-        let rdata = self.read_data(rtype, words)?;
+        let rdata = self.read_data(rtype, words, room)?;
         if self.count >= MOST_RECORDS {
             return Err(ReadCode::TooManyRecords);
         }
@@ -377,7 +399,12 @@ impl Reader {
         stated.or(self.default_ttl.or(self.stated_ttl))
     }
 
-    fn read_data(&self, rtype: RType, words: &[Word<'_>]) -> Result<Rdata, ReadCode>
+    fn read_data(
+        &self,
+        rtype: RType,
+        words: &[Word<'_>],
+        room: &mut DataRoom,
+    ) -> Result<Rdata, ReadCode>
         ensures valid { IfOk result (λ d. Valid rtype.0 d) }
         ensures lowered { IfOk result (λ d. lower_case rtype.0 d ≡ d) }
         ensures ok { IfOk result (λ d. Says rtype.0 words.now self.now.origin d) }
@@ -385,7 +412,7 @@ impl Reader {
             → (code ≡ ReadCode.BadData) × Nothing (Says rtype.0 words.now self.now.origin)) }
         ensures source { IfErr result (λ code. code ≢ ReadCode.SourceFailed) }
     {
-        Ok(Rdata::read_words(self.alloc, rtype, words, &self.origin)?)
+        Ok(Rdata::read_words_in(room, rtype, words, &self.origin)?)
     }
 }
 

@@ -5,13 +5,11 @@ ghost use Rattle.dns_spec.specs.Meaning.{most_records};
 
 use crate::record::Record;
 use dns_name::Name;
-use dns_rdata::Word;
-use std::alloc::Global;
+use dns_rdata::{DataRoom, Word};
 
 /// What the entries so far give to those after them.
 #[derive(Drop)]
 pub(crate) struct Reader {
-    pub(crate) alloc: Global,
     /// The origin in force.
     pub(crate) origin: Name,
     /// The TTL of the last `$TTL`.
@@ -35,6 +33,7 @@ pub(crate) struct Reader {
 pub struct Records<'a> {
     pub(crate) reader: Reader,
     pub(crate) words: Vec<Word<'a>>,
+    pub(crate) room: DataRoom,
     pub(crate) rest: &'a [u8],
     pub(crate) goes_on: bool,
     ghost fits: { reader.line + length rest.now ≤ 16777217 },

@@ -10,6 +10,7 @@ use crate::record::Record;
 use crate::source::MOST_OCTETS;
 use crate::state::{Reader, Records};
 use dns_name::Name;
+use dns_rdata::DataRoom;
 use std::alloc::Global;
 
 impl<'a> Records<'a> {
@@ -22,8 +23,9 @@ impl<'a> Records<'a> {
         let goes_on = text.len() > MOST_OCTETS;
         let (rest, _) = text.split_at(MOST_OCTETS.min(text.len()));
         Records {
-            reader: Reader::new(alloc, origin),
+            reader: Reader::new(origin),
             words: Vec::new(alloc),
+            room: DataRoom::new(alloc),
             rest,
             goes_on,
         }
@@ -84,7 +86,7 @@ impl<'a> Records<'a> {
         let line = self.reader.line;
         match self
             .reader
-            .take_entry(self.rest, self.goes_on, &mut self.words)
+            .take_entry(self.rest, self.goes_on, &mut self.words, &mut self.room)
         {
             Ok((taken, rest)) => {
                 self.rest = rest;

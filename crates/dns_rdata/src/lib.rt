@@ -24,6 +24,7 @@ pub use fault::RdataFault;
 pub use number::read_number;
 pub use parts::{Part, Parts, first_part};
 pub use rdata::Rdata;
+pub use read::DataRoom;
 pub use rtype::RType;
 pub use set::SetView;
 pub use table::{Fixed, NumberSize, Piece, pieces_of_type};

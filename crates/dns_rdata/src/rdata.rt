@@ -80,6 +80,11 @@ impl Rdata {
         }
     }
 
+    /// Its octets, in the memory that they have.
+    pub(crate) fn into_octets(self) -> Vec<u8> {
+        self.octets
+    }
+
     /// The octets, at most 65,535, without a length before them.
     pub fn octets(&self) -> &[u8]
         ensures value { result.now ≡ self.now }

@@ -1,5 +1,5 @@
 //! Data from the words of a zone file (RFC 1035 5.1, RFC 3597 5).
-ghost use Rattle.std.specs.Prelude.{◌≡◌, ◌≢◌, ◌≤◌, length, IfOk, IfErr};
+ghost use Rattle.std.specs.Prelude.{◌≡◌, ◌≢◌, ◌≤◌, [], length, IfOk, IfErr, OnOk};
 ghost use Rattle.dns_spec.specs.Names.{Octets};
 ghost use Rattle.dns_spec.specs.Data.{Valid};
 ghost use Rattle.dns_spec.specs.DataText.{Says, SaysAsSpelled};
@@ -7,11 +7,48 @@ ghost use Rattle.dns_spec.specs.DataText.{Says, SaysAsSpelled};
 use crate::fault::RdataFault;
 use crate::rdata::{MAX_OCTETS, Rdata};
 use crate::rtype::RType;
-use crate::typed::typed_octets;
-use crate::unknown::{is_unknown_mark, unknown_octets};
+use crate::typed::{USUAL_OCTETS, WordForm, put_typed};
+use crate::unknown::{is_unknown_mark, put_unknown};
 use crate::word::Word;
 use dns_name::Name;
-use std::alloc::Global;
+use std::alloc::{AllocError, Global};
+use std::mem::replace;
+
+/// Room in which the data of one record after another is read: memory that it asked for is kept.
+#[derive(Drop)]
+pub struct DataRoom {
+    alloc: Global,
+    forms: Vec<WordForm>,
+    octets: Vec<u8>,
+}
+
+impl DataRoom {
+    /// Room without memory.
+    pub fn new(alloc: Global) -> DataRoom {
+        DataRoom {
+            alloc,
+            forms: Vec::new(alloc),
+            octets: Vec::new(alloc),
+        }
+    }
+
+    /// Takes back the memory of data that is no longer wanted.
+    pub fn take_back(&mut self, data: Rdata) {
+        self.octets = data.into_octets();
+    }
+
+    // Memory for the octets of data, without any, with room for those that most data has.
+    fn cleared(&mut self) -> Result<Vec<u8>, AllocError>
+        ensures { IfOk result (λ octets. octets.items ≡ []) }
+    {
+        let mut octets = replace(&mut self.octets, Vec::new(self.alloc));
+        octets.clear();
+        if octets.capacity() < USUAL_OCTETS {
+            return Vec::with_capacity(self.alloc, USUAL_OCTETS);
+        }
+        Ok(octets)
+    }
+}
 
 impl Rdata {
     /// The data that words say, relative to the origin, with its names in lower case.
@@ -36,7 +73,26 @@ impl Rdata {
         ensures fault { IfErr result (λ fault. fault ≢ RdataFault.NoMemory → (d : Octets)
             → Says rtype.0 words.now origin.now d → ⊥) }
     {
-        let octets = spelled_octets(alloc, rtype, words, origin)?;
+        Rdata::read_words_in(&mut DataRoom::new(alloc), rtype, words, origin)
+    }
+
+    /// The data that words say, read in room that is lent: all of what `read_words` says. Its
+    /// memory is that of the room, which `take_back` gives back.
+    pub fn read_words_in(
+        room: &mut DataRoom,
+        rtype: RType,
+        words: &[Word<'_>],
+        origin: &Name,
+    ) -> Result<Rdata, RdataFault>
+        ensures valid { IfOk result (λ d. Valid rtype.0 d) }
+        ensures ok { IfOk result (λ d. Says rtype.0 words.now origin.now d) }
+        ensures only { IfOk result
+            (λ d. (e : Octets) → Says rtype.0 words.now origin.now e → e ≡ d) }
+        ensures fault { IfErr result (λ fault. fault ≢ RdataFault.NoMemory → (d : Octets)
+            → Says rtype.0 words.now origin.now d → ⊥) }
+    {
+        let mut octets = room.cleared()?;
+        spell_octets(rtype, words, origin, &mut room.forms, &mut octets)?;
         if octets.len() > MAX_OCTETS {
             return Err(RdataFault::BadString);
         }
@@ -44,23 +100,25 @@ impl Rdata {
     }
 }
 
-// The octets that words spell, names in the case that they have.
-fn spelled_octets(
-    alloc: Global,
+// Puts the octets that words spell, names in the case that they have, where none are yet.
+fn spell_octets(
     rtype: RType,
     words: &[Word<'_>],
     origin: &Name,
-) -> Result<Vec<u8>, RdataFault>
-    ensures ok { IfOk result (λ octets. SaysAsSpelled rtype.0 origin.now words.now octets.items) }
-    ensures only { IfOk result
-        (λ octets. (d : Octets) → SaysAsSpelled rtype.0 origin.now words.now d → d ≡ octets.items) }
+    forms: &mut Vec<WordForm>,
+    octets: &mut Vec<u8>,
+) -> Result<(), RdataFault>
+    requires { octets.old.items ≡ [] }
+    ensures ok { OnOk result (SaysAsSpelled rtype.0 origin.now words.now octets.new.items) }
+    ensures only { OnOk result
+        ((d : Octets) → SaysAsSpelled rtype.0 origin.now words.now d → d ≡ octets.new.items) }
     ensures fault { IfErr result (λ fault. fault ≢ RdataFault.NoMemory → (d : Octets)
         → SaysAsSpelled rtype.0 origin.now words.now d → length d ≤ 65535 → ⊥) }
 {
     if let Some((first, others)) = words.split_first() {
         if is_unknown_mark(first) {
-            return unknown_octets(alloc, others);
+            return put_unknown(others, octets);
         }
     }
-    typed_octets(alloc, rtype, words, origin)
+    put_typed(rtype, words, origin, forms, octets)
 }

@@ -1,5 +1,5 @@
 //! Data in the form of its type: a word for each number, address, name and string (RFC 1035 5.1).
-ghost use Rattle.std.specs.Prelude.{◌≡◌, ◌≢◌, ◌++◌, length, map, replicate, OnOk, IfOk, IfErr};
+ghost use Rattle.std.specs.Prelude.{◌≡◌, ◌≢◌, ◌++◌, [], length, map, replicate, OnOk, IfOk, IfErr};
 ghost use Rattle.std.specs.List.{flat_map};
 ghost use Rattle.dns_spec.specs.Names.{Octets};
 ghost use Rattle.dns_spec.specs.DataText.{SaysNumber, SaysName, SaysString, SaysForm, SaysWord, SaysForms, SaysTyped, forms_in};
@@ -16,11 +16,11 @@ use crate::string::read_string;
 use crate::table::{Fixed, NumberSize, Piece, row_of_type};
 use crate::word::Word;
 use dns_name::Name;
-use std::alloc::{AllocError, Global};
+use std::alloc::AllocError;
 
-// Most data has no more octets, so that its memory never grows. An allocator hands out little less
-// for fewer.
-const USUAL_OCTETS: usize = 24;
+/// Most data has no more octets, so that its memory never grows. An allocator hands out little less
+/// for fewer.
+pub(crate) const USUAL_OCTETS: usize = 24;
 
 /// What a word of a record's data is.
 #[derive(Clone, Copy, Debug)]
@@ -32,42 +32,42 @@ pub(crate) enum WordForm {
     String,
 }
 
-/// The octets that words say in the form of the type.
+/// Puts the octets that words say in the form of the type, where none are yet. `forms` is room.
 ///
 /// `BadHex` where the type has no such form, `WordCount` where it has another number of words; else
 /// the fault of the first word from the left that is none of its form.
-pub(crate) fn typed_octets(
-    alloc: Global,
+pub(crate) fn put_typed(
     rtype: RType,
     words: &[Word<'_>],
     origin: &Name,
-) -> Result<Vec<u8>, RdataFault>
-    ensures ok { IfOk result (λ octets. SaysTyped rtype.0 origin.now words.now octets.items) }
-    ensures only { IfOk result (λ octets. (d : Octets) → SaysTyped rtype.0 origin.now words.now d
-        → d ≡ octets.items) }
+    forms: &mut Vec<WordForm>,
+    octets: &mut Vec<u8>,
+) -> Result<(), RdataFault>
+    requires { octets.old.items ≡ [] }
+    ensures ok { OnOk result (SaysTyped rtype.0 origin.now words.now octets.new.items) }
+    ensures only { OnOk result ((d : Octets) → SaysTyped rtype.0 origin.now words.now d
+        → d ≡ octets.new.items) }
     ensures fault { IfErr result (λ fault. fault ≢ RdataFault.NoMemory → (d : Octets)
         → SaysTyped rtype.0 origin.now words.now d → ⊥) }
 {
     let row = row_of_type(rtype).ok_or(RdataFault::BadHex)?;
-    let forms = forms_of(alloc, row.pieces, words.len())?;
+    put_forms(row.pieces, words.len(), forms)?;
     if forms.len() != words.len() {
         return Err(RdataFault::WordCount);
     }
-    let mut octets = Vec::with_capacity(alloc, USUAL_OCTETS)?;
-    append_words(forms.as_slice(), words, origin, &mut octets)?;
-    Ok(octets)
+    append_words(forms.as_slice(), words, origin, octets)
 }
 
-// The forms of so many words for these pieces.
-fn forms_of(alloc: Global, pieces: &[Piece], count: usize) -> Result<Vec<WordForm>, AllocError>
-    ensures { IfOk result (λ forms. map form_of forms.items ≡ flat_map (forms_in count)
+// Makes the forms those of so many words for these pieces.
+fn put_forms(pieces: &[Piece], count: usize, forms: &mut Vec<WordForm>) -> Result<(), AllocError>
+    ensures { OnOk result (map form_of forms.new.items ≡ flat_map (forms_in count)
         (pieces_in pieces.now)) }
 {
-    let mut forms = Vec::new(alloc);
+    forms.clear();
     'pieces: for piece in pieces {
-        push_forms(&mut forms, *piece, count)?;
+        push_forms(forms, *piece, count)?;
     }
-    Ok(forms)
+    Ok(())
 }
 
 // RFC 1035 3.3.14: strings, which stand alone, take all words, and one at least.

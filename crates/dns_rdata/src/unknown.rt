@@ -1,5 +1,5 @@
 //! Data in the form that serves any type: its length and its octets in hex digits (RFC 3597 5).
-ghost use Rattle.std.specs.Prelude.{◌≡◌, ◌≢◌, ◌≤◌, ◌↔◌, ℕ, length, not, decimal, Some, IfOk, IfErr, IsTrue};
+ghost use Rattle.std.specs.Prelude.{◌≡◌, ◌≢◌, ◌≤◌, ◌↔◌, ℕ, [], length, not, decimal, Some, OnOk, IfOk, IfErr, IsTrue};
 ghost use Rattle.dns_spec.specs.Names.{Octets};
 ghost use Rattle.dns_spec.specs.DataText.{SaysUnknown, is_unknown_mark};
 ghost use Rattle.dns_rdata.specs.UnknownForm.{AppendsWord, SaysHexWord};
@@ -8,7 +8,6 @@ use crate::fault::RdataFault;
 use crate::hex::append_hex;
 use crate::number::read_number;
 use crate::word::Word;
-use std::alloc::Global;
 
 // Data has at most 65,535 octets (RFC 1035 3.2.1).
 const MOST_OCTETS: u32 = 65_535;
@@ -20,13 +19,15 @@ pub(crate) fn is_unknown_mark(word: &Word<'_>) -> bool
     !word.quoted && word.raw == b"\\#".as_slice()
 }
 
-/// The octets that the words after `\#` say: their number, and then words of whole octets.
+/// Puts the octets that the words after `\#` say, where none are yet: their number, and then words
+/// of whole octets.
 ///
 /// The error is `NoMemory` only where no memory was found, and else `BadHex`.
-pub(crate) fn unknown_octets(alloc: Global, words: &[Word<'_>]) -> Result<Vec<u8>, RdataFault>
-    ensures ok { IfOk result (λ octets. SaysUnknown words.now octets.items) }
-    ensures only { IfOk result (λ octets. (d : Octets) → SaysUnknown words.now d
-        → d ≡ octets.items) }
+pub(crate) fn put_unknown(words: &[Word<'_>], octets: &mut Vec<u8>) -> Result<(), RdataFault>
+    requires { octets.old.items ≡ [] }
+    ensures ok { OnOk result (SaysUnknown words.now octets.new.items) }
+    ensures only { OnOk result ((d : Octets) → SaysUnknown words.now d
+        → d ≡ octets.new.items) }
     ensures fault { IfErr result (λ fault. fault ≢ RdataFault.NoMemory → (d : Octets)
         → SaysUnknown words.now d → length d ≤ 65535 → ⊥) }
     ensures kind { IfErr result (λ fault. fault ≢ RdataFault.NoMemory → fault ≡ RdataFault.BadHex) }
@@ -35,9 +36,8 @@ pub(crate) fn unknown_octets(alloc: Global, words: &[Word<'_>]) -> Result<Vec<u8
         return Err(RdataFault::BadHex);
     };
     let count = octet_count(first).ok_or(RdataFault::BadHex)?;
-    let mut octets = Vec::new(alloc);
     'words: for word in others {
-        append_word(word, &mut octets)?;
+        append_word(word, octets)?;
         if octets.len() > count as usize {
             return Err(RdataFault::BadHex);
         }
@@ -45,7 +45,7 @@ pub(crate) fn unknown_octets(alloc: Global, words: &[Word<'_>]) -> Result<Vec<u8
     if octets.len() != count as usize {
         return Err(RdataFault::BadHex);
     }
-    Ok(octets)
+    Ok(())
 }
 
 // The number of octets that an unquoted word says.

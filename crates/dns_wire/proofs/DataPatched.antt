@@ -9,7 +9,7 @@ use Rattle.std.proofs.lemmas.List.Elements.{All-head, All-tail}
 use Rattle.std.specs.Bool.{OnTrue}
 use Rattle.dns_spec.specs.Names.{Octets}
 use Rattle.dns_spec.specs.Data.{class_in, Part, octets, name, laid_parts}
-use Rattle.dns_spec.specs.Layout.{Placed, Laid, laid_front, octets16, octets32, shared_octets, data_laid}
+use Rattle.dns_spec.specs.Layout.{Placed, octets16, octets32, shared_octets, data_laid}
 use Rattle.dns_rdata.specs.Parts.{HasName}
 use Rattle.dns_wire.specs.Kept.{Kept}
 use Rattle.dns_wire.specs.Writing.{Extends, Holds, IsWritten, StandsIn, new_places, tail_laid}

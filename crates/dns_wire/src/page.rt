@@ -14,7 +14,7 @@ use crate::message::{HEADER_OCTETS, Head, Question};
 use crate::places::SuffixHash;
 use crate::room::Room;
 use byteorder::{BigEndian, ByteOrder};
-use dns_name::Name;
+use dns_name::NameRef;
 use dns_rdata::SetView;
 use std::marker::Model;
 
@@ -147,13 +147,13 @@ impl<const N: usize, const SIZE: usize> Page<N, SIZE> {
         }
     }
 
-    /// Writes the records of a set at an owner, with a TTL in seconds, into a section: all of them,
-    /// or none where with them the message is past its limit.
+    /// Writes the records of a set at an owner that is lent, with a TTL in seconds, into a section:
+    /// all of them, or none where with them the message is past its limit.
     pub fn put_set<H: SuffixHash, S: SetView>(
         &mut self,
         hash: &mut H,
         section: Section,
-        owner: &Name,
+        owner: &NameRef<'_>,
         ttl: u32,
         set: &S,
     ) -> bool

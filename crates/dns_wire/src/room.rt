@@ -16,7 +16,7 @@ use crate::message::{CLASS_IN, Question};
 use crate::places::{Places, SuffixHash};
 use arrayvec::ArrayVec;
 use byteorder::{BigEndian, ByteOrder};
-use dns_name::Name;
+use dns_name::NameRef;
 use dns_rdata::{Part, Parts, RType, Rdata, SetView};
 
 // The last place that the 14 bits of a pointer reach.
@@ -217,7 +217,7 @@ impl<const N: usize, const SIZE: usize> Room<N, SIZE> {
     pub(crate) fn put_set<H: SuffixHash, S: SetView>(
         &mut self,
         hash: &mut H,
-        owner: &Name,
+        owner: &NameRef<'_>,
         ttl: u32,
         set: &S,
     ) -> bool
@@ -253,7 +253,7 @@ impl<const N: usize, const SIZE: usize> Room<N, SIZE> {
     fn put_records<H: SuffixHash, S: SetView>(
         &mut self,
         hash: &mut H,
-        owner: &Name,
+        owner: &NameRef<'_>,
         ttl: u32,
         set: &S,
     ) -> bool
@@ -285,7 +285,7 @@ impl<const N: usize, const SIZE: usize> Room<N, SIZE> {
     pub(crate) fn put_record<H: SuffixHash>(
         &mut self,
         hash: &mut H,
-        owner: &Name,
+        owner: &NameRef<'_>,
         rtype: RType,
         ttl: u32,
         rdata: &[u8],

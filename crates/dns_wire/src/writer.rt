@@ -60,7 +60,8 @@ impl<'h, H: SuffixHash> Writer<'h, H> {
         ensures limit { self.new.page.limit ≡ self.old.page.limit }
         ensures same { H.numbers self.new.hash.now ≡ H.numbers self.old.hash.now }
     {
-        self.page.put_set(self.hash, section, owner, ttl, set)
+        self.page
+            .put_set(self.hash, section, &owner.lent(), ttl, set)
     }
 
     /// Puts the message at the front of `out`, with its header and counts, and answers its length

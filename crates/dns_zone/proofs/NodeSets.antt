@@ -44,12 +44,20 @@ datas : (t : ℕ) (rs : List ResourceRecord)
 datas t [] e = tt
 datas t (r ∷ rs) e = (subst (λ u. Valid u r.rdata) e.0.1 e.0.0.rdata, datas t rs e.1)
 
+types : (t : ℕ) (rs : List ResourceRecord)
+    → Each (λ (r : ResourceRecord). IsReadRecord r × (r.rtype ≡ t)) rs
+    → Each (λ (r : ResourceRecord). r.rtype ≡ t) rs
+types t [] e = tt
+types t (r ∷ rs) e = (e.0.1, types t rs e.1)
+
 of_one_type : (t : ℕ) (rs : List ResourceRecord)
     → Each (λ (r : ResourceRecord). IsReadRecord r × (r.rtype ≡ t)) rs → AreOfType rs
 of_one_type t [] e = tt
 of_one_type t (r ∷ rs) e =
-    subst (λ u. IsLent u (r ∷ rs)) (sym e.0.1)
-    (all_each (Valid t) (data_of (r ∷ rs)) (datas t (r ∷ rs) e))
+    subst (λ u. IsLent u (r ∷ rs)) (sym e.0.1) (record {
+      valid = all_each (Valid t) (data_of (r ∷ rs)) (datas t (r ∷ rs) e);
+      typed = all_each (λ (q : ResourceRecord). q.rtype ≡ t) (r ∷ rs) (types t (r ∷ rs) e);
+    })
 
 -- the lowest type is that of the first record
 rising_first : (t : ℕ) (ts : List ℕ) → Each (λ u. t ≤ u) ts
@@ -152,6 +160,7 @@ module _ (z : ZoneContents) (kept : IsBuilt z) (n : DomainName) where
             let own = subst (Each (IsOf (folded n) k t)) p (own_records z kept.low lows kept.passes n t) in
             let read = subst (Each (λ (q : ResourceRecord). IsReadRecord q × (q.rtype ≡ t))) p read_set in
             let bound = few in
+            let lent_is : IsLent r.rtype (r ∷ rs) = subst AreOfType p are_of_type in
             let set : RecordSet = lent r.rtype r.ttl (r ∷ rs) in
             subst (λ (y : RecordSet). (y.rtype ≡ t) × IsSetOf (record { zone = z; name = n }) y)
             (same_Some set s e) (
@@ -165,7 +174,7 @@ module _ (z : ZoneContents) (kept : IsBuilt z) (n : DomainName) where
                       ap length p,
                     );
                 ttl = read.0.0.ttl;
-                valid = subst AreOfType p are_of_type;
+                valid = lent_is.valid;
               },
             )
 

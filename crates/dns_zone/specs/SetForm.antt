@@ -1,5 +1,5 @@
 -- What a reader learns here: how records of one type are lent as a set.
-use Rattle.std.specs.Prelude.{ℕ, List, [], ◌∷◌, map, All}
+use Rattle.std.specs.Prelude.{◌≡◌, ℕ, List, [], ◌∷◌, map, All}
 use Rattle.dns_spec.specs.Names.{Octets}
 use Rattle.dns_spec.specs.Data.{Valid}
 use Rattle.dns_spec.specs.Records.{ResourceRecord}
@@ -12,9 +12,10 @@ data_of = map (λ (r : ResourceRecord). r.rdata)
 abbrev pub lent : ℕ → ℕ → List ResourceRecord → RecordSet
 lent t k rs = record { rtype = t; ttl = k; rdata = data_of rs }
 
--- what such a set keeps: all data is of its type
-abbrev pub IsLent : ℕ → List ResourceRecord → Type 0
-IsLent t rs = All (Valid t) (data_of rs)
+-- what such a set keeps: all of its records, and all data, are of its type
+pub record IsLent (t : ℕ) (rs : List ResourceRecord) : Type 0 where
+  pub valid : All (Valid t) (data_of rs)
+  pub typed : All (λ (r : ResourceRecord). r.rtype ≡ t) rs
 
 -- all of the records have data of the type of the first
 abbrev pub AreOfType : List ResourceRecord → Type 0

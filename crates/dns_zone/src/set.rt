@@ -1,9 +1,13 @@
 //! The record sets of a node, lent out of the zone.
-ghost use Rattle.std.specs.Prelude.{◌≡◌, ◌<◌, [], length, get_or};
+ghost use Rattle.std.specs.Prelude.{◌≡◌, ◌<◌, [], length, get_or, IfSome};
+ghost use Rattle.dns_spec.specs.Names.{folded};
+ghost use Rattle.dns_spec.specs.Data.{target};
 ghost use Rattle.dns_spec.specs.Sets.{set_of};
 ghost use Rattle.dns_zone.specs.SetForm.{AreOfType, data_of};
 
 use crate::entry::Entry;
+use crate::target::target;
+use dns_name::NameRef;
 use dns_rdata::{RType, SetView};
 use std::marker::Model;
 
@@ -25,6 +29,20 @@ impl<'z> Model for RecordSet<'z> {
     ghost view = { λ s. lent s.rtype.0 s.ttl s.records.now };
 
     ghost invariant = { λ s. IsLent s.rtype.0 s.records.now };
+}
+
+impl<'z> RecordSet<'z> {
+    /// The first name in the data of the record at `i`, the first at 0, lent out of the zone: of NS
+    /// the server, of CNAME the alias's own name, of MX the exchange (RFC 1035 3.3.1, 3.3.9,
+    /// 3.3.11). It is in lower case. Condition: `i` is below `len`.
+    pub fn target(&self, i: usize) -> Option<NameRef<'z>>
+        requires { i < length self.now.rdata }
+        ensures value { result ≡ target self.now.rtype (get_or self.now.rdata i []) }
+        ensures lower { IfSome result (λ m. folded m ≡ m) }
+    {
+        let records = self.records;
+        target(&records[i])
+    }
 }
 
 // The set that records of one type and one TTL make; no records make none.

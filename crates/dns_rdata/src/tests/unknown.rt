@@ -1,5 +1,5 @@
-use crate::Word;
-use crate::unknown::{is_unknown_mark, unknown_octets};
+use crate::unknown::{is_unknown_mark, put_unknown};
+use crate::{RdataFault, Word};
 use std::alloc::{AllocError, Global};
 use std::test::Fail;
 
@@ -10,6 +10,12 @@ fn words<'a>(alloc: Global, raws: &[&'a [u8]], quoted: bool) -> Result<Vec<Word<
         words.push(Word { raw: *raw, quoted })?;
     }
     Ok(words)
+}
+
+fn octets_of(alloc: Global, words: &[Word<'_>]) -> Result<Vec<u8>, RdataFault> {
+    let mut octets = Vec::new(alloc);
+    put_unknown(words, &mut octets)?;
+    Ok(octets)
 }
 
 #[test]
@@ -44,7 +50,7 @@ fn octets_said(rt: HostRuntime) -> Result<(), Fail> {
     ];
     for (raws, wanted) in rows {
         let words = words(rt.alloc(), raws, false)?;
-        match unknown_octets(rt.alloc(), &words) {
+        match octets_of(rt.alloc(), &words) {
             Ok(octets) => assert_eq!(rt; octets.as_slice(), wanted, "at {raws:?}"),
             Err(_) => return Err("words that say octets".into()),
         }
@@ -73,7 +79,7 @@ fn words_refused(rt: HostRuntime) -> Result<(), Fail> {
     ];
     for (raws, quoted) in rows {
         let words = words(rt.alloc(), raws, quoted)?;
-        match unknown_octets(rt.alloc(), &words) {
+        match octets_of(rt.alloc(), &words) {
             Ok(_) => return Err("words that say no octets".into()),
             Err(fault) => assert_eq!(rt; fault.code(), 6, "at {raws:?}"),
         }
@@ -88,7 +94,7 @@ fn words_refused(rt: HostRuntime) -> Result<(), Fail> {
             quoted: true,
         },
     ];
-    assert!(rt; unknown_octets(rt.alloc(), &words).is_err());
+    assert!(rt; octets_of(rt.alloc(), &words).is_err());
     Ok(())
 }
 
@@ -98,11 +104,11 @@ fn longest_octets(rt: HostRuntime) -> Result<(), Fail> {
     let mut digits = Vec::new(rt.alloc());
     digits.resize(131_070, b'a')?;
     let said = words(rt.alloc(), &[b"65535", &digits], false)?;
-    match unknown_octets(rt.alloc(), &said) {
+    match octets_of(rt.alloc(), &said) {
         Ok(octets) => assert_eq!(rt; octets.len(), 65_535),
         Err(_) => return Err("words that say octets".into()),
     }
     let longer = words(rt.alloc(), &[b"65536", &digits, b"aa"], false)?;
-    assert!(rt; unknown_octets(rt.alloc(), &longer).is_err());
+    assert!(rt; octets_of(rt.alloc(), &longer).is_err());
     Ok(())
 }

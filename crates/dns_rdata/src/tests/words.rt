@@ -1,4 +1,4 @@
-use crate::{RType, Rdata, RdataFault, Word};
+use crate::{DataRoom, RType, Rdata, RdataFault, Word};
 use dns_name::Name;
 use std::alloc::Global;
 use std::test::Fail;
@@ -23,10 +23,15 @@ fn words<'a>(alloc: Global, text: &'a [u8]) -> Result<Vec<Word<'a>>, Fail> {
     Ok(words)
 }
 
+// The data is read twice in one room: nothing is left of what was read before.
 fn read(alloc: Global, rtype: RType, text: &[u8]) -> Result<Result<Rdata, RdataFault>, Fail> {
     let origin = Name::read_text(b"Example.", &Name::root())?;
     let words = words(alloc, text)?;
-    Ok(Rdata::read_words(alloc, rtype, words.as_slice(), &origin))
+    let mut room = DataRoom::new(alloc);
+    if let Ok(before) = Rdata::read_words_in(&mut room, rtype, words.as_slice(), &origin) {
+        room.take_back(before);
+    }
+    Ok(Rdata::read_words_in(&mut room, rtype, words.as_slice(), &origin))
 }
 
 const ANY: RType = RType(65280);

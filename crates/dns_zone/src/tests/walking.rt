@@ -66,6 +66,32 @@ fn sets_are_lent_by_their_data(rt: HostRuntime) -> Result<(), Fail> {
 }
 
 #[test]
+fn targets_are_lent_in_lower_case(rt: HostRuntime) -> Result<(), Fail> {
+    let text = file_with(rt.alloc(), b"m MX 10 WWW.Example.\nm MX 20 www\nm TXT www")?;
+    let Some(Ok(zone)) = built(rt.alloc(), b"example.", text.as_slice())? else {
+        panic!(rt; "no zone");
+    };
+    let mut steps = Steps::new(&zone);
+    let Some((_, node)) = walked(&mut steps, &[b"m"]) else {
+        panic!(rt; "no m");
+    };
+    for (rtype, records, wanted) in [(RType::MX, 2, true), (RType::TXT, 1, false)] {
+        let Some(set) = node.set(rtype) else {
+            panic!(rt; "no set of {rtype:?}");
+        };
+        assert_eq!(rt; set.len(), records);
+        for i in 0..set.len() {
+            let target = set.target(i);
+            assert_eq!(rt; target.is_some(), wanted);
+            if let Some(target) = target {
+                assert_eq!(rt; target.octets(), b"\x03www\x07example\x00".as_slice());
+            }
+        }
+    }
+    Ok(())
+}
+
+#[test]
 fn the_longest_name_has_127_labels(rt: HostRuntime) -> Result<(), Fail> {
     let mut text = Vec::new(rt.alloc());
     text.extend_from_slice(b"@ 60 SOA a a 1 2 3 4 5\n@ 60 NS a\na 60 A 192.0.2.1\n")?;

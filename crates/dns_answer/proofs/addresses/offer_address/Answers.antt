@@ -32,12 +32,12 @@ at_name z m labels node apex at_node spelled e f h = e ∙ ap (λ (a : ZoneNode)
 pub offer_type-requires : goal.offer_type-requires
 offer_type-requires g c =
     let spelled = labels_of_spelled c.octets.result.now c.args.target.now c.octets.ensures.value c.octets.ensures.is_name in
-    (search rules, ap (λ (v : ZoneNode). v.name) (at_name c.args.steps.now.zone c.args.target.now _ _ _ _ spelled c.or_apex-node.ensures c.requires.apex.node c.in-Name.ensures.reached) ∙ sym c.fold-owner.ensures)
+    (search rules, ap (λ (v : ZoneNode). v.name) (at_name c.args.steps.now.zone c.args.target.now _ _ _ _ spelled c.or_apex-node.ensures c.requires.apex.node c.in-Name.ensures.reached) ∙ c.requires.lower)
 
 pub offer_type-requires-2 : goal.offer_type-requires-2
 offer_type-requires-2 g c =
     let spelled = labels_of_spelled c.octets.result.now c.args.target.now c.octets.ensures.value c.octets.ensures.is_name in
-    (search rules, ap (λ (v : ZoneNode). v.name) (at_name c.args.steps.now.zone c.args.target.now _ _ _ _ spelled c.or_apex-node.ensures c.requires.apex.node c.in-Name.ensures.reached) ∙ sym c.fold-owner.ensures)
+    (search rules, ap (λ (v : ZoneNode). v.name) (at_name c.args.steps.now.zone c.args.target.now _ _ _ _ spelled c.or_apex-node.ensures c.requires.apex.node c.in-Name.ensures.reached) ∙ c.requires.lower)
 
 pub returns-clause-offers : goal.returns-clause-offers
 returns-clause-offers g c =

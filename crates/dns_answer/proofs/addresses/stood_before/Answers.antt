@@ -1,7 +1,6 @@
 use Rattle.std.proofs.Common.{◌≡◌, ◌||◌, refl, sym, ap, ◌∙◌, arith, Some, None, false}
 use Rattle.std.specs.List.{list_any}
 use Rattle.dns_spec.specs.Names.{same}
-use Rattle.dns_spec.specs.Data.{target}
 use Rattle.dns_answer.specs.Targets.{targets_of_first}
 use Rattle.dns_answer.proofs.TargetLaws.{stood-some, stood-other}
 use Rattle.dns_answer.proofs.addresses.stood_before.Goals as goal
@@ -10,11 +9,11 @@ use Rattle.dns_answer.proofs.addresses.stood_before.Goals.{in-Some+else-same, in
 pub returns-then-same : goal.returns-then-same
 returns-then-same c =
     sym (stood-some (same c.args.target.now) c.args.set.now c.args.count c.earlier.i c.in-Some.earlier c.earlier-test.true c.requires.inside
-    (sym (c.target.ensures ∙ (λ j. target (c.rtype.ensures j) (c.rdata.ensures.value j))) ∙ c.in-Some.is) (sym c.if-same.ensures))
+    (sym c.target.ensures.value ∙ c.in-Some.is) (sym c.if-same.ensures))
 
 pub earlier-preserved : goal.earlier-preserved
 earlier-preserved c =
-    let is = sym (c.target.ensures ∙ (λ j. target (c.rtype.ensures j) (c.rdata.ensures.value j))) in
+    let is = sym c.target.ensures.value in
     elim c.match-target.branch [
       | in-Some+else-same w ↦
           stood-other (same c.args.target.now) c.args.set.now c.earlier.i (Some w.in-Some.earlier) (omega (arith, c.earlier-test.true, c.requires.inside)) c.earlier.invariant (is ∙ w.in-Some.is)

@@ -1,4 +1,4 @@
-use Rattle.std.proofs.Common.{rules, ◌≡◌, ◌+◌, ◌∷◌, [], length, refl, sym, ap, ap₂, subst, ◌∙◌, arith}
+use Rattle.std.proofs.Common.{rules, ◌+◌, ◌∷◌, [], length, refl, sym, ap, ap₂, subst, ◌∙◌, arith}
 use Rattle.dns_spec.specs.Names.{at_or_below}
 use Rattle.dns_spec.specs.Records.{ZoneContents}
 use Rattle.dns_answer.specs.Walks.{IsApex}

@@ -35,14 +35,14 @@ offer_addresses-requires-2 g c =
 pub returns-clause-ends : goal.returns-clause-ends
 returns-clause-ends g c =
     let below = c.requires.cut.1 in
-    Ends-referred _ _ _ _ c.args.steps.now.zone c.offer_addresses.new.steps.zone c.args.cut.now c.fold_in_place.new.self c.ttl.result c.in-Some.servers _ below.zone c.offer_addresses.ensures.took.zone
-    (c.fold_in_place.ensures ∙ ap folded c.from_octets-name.ensures.value ∙ below.spelled) c.ttl.ensures c.in-Some.ensures.set c.in-Some.ensures.rtype c.in-Some.ensures.kept
-    c.offer.ensures c.offer_addresses.ensures.offers c.offer_addresses-2.ensures.offers refl refl c.is_full-is_truncated.ensures
+    Ends-referred _ _ _ _ c.args.steps.now.zone c.offer_addresses.new.steps.zone c.args.cut.now c.lent-owner.result c.ttl.result c.in-Some.servers _ below.zone c.offer_addresses.ensures.took.zone
+    (c.lent-owner.ensures.value ∙ c.fold_in_place.ensures ∙ ap folded c.from_octets-name.ensures.value ∙ below.spelled) c.ttl.ensures c.in-Some.ensures.set c.in-Some.ensures.rtype c.in-Some.ensures.kept
+    c.offer_at.ensures c.offer_addresses.ensures.offers c.offer_addresses-2.ensures.offers refl refl c.is_full-is_truncated.ensures
 
 pub returns-clause-took : goal.returns-clause-took
 returns-clause-took g c =
     let below = c.requires.cut.1 in
-    let named = c.fold_in_place.ensures ∙ ap folded c.from_octets-name.ensures.value ∙ below.spelled in
-    Took-referred _ _ _ c.args.steps.now.zone c.offer_addresses.new.steps.zone c.args.cut.now.name c.fold_in_place.new.self _ _ c.offer_addresses.ensures.took.zone named
-    (servers_targets c.args.steps.now.zone c.args.cut.now c.fold_in_place.new.self c.ttl.result c.in-Some.servers below.zone named c.ttl.ensures c.in-Some.ensures.set c.in-Some.ensures.rtype c.in-Some.ensures.kept)
+    let named = c.lent-owner.ensures.value ∙ c.fold_in_place.ensures ∙ ap folded c.from_octets-name.ensures.value ∙ below.spelled in
+    Took-referred _ _ _ c.args.steps.now.zone c.offer_addresses.new.steps.zone c.args.cut.now.name c.lent-owner.result _ _ c.offer_addresses.ensures.took.zone named
+    (servers_targets c.args.steps.now.zone c.args.cut.now c.lent-owner.result c.ttl.result c.in-Some.servers below.zone named c.ttl.ensures c.in-Some.ensures.set c.in-Some.ensures.rtype c.in-Some.ensures.kept)
     c.offer_addresses.ensures.took c.offer_addresses-2.ensures.took

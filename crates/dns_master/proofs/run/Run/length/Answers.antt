@@ -11,10 +11,10 @@ escapes-init c =
     let plain : c.plain_length-length.result ≡ plain_length by c.args.text.now = c.plain_length-length.ensures.value in
     let back : c.split_at.result.1.now ≡ drop (plain_length by c.args.text.now) c.args.text.now =
     c.split_at.ensures.back ∙ ap (λ k. drop k c.args.text.now) plain in
-    let behind : length c.split_at.result.1.now + c.plain_length-length.result ≡ length c.args.text.now = search rules in
+    let whole : length c.split_at.result.1.now + c.plain_length-length.result ≡ length c.args.text.now = search rules in
     record {
       whole = rw back (rw plain (run-plain by (no-backslash c.args.self) c.args.text.now));
-      fits = omega (arith, behind);
+      fits = omega (arith, whole);
       stopped = λ o others e. plain-stops by c.args.text.now o others (sym back ∙ e);
     }
 

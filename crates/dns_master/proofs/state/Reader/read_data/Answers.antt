@@ -4,11 +4,11 @@ use Rattle.dns_master.proofs.RecordSteps.{said-lowered}
 use Rattle.dns_master.proofs.state.Reader.read_data.Goals as goal
 
 pub returns-clause-lowered : goal.returns-clause-lowered
-returns-clause-lowered c = said-lowered _ _ _ _ c.in_ok-read_words.ensures.ok
+returns-clause-lowered c = said-lowered _ _ _ _ c.in_ok-read_words_in.ensures.ok
 
-pub returns-in_err-read_words-clause-err : goal.returns-in_err-read_words-clause-err
-returns-in_err-read_words-clause-err c =
+pub returns-in_err-read_words_in-clause-err : goal.returns-in_err-read_words_in-clause-err
+returns-in_err-read_words_in-clause-err c =
     fault_turned c.from_residual.result _ _ c.from_residual.ensures.1 (λ code turned other. elim turned [
       | inl h ↦ absurd (other h.1)
-      | inr h ↦ (h.1, c.in_err-read_words.ensures.fault h.0)
+      | inr h ↦ (h.1, c.in_err-read_words_in.ensures.fault h.0)
     ])

@@ -1,4 +1,4 @@
-use Rattle.std.proofs.Common.{arith, List, ◌≡◌, [], ◌∷◌, ◌++◌, subst, sym, ap, ◌∙◌, refl, Some, if◌then◌else◌, IfSome}
+use Rattle.std.proofs.Common.{rules, arith, List, ◌≡◌, [], ◌∷◌, ◌++◌, subst, sym, ap, ◌∙◌, refl, Some, if◌then◌else◌, IfSome}
 use Rattle.std.specs.Option.{is_some}
 use Rattle.dns_spec.specs.Names.{DomainName}
 use Rattle.dns_spec.specs.Records.{ResourceRecord}
@@ -26,7 +26,7 @@ returns-clause-ok c = λ o earlier known.
     ∙ ap (λ n. if is_some (fields c.args.words.now).ttl then Some n else c.args.self.now.stated_ttl) same in
     record {
       taken = c.in_ok-record.record;
-      last_is = refl;
+      last_is = search rules;
       owner_is = c.in_ok-record.ensures.owner;
       given = subst (λ (f : Fields). RecordGives o earlier no_owner (λ n. n ≡ c.args.owner) f (gives (c.in_ok-record.record ∷ []))) c.of-fields.ensures
           (c.in_ok-record.ensures.ok o earlier known);

@@ -1,4 +1,4 @@
-use Rattle.std.proofs.Common.{◌≡◌, ◌+◌, ◌-◌, ◌∙◌, refl, ap, arith, length, take, drop, ◌++◌}
+use Rattle.std.proofs.Common.{◌≡◌, ◌+◌, ◌-◌, ◌∙◌, refl, ap, arith, take, drop, ◌++◌}
 use Rattle.dns_spec.specs.Layout.{octets16}
 use Rattle.dns_wire.proofs.DataPatched.{put_over}
 use Rattle.dns_wire.proofs.room.Room.put_length.Goals as goal

@@ -1,6 +1,6 @@
 use Rattle.std.proofs.Common.{drop}
 use Rattle.dns_rdata.proofs.UnknownLemmas.{WordsSoFar}
-use Rattle.dns_rdata.proofs.unknown.unknown_octets.Given as goal
+use Rattle.dns_rdata.proofs.unknown.put_unknown.Given as goal
 
 abbrev pub invariant-words : goal.invariant-words
 invariant-words l = WordsSoFar l.others (drop l.word-index l.others) l.octets.items

@@ -3,7 +3,7 @@ use Rattle.std.specs.List.{flat_map}
 use Rattle.dns_spec.specs.DataText.{forms_in}
 use Rattle.dns_rdata.specs.TypeRows.{pieces_in}
 use Rattle.dns_rdata.specs.WordForms.{form_of}
-use Rattle.dns_rdata.proofs.typed.forms_of.Given as goal
+use Rattle.dns_rdata.proofs.typed.put_forms.Given as goal
 
 -- the forms pushed, and those of the pieces to come, are all
 abbrev pub invariant-pieces : goal.invariant-pieces

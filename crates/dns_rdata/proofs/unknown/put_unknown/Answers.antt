@@ -1,7 +1,7 @@
 use Rattle.std.proofs.Common.{arith, subst, ap, length}
 use Rattle.dns_spec.specs.DataText.{SaysUnknown}
 use Rattle.dns_rdata.proofs.UnknownLemmas.{WordsSoFar-more, at_word, at_end, word_refused, same_fault, past_count, says_unknown, only_octets, count_is_length}
-use Rattle.dns_rdata.proofs.unknown.unknown_octets.Goals as goal
+use Rattle.dns_rdata.proofs.unknown.put_unknown.Goals as goal
 
 pub returns-in_err-append_word-clause-fault : goal.returns-in_err-append_word-clause-fault
 returns-in_err-append_word-clause-fault c =
