@@ -17,6 +17,10 @@ pub(crate) enum Fault {
     Input(RdataFault),
     /// A zone file is at fault.
     Zone(ReadFault),
+    /// The zone that is asked was not built.
+    Unbuilt,
+    /// A question was not answered.
+    Unanswered,
     /// A text was not written.
     Sink,
     /// A clock or standard output failed.

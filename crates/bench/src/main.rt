@@ -1,4 +1,5 @@
-//! How long it takes to read data from the words of a zone file, and to write it.
+//! How long it takes to read data from the words of a zone file, to write it, and to answer
+//! questions.
 //!
 //! `bench` prints a table of times. `bench count` does each work once and prints what came of it,
 //! with no times. `bench WORK ROUNDS` does one work so often, for a tool that counts instructions.
@@ -6,6 +7,7 @@
 
 mod fault;
 mod inputs;
+mod replies;
 mod work;
 mod zone;
 

@@ -4,10 +4,15 @@ ghost use Rattle.dns_spec.specs.Data.{Valid};
 
 use crate::fault::Fault;
 use crate::inputs::{IPV4, IPV6, repeated, words};
+use crate::replies::{
+    ADDRESS, ALIAS, EXCHANGE, NAME_ERROR, REFERRAL, SERVERS, WILDCARD, asked_zone,
+};
 use crate::zone::zone_text;
+use dns_answer::{UdpDraft, respond_in};
 use dns_master::read_zone;
 use dns_name::{Name, Tally};
 use dns_rdata::{RType, Rdata, RdataFault, Word};
+use dns_zone::Steps;
 use std::alloc::Global;
 use std::io::{self, Write};
 
@@ -43,11 +48,13 @@ enum Kind {
     WriteName(&'static [u8]),
     // A zone file with so many records.
     ReadZone(u32),
+    // A question, over UDP.
+    Respond(&'static [u8]),
 }
 
 /// The works, in the order of the table. Those over text of different lengths have the same octets
 /// in all.
-pub(crate) const WORKS: [Work; 22] = [
+pub(crate) const WORKS: [Work; 29] = [
     Work {
         name: "read-txt-8191",
         kind: Kind::ReadText(31, b"a"),
@@ -158,6 +165,41 @@ pub(crate) const WORKS: [Work; 22] = [
         kind: Kind::ReadZone(100_000),
         rounds: 1,
     },
+    Work {
+        name: "respond-address",
+        kind: Kind::Respond(ADDRESS),
+        rounds: 100_000,
+    },
+    Work {
+        name: "respond-name-error",
+        kind: Kind::Respond(NAME_ERROR),
+        rounds: 100_000,
+    },
+    Work {
+        name: "respond-wildcard",
+        kind: Kind::Respond(WILDCARD),
+        rounds: 100_000,
+    },
+    Work {
+        name: "respond-referral",
+        kind: Kind::Respond(REFERRAL),
+        rounds: 100_000,
+    },
+    Work {
+        name: "respond-alias",
+        kind: Kind::Respond(ALIAS),
+        rounds: 100_000,
+    },
+    Work {
+        name: "respond-servers",
+        kind: Kind::Respond(SERVERS),
+        rounds: 100_000,
+    },
+    Work {
+        name: "respond-exchange",
+        kind: Kind::Respond(EXCHANGE),
+        rounds: 100_000,
+    },
 ];
 
 impl Work {
@@ -174,6 +216,7 @@ impl Work {
             }
             Kind::WriteName(spelled) => write_name(spelled, rounds),
             Kind::ReadZone(records) => read_file(alloc, records, rounds),
+            Kind::Respond(datagram) => answer(alloc, datagram, rounds),
         }
     }
 }
@@ -294,6 +337,22 @@ fn read_file(alloc: Global, records: u32, rounds: u32) -> Result<Done, Fault> {
             data: records.len() as u64,
             octets: text.len() as u64,
         });
+    }
+    Ok(done)
+}
+
+// Answers a question, so often: a datum is a reply.
+fn answer(alloc: Global, datagram: &[u8], rounds: u32) -> Result<Done, Fault> {
+    let zone = asked_zone(alloc)?;
+    let mut draft = UdpDraft::new();
+    let mut out = [0; 512];
+    let mut done = Done::NOTHING;
+    for _ in 0..rounds {
+        let mut steps = Steps::new(&zone);
+        let Some(octets) = respond_in(&mut steps, datagram, &mut draft, &mut out) else {
+            return Err(Fault::Unanswered);
+        };
+        done.count(octets);
     }
     Ok(done)
 }

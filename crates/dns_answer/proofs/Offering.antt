@@ -1,5 +1,5 @@
 -- Sets that are offered in two steps.
-use Rattle.std.proofs.Common.{◌≡◌, ◌↔◌, ℕ, ◌≤◌, Bool, true, false, cond, nat_le, IsTrue, List, [], ◌∷◌, ◌++◌, Option, Some, refl, sym, ◌∙◌, subst, arith}
+use Rattle.std.proofs.Common.{◌≡◌, ◌↔◌, ℕ, ◌≤◌, Bool, true, false, cond, nat_le, IsTrue, List, [], ◌∷◌, ◌++◌, Option, Some, refl, sym, ap, ◌∙◌, subst, arith}
 use Rattle.std.proofs.lemmas.Bool.{le-leb, leb-true, false≢true}
 use Rattle.std.specs.Bool.{OnTrue, OnFalse}
 use Rattle.dns_spec.specs.Names.{Octets}
@@ -31,10 +31,15 @@ full_offer d i e = rw e refl
 open_offer : (d : spec.Draft) (i : Item) → d.full ≡ false → offer d i ≡ cond (nat_le (size_with d.question (d.kept ++ i ∷ [])) d.limit) (record d { kept = d.kept ++ i ∷ [] }) (record d { full = true })
 open_offer d i e = rw e refl
 
+full_offered : (d : spec.Draft) (is : List Item) → d.full ≡ true → offered d is ≡ d
+unfolding offered
+full_offered d [] e = refl
+full_offered d (i ∷ is) e = ap (λ x. offered x is) (full_offer d i e) ∙ full_offered d is e
+
 -- a full reply is left as it is
-pub Offers-full : (w : State) (i : Item) → w.full ≡ true → Offers w w (i ∷ [])
-Offers-full w i full = record {
-  draft = λ d h. subst (Holds w) (sym (offered-one d i ∙ full_offer d i (sym h.full ∙ full))) h;
+pub Offers-full : (w : State) (is : List Item) → w.full ≡ true → Offers w w is
+Offers-full w is full = record {
+  draft = λ d h. subst (Holds w) (sym (full_offered d is (sym h.full ∙ full))) h;
   limit = refl;
 }
 

@@ -3,9 +3,9 @@ use Rattle.std.proofs.Common.{◌≡◌, ℕ, zero, suc, ◌+◌, ◌*◌, ◌-�
 use Rattle.std.proofs.Math.Seq.{take-suc}
 use Rattle.std.proofs.lemmas.Bool.{false≢true, false_from_ne_true}
 use Rattle.std.proofs.lemmas.List.Elements.{filter_map-append}
-use Rattle.std.proofs.lemmas.List.Folds.{list_any-append}
+use Rattle.std.proofs.lemmas.List.Folds.{list_all-append, list_any-append}
 use Rattle.std.specs.Option.{option_to_list}
-use Rattle.std.specs.List.{list_any, filter, filter_map, cons_option}
+use Rattle.std.specs.List.{list_all, list_any, filter, filter_map, cons_option}
 use Rattle.dns_spec.specs.Names.{Octets, DomainName, folded, same, at_or_below}
 use Rattle.dns_spec.specs.Data.{target, type_a, type_aaaa}
 use Rattle.dns_spec.specs.Records.{ResourceRecord, ZoneContents, at, of_type}
@@ -27,7 +27,7 @@ use Rattle.dns_zone.proofs.NameOrder.{same-from}
 use Rattle.dns_zone.proofs.NameTree.{same-under, itself-under}
 use Rattle.dns_answer.proofs.WayLaws.{at-folded}
 use Rattle.dns_answer.specs.Walks.{Took}
-use Rattle.dns_answer.specs.Targets.{targets_of_first, addresses_of, target_items, side_items, side_nodes, target_nodes, target_misses}
+use Rattle.dns_answer.specs.Targets.{targets_of_first, takes_target, addresses_of, target_items, side_items, side_nodes, target_nodes, target_misses}
 
 one_more : (o : Option DomainName) → cons_option o [] ≡ option_to_list o
 one_more None = refl
@@ -74,6 +74,21 @@ pub stood-other : (p : DomainName → Bool) (set : RecordSet) (i : ℕ) (o : Opt
     → target set.rtype (get_or set.rdata i []) ≡ o → list_any p (option_to_list o) ≡ false → list_any p (targets_of_first (i + 1) set) ≡ false
 stood-other p set i o h none e f =
     ap (list_any p) (first-more set i h) ∙ ap (λ x. list_any p (targets_of_first i set ++ option_to_list x)) e ∙ none_new p (targets_of_first i set) o none f
+
+-- whether all pass a test, with one target more
+pub all-more : (p : DomainName → Bool) (set : RecordSet) (i : ℕ) → i < length set.rdata
+    → list_all p (targets_of_first (i + 1) set) ≡ (list_all p (targets_of_first i set) && takes_target p (target set.rtype (get_or set.rdata i [])))
+all-more p set i h =
+    let o = target set.rtype (get_or set.rdata i []) in
+    ap (list_all p) (first-more set i h) ∙ list_all-append p (targets_of_first i set) (option_to_list o) ∙ ap (λ b. list_all p (targets_of_first i set) && b) (one o)
+  where
+    and_true : (b : Bool) → (b && true) ≡ b
+    and_true true = refl
+    and_true false = refl
+
+    one : (o : Option DomainName) → list_all p (option_to_list o) ≡ takes_target p o
+    one None = refl
+    one (Some m) = and_true (p m)
 
 -- what is offered for one target more
 pub side_items-append : (z : ZoneContents) (p : DomainName → Bool) (before ms ns : List DomainName) → side_items z p before (ms ++ ns) ≡ side_items z p before ms ++ side_items z p (before ++ ms) ns
@@ -241,6 +256,10 @@ pub hits-more : (p : DomainName → Bool) (set : RecordSet) (i : ℕ) → i < le
 hits-more p set i h so =
     let o = target set.rtype (get_or set.rdata i []) in
     omega (arith, ap (λ x. length (filter p x)) (first-more set i h) ∙ misses-append p (targets_of_first i set) o, misses-one p o)
+
+-- a walk that goes on no further took no more than any
+pub Took-none : (s : Walk) (nodes misses : ℕ) → Took s s nodes misses
+Took-none s nodes misses = record { zone = refl; from = omega arith; visits = omega arith; comparisons = omega arith }
 
 pub Took-nothing : (s : Walk) → Took s s 0 0
 Took-nothing s = record { zone = refl; from = omega arith; visits = omega arith; comparisons = omega arith }

@@ -18,6 +18,14 @@ use Rattle.dns_answer.specs.Chain.{chain_items, chain_required, chain_outcome, c
 use Rattle.dns_answer.specs.declared.ending.Verdict.{Verdict}
 use Rattle.dns_answer.specs.declared.chain.Sought.{Sought}
 use Rattle.dns_answer.specs.declared.chain.Sought.TheVariants as soughts
+use Rattle.dns_answer.specs.declared.chain.Earlier.{Earlier}
+use Rattle.dns_answer.specs.declared.chain.Earlier.TheVariants.{First, Second, Others}
+
+-- the names that were sought, one after the other
+abbrev pub names_of : Earlier → List DomainName
+names_of (First n) = n.now ∷ []
+names_of (Second n m) = n.now ∷ m.now ∷ []
+names_of (Others ns) = ns.now
 
 -- names that were sought, in any order
 abbrev pub AreSought : List DomainName → List DomainName → Type 0

@@ -24,6 +24,11 @@ side_takes All m = true
 side_takes (Inside cut) m = at_or_below m cut.now
 side_takes (Outside cut) m = not (at_or_below m cut.now)
 
+-- a target, if there is one, passes a test
+abbrev pub takes_target : (DomainName → Bool) → Option DomainName → Bool
+takes_target p None = true
+takes_target p (Some m) = p m
+
 -- the addresses of a name: A and then AAAA
 abbrev pub addresses_of : ZoneContents → DomainName → List Item
 addresses_of z m = item additional (rrset z m type_a) ++ item additional (rrset z m type_aaaa)

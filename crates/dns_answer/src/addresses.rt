@@ -1,6 +1,6 @@
 //! Addresses of the targets of a set (RFC 1034 4.3.2 step 6).
 ghost use Rattle.std.specs.Prelude.{◌≡◌, ℕ, ◌+◌, ◌*◌, ◌≤◌, ◌<◌, [], ◌∷◌, ◌++◌, length, take, get_or, map, true, false, not, IsTrue};
-ghost use Rattle.std.specs.List.{list_any, filter};
+ghost use Rattle.std.specs.List.{list_any, list_all, filter};
 ghost use Rattle.dns_spec.specs.Names.{same, at_or_below, folded};
 ghost use Rattle.dns_spec.specs.Data.{target};
 ghost use Rattle.dns_spec.specs.Answer.{item};
@@ -9,11 +9,11 @@ ghost use Rattle.dns_spec.specs.Layout.{additional};
 ghost use Rattle.dns_spec.specs.Sets.{HasValidData};
 ghost use Rattle.dns_answer.specs.Walks.{IsApex, HasRoom, Took};
 ghost use Rattle.dns_answer.specs.DraftForm.{Offers};
-ghost use Rattle.dns_answer.specs.Targets.{addresses_of, side_items, side_nodes, side_takes, set_targets, targets_of_first, target_items, target_nodes, target_misses};
+ghost use Rattle.dns_answer.specs.Targets.{addresses_of, side_items, side_nodes, side_takes, takes_target, set_targets, targets_of_first, target_items, target_nodes, target_misses};
 
 use crate::draft::Draft;
 use crate::lookup::{Reached, or_apex, reach};
-use crate::names::lent_depth_below;
+use crate::names::depth_below;
 use dns_name::NameRef;
 use dns_rdata::{RType, SetView};
 use dns_wire::Section;
@@ -44,14 +44,14 @@ impl Side<'_, '_> {
 }
 
 /// Offers the addresses of the targets of a set, of those that are meant, in order. Those of a
-/// target that stood before are not offered again.
+/// target that stood before are not offered again. Answers whether all targets are meant.
 pub(crate) fn offer_addresses<'z, const N: usize, const SIZE: usize>(
     set: &RecordSet<'z>,
     side: Side<'_, '_>,
     apex: &Node<'z>,
     steps: &mut Steps<'z>,
     draft: &mut Draft<N, SIZE>,
-)
+) -> bool
     requires apex { IsApex steps.old.zone apex.now }
     requires valid { HasValidData set.now }
     requires few { length set.now.rdata ≤ 64 }
@@ -62,13 +62,17 @@ pub(crate) fn offer_addresses<'z, const N: usize, const SIZE: usize>(
         (side_nodes steps.old.zone (side_takes side.entry) (set_targets set.now))
         (length (filter (side_takes side.entry) (set_targets set.now))) }
     ensures bound { Took steps.old steps.new (127 * 64) 64 }
+    ensures all { result ≡ list_all (side_takes side.entry) (set_targets set.now) }
 {
+    let mut all = true;
     'targets: for i in 0..set.len() {
-        offer_target(set, i, side, apex, steps, draft);
+        all &= offer_target(set, i, side, apex, steps, draft);
     }
+    all
 }
 
-// Offers the addresses of the target of a record, if it is meant and did not stand before.
+// Offers the addresses of the target of a record, if it is meant and did not stand before. False
+// where it is not meant.
 fn offer_target<'z, const N: usize, const SIZE: usize>(
     set: &RecordSet<'z>,
     i: usize,
@@ -76,7 +80,7 @@ fn offer_target<'z, const N: usize, const SIZE: usize>(
     apex: &Node<'z>,
     steps: &mut Steps<'z>,
     draft: &mut Draft<N, SIZE>,
-)
+) -> bool
     requires apex { IsApex steps.old.zone apex.now }
     requires valid { HasValidData set.now }
     requires inside { i < length set.now.rdata }
@@ -90,20 +94,23 @@ fn offer_target<'z, const N: usize, const SIZE: usize>(
         (target_misses (side_takes side.entry) (target set.now.rtype (get_or set.now.rdata i []))) }
     ensures few { target_nodes steps.old.zone (side_takes side.entry)
         (target set.now.rtype (get_or set.now.rdata i [])) ≤ 127 }
+    ensures meant { result ≡ takes_target (side_takes side.entry)
+        (target set.now.rtype (get_or set.now.rdata i [])) }
 {
     let Some(target) = set.target(i) else {
-        return;
+        return true;
     };
     if !side.takes(&target) {
-        return;
+        return false;
     }
-    let Some(depth) = lent_depth_below(&target, &steps.origin().lent()) else {
-        return;
+    let Some(depth) = depth_below(&target, &steps.origin().lent()) else {
+        return true;
     };
     if stood_before(set, i, &target) {
-        return;
+        return true;
     }
     offer_address(&target, depth, apex, steps, draft);
+    true
 }
 
 // Whether one of the first records of a set has the same target.
@@ -148,7 +155,7 @@ fn offer_address<'z, const N: usize, const SIZE: usize>(
     offer_type(node, RType::AAAA, target, draft);
 }
 
-// Offers the set of a type at a node, if there is one.
+// Offers the set of a type at a node, if there is one. A reply that is full needs none.
 fn offer_type<const N: usize, const SIZE: usize>(
     node: &Node<'_>,
     rtype: RType,
@@ -159,7 +166,10 @@ fn offer_type<const N: usize, const SIZE: usize>(
     ensures { Offers draft.old draft.new
         (item additional (rrset node.now.zone node.now.name rtype.0)) }
 {
+    if draft.is_full() {
+        return;
+    }
     if let Some(set) = node.set(rtype) {
-        draft.offer_at(Section::Additional, owner, set.ttl(), &set);
+        draft.offer(Section::Additional, owner, set.ttl(), &set);
     }
 }

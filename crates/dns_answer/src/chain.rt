@@ -4,33 +4,56 @@ ghost use Rattle.std.specs.List.{list_any};
 ghost use Rattle.dns_spec.specs.Names.{same, at_or_below};
 ghost use Rattle.dns_spec.specs.Data.{type_cname};
 ghost use Rattle.dns_spec.specs.Records.{at, of_type};
-ghost use Rattle.dns_spec.specs.Sets.{set_of, HasValidData};
+ghost use Rattle.dns_spec.specs.Sets.{set_of};
 ghost use Rattle.dns_spec.specs.Answer.{follows_alias};
 ghost use Rattle.dns_zone.specs.Nodes.{IsSetOf};
 ghost use Rattle.dns_answer.specs.Walks.{IsApex, HasRoom};
-ghost use Rattle.dns_answer.specs.Seeking.{Seeks, TookFrom, Followed, SoughtAs, NextIs};
+ghost use Rattle.dns_answer.specs.Seeking.{Seeks, TookFrom, Followed, SoughtAs, NextIs, names_of};
 
 use crate::draft::Draft;
 use crate::ending::{QTYPE_ANY, Verdict, deny, offer_asked, refer};
 use crate::lookup::{Found, look_up, or_apex};
 use crate::names::depth_below;
 use arrayvec::ArrayVec;
-use dns_name::Name;
-use dns_rdata::{RType, Rdata, SetView};
+use dns_name::{Name, NameRef};
+use dns_rdata::{RType, SetView};
 use dns_wire::{Rcode, Section};
 use dns_zone::{Node, RecordSet, Steps};
-use std::slice::from_ref;
 
 // The question's name and 16 targets: a limit of this project.
 const MOST_SOUGHT: usize = 17;
 
 /// What seeking one name comes to.
 #[derive(Drop)]
-pub(crate) enum Sought {
+pub(crate) enum Sought<'z> {
     /// It is the last one sought.
     Last(Verdict),
     /// Its alias leads to this name, so many labels below the origin.
-    Alias(Name, usize),
+    Alias(NameRef<'z>, usize),
+}
+
+/// The names that were sought, that of the question first.
+#[derive(Clone, Copy)]
+pub(crate) enum Earlier<'e, 'q, 'z> {
+    /// The question's.
+    First(&'e NameRef<'q>),
+    /// The question's, and the target of its alias.
+    Second(&'e NameRef<'q>, &'e NameRef<'z>),
+    /// More of them.
+    Others(&'e [Name]),
+}
+
+impl Earlier<'_, '_, '_> {
+    // Whether a name is among them.
+    fn has(self, name: &NameRef<'_>) -> bool
+        ensures { result ≡ list_any (same name.now) (names_of self.entry) }
+    {
+        match self {
+            Earlier::First(first) => name.same(first),
+            Earlier::Second(first, second) => name.same(first) || name.same(second),
+            Earlier::Others(names) => names.iter().any(|earlier| name.same(&earlier.lent())),
+        }
+    }
 }
 
 /// What seeking the name of a question comes to.
@@ -44,7 +67,7 @@ pub(crate) struct Ended {
 /// Seeks the name of a question, `depth` labels below the origin, and after it the targets of
 /// aliases: offers the sets of the aliases, and those that the last name ends with.
 pub(crate) fn seek<'z, const N: usize, const SIZE: usize>(
-    name: &Name,
+    name: &NameRef<'_>,
     depth: usize,
     qtype: u16,
     apex: &Node<'z>,
@@ -66,7 +89,7 @@ pub(crate) fn seek<'z, const N: usize, const SIZE: usize>(
         depth,
         qtype,
         MOST_SOUGHT - 1,
-        from_ref(name),
+        Earlier::First(name),
         apex,
         steps,
         draft,
@@ -76,7 +99,7 @@ pub(crate) fn seek<'z, const N: usize, const SIZE: usize>(
             is_led_on: false,
         },
         Sought::Alias(target, below) => Ended {
-            verdict: seek_target(name, target, below, qtype, apex, steps, draft),
+            verdict: seek_target(name, &target, below, qtype, apex, steps, draft),
             is_led_on: true,
         },
     }
@@ -87,8 +110,8 @@ pub(crate) fn seek<'z, const N: usize, const SIZE: usize>(
 // that were sought.
 #[inline(never)]
 fn seek_target<'z, const N: usize, const SIZE: usize>(
-    first: &Name,
-    target: Name,
+    first: &NameRef<'_>,
+    target: &NameRef<'z>,
     depth: usize,
     qtype: u16,
     apex: &Node<'z>,
@@ -96,28 +119,28 @@ fn seek_target<'z, const N: usize, const SIZE: usize>(
     draft: &mut Draft<N, SIZE>,
 ) -> Verdict
     requires apex { IsApex steps.old.zone apex.now }
-    requires below { IsTrue (at_or_below target steps.old.zone.origin) }
-    requires depth { length target ≡ length steps.old.zone.origin + depth }
+    requires below { IsTrue (at_or_below target.now steps.old.zone.origin) }
+    requires depth { length target.now ≡ length steps.old.zone.origin + depth }
     requires few { depth ≤ 127 }
     requires room { HasRoom steps.old (129 * (15 + 129)) }
-    ensures seeks { Seeks draft.old draft.new steps.old.zone qtype 15 (first.now ∷ target ∷ [])
-        target result }
-    ensures took { TookFrom steps.old steps.new qtype 15 (first.now ∷ target ∷ []) target }
+    ensures seeks { Seeks draft.old draft.new steps.old.zone qtype 15 (first.now ∷ target.now ∷ [])
+        target.now result }
+    ensures took { TookFrom steps.old steps.new qtype 15 (first.now ∷ target.now ∷ [])
+        target.now }
 {
-    let sought = [first.copied(), target.copied()];
     match seek_one(
-        &target,
+        target,
         depth,
         qtype,
         MOST_SOUGHT - 2,
-        &sought,
+        Earlier::Second(first, target),
         apex,
         steps,
         draft,
     ) {
         Sought::Last(verdict) => verdict,
         Sought::Alias(next, below) => {
-            seek_rest(first, &target, next, below, qtype, apex, steps, draft)
+            seek_rest(first, target, next, below, qtype, apex, steps, draft)
         }
     }
 }
@@ -126,9 +149,9 @@ fn seek_target<'z, const N: usize, const SIZE: usize>(
 // others. Few answers follow as many, and need room for all names that may be sought.
 #[inline(never)]
 fn seek_rest<'z, const N: usize, const SIZE: usize>(
-    first: &Name,
-    second: &Name,
-    target: Name,
+    first: &NameRef<'_>,
+    second: &NameRef<'_>,
+    target: NameRef<'z>,
     depth: usize,
     qtype: u16,
     apex: &Node<'z>,
@@ -141,14 +164,14 @@ fn seek_rest<'z, const N: usize, const SIZE: usize>(
     requires few { depth ≤ 127 }
     requires room { HasRoom steps.old (129 * (14 + 129)) }
     ensures seeks { Seeks draft.old draft.new steps.old.zone qtype 14
-        (first.now ∷ second.now ∷ target ∷ []) target result }
-    ensures took { TookFrom steps.old steps.new qtype 14 (first.now ∷ second.now ∷ target ∷ [])
-        target }
+        (first.now ∷ second.now ∷ target.entry ∷ []) target.entry result }
+    ensures took { TookFrom steps.old steps.new qtype 14
+        (first.now ∷ second.now ∷ target.entry ∷ []) target.entry }
 {
     let mut sought: ArrayVec<Name, MOST_SOUGHT> = ArrayVec::new();
-    sought.push(first.copied());
-    sought.push(second.copied());
-    sought.push(target.copied());
+    sought.push(first.to_name());
+    sought.push(second.to_name());
+    sought.push(target.to_name());
     let mut name = target;
     let mut depth = depth;
     let mut more = MOST_SOUGHT - 3;
@@ -158,14 +181,14 @@ fn seek_rest<'z, const N: usize, const SIZE: usize>(
             depth,
             qtype,
             more,
-            sought.as_slice(),
+            Earlier::Others(sought.as_slice()),
             apex,
             steps,
             draft,
         ) {
             Sought::Last(verdict) => return verdict,
             Sought::Alias(target, below) => {
-                sought.push(target.copied());
+                sought.push(target.to_name());
                 name = target;
                 depth = below;
                 more -= 1;
@@ -176,27 +199,28 @@ fn seek_rest<'z, const N: usize, const SIZE: usize>(
 
 // Seeks one name: offers the set of its alias, or the sets that it ends an answer with.
 fn seek_one<'z, const N: usize, const SIZE: usize>(
-    name: &Name,
+    name: &NameRef<'_>,
     depth: usize,
     qtype: u16,
     more: usize,
-    sought: &[Name],
+    sought: Earlier<'_, '_, '_>,
     apex: &Node<'z>,
     steps: &mut Steps<'z>,
     draft: &mut Draft<N, SIZE>,
-) -> Sought
+) -> Sought<'z>
     requires apex { IsApex steps.old.zone apex.now }
     requires below { IsTrue (at_or_below name.now steps.old.zone.origin) }
     requires depth { length name.now ≡ length steps.old.zone.origin + depth }
     requires few { depth ≤ 127 }
     requires room { HasRoom steps.old (129 * (more + 129)) }
-    ensures { SoughtAs draft.old draft.new steps.old steps.new qtype more sought.now name.now
-        result }
+    ensures { SoughtAs draft.old draft.new steps.old steps.new qtype more (names_of sought.entry)
+        name.now result }
 {
     let node = match look_up(name, depth, apex, steps) {
         Found::Cut(cut, octets) => return Sought::Last(refer(&cut, octets, apex, steps, draft)),
         Found::Nothing => {
-            return Sought::Last(deny(Rcode::NameError, apex, steps.origin(), draft));
+            let origin = steps.origin();
+            return Sought::Last(deny(Rcode::NameError, apex, &origin.lent(), draft));
         }
         Found::Records(node) => node,
     };
@@ -205,7 +229,8 @@ fn seek_one<'z, const N: usize, const SIZE: usize>(
         return Sought::Last(offer_asked(node, name, qtype, apex, steps, draft));
     };
     draft.offer(Section::Answer, name, alias.ttl(), &alias);
-    let Some((target, depth)) = next_sought(&alias, more, sought, steps.origin()) else {
+    let origin = steps.origin();
+    let Some((target, depth)) = next_sought(&alias, more, sought, &origin.lent()) else {
         return Sought::Last(Verdict {
             rcode: Rcode::NoError,
             is_referral: false,
@@ -233,34 +258,26 @@ fn alias_at<'z>(node: &Node<'z>, qtype: u16) -> Option<RecordSet<'z>>
 
 // The name that is sought after an alias, and how many labels it has below the origin: the target,
 // where more may be sought and it is at or below the origin and was not sought yet.
-fn next_sought(
-    alias: &RecordSet<'_>,
+fn next_sought<'z>(
+    alias: &RecordSet<'z>,
     more: usize,
-    sought: &[Name],
-    origin: &Name,
-) -> Option<(Name, usize)>
+    sought: Earlier<'_, '_, '_>,
+    origin: &NameRef<'_>,
+) -> Option<(NameRef<'z>, usize)>
     requires some { 0 < length alias.now.rdata }
-    requires valid { HasValidData alias.now }
-    ensures next { NextIs alias.now more sought.now origin.now result }
+    ensures next { NextIs alias.now more (names_of sought.entry) origin.now result }
 {
     if more == 0 {
         return None;
     }
-    let Some(target) = Rdata::target(alias.rtype(), alias.rdata(0)) else {
+    let Some(target) = alias.target(0) else {
         return None;
     };
     let Some(depth) = depth_below(&target, origin) else {
         return None;
     };
-    if was_sought(sought, &target) {
+    if sought.has(&target) {
         return None;
     }
     Some((target, depth))
-}
-
-// Whether a name was sought before.
-fn was_sought(sought: &[Name], name: &Name) -> bool
-    ensures { result ≡ list_any (same name.now) sought.now }
-{
-    sought.iter().any(|earlier| name.same(earlier))
 }

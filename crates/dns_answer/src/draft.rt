@@ -8,9 +8,9 @@ ghost use Rattle.dns_wire.specs.Draft.{IsDraft, item_of};
 ghost use Rattle.dns_wire.specs.QuickNumbers.{quick_number};
 ghost use Rattle.dns_answer.specs.DraftForm.{Offers};
 
-use dns_name::{Name, NameRef};
+use dns_name::NameRef;
 use dns_rdata::SetView;
-use dns_wire::{Head, Page, Question, QuickHash, Section};
+use dns_wire::{Head, Page, QuestionRef, QuickHash, Section};
 use std::marker::Model;
 
 /// A reply that is made, in room for so many places of names and so many octets, which stand in
@@ -52,7 +52,7 @@ impl<const N: usize, const SIZE: usize> Draft<N, SIZE> {
 
     /// Begins a reply, with the question that it repeats, if any. Nothing is left of the reply
     /// before.
-    pub(crate) fn begin(&mut self, question: Option<&Question>)
+    pub(crate) fn begin(&mut self, question: Option<&QuestionRef<'_>>)
         ensures draft { IsDraft quick_number (option_copied question.entry) [] self.new.page }
         ensures limit { self.new.page.limit ≡ SIZE }
         ensures empty { self.new.full ≡ false }
@@ -70,14 +70,7 @@ impl<const N: usize, const SIZE: usize> Draft<N, SIZE> {
     }
 
     /// Offers a set: it is put where there is room for all of it and no set before it was left out.
-    pub(crate) fn offer<S: SetView>(&mut self, section: Section, owner: &Name, ttl: u32, set: &S)
-        ensures { Offers self.old self.new (item_of section owner.now ttl (S.set set.now) ∷ []) }
-    {
-        self.offer_at(section, &owner.lent(), ttl, set);
-    }
-
-    /// The same at an owner that is lent.
-    pub(crate) fn offer_at<S: SetView>(
+    pub(crate) fn offer<S: SetView>(
         &mut self,
         section: Section,
         owner: &NameRef<'_>,

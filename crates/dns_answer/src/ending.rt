@@ -14,7 +14,7 @@ ghost use Rattle.dns_answer.specs.Ending.{Ends, TookTargets};
 
 use crate::addresses::{Side, offer_addresses};
 use crate::draft::Draft;
-use dns_name::Name;
+use dns_name::{Name, NameRef};
 use dns_rdata::{RType, Rdata, SetView};
 use dns_wire::{Rcode, Section};
 use dns_zone::{Node, RecordSet, Steps};
@@ -55,10 +55,12 @@ pub(crate) fn refer<'z, const N: usize, const SIZE: usize>(
     let Some(servers) = cut.set(RType::NS) else {
         unreachable!();
     };
-    draft.offer_at(Section::Authority, &owner, servers.ttl(), &servers);
-    offer_addresses(&servers, Side::Inside(&owner), apex, steps, draft);
+    draft.offer(Section::Authority, &owner, servers.ttl(), &servers);
+    let are_all_inside = offer_addresses(&servers, Side::Inside(&owner), apex, steps, draft);
     let is_truncated = draft.is_full();
-    offer_addresses(&servers, Side::Outside(&owner), apex, steps, draft);
+    if !are_all_inside {
+        offer_addresses(&servers, Side::Outside(&owner), apex, steps, draft);
+    }
     Verdict {
         rcode: Rcode::NoError,
         is_referral: true,
@@ -71,7 +73,7 @@ pub(crate) fn refer<'z, const N: usize, const SIZE: usize>(
 pub(crate) fn deny<const N: usize, const SIZE: usize>(
     rcode: Rcode,
     apex: &Node<'_>,
-    origin: &Name,
+    origin: &NameRef<'_>,
     draft: &mut Draft<N, SIZE>,
 ) -> Verdict
     requires apex { IsApex apex.now.zone apex.now }
@@ -99,7 +101,7 @@ pub(crate) fn deny<const N: usize, const SIZE: usize>(
 /// targets; or says that there is none.
 pub(crate) fn offer_asked<'z, const N: usize, const SIZE: usize>(
     node: &Node<'z>,
-    name: &Name,
+    name: &NameRef<'_>,
     qtype: u16,
     apex: &Node<'z>,
     steps: &mut Steps<'z>,
@@ -119,7 +121,7 @@ pub(crate) fn offer_asked<'z, const N: usize, const SIZE: usize>(
         (Some (with_owner name.now (at node.now.zone node.now.name)))) }
 {
     let Some(set) = asked_set(node, qtype) else {
-        return deny(Rcode::NoError, apex, steps.origin(), draft);
+        return deny(Rcode::NoError, apex, &steps.origin().lent(), draft);
     };
     draft.offer(Section::Answer, name, set.ttl(), &set);
     let is_truncated = draft.is_full();

@@ -6,7 +6,7 @@ ghost use Rattle.dns_name.specs.WireForm.{labels_of, IsWireForm};
 ghost use Rattle.dns_zone.specs.Nodes.{ZoneNode, IsNode};
 ghost use Rattle.dns_answer.specs.Walks.{IsApex, node_or, WalkedTo, FoundAs, ReachedAs, HasRoom, Took, TookWay, TookChild, missed, missed_name};
 
-use dns_name::{Label, Name, first_label};
+use dns_name::{Label, NameRef, first_label};
 use dns_rdata::RType;
 use dns_zone::{Node, Steps};
 
@@ -43,7 +43,7 @@ pub(crate) enum Reached<'z> {
 
 /// What is found for a name at or below the origin, `depth` labels below it.
 pub(crate) fn look_up<'n, 'z>(
-    name: &'n Name,
+    name: &NameRef<'n>,
     depth: usize,
     apex: &Node<'z>,
     steps: &mut Steps<'z>,

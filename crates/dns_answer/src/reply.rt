@@ -14,7 +14,7 @@ use crate::chain::{Ended, seek};
 use crate::draft::Draft;
 use crate::names::depth_below;
 use dns_name::Name;
-use dns_wire::{CLASS_IN, Head, QueryRead, Question, Rcode, read_query};
+use dns_wire::{CLASS_IN, Head, QueryRef, QuestionRef, Rcode, lent_query};
 use dns_zone::Steps;
 
 /// How many octets a reply may have.
@@ -112,10 +112,10 @@ pub fn respond_in<const N: usize, const SIZE: usize>(
     ensures { Responds steps.old steps.new datagram.now SIZE result out.new }
 {
     let origin = steps.origin();
-    match read_query(datagram) {
-        QueryRead::Absent => None,
-        QueryRead::Refused(head) => Some(put_refusal(head, None, draft, out)),
-        QueryRead::Query(head, question) => {
+    match lent_query(datagram) {
+        QueryRef::Absent => None,
+        QueryRef::Refused(head) => Some(put_refusal(head, None, draft, out)),
+        QueryRef::Query(head, question) => {
             Some(put_reply(steps, origin, &head, &question, draft, out))
         }
     }
@@ -126,7 +126,7 @@ fn put_reply<'z, const N: usize, const SIZE: usize>(
     steps: &mut Steps<'z>,
     origin: &Name,
     head: &Head,
-    question: &Question,
+    question: &QuestionRef<'_>,
     draft: &mut Draft<N, SIZE>,
     out: &mut [u8],
 ) -> usize
@@ -160,7 +160,7 @@ enum Judged {
 }
 
 // A question is judged by its class, then its type, then its name.
-fn judge(question: &Question, origin: &Name) -> Judged
+fn judge(question: &QuestionRef<'_>, origin: &Name) -> Judged
     ensures { (z : ZoneContents) → z.origin ≡ origin.now → JudgedAs z question.now result }
 {
     if question.qclass != CLASS_IN {
@@ -169,7 +169,7 @@ fn judge(question: &Question, origin: &Name) -> Judged
     if is_meta_type(question.qtype) {
         return Judged::Refused(Rcode::NotImplemented);
     }
-    match depth_below(&question.name, origin) {
+    match depth_below(&question.name, &origin.lent()) {
         None => Judged::Refused(Rcode::Refused),
         Some(depth) => Judged::Answered(depth),
     }
@@ -185,7 +185,7 @@ fn is_meta_type(qtype: u16) -> bool
 // Puts a reply without records: a header, and the question if it is repeated.
 fn put_refusal<const N: usize, const SIZE: usize>(
     head: Head,
-    question: Option<&Question>,
+    question: Option<&QuestionRef<'_>>,
     draft: &mut Draft<N, SIZE>,
     out: &mut [u8],
 ) -> usize
@@ -201,7 +201,7 @@ fn put_refusal<const N: usize, const SIZE: usize>(
 fn put_answer<'z, const N: usize, const SIZE: usize>(
     steps: &mut Steps<'z>,
     head: &Head,
-    question: &Question,
+    question: &QuestionRef<'_>,
     depth: usize,
     draft: &mut Draft<N, SIZE>,
     out: &mut [u8],
@@ -223,7 +223,7 @@ fn put_answer<'z, const N: usize, const SIZE: usize>(
 // Offers all sets that answer a question, and answers the header of the reply.
 fn offer_answer<'z, const N: usize, const SIZE: usize>(
     head: &Head,
-    question: &Question,
+    question: &QuestionRef<'_>,
     depth: usize,
     steps: &mut Steps<'z>,
     draft: &mut Draft<N, SIZE>,

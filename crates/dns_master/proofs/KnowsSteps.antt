@@ -1,5 +1,5 @@
 -- What an entry changes of what is known of the entries so far.
-use Rattle.std.proofs.Common.{◌≡◌, ℕ, zero, suc, ◌+◌, ◌≤◌, Bool, true, false, cond, List, [], ◌∷◌, ◌++◌, length, refl, sym, ap, ◌∙◌, subst, arith, inl, inr, ◌⊎◌, codes, Option, Some, None}
+use Rattle.std.proofs.Common.{◌≡◌, ℕ, ◌+◌, ◌≤◌, Bool, true, false, cond, List, [], ◌∷◌, length, refl, sym, ap, ◌∙◌, subst, arith, inl, inr, ◌⊎◌, codes, Option, Some, None}
 use Rattle.std.specs.Prelude.{MatchOption}
 use Rattle.std.specs.Option.{option_or}
 use Rattle.std.specs.List.{filter}
@@ -194,3 +194,18 @@ kind-owned blank ws w others b d e = rw e (rw b (rw d refl))
 pub kind-directive : (blank : Bool) (ws : List Word) (w : Word) (others : List Word) → blank ≡ false → is_directive w ≡ true → ws ≡ w ∷ others
     → kind_by_words blank ws ≡ directive (text_in_lower_case w.raw) others
 kind-directive blank ws w others b d e = rw e (rw b (rw d refl))
+
+-- a record was taken, whatever owner was kept before
+pub owner-read : (o : DomainName) (earlier : List Entry) (owner : DomainName) (f : Fields) (old read new : Reader) → RecordTaken o earlier owner f read new → read.origin ≡ old.origin
+    → read.default_ttl ≡ old.default_ttl → read.stated_ttl ≡ old.stated_ttl → read.count ≡ old.count → RecordTaken o earlier owner f old new
+owner-read o earlier owner f old read new t same_origin same_default same_stated same_count =
+    record {
+      taken = t.taken;
+      last_is = t.last_is;
+      owner_is = t.owner_is;
+      given = t.given;
+      origin_is = t.origin_is ∙ same_origin;
+      default_is = t.default_is ∙ same_default;
+      stated_is = λ w h. t.stated_is w (subst (TtlOf w) (sym same_stated) h);
+      count_is = t.count_is ∙ ap (λ k. k + 1) same_count;
+    }

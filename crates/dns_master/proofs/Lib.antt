@@ -1,4 +1,5 @@
 pub mod RunLemmas
+pub mod RunTable
 pub mod EntryLoop
 pub mod RecordSteps
 pub mod KnowsSteps

@@ -6,3 +6,4 @@ pub mod RecordForm
 pub mod ReaderForm
 pub mod RecordsForm
 pub mod SourceForm
+pub mod OwnedBody

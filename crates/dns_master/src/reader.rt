@@ -11,6 +11,8 @@ ghost use Rattle.dns_spec.specs.Meaning.{Nothing, TtlSays, gives, faulty, direct
 ghost use Rattle.dns_master.specs.Codes.{fault_of, failures_after_read};
 ghost use Rattle.dns_master.specs.EntryForm.{TextMeans};
 ghost use Rattle.dns_master.specs.SourceForm.{GivesMeaning};
+ghost use Rattle.dns_master.specs.OwnedBody.{with_owner};
+ghost use Rattle.dns_master.specs.RecordForm.{IsKept};
 ghost use Rattle.dns_master.specs.ReaderForm.{Knows, RecordTaken, EntryTaken, EntryDone, handed};
 ghost use Rattle.dns_master.specs.RecordsForm.{StillGives, came, given_so_far};
 
@@ -19,10 +21,10 @@ use crate::entry::{begins_blank, check_end, read_entry};
 use crate::fault::{ReadCode, ReadFault};
 use crate::fields::{Fields, is_other_class, stated_ttl, type_and_words};
 use crate::gathers::{Gathers, WholeRecords};
-use crate::record::Record;
+use crate::record::{Record, RecordBody};
 use crate::source::read_text;
 use crate::state::{Reader, Records};
-use crate::words::{is_word, read_name};
+use crate::words::{is_word, spell_name};
 use dns_name::{Name, Tally};
 use dns_rdata::{DataRoom, RType, Rdata, Word};
 use std::alloc::Global;
@@ -134,6 +136,7 @@ impl Reader {
             default_ttl: None,
             stated_ttl: None,
             line: 1,
+            owner: Name::root(),
             last: None,
             count: 0,
         }
@@ -289,11 +292,11 @@ impl Reader {
             → KindGives o earlier (owned owner.now words.now) (faulty (fault_of code))) }
         ensures source { IfErr result (λ code. code ≢ ReadCode.SourceFailed) }
     {
-        let Some(mut owner) = read_name(owner, &self.origin) else {
+        if !spell_name(&mut self.owner, owner, &self.origin) {
             return Err(ReadCode::BadOwner);
-        };
-        owner.fold_in_place();
-        self.take_record(owner, words, room)
+        }
+        self.owner.fold_in_place();
+        self.take_record(words, room)
     }
 
     // Takes a record whose owner is that of the record before.
@@ -313,20 +316,15 @@ impl Reader {
         let Some(last) = &self.last else {
             return Err(ReadCode::NoOwner);
         };
-        let owner = last.owner.copied();
-        self.take_record(owner, words, room)
+        self.owner.copy_from(&last.owner);
+        self.take_record(words, room)
     }
 
-    // Takes the record of an owner and of the words after it.
-    fn take_record(
-        &mut self,
-        owner: Name,
-        words: &[Word<'_>],
-        room: &mut DataRoom,
-    ) -> Result<(), ReadCode>
-        requires { folded owner ≡ owner }
+    // Takes the record of the owner that was read, and of the words after it.
+    fn take_record(&mut self, words: &[Word<'_>], room: &mut DataRoom) -> Result<(), ReadCode>
+        requires { folded self.old.owner ≡ self.old.owner }
         ensures ok { OnOk result ((o : DomainName) (earlier : List Entry)
-            → Knows o earlier self.old → RecordTaken o earlier owner
+            → Knows o earlier self.old → RecordTaken o earlier self.old.owner
             (fields words.now) self.old self.new) }
         ensures counted { OnOk result (self.new.count
             ≡ self.old.count + length (handed true self.new.last)) }
@@ -334,37 +332,35 @@ impl Reader {
         ensures line { self.new.line ≡ self.old.line }
         ensures err { IfErr result (λ code. code ≢ ReadCode.NoMemory
             → (o : DomainName) (earlier : List Entry) → Knows o earlier self.old
-            → RecordGives o earlier no_owner (λ n. n ≡ owner) (fields words.now)
+            → RecordGives o earlier no_owner (λ n. n ≡ self.old.owner) (fields words.now)
             (faulty (fault_of code))) }
         ensures source { IfErr result (λ code. code ≢ ReadCode.SourceFailed) }
     {
         let fields = Fields::of(words);
-        let record = self.read_record(owner, &fields, room)?;
-        self.stated_ttl = last_stated(fields.ttl.is_some(), record.ttl, self.stated_ttl);
-        if let Some(before) = self.last.replace(record) {
-            room.take_back(before.rdata);
-        }
+        let body = self.read_body(&fields, room)?;
+        self.stated_ttl = last_stated(fields.ttl.is_some(), body.ttl, self.stated_ttl);
+        put_last(&mut self.last, &self.owner, body, room);
         self.count += 1;
         Ok(())
     }
 
-    // The record of an owner and of the fields after it.
-    fn read_record(
+    // What the fields after the owner that was read say.
+    fn read_body(
         &self,
-        owner: Name,
         fields: &Fields<'_, '_>,
         room: &mut DataRoom,
-    ) -> Result<Record, ReadCode>
-        requires { folded owner ≡ owner }
-        ensures ok { IfOk result (λ r. (o : DomainName) (earlier : List Entry)
+    ) -> Result<RecordBody, ReadCode>
+        requires { folded self.now.owner ≡ self.now.owner }
+        ensures ok { IfOk result (λ body. (o : DomainName) (earlier : List Entry)
             → Knows o earlier self.now → RecordGives o earlier no_owner
-            (λ n. n ≡ owner) fields.now (gives (r ∷ []))) }
-        ensures owner { IfOk result (λ r. r.owner ≡ owner) }
-        ensures few { IfOk result (λ r. self.now.count < most_records) }
-        ensures ttl { IfOk result (λ r. IfSome fields.now.ttl (λ w. TtlSays w r.ttl)) }
+            (λ n. n ≡ self.now.owner) fields.now (gives (with_owner self.now.owner body ∷ []))) }
+        ensures kept { IfOk result (λ body.
+            IsKept self.now.owner body.ttl body.rtype.0 body.rdata) }
+        ensures few { IfOk result (λ body. self.now.count < most_records) }
+        ensures ttl { IfOk result (λ body. IfSome fields.now.ttl (λ w. TtlSays w body.ttl)) }
         ensures err { IfErr result (λ code. code ≢ ReadCode.NoMemory
             → (o : DomainName) (earlier : List Entry) → Knows o earlier self.now
-            → RecordGives o earlier no_owner (λ n. n ≡ owner) fields.now
+            → RecordGives o earlier no_owner (λ n. n ≡ self.now.owner) fields.now
             (faulty (fault_of code))) }
         ensures source { IfErr result (λ code. code ≢ ReadCode.SourceFailed) }
     {
@@ -384,12 +380,7 @@ impl Reader {
         if self.count >= MOST_RECORDS {
             return Err(ReadCode::TooManyRecords);
         }
-        Ok(Record {
-            owner,
-            ttl,
-            rtype,
-            rdata,
-        })
+        Ok(RecordBody { ttl, rtype, rdata })
     }
 
     // The TTL of a record: the stated one, else that of `$TTL`, else the last that was stated.
@@ -413,6 +404,17 @@ impl Reader {
         ensures source { IfErr result (λ code. code ≢ ReadCode.SourceFailed) }
     {
         Ok(Rdata::read_words_in(room, rtype, words, &self.origin)?)
+    }
+}
+
+// Makes the last record that of an owner. The data before it is no longer wanted.
+fn put_last(last: &mut Option<Record>, owner: &Name, body: RecordBody, room: &mut DataRoom)
+    requires { IsKept owner.now body.ttl body.rtype.0 body.rdata }
+    ensures { last.new ≡ Some (with_owner owner.now body) }
+{
+    match last {
+        Some(record) => room.take_back(record.put(owner, body)),
+        None => *last = Some(Record::new(owner, body)),
     }
 }
 

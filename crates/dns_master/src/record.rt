@@ -1,10 +1,13 @@
 //! Records of a zone file.
 ghost use Rattle.std.specs.Prelude.{◌≡◌, IfOk};
+ghost use Rattle.dns_master.specs.RecordForm.{IsKept};
+ghost use Rattle.dns_master.specs.OwnedBody.{with_owner};
 
 use dns_name::Name;
 use dns_rdata::{RType, Rdata};
 use std::alloc::{AllocError, Global};
 use std::marker::Model;
+use std::mem::replace;
 
 /// A record of class IN (RFC 1035 3.2.1). Its owner and the names in its data are in lower case,
 /// and its data is valid for its type.
@@ -36,7 +39,39 @@ impl Model for Record {
     ghost invariant = { λ r. IsKept r.owner r.ttl r.rtype.0 r.rdata };
 }
 
+/// What a record says beside its owner.
+#[derive(Drop)]
+pub(crate) struct RecordBody {
+    pub(crate) ttl: u32,
+    pub(crate) rtype: RType,
+    pub(crate) rdata: Rdata,
+}
+
 impl Record {
+    /// The record of an owner.
+    pub(crate) fn new(owner: &Name, body: RecordBody) -> Record
+        requires { IsKept owner.now body.ttl body.rtype.0 body.rdata }
+        ensures { result ≡ with_owner owner.now body }
+    {
+        Record {
+            owner: owner.copied(),
+            ttl: body.ttl,
+            rtype: body.rtype,
+            rdata: body.rdata,
+        }
+    }
+
+    /// Makes it the record of an owner, where it stands, and hands back the data that it had.
+    pub(crate) fn put(&mut self, owner: &Name, body: RecordBody) -> Rdata
+        requires { IsKept owner.now body.ttl body.rtype.0 body.rdata }
+        ensures { self.new ≡ with_owner owner.now body }
+    {
+        self.owner.copy_from(owner);
+        self.ttl = body.ttl;
+        self.rtype = body.rtype;
+        replace(&mut self.rdata, body.rdata)
+    }
+
     /// A second record with the same values. Memory is taken once, for the data.
     pub fn copied(&self, alloc: Global) -> Result<Record, AllocError>
         ensures { IfOk result (λ copy. copy ≡ self.now) }

@@ -14,6 +14,18 @@ pub(crate) enum Run {
     String,
 }
 
+// In how many runs each octet stands by itself: 2 in words and in strings, 1 in strings alone.
+const RUNS_WITH: [u8; 256] = [
+    0, 0, 0, 0, 0, 0, 0, 0, 0, 1, 0, 0, 0, 0, 0, 0, 0, 0, 0, 0, 0, 0, 0, 0, 0, 0, 0, 0, 0, 0, 0, 0,
+    1, 2, 0, 2, 2, 2, 2, 2, 1, 1, 2, 2, 2, 2, 2, 2, 2, 2, 2, 2, 2, 2, 2, 2, 2, 2, 2, 1, 2, 2, 2, 2,
+    2, 2, 2, 2, 2, 2, 2, 2, 2, 2, 2, 2, 2, 2, 2, 2, 2, 2, 2, 2, 2, 2, 2, 2, 2, 2, 2, 2, 0, 2, 2, 2,
+    2, 2, 2, 2, 2, 2, 2, 2, 2, 2, 2, 2, 2, 2, 2, 2, 2, 2, 2, 2, 2, 2, 2, 2, 2, 2, 2, 2, 2, 2, 2, 0,
+    0, 0, 0, 0, 0, 0, 0, 0, 0, 0, 0, 0, 0, 0, 0, 0, 0, 0, 0, 0, 0, 0, 0, 0, 0, 0, 0, 0, 0, 0, 0, 0,
+    0, 0, 0, 0, 0, 0, 0, 0, 0, 0, 0, 0, 0, 0, 0, 0, 0, 0, 0, 0, 0, 0, 0, 0, 0, 0, 0, 0, 0, 0, 0, 0,
+    0, 0, 0, 0, 0, 0, 0, 0, 0, 0, 0, 0, 0, 0, 0, 0, 0, 0, 0, 0, 0, 0, 0, 0, 0, 0, 0, 0, 0, 0, 0, 0,
+    0, 0, 0, 0, 0, 0, 0, 0, 0, 0, 0, 0, 0, 0, 0, 0, 0, 0, 0, 0, 0, 0, 0, 0, 0, 0, 0, 0, 0, 0, 0, 0,
+];
+
 impl Run {
     /// How many octets the run has that a text begins with, escapes counted with all of their
     /// octets.
@@ -64,19 +76,13 @@ impl Run {
 fn is_word_octet(octet: u8) -> bool
     ensures { result ≡ is_word_octet octet }
 {
-    if octet > b'\\' {
-        return octet <= b'~';
-    }
-    if octet > b')' {
-        return octet != b';' && octet != b'\\';
-    }
-    octet == b'!' || octet >= b'#' && octet <= b'\''
+    RUNS_WITH[octet as usize] == 2
 }
 
 fn is_string_octet(octet: u8) -> bool
     ensures { result ≡ is_string_octet octet }
 {
-    (octet == b'\t' || octet >= b' ' && octet <= b'~') && octet != b'"' && octet != b'\\'
+    RUNS_WITH[octet as usize] != 0
 }
 
 // How many octets after a backslash belong to its escape: one that is printable and no digit, or

@@ -18,6 +18,8 @@ pub(crate) struct Reader {
     pub(crate) stated_ttl: Option<u32>,
     /// The line on which the next entry begins, counted from 1.
     pub(crate) line: u32,
+    /// The owner of the record that is read.
+    pub(crate) owner: Name,
     /// The last record.
     pub(crate) last: Option<Record>,
     /// How many records there were so far.

@@ -12,7 +12,7 @@ use Rattle.std.proofs.Math.ListN.{drop_of_length-le}
 use Rattle.dns_spec.proofs.DomainNames.NameLaws.{is_label-head, length-wire-append, IsName-is_name, IsLabel-is_label}
 use Rattle.dns_spec.specs.Names.{Octets, DomainName, wire, is_label, is_name}
 use Rattle.dns_spec.specs.NameText.{three_digits_value, SpellsOctet, LabelThen, TextSpells, SpellsName}
-use Rattle.dns_name.specs.TextForm.{digit_at, decimal_at, escaped_at, octet_at, is_mark, is_label_end, ReadsLabel, PushesLabel, HasNoLabel, Appended, SpellsIff}
+use Rattle.dns_name.specs.TextForm.{digit_at, decimal_at, escaped_at, octet_at, is_mark, is_label_end, ReadsLabel, PushesLabel, HasNoLabel, Appended, SpellsIff, spelled_as}
 
 -- a text is the spelling of an octet and others
 abbrev pub OctetThen : Octets → ℕ → Octets → Type 0
@@ -512,17 +512,20 @@ dot_spells_none origin word (l ∷ n) e ok (inl (h, k)) =
 dot_spells_none origin word (l ∷ n) e ok (inr (others, h, k)) =
     no_empty_label (ap is_label (sym (LabelThen-at_end word l (46 ∷ others) (ap is_label_end e) h)) ∙ is_label-head l n ok)
 
--- the result is the name that the word spells, if there is one
-abbrev pub SpellsWordIff : {E : Type 0} → DomainName → Octets → Result DomainName E → Type 0
-SpellsWordIff origin word r = (n : DomainName) → (r ≡ Ok n) ↔ SpellsName origin word n
-
-pub SpellsWordIff-root : {E : Type 0} (origin : DomainName) (word : Octets) (root : DomainName) (r : Result DomainName E) → word ≡ 46 ∷ [] → root ≡ [] → r ≡ Ok root → SpellsWordIff origin word r
-SpellsWordIff-root origin word root r f e g = λ n. (
-  λ h. (let same_name : n ≡ root = cc in record { spelled = inr (inl (f, same_name ∙ e)); is_name = ap is_name (same_name ∙ e) }),
-  λ h. g ∙ ap (λ k. Ok k) (e ∙ sym (by_cases n h.is_name h.spelled)),
-)
+-- a dot alone spells the root alone
+pub dot_spells_root : (origin : DomainName) (word : Octets) (n : DomainName) → word ≡ 46 ∷ [] → SpellsName origin word n → n ≡ []
+dot_spells_root origin word n f h = by_cases h.spelled
   where
-    by_cases : (n : DomainName) → is_name n ≡ true → ((word ≡ 64 ∷ []) × (n ≡ origin)) ⊎ (((word ≡ 46 ∷ []) × (n ≡ [])) ⊎ ((word ≢ 64 ∷ []) × (word ≢ []) × TextSpells origin word n)) → n ≡ []
-    by_cases n ok (inl (h, k)) = absurd (dot_or_at word f h)
-    by_cases n ok (inr (inl (h, k))) = k
-    by_cases n ok (inr (inr (h, k, l))) = absurd (dot_spells_none origin word n f ok l)
+    by_cases : ((word ≡ 64 ∷ []) × (n ≡ origin)) ⊎ (((word ≡ 46 ∷ []) × (n ≡ [])) ⊎ ((word ≢ 64 ∷ []) × (word ≢ []) × TextSpells origin word n)) → n ≡ []
+    by_cases (inl (e, k)) = absurd (dot_or_at word f e)
+    by_cases (inr (inl (e, k))) = k
+    by_cases (inr (inr (e, k, l))) = absurd (dot_spells_none origin word n f h.is_name l)
+
+-- what is told of a name in its place, where it fits and where it does not
+pub spelled_as-fits : {A E : Type 0} (name : DomainName) (fits : Bool) (done : A) (fault : E) (r : Result A E) → r ≡ (if fits then Ok done else Err fault) → spelled_as r name ≡ (if fits then Ok name else Err fault)
+spelled_as-fits name true done fault r h = ap (λ x. spelled_as x name) h
+spelled_as-fits name false done fault r h = ap (λ x. spelled_as x name) h
+
+pub spelled_as-fault : {A E : Type 0} (name : DomainName) (r : Result A E) → IsErr r → IsErr (spelled_as r name)
+spelled_as-fault name (Ok done) h = absurd (false≢true h)
+spelled_as-fault name (Err fault) h = h

@@ -1,6 +1,6 @@
 -- What a reader learns here: how the text of a name is read from left to right, by the cases of the
 -- code.
-use Rattle.std.specs.Prelude.{◌≡◌, ℕ, ◌+◌, ◌-◌, ◌*◌, ◌<◌, Bool, true, ◌&&◌, ◌||◌, ◌==◌, nat_le, nat_lt, if◌then◌else◌, [], ◌∷◌, ◌++◌, length, take, Option, Some, None, Result, Ok, ◌↔◌}
+use Rattle.std.specs.Prelude.{◌≡◌, ℕ, ◌+◌, ◌-◌, ◌*◌, ◌<◌, Bool, true, ◌&&◌, ◌||◌, ◌==◌, nat_le, nat_lt, if◌then◌else◌, [], ◌∷◌, ◌++◌, length, take, Option, Some, None, Result, Ok, Err, ◌↔◌}
 use Rattle.std.specs.Option.{option_and_then}
 use Rattle.std.specs.Bool.{MatchBool}
 use Rattle.std.specs.Borrow.{Bor}
@@ -81,3 +81,8 @@ HasNoLabel text =
 abbrev pub SpellsIff : {E : Type 0} → DomainName → Octets → Result DomainName E → Type 0
 SpellsIff origin word r =
     (n : DomainName) → (r ≡ Ok n) ↔ ((is_name n ≡ true) × TextSpells origin word n)
+
+-- what is told of a name that was to be spelled where another stood
+abbrev pub spelled_as : {A E : Type 0} → Result A E → DomainName → Result DomainName E
+spelled_as (Ok done) name = Ok name
+spelled_as (Err fault) name = Err fault

@@ -47,6 +47,23 @@ impl Name {
         Name { octets }
     }
 
+    /// Makes it the root.
+    pub fn clear(&mut self)
+        ensures { self.new ≡ [] }
+    {
+        self.octets.clear();
+        self.octets.push(0);
+    }
+
+    /// Makes it the same name as another, with the same octets. It takes no memory.
+    pub fn copy_from(&mut self, other: &Name)
+        ensures value { self.new ≡ other.now }
+        ensures is_name { IsTrue (is_name self.new) }
+    {
+        self.octets.clear();
+        append_octets(&mut self.octets, other.octets());
+    }
+
     /// Adds a label next to the root: `www.example.` and `org` give `www.example.org.`
     ///
     /// False, with the name as it was, where the wire form would pass 255 octets (RFC 1035 2.3.4).

@@ -1,10 +1,10 @@
 //! Names in the text of zone files (RFC 1035 5.1).
-ghost use Rattle.std.specs.Prelude.{◌≡◌, ◌≢◌, true, ℕ, if◌then◌else◌, IsNone, ◌↔◌, [], ◌∷◌, ◌++◌, IsTrue, IfOk, OnErr, Ok, IfSome, ◌<◌};
+ghost use Rattle.std.specs.Prelude.{◌≡◌, ◌≢◌, true, ℕ, if◌then◌else◌, IsNone, ◌↔◌, [], ◌∷◌, ◌++◌, IsTrue, IfOk, OnOk, OnErr, Ok, IfSome, ◌<◌};
 ghost use Rattle.dns_spec.specs.Names.{Octets, DomainName, is_label, is_name};
 ghost use Rattle.dns_spec.specs.NameText.{LabelThen, TextSpells, SpellsName};
 ghost use Rattle.dns_name.specs.NameFault.{fault_code};
 ghost use Rattle.std.specs.List.{position};
-ghost use Rattle.dns_name.specs.TextForm.{is_mark, ReadsLabel, PushesLabel, HasNoLabel, SpellsIff, Gives, digit_at, decimal_at, escaped_at, octet_at, is_label_end, Appended};
+ghost use Rattle.dns_name.specs.TextForm.{is_mark, ReadsLabel, PushesLabel, HasNoLabel, SpellsIff, spelled_as, Gives, digit_at, decimal_at, escaped_at, octet_at, is_label_end, Appended};
 
 use crate::label::Label;
 use crate::name::Name;
@@ -49,44 +49,62 @@ impl Name {
     pub fn read_text(word: &[u8], origin: &Name) -> Result<Name, NameFault>
         ensures { (n : DomainName) → (result ≡ Ok n) ↔ SpellsName origin.now word.now n }
     {
+        let mut name = Name::root();
+        name.spell(word, origin)?;
+        Ok(name)
+    }
+
+    /// Makes it the name that a word spells, as `read_text` gives one: no second name is made, and
+    /// nothing is moved.
+    ///
+    /// After a fault it is some name.
+    pub fn spell(&mut self, word: &[u8], origin: &Name) -> Result<(), NameFault>
+        ensures ok { OnOk result (SpellsName origin.now word.now self.new) }
+        ensures only { OnOk result
+            ((n : DomainName) → SpellsName origin.now word.now n → n ≡ self.new) }
+        ensures fault { OnErr result
+            ((n : DomainName) → SpellsName origin.now word.now n → ⊥) }
+    {
         if word.is_empty() {
             return Err(NameFault::EmptyLabel);
         }
         if word == b"@".as_slice() {
-            return Ok(origin.copied());
+            self.copy_from(origin);
+            return Ok(());
         }
+        self.clear();
         if word == b".".as_slice() {
-            return Ok(Name::root());
+            return Ok(());
         }
-        spelled_name(word, origin)
+        spell_labels(self, word, origin)
     }
 }
 
-// The name that labels and dots spell.
-fn spelled_name(word: &[u8], origin: &Name) -> Result<Name, NameFault>
-    requires { word.now ≢ [] }
-    ensures { SpellsIff origin.now word.now result }
+// Adds to the root the labels that labels and dots spell.
+fn spell_labels(name: &mut Name, word: &[u8], origin: &Name) -> Result<(), NameFault>
+    requires some { word.now ≢ [] }
+    requires root { name.old ≡ [] }
+    ensures { SpellsIff origin.now word.now (spelled_as result name.new) }
 {
-    let mut name = Name::root();
     let mut fits = true;
     let mut rest = word;
     'labels: while !rest.is_empty() {
-        let (label_fits, end) = push_label(&mut name, rest)?;
+        let (label_fits, end) = push_label(name, rest)?;
         fits &= label_fits;
         let Some((_, others)) = end.split_first() else {
             fits &= name.append(origin);
-            return name_that_fits(name, fits);
+            return check_fits(fits);
         };
         rest = others;
     }
-    name_that_fits(name, fits)
+    check_fits(fits)
 }
 
-fn name_that_fits(name: Name, fits: bool) -> Result<Name, NameFault>
-    ensures { result ≡ (if fits then Ok name else Err NameFault.NameTooLong) }
+fn check_fits(fits: bool) -> Result<(), NameFault>
+    ensures { result ≡ (if fits then Ok tt else Err NameFault.NameTooLong) }
 {
     if fits {
-        Ok(name)
+        Ok(())
     } else {
         Err(NameFault::NameTooLong)
     }

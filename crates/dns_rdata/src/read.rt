@@ -7,7 +7,7 @@ ghost use Rattle.dns_spec.specs.DataText.{Says, SaysAsSpelled};
 use crate::fault::RdataFault;
 use crate::rdata::{MAX_OCTETS, Rdata};
 use crate::rtype::RType;
-use crate::typed::{USUAL_OCTETS, WordForm, put_typed};
+use crate::typed::{USUAL_OCTETS, WordRoom, put_typed};
 use crate::unknown::{is_unknown_mark, put_unknown};
 use crate::word::Word;
 use dns_name::Name;
@@ -18,7 +18,7 @@ use std::mem::replace;
 #[derive(Drop)]
 pub struct DataRoom {
     alloc: Global,
-    forms: Vec<WordForm>,
+    words: WordRoom,
     octets: Vec<u8>,
 }
 
@@ -27,7 +27,7 @@ impl DataRoom {
     pub fn new(alloc: Global) -> DataRoom {
         DataRoom {
             alloc,
-            forms: Vec::new(alloc),
+            words: WordRoom::new(alloc),
             octets: Vec::new(alloc),
         }
     }
@@ -92,7 +92,7 @@ impl Rdata {
             → Says rtype.0 words.now origin.now d → ⊥) }
     {
         let mut octets = room.cleared()?;
-        spell_octets(rtype, words, origin, &mut room.forms, &mut octets)?;
+        spell_octets(rtype, words, origin, &mut room.words, &mut octets)?;
         if octets.len() > MAX_OCTETS {
             return Err(RdataFault::BadString);
         }
@@ -105,7 +105,7 @@ fn spell_octets(
     rtype: RType,
     words: &[Word<'_>],
     origin: &Name,
-    forms: &mut Vec<WordForm>,
+    room: &mut WordRoom,
     octets: &mut Vec<u8>,
 ) -> Result<(), RdataFault>
     requires { octets.old.items ≡ [] }
@@ -120,5 +120,5 @@ fn spell_octets(
             return put_unknown(others, octets);
         }
     }
-    put_typed(rtype, words, origin, forms, octets)
+    put_typed(rtype, words, origin, room, octets)
 }

@@ -16,7 +16,7 @@ use crate::string::read_string;
 use crate::table::{Fixed, NumberSize, Piece, row_of_type};
 use crate::word::Word;
 use dns_name::Name;
-use std::alloc::AllocError;
+use std::alloc::{AllocError, Global};
 
 /// Most data has no more octets, so that its memory never grows. An allocator hands out little less
 /// for fewer.
@@ -32,7 +32,24 @@ pub(crate) enum WordForm {
     String,
 }
 
-/// Puts the octets that words say in the form of the type, where none are yet. `forms` is room.
+/// Room in which words are read: their forms, and a name that one of them spells.
+#[derive(Drop)]
+pub(crate) struct WordRoom {
+    forms: Vec<WordForm>,
+    name: Name,
+}
+
+impl WordRoom {
+    /// Room without memory.
+    pub(crate) fn new(alloc: Global) -> WordRoom {
+        WordRoom {
+            forms: Vec::new(alloc),
+            name: Name::root(),
+        }
+    }
+}
+
+/// Puts the octets that words say in the form of the type, where none are yet.
 ///
 /// `BadHex` where the type has no such form, `WordCount` where it has another number of words; else
 /// the fault of the first word from the left that is none of its form.
@@ -40,7 +57,7 @@ pub(crate) fn put_typed(
     rtype: RType,
     words: &[Word<'_>],
     origin: &Name,
-    forms: &mut Vec<WordForm>,
+    room: &mut WordRoom,
     octets: &mut Vec<u8>,
 ) -> Result<(), RdataFault>
     requires { octets.old.items ≡ [] }
@@ -51,11 +68,12 @@ pub(crate) fn put_typed(
         → SaysTyped rtype.0 origin.now words.now d → ⊥) }
 {
     let row = row_of_type(rtype).ok_or(RdataFault::BadHex)?;
+    let WordRoom { forms, name } = room;
     put_forms(row.pieces, words.len(), forms)?;
     if forms.len() != words.len() {
         return Err(RdataFault::WordCount);
     }
-    append_words(forms.as_slice(), words, origin, octets)
+    append_words(forms.as_slice(), words, origin, name, octets)
 }
 
 // Makes the forms those of so many words for these pieces.
@@ -100,11 +118,12 @@ fn push_times(forms: &mut Vec<WordForm>, form: WordForm, times: usize) -> Result
     Ok(())
 }
 
-// Appends what words say, each by its form, from the left.
+// Appends what words say, each by its form, from the left. `name` is room for those that are names.
 fn append_words(
     forms: &[WordForm],
     words: &[Word<'_>],
     origin: &Name,
+    name: &mut Name,
     octets: &mut Vec<u8>,
 ) -> Result<(), RdataFault>
     requires { length forms.now ≡ length words.now }
@@ -118,7 +137,7 @@ fn append_words(
         let Some((form, others)) = forms.split_first() else {
             unreachable!();
         };
-        append_word(*form, word, origin, octets)?;
+        append_word(*form, word, origin, name, octets)?;
         forms = others;
     }
     Ok(())
@@ -129,6 +148,7 @@ fn append_word(
     form: WordForm,
     word: &Word<'_>,
     origin: &Name,
+    name: &mut Name,
     octets: &mut Vec<u8>,
 ) -> Result<(), RdataFault>
     ensures ok { OnOk result (AppendsOnly (SaysWord (form_of form) origin.now word.now)
@@ -139,7 +159,7 @@ fn append_word(
     if word.quoted && !matches!(form, WordForm::String) {
         return Err(fault_of(form));
     }
-    append_form(form, word.raw, origin, octets)
+    append_form(form, word.raw, origin, name, octets)
 }
 
 // The fault of a word that is none of this form.
@@ -156,6 +176,7 @@ fn append_form(
     form: WordForm,
     text: &[u8],
     origin: &Name,
+    name: &mut Name,
     octets: &mut Vec<u8>,
 ) -> Result<(), RdataFault>
     ensures ok { OnOk result (AppendsOnly (SaysForm (form_of form) origin.now text.now)
@@ -167,7 +188,7 @@ fn append_form(
         WordForm::Number(size) => append_number(size, text, octets),
         WordForm::Ipv4 => append_ipv4(text, octets),
         WordForm::Ipv6 => append_ipv6(text, octets),
-        WordForm::Domain => append_name(text, origin, octets),
+        WordForm::Domain => append_name(text, origin, name, octets),
         WordForm::String => append_string(text, octets),
     }
 }
@@ -223,13 +244,19 @@ fn append_ipv6(text: &[u8], octets: &mut Vec<u8>) -> Result<(), RdataFault>
     append(octets, &address)
 }
 
-fn append_name(text: &[u8], origin: &Name, octets: &mut Vec<u8>) -> Result<(), RdataFault>
+// The name is spelled where `name` stands.
+fn append_name(
+    text: &[u8],
+    origin: &Name,
+    name: &mut Name,
+    octets: &mut Vec<u8>,
+) -> Result<(), RdataFault>
     ensures ok { OnOk result (AppendsOnly (SaysName origin.now text.now)
         octets.old.items octets.new.items) }
     ensures fault { IfErr result (λ fault. fault ≢ RdataFault.NoMemory → (d : Octets)
         → SaysName origin.now text.now d → ⊥) }
 {
-    let name = Name::read_text(text, origin)?;
+    name.spell(text, origin)?;
     append(octets, name.octets())
 }
 

@@ -4,6 +4,7 @@ mod ReadLemmas
 mod ValidData
 mod Anyway
 mod NameLoop
+mod QueryName
 mod ChainLemmas
 mod SpelledLemmas
 mod Suffixes

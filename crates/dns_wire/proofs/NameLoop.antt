@@ -1,14 +1,14 @@
 -- A name is read label by label from place 12 on: the labels read so far, and what the octets from the next place on
 -- spell, are the name.
-use Rattle.std.proofs.Common.{Bool, true, false, ◌≡◌, ℕ, ◌+◌, ◌-◌, ◌<◌, ◌≤◌, [], ◌∷◌, ◌++◌, length, take, drop, get_or, refl, sym, ◌∙◌, ap, arith, Option, None, Some, length-append, length-take, length-drop}
+use Rattle.std.proofs.Common.{Bool, true, false, ◌≡◌, ℕ, ◌+◌, ◌<◌, ◌≤◌, [], ◌∷◌, ◌++◌, length, take, drop, get_or, refl, sym, ◌∙◌, ap, arith, Option, None, Some, length-append}
 use Rattle.std.proofs.lemmas.List.{append_assoc, append-nil}
 use Rattle.std.proofs.lemmas.Option.{slice_get-get_or, slice_get_past}
 use Rattle.std.specs.Prelude.{slice_get, ◌⊎◌}
 use Rattle.std.proofs.Common.{inl, inr}
 use Rattle.std.specs.Option.{option_map, option_and_then}
-use Rattle.dns_spec.specs.Names.{Octets, DomainName, wire, is_name, is_label}
+use Rattle.dns_spec.specs.Names.{Octets, DomainName, wire, is_name}
 use Rattle.dns_spec.specs.ComputedReading.{name_at, name_if_short, with_label}
-use Rattle.dns_spec.proofs.DomainNames.NameLaws.{IsName-is_name, IsLabel-is_label, is_label-IsLabel}
+use Rattle.dns_spec.proofs.DomainNames.NameLaws.{IsName-is_name}
 use Rattle.dns_spec.proofs.Messages.NameReading.{run12, run12_missing, run12_root, run12_label, run12_label_past, run12_high, name_at_12}
 
 -- labels in front of what was read
@@ -89,30 +89,3 @@ none_long n long (Some (m, e)) = no_name n m e long (is_name (n ++ m)) refl
 pub read_on-long : (d : Octets) (n : DomainName) (i : ℕ) → 255 < length (wire n) → read_on d n i ≡ None
 unfolding read_on
 read_on-long d n i long = none_long n long (run12 d i)
-
--- One step of the loop: the octet k at place i is not 0, and the label l after it is inside the octets.
-module _ (d : Octets) (n : DomainName) (i k : ℕ) (l : Octets) (h : i < length d) (z : get_or d i 0 ≡ k) (pos : k ≡ 0 → ⊥) (inside : i + 1 + k ≤ length d) (e : l ≡ take (i + 1 + k - (i + 1)) (drop (i + 1) d)) where
-  label_is : l ≡ take k (drop (i + 1) d)
-  label_is = let same : i + 1 + k - (i + 1) ≡ k = omega arith in e ∙ ap (λ m. take m (drop (i + 1) d)) same
-
-  label_length : length l ≡ k
-  label_length = ap length label_is ∙ simp (length-take, length-drop) (omega arith)
-
-  -- it is a label: it is read
-  pub step-label : is_label l ≡ true → read_on d n i ≡ read_on d (n ++ l ∷ []) (i + 1 + k)
-  step-label ok =
-      let label = IsLabel-is_label l ok in
-      read_on-label d n i k h z (omega arith) (omega (arith, label_length, label.fits)) inside
-      ∙ ap (λ m. read_on d (n ++ m ∷ []) (i + 1 + k)) (sym label_is)
-
-  -- it is none: no name is spelled
-  pub step-no_label : (is_label l ≡ true → ⊥) → read_on d n i ≡ None
-  step-no_label bad = by_high (grind arith)
-    where
-      by_high : (k < 64) ⊎ (64 ≤ k) → read_on d n i ≡ None
-      by_high (inl low) = absurd (bad (is_label-IsLabel l (omega (arith, label_length)) (omega (arith, label_length))))
-      by_high (inr high) = read_on-high d n i k h z high
-
-  -- the name with it is too long
-  pub step-long : is_label l ≡ true → (length (wire (n ++ l ∷ [])) ≤ 255 → ⊥) → read_on d n i ≡ None
-  step-long ok long = step-label ok ∙ read_on-long d (n ++ l ∷ []) (i + 1 + k) (grind (arith, long))

@@ -1,10 +1,14 @@
 -- What a reader learns here: what a query that was read, and an RCODE, are in the words of the
 -- definitions.
-use Rattle.std.specs.Prelude.{ℕ}
+use Rattle.std.specs.Prelude.{◌≡◌, ℕ, ◌-◌, ◌<◌, ◌≤◌, Some, IsTrue, length, take, drop}
+use Rattle.dns_spec.specs.Names.{Octets, DomainName, wire, is_name}
+use Rattle.dns_spec.specs.ComputedReading.{name_at}
 use Rattle.dns_spec.specs.Query as spec
 use Rattle.dns_spec.specs.Reading as reading
 use Rattle.dns_wire.specs.declared.query.QueryRead.{QueryRead}
 use Rattle.dns_wire.specs.declared.query.QueryRead.TheVariants.{Absent, Refused, Query}
+use Rattle.dns_wire.specs.declared.query.QueryRef.{QueryRef}
+use Rattle.dns_wire.specs.declared.query.QueryRef.TheVariants as lent
 use Rattle.dns_wire.specs.declared.query.Rcode.{Rcode}
 use Rattle.dns_wire.specs.declared.query.Rcode.TheVariants as rcodes
 
@@ -12,6 +16,20 @@ abbrev pub as_read : QueryRead → spec.QueryRead
 as_read Absent = spec.absent
 as_read (Refused head) = spec.refused_with head
 as_read (Query head question) = spec.query head question
+
+abbrev pub as_lent : QueryRef → spec.QueryRead
+as_lent lent.Absent = spec.absent
+as_lent (lent.Refused head) = spec.refused_with head
+as_lent (lent.Query head question) = spec.query head question
+
+-- a name stands in a datagram at the first place after the header, up to another place
+pub record NameEnds (d : Octets) (end : ℕ) : Type 0 where
+  pub name : DomainName
+  pub read : name_at d 12 ≡ Some (name, end)
+  pub octets : take (end - 12) (drop 12 d) ≡ wire name
+  pub is_name : IsTrue (is_name name)
+  pub some : 12 < end
+  pub inside : end ≤ length d
 
 -- RFC 1035 4.1.1
 abbrev pub code_of : Rcode → ℕ

@@ -16,10 +16,10 @@ mod spelled;
 mod writer;
 
 pub use fault::WireFault;
-pub use message::{CLASS_IN, Head, Message, Question, WireRecord};
+pub use message::{CLASS_IN, Head, Message, Question, QuestionRef, WireRecord};
 pub use page::{Page, Section};
 pub use places::SuffixHash;
-pub use query::{QueryRead, Rcode, read_query};
+pub use query::{QueryRead, QueryRef, Rcode, lent_query, read_query};
 pub use quick_hash::QuickHash;
 pub use reader::read_message;
 pub use writer::Writer;

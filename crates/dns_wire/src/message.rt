@@ -3,7 +3,7 @@ ghost use Rattle.std.specs.Prelude.{◌≡◌};
 ghost use Rattle.dns_spec.specs.Data.{Valid};
 ghost use Rattle.dns_wire.specs.Read.{data_type};
 
-use dns_name::Name;
+use dns_name::{Name, NameRef};
 use dns_rdata::RType;
 use std::marker::Model;
 
@@ -48,6 +48,51 @@ impl Model for Question {
     ghost Value = { MessageQuestion };
 
     ghost view = { λ q. record { qname = q.name; qtype = q.qtype; qclass = q.qclass } };
+}
+
+impl Question {
+    /// The question, lent.
+    pub fn lent(&self) -> QuestionRef<'_>
+        ensures { result ≡ self.now }
+    {
+        QuestionRef {
+            name: self.name.lent(),
+            qtype: self.qtype,
+            qclass: self.qclass,
+        }
+    }
+}
+
+/// A question whose name is lent.
+#[derive(Drop)]
+pub struct QuestionRef<'a> {
+    /// The name asked for.
+    pub name: NameRef<'a>,
+    /// The type asked for.
+    pub qtype: u16,
+    /// The class asked for.
+    pub qclass: u16,
+}
+
+impl<'a> Model for QuestionRef<'a> {
+    ghost use Rattle.dns_spec.specs.Reading.{MessageQuestion};
+
+    ghost Value = { MessageQuestion };
+
+    ghost view = { λ q. record { qname = q.name; qtype = q.qtype; qclass = q.qclass } };
+}
+
+impl QuestionRef<'_> {
+    /// A question of its own with the same name, type and class. It takes no memory.
+    pub fn to_question(&self) -> Question
+        ensures { result ≡ self.now }
+    {
+        Question {
+            name: self.name.to_name(),
+            qtype: self.qtype,
+            qclass: self.qclass,
+        }
+    }
 }
 
 /// A record of a message (RFC 1035 4.1.3).

@@ -10,7 +10,7 @@ ghost use Rattle.dns_spec.specs.Laws.{sections_in_order, IsWritable};
 ghost use Rattle.dns_spec.specs.Sharing.{Sharing};
 ghost use Rattle.dns_wire.specs.Writing.{IsSound};
 
-use crate::message::{HEADER_OCTETS, Head, Question};
+use crate::message::{HEADER_OCTETS, Head, Question, QuestionRef};
 use crate::places::SuffixHash;
 use crate::room::Room;
 use byteorder::{BigEndian, ByteOrder};
@@ -88,7 +88,10 @@ impl<const N: usize, const SIZE: usize> Page<N, SIZE> {
         ensures same { H.numbers hash.new ≡ H.numbers hash.old }
     {
         let mut page = Page::empty(limit);
-        page.put_question(hash, question);
+        match question {
+            Some(question) => page.put_question(hash, Some(&question.lent())),
+            None => page.put_question(hash, None),
+        }
         page
     }
 
@@ -134,7 +137,7 @@ impl<const N: usize, const SIZE: usize> Page<N, SIZE> {
     /// Writes the question that a message repeats, if any.
     ///
     /// Conditions: the message has nothing yet, and its limit is at least 512 octets.
-    pub fn put_question<H: SuffixHash>(&mut self, hash: &mut H, question: Option<&Question>)
+    pub fn put_question<H: SuffixHash>(&mut self, hash: &mut H, question: Option<&QuestionRef<'_>>)
         requires nothing { self.old ≡ no_draft self.old.limit }
         requires from { 512 ≤ self.old.limit }
         ensures draft { IsDraft (H.numbers hash.old) (option_copied question.entry) [] self.new }

@@ -1,13 +1,12 @@
 //! Queries, read: a header and one question (RFC 1035 4.1).
-ghost use Rattle.std.specs.Prelude.{◌≡◌, ℕ, ◌+◌, ◌≤◌, [], true, false, length, IfSome};
-ghost use Rattle.std.specs.Option.{option_map};
+ghost use Rattle.std.specs.Prelude.{◌≡◌, ◌+◌, ◌≤◌, length, IfSome, IsNone, None};
 ghost use Rattle.dns_spec.specs.ComputedReading.{name_at};
 ghost use Rattle.dns_spec.specs.Query.{field16, head_of, reply_head, refusal_head, is_ignored, counts_are_one_question, question_at, query_read};
-ghost use Rattle.dns_wire.specs.QueryForm.{as_read, code_of};
+ghost use Rattle.dns_wire.specs.QueryForm.{as_lent, as_read, code_of, NameEnds};
 
-use crate::message::{HEADER_OCTETS, Head, Question};
+use crate::message::{HEADER_OCTETS, Head, Question, QuestionRef};
 use byteorder::{BigEndian, ByteOrder};
-use dns_name::{Label, Name};
+use dns_name::NameRef;
 
 /// What a datagram is as a query.
 #[derive(Drop)]
@@ -19,6 +18,24 @@ pub enum QueryRead {
     /// It is a query: its header and its question, both as they came.
     Query(Head, Question),
 }
+
+/// What a datagram is as a query, whose question is lent out of it.
+#[derive(Drop)]
+pub enum QueryRef<'d> {
+    /// It is shorter than a header, or is a reply itself: nothing is sent.
+    Absent,
+    /// It is refused: this is the header of the reply, which is sent alone.
+    Refused(Head),
+    /// It is a query: its header and its question, both as they came.
+    Query(Head, QuestionRef<'d>),
+}
+
+// A label has at most so many octets (RFC 1035 2.3.4).
+const MOST_LABEL: usize = 63;
+
+// The last place at which the root may end the name of a question, which has at most 255 octets
+// (RFC 1035 2.3.4).
+const LAST_ROOT: usize = HEADER_OCTETS + 254;
 
 /// How a query is answered (RFC 1035 4.1.1).
 #[derive(Clone, Copy, Debug, PartialEq, Eq)]
@@ -71,35 +88,38 @@ impl Head {
 /// `Absent` for fewer than 12 octets and for replies. Refused are, in this order: an opcode that
 /// isn't 0, with RCODE 4, and, with RCODE 1, counts that aren't 1, 0, 0, 0, and what isn't exactly
 /// one question after the header.
-#[tactic(auto, unfolding(dns_spec::specs::Query::query_read))]
 pub fn read_query(datagram: &[u8]) -> QueryRead
     ensures { as_read result ≡ query_read datagram.now }
 {
+    match lent_query(datagram) {
+        QueryRef::Absent => QueryRead::Absent,
+        QueryRef::Refused(head) => QueryRead::Refused(head),
+        QueryRef::Query(head, question) => QueryRead::Query(head, question.to_question()),
+    }
+}
+
+/// Reads a datagram as a query, as `read_query` does. The question is lent out of the datagram, so
+/// that no name is copied.
+#[tactic(auto, unfolding(dns_spec::specs::Query::query_read))]
+pub fn lent_query(datagram: &[u8]) -> QueryRef<'_>
+    ensures { as_lent result ≡ query_read datagram.now }
+{
     if is_ignored(datagram) {
-        return QueryRead::Absent;
+        return QueryRef::Absent;
     }
     let head = Head {
         id: field(datagram, 0),
         flags: field(datagram, 2),
     };
     if head.flags / 0x800 % 16 != 0 {
-        return QueryRead::Refused(head.reply(false, false, Rcode::NotImplemented));
+        return QueryRef::Refused(head.reply(false, false, Rcode::NotImplemented));
     }
     if !counts_are_one_question(datagram) {
-        return QueryRead::Refused(head.reply(false, false, Rcode::FormatError));
+        return QueryRef::Refused(head.reply(false, false, Rcode::FormatError));
     }
-    // The name is read to where it stays, since to move it costs more than to read it.
-    let mut name = Name::root();
-    match read_question(datagram, &mut name) {
-        None => QueryRead::Refused(head.reply(false, false, Rcode::FormatError)),
-        Some((qtype, qclass)) => QueryRead::Query(
-            head,
-            Question {
-                name,
-                qtype,
-                qclass,
-            },
-        ),
+    match lent_question(datagram) {
+        None => QueryRef::Refused(head.reply(false, false, Rcode::FormatError)),
+        Some(question) => QueryRef::Query(head, question),
     }
 }
 
@@ -129,46 +149,39 @@ fn counts_are_one_question(datagram: &[u8]) -> bool
         && field(datagram, 10) == 0
 }
 
-// The type and the class of the question that is all that stands after the header. Its name takes
-// the place of the root.
+// The question that is all that stands after the header.
 #[tactic(auto, unfolding(dns_spec::specs::Query::question_at))]
-fn read_question(datagram: &[u8], name: &mut Name) -> Option<(u16, u16)>
-    requires { name.old ≡ [] }
-    ensures { option_map (λ n. record { qname = name.new; qtype = n.0; qclass = n.1 }) result
-        ≡ question_at datagram.now }
+fn lent_question(datagram: &[u8]) -> Option<QuestionRef<'_>>
+    ensures { result ≡ question_at datagram.now }
 {
-    let at = read_name(datagram, name)?;
-    if datagram.len() != at + 4 {
+    let end = name_end(datagram)?;
+    if datagram.len() != end + 4 {
         return None;
     }
-    Some((field(datagram, at), field(datagram, at + 2)))
+    Some(QuestionRef {
+        name: NameRef::new(&datagram[HEADER_OCTETS..end]),
+        qtype: field(datagram, end),
+        qclass: field(datagram, end + 2),
+    })
 }
 
-// The name at the first place after the header, which takes the place of the root, and the place
-// after it. No pointer is lawful there, since its place would have to be before that one and after
-// the header (RFC 1035 4.1.4).
-fn read_name(datagram: &[u8], name: &mut Name) -> Option<usize>
-    requires { name.old ≡ [] }
-    ensures name { option_map (λ at. (name.new, at)) result ≡ name_at datagram.now 12 }
-    ensures within { IfSome result (λ at. at ≤ length datagram.now) }
+// The place after the name at the first place after the header. No pointer is lawful there, since
+// its place would have to be before that one and after the header (RFC 1035 4.1.4).
+fn name_end(datagram: &[u8]) -> Option<usize>
+    ensures some { IfSome result (λ end. NameEnds datagram.now end) }
+    ensures none { IsNone result → name_at datagram.now 12 ≡ None }
 {
     let mut at = HEADER_OCTETS;
     'labels: while at < datagram.len() {
         let length = datagram[at] as usize;
-        at += 1;
         if length == 0 {
-            return Some(at);
+            return Some(at + 1);
         }
-        if length > datagram.len() - at {
+        let next = at + 1 + length;
+        if length > MOST_LABEL || next > datagram.len() || next > LAST_ROOT {
             return None;
         }
-        let Some(label) = Label::new(&datagram[at..at + length]) else {
-            return None;
-        };
-        if !name.push(label) {
-            return None;
-        }
-        at += length;
+        at = next;
     }
     None
 }

@@ -12,7 +12,7 @@ ghost use Rattle.dns_spec.specs.Sets.{records_at};
 ghost use Rattle.dns_spec.specs.Laws.{IsAskable};
 ghost use Rattle.dns_rdata.specs.Parts.{HasName};
 
-use crate::message::{CLASS_IN, Question};
+use crate::message::{CLASS_IN, QuestionRef};
 use crate::places::{Places, SuffixHash};
 use arrayvec::ArrayVec;
 use byteorder::{BigEndian, ByteOrder};
@@ -67,7 +67,7 @@ impl<const N: usize, const SIZE: usize> Room<N, SIZE> {
     }
 
     /// Writes the question, which nothing stands before but the room for a header.
-    pub(crate) fn put_question<H: SuffixHash>(&mut self, hash: &mut H, question: &Question)
+    pub(crate) fn put_question<H: SuffixHash>(&mut self, hash: &mut H, question: &QuestionRef<'_>)
         requires sound { IsSoundRoom self.old }
         requires room { 512 ≤ self.old.limit }
         requires blank { self.old.octets.items ≡ replicate 12 0 }

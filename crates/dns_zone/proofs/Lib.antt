@@ -1,6 +1,7 @@
 pub mod Entries
 pub mod Targets
 pub mod KnownRecords
+pub mod RisenRecords
 pub mod BuiltZone
 pub mod PrintedRecords
 pub mod Pairs

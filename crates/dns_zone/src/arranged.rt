@@ -4,10 +4,9 @@
 //! short keys first, and each record is moved once.
 ghost use Rattle.std.specs.Prelude.{◌≡◌, ◌<◌, ◌≤◌, All, length, IfOk};
 ghost use Rattle.std.specs.List.Sorted.{IsPermutation};
-ghost use Rattle.std.specs.Ordering.{nat_cmp, ordering_then};
-ghost use Rattle.dns_spec.specs.Records.{record_order};
 
 use crate::entry::Entry;
+use crate::lookup::count_in_front;
 use crate::order::record_order;
 use dns_name::NameRef;
 use std::alloc::{AllocError, Global};
@@ -40,19 +39,22 @@ const RANKS: [u8; 256] = [
     63, 63, 63,
 ];
 
-// A record, where it stands, and the first octets of its owner's key.
+// Records of one owner that stand side by side, from one place up to another, and the first octets of
+// the owner's key.
 #[derive(Drop)]
-struct Place<'a> {
+struct Run {
     key: u128,
     at: usize,
-    listed: &'a Entry,
+    end: usize,
 }
 
-/// Moves records into the order of their keys, and those of one key into canonical order. Where all
-/// owners are in the zone and of letters, digits, `-` and `_` that is the canonical order, but
-/// nothing here says so: who needs it sorts, which then moves nothing.
+/// Moves records into the order of their keys, and those that stand side by side of one owner into
+/// canonical order. Where all owners are in the zone and of letters, digits, `-` and `_`, and the
+/// records of each stand side by side, that is the canonical order, but nothing here says so: who
+/// needs it sorts, which then moves nothing.
 ///
-/// Memory is taken for 40 octets for each record.
+/// Memory is taken for 32 octets for each run of records of one owner, for as much again where the
+/// runs are not in order, and for 8 octets for each record.
 pub(crate) fn arrange(
     alloc: Global,
     origin: &NameRef<'_>,
@@ -60,55 +62,57 @@ pub(crate) fn arrange(
 ) -> Result<(), AllocError>
     ensures { IsPermutation records.old records.new }
 {
-    let mut ranks = ranks(alloc, origin, records)?;
-    put_in_places(records, ranks.as_mut_slice());
+    let runs = runs(alloc, origin, records)?;
+    let mut places = places(alloc, runs, records)?;
+    put_in_places(records, places.as_mut_slice());
     Ok(())
 }
 
-// For each record how many come before it.
-fn ranks(alloc: Global, origin: &NameRef<'_>, records: &[Entry]) -> Result<Vec<usize>, AllocError>
-    ensures count { IfOk result (λ ranks. length ranks.items ≡ length records.now) }
-    ensures below { IfOk result (λ ranks. All (λ r. r < length records.now) ranks.items) }
-{
-    let mut places = places(alloc, origin, records)?;
-    places.sort_unstable_by(|one, other| place_order(one, other));
-    let mut ranks = vec![in alloc; 0_usize; records.len()]?;
-    note_ranks(places.as_slice(), ranks.as_mut_slice());
-    Ok(ranks)
-}
-
-// The place of each record.
-fn places<'a>(
-    alloc: Global,
-    origin: &NameRef<'_>,
-    records: &'a [Entry],
-) -> Result<Vec<Place<'a>>, AllocError>
-    ensures count { IfOk result (λ places. length places.items ≡ length records.now) }
-    ensures below { IfOk result (λ places.
-        All (λ (p : Place). p.at < length records.now) places.items) }
+// The runs of records of one owner, each of which is sorted.
+fn runs(alloc: Global, origin: &NameRef<'_>, records: &mut [Entry]) -> Result<Vec<Run>, AllocError>
+    ensures permutation { IsPermutation records.old records.new }
+    ensures within { IfOk result (λ runs.
+        All (λ (r : Run). r.end ≤ length records.new) runs.items) }
 {
     let origin_count = origin.label_count();
-    let mut places = Vec::with_capacity(alloc, records.len())?;
-    let mut rest = records;
+    let mut runs = Vec::with_capacity(alloc, records.len())?;
     let mut at = 0;
-    'records: while let Some((listed, others)) = rest.split_first() {
-        let key = key_after(places.as_slice(), origin_count, &listed.owner());
-        places.push(Place { key, at, listed })?;
-        rest = others;
-        at += 1;
+    'runs: while at < records.len() {
+        let end = end_of_run(records, at);
+        let key = key_below(origin_count, &records[at].owner());
+        sort_run(records, at, end);
+        runs.push(Run { key, at, end })?;
+        at = end;
     }
-    Ok(places)
+    Ok(runs)
 }
 
-// The key of an owner, which is mostly that of the record before.
-fn key_after(places: &[Place<'_>], origin_count: usize, owner: &NameRef<'_>) -> u128 {
-    if let Some(last) = places.last() {
-        let before = last.listed;
-        if before.owner() == *owner {
-            return last.key;
+// Where the records end that have the owner of the one at `at`.
+fn end_of_run(records: &[Entry], at: usize) -> usize
+    requires { at < length records.now }
+    ensures after { at < result }
+    ensures within { result ≤ length records.now }
+{
+    let first = &records[at];
+    match records.get(at + 1) {
+        Some(next) if next.owner() == first.owner() => {
+            at + 1 + count_in_front(&records[at + 1..], &first.owner())
         }
+        _ => at + 1,
     }
-    key_below(origin_count, owner)
+}
+
+// Sorts the records of one owner from one place up to another. Mostly it has one.
+fn sort_run(records: &mut [Entry], at: usize, end: usize)
+    requires order { at < end }
+    requires within { end ≤ length records.old }
+    ensures { IsPermutation records.old records.new }
+{
+    if end - at == 1 {
+        return;
+    }
+    let own = &mut records[at..end];
+    own.sort_unstable_by(|one, other| record_order(one, other));
 }
 
 // The first octets that the key of an owner has after that of the origin, by which most owners of a
@@ -153,52 +157,67 @@ fn half_key(octets: &[u8]) -> u64
     key << (OCTET_BITS * (HALF_OCTETS - octets.len()) as u32)
 }
 
-fn place_order(one: &Place<'_>, other: &Place<'_>) -> Ordering
-    ensures { result ≡ ordering_then (nat_cmp one.now.key other.now.key)
-        (record_order one.now.listed.now other.now.listed.now) }
+// For each place the one from which its record comes. Owners whose keys are alike are compared.
+fn places(alloc: Global, mut runs: Vec<Run>, records: &[Entry]) -> Result<Vec<usize>, AllocError>
+    requires { All (λ (r : Run). r.end ≤ length records.now) runs.items }
+    ensures { IfOk result (λ places. All (λ p. p < length records.now) places.items) }
 {
-    one.key
-        .cmp(&other.key)
-        .then_with(|| record_order(one.listed, other.listed))
+    runs.sort_by(|one, other| run_order(records, one, other))?;
+    places_of(alloc, runs.as_slice(), records.len())
 }
 
-// Notes for each place how many come before it.
-fn note_ranks(places: &[Place<'_>], ranks: &mut [usize])
-    requires count { length places.now ≡ length ranks.old }
-    requires places { All (λ (p : Place). p.at < length ranks.old) places.now }
-    requires below { All (λ r. r < length ranks.old) ranks.old }
-    ensures { All (λ r. r < length ranks.old) ranks.new }
+// The places of runs, one after another, where there are `count` places.
+fn places_of(alloc: Global, runs: &[Run], count: usize) -> Result<Vec<usize>, AllocError>
+    requires { All (λ (r : Run). r.end ≤ count) runs.now }
+    ensures { IfOk result (λ places. All (λ p. p < count) places.items) }
 {
-    'places: for (rank, place) in places.iter().enumerate() {
-        ranks[place.at] = rank;
+    let mut places = Vec::with_capacity(alloc, count)?;
+    'runs: for run in runs {
+        'places: for at in run.at..run.end {
+            places.push(at)?;
+        }
     }
+    Ok(places)
 }
 
-// Moves each record to the place that its rank names.
-fn put_in_places(records: &mut [Entry], ranks: &mut [usize])
-    requires count { length ranks.old ≡ length records.old }
-    requires below { All (λ r. r < length records.old) ranks.old }
+fn run_order(records: &[Entry], one: &Run, other: &Run) -> Ordering {
+    one.key.cmp(&other.key).then_with(|| match (records.get(one.at), records.get(other.at)) {
+        (Some(one), Some(other)) => record_order(one, other),
+        _ => Ordering::Equal,
+    })
+}
+
+// Moves to each place the record that comes there.
+fn put_in_places(records: &mut [Entry], places: &mut [usize])
+    requires { All (λ p. p < length records.old) places.old }
     ensures { IsPermutation records.old records.new }
 {
+    if places.len() != records.len() {
+        return;
+    }
     'places: for at in 0..records.len() {
-        settle(records, ranks, at);
+        settle(records, places, at);
     }
 }
 
-// Moves records to their places from the place `at`, until the record that belongs there has come.
-fn settle(records: &mut [Entry], ranks: &mut [usize], at: usize)
-    requires at { at < length records.old }
-    requires count { length ranks.old ≡ length records.old }
-    requires below { All (λ r. r < length records.old) ranks.old }
+// Moves to the place `first` the record that comes there, and on to the place which that leaves, until
+// the record of `first` is moved.
+fn settle(records: &mut [Entry], places: &mut [usize], first: usize)
+    requires first { first < length records.old }
+    requires count { length places.old ≡ length records.old }
+    requires below { All (λ p. p < length records.old) places.old }
     ensures permutation { IsPermutation records.old records.new }
-    ensures below { All (λ r. r < length records.old) ranks.new }
+    ensures count { length places.new ≡ length records.old }
+    ensures below { All (λ p. p < length records.old) places.new }
 {
+    let mut at = first;
     'moves: for _ in 0..records.len() {
-        let rank = ranks[at];
-        if rank == at {
+        let from = places[at];
+        places[at] = at;
+        if from == first {
             return;
         }
-        records.swap(at, rank);
-        ranks.swap(at, rank);
+        records.swap(at, from);
+        at = from;
     }
 }

@@ -135,6 +135,9 @@ pub(crate) fn has_type(records: &[Entry], rtype: RType) -> bool
     requires { IsNonDecreasingBy (λ (r : ResourceRecord). r.rtype) records.now }
     ensures { result ≡ list_any (λ (r : ResourceRecord). r.rtype == rtype.0) records.now }
 {
+    if records.len() <= NEAR {
+        return records.iter().any(|listed| listed.rtype == rtype);
+    }
     match records[count_below(records, rtype)..].first() {
         Some(listed) => listed.rtype == rtype,
         None => false,

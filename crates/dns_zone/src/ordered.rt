@@ -1,10 +1,10 @@
 //! Records in canonical order, each once.
-ghost use Rattle.std.specs.Prelude.{◌≡◌, ◌<◌, ◌≤◌, ◌∷◌, All, length, IfOk};
-ghost use Rattle.std.specs.Bool.{OnFalse};
+ghost use Rattle.std.specs.Prelude.{List, ◌≡◌, ◌<◌, ◌≤◌, All, length, IfOk};
 ghost use Rattle.std.specs.List.{dedup};
-ghost use Rattle.dns_spec.specs.Records.{records_equal, distinct, sort_by, record_order};
+ghost use Rattle.std.specs.List.Sorted.{IsPermutation};
+ghost use Rattle.dns_spec.specs.Records.{ResourceRecord, records_equal, distinct, sort_by, record_order};
 ghost use Rattle.dns_spec.specs.ZonePrinted.{IsReadRecord};
-ghost use Rattle.dns_zone.specs.ZoneForm.{AreOrdered};
+ghost use Rattle.dns_zone.specs.ZoneForm.{AreOrdered, comes_first, neighbours_rise};
 
 use crate::arranged::arrange;
 use crate::entry::Entry;
@@ -12,8 +12,8 @@ use crate::order::record_order;
 use dns_name::NameRef;
 use std::alloc::{AllocError, Global};
 
-// The records, each once, in canonical order (RFC 4034 6.1, 6.3, RFC 2181 5). The sort here moves
-// nothing where the records are arranged already, and they mostly are.
+// The records, each once, in canonical order (RFC 4034 6.1, 6.3, RFC 2181 5). They mostly are once
+// they are arranged, which one walk sees.
 pub(crate) fn ordered(
     alloc: Global,
     origin: &NameRef<'_>,
@@ -27,45 +27,54 @@ pub(crate) fn ordered(
 {
     know_each(records.as_slice());
     arrange(alloc, origin, records.as_mut_slice())?;
-    records.sort_unstable_by(|one, other| record_order(one, other));
-    leave_out_duplicates(&mut records);
+    sort_once(&mut records);
     Ok(records)
 }
 
-// Leaves each record out that is equal to the one before. `dedup_by` moves all records, and mostly
-// none is left out.
+// Sorts records and leaves duplicates out, where they are not in order already, each once.
+fn sort_once(records: &mut Vec<Entry>)
+    ensures sorted { (rs : List ResourceRecord) → All IsReadRecord rs
+        → IsPermutation rs records.old.items
+        → records.new.items ≡ sort_by record_order (distinct records_equal rs) }
+    ensures bound { length records.new.items ≤ length records.old.items }
+{
+    if rises(records.as_slice()) {
+        return;
+    }
+    records.sort_unstable_by(|one, other| record_order(one, other));
+    leave_out_duplicates(records);
+}
+
+// Whether each record comes before the next, so that they are in order, each once.
+fn rises(records: &[Entry]) -> bool
+    ensures { result ≡ neighbours_rise records.now }
+{
+    let mut rest = records;
+    'records: while let Some((first, others)) = rest.split_first() {
+        if !comes_first(first, others) {
+            return false;
+        }
+        rest = others;
+    }
+    true
+}
+
+// Whether the record comes before the next.
+fn comes_first(first: &Entry, others: &[Entry]) -> bool
+    ensures { result ≡ comes_first first.now others.now }
+{
+    match others.first() {
+        Some(next) => record_order(first, next).is_lt(),
+        None => true,
+    }
+}
+
+// Leaves each record out that is equal to the one before.
 fn leave_out_duplicates(records: &mut Vec<Entry>)
     ensures kept { records.new.items ≡ dedup records_equal records.old.items }
     ensures bound { length records.new.items ≤ length records.old.items }
 {
-    if has_duplicate(records.as_slice()) {
-        records.dedup_by(|one, other| records_equal(one, other));
-    }
-}
-
-// Whether a record is equal to the one before. Where none is, none is to be left out.
-fn has_duplicate(records: &[Entry]) -> bool
-    ensures { OnFalse result (dedup records_equal records.now ≡ records.now) }
-{
-    let mut rest = records;
-    'records: while let Some((first, others)) = rest.split_first() {
-        if is_duplicate(first, others) {
-            return true;
-        }
-        rest = others;
-    }
-    false
-}
-
-// Whether the next record is equal to this one.
-fn is_duplicate(first: &Entry, others: &[Entry]) -> bool
-    ensures { OnFalse result (dedup records_equal (first.now ∷ others.now)
-        ≡ first.now ∷ dedup records_equal others.now) }
-{
-    match others.first() {
-        Some(next) => records_equal(next, first),
-        None => false,
-    }
+    records.dedup_by(|one, other| records_equal(one, other));
 }
 
 // Whether two records are equal in owner, type, data and TTL (RFC 2181 5). Neighbours mostly differ

@@ -1,13 +1,13 @@
-use Rattle.std.proofs.Common.{rules, ◌≡◌, List, take, take_all, ◌<◌, ◌≤◌, get_or, length, [], sym, subst, arith}
+use Rattle.std.proofs.Common.{rules, ◌≡◌, List, take, take_all, ◌<◌, ◌≤◌, get_or, length, [], ◌&&◌, refl, sym, ap, ap₂, ◌∙◌, subst, arith}
 use Rattle.dns_spec.specs.Records.{ZoneContents}
 use Rattle.dns_spec.specs.Data.{target}
-use Rattle.std.specs.List.{filter, filter_map}
+use Rattle.std.specs.List.{filter, filter_map, list_all}
 use Rattle.dns_spec.specs.Names.{Octets}
 use Rattle.dns_answer.specs.DraftForm.{Offers}
 use Rattle.dns_answer.specs.Walks.{Took}
 use Rattle.dns_answer.specs.Targets.{target_items, target_nodes, target_misses, targets_of_first, side_takes, side_nodes}
 use Rattle.dns_answer.proofs.Offering.{Offers-is, Offers-nothing, Offers-then}
-use Rattle.dns_answer.proofs.TargetLaws.{side_items-none, side_items-more, Took-nothing, Took-more, nodes-more, hits-more}
+use Rattle.dns_answer.proofs.TargetLaws.{side_items-none, side_items-more, Took-nothing, Took-more, nodes-more, hits-more, all-more}
 use Rattle.dns_answer.proofs.addresses.offer_addresses.Goals as goal
 
 pub targets-init : goal.targets-init
@@ -16,10 +16,11 @@ targets-init g c = record {
   took = Took-nothing _;
   hits = omega arith;
   few = omega arith;
+  all = refl;
 }
 
-pub offer_target-requires : goal.offer_target-requires
-offer_target-requires g c =
+pub offer_target-all-requires : goal.offer_target-all-requires
+offer_target-all-requires g c =
     let inv = c.targets.invariant in (
       search rules,
       (
@@ -45,14 +46,15 @@ targets-preserved g c =
     let inside : c.targets.i < length c.args.set.now.rdata = omega (arith, c.targets-test.true, c.len-i-end.ensures.value) in
     let d = get_or c.args.set.now.rdata c.targets.i [] in
     let m = target c.args.set.now.rtype d in
-    let offered = subst (λ (y : ZoneContents). Offers c.targets.draft c.offer_target.new.draft (target_items y p (targets_of_first c.targets.i c.args.set.now) m)) inv.took.zone c.offer_target.ensures.offers in
-    let taken = subst (λ (y : ZoneContents). Took c.targets.steps c.offer_target.new.steps (target_nodes y p m) (target_misses p m)) inv.took.zone c.offer_target.ensures.took in
-    let few = subst (λ (y : ZoneContents). target_nodes y p m ≤ 127) inv.took.zone c.offer_target.ensures.few in
+    let offered = subst (λ (y : ZoneContents). Offers c.targets.draft c.offer_target-all.new.draft (target_items y p (targets_of_first c.targets.i c.args.set.now) m)) inv.took.zone c.offer_target-all.ensures.offers in
+    let taken = subst (λ (y : ZoneContents). Took c.targets.steps c.offer_target-all.new.steps (target_nodes y p m) (target_misses p m)) inv.took.zone c.offer_target-all.ensures.took in
+    let few = subst (λ (y : ZoneContents). target_nodes y p m ≤ 127) inv.took.zone c.offer_target-all.ensures.few in
     record {
       offers = Offers-is _ _ _ _ (side_items-more z p c.args.set.now c.targets.i inside) (Offers-then _ _ _ _ _ inv.offers offered);
       took = Took-more z p c.args.set.now c.targets.i _ _ _ inside inv.took taken;
       hits = hits-more p c.args.set.now c.targets.i inside inv.hits;
       few = nodes-more z p c.args.set.now c.targets.i inside few inv.few;
+      all = ap₂ (λ a b. a && b) inv.all c.offer_target-all.ensures.meant ∙ sym (all-more p c.args.set.now c.targets.i inside);
     }
 
 pub returns-clause-bound : goal.returns-clause-bound
@@ -74,3 +76,10 @@ returns-clause-took g c =
     let all : take c.targets.i c.args.set.now.rdata ≡ c.args.set.now.rdata = take_all c.targets.i c.args.set.now.rdata (omega (arith, c.targets-test.false, c.len-i-end.ensures.value)) in
     subst (λ (ds : List Octets). Took c.args.steps.now c.targets.steps (side_nodes z p (filter_map (λ (d : Octets). target rt d) ds)) (length (filter p (filter_map (λ (d : Octets). target rt d) ds))))
     all c.targets.invariant.took
+
+pub returns-clause-all : goal.returns-clause-all
+returns-clause-all g c =
+    let p = side_takes c.args.side in
+    let rt = c.args.set.now.rtype in
+    let whole : take c.targets.i c.args.set.now.rdata ≡ c.args.set.now.rdata = take_all c.targets.i c.args.set.now.rdata (omega (arith, c.targets-test.false, c.len-i-end.ensures.value)) in
+    c.targets.invariant.all ∙ ap (λ (ds : List Octets). list_all p (filter_map (λ (d : Octets). target rt d) ds)) whole

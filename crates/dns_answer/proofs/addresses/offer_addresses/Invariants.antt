@@ -1,11 +1,11 @@
-use Rattle.std.proofs.Common.{◌*◌, ◌≤◌, [], length}
-use Rattle.std.specs.List.{filter}
+use Rattle.std.proofs.Common.{◌≡◌, ◌*◌, ◌≤◌, [], length}
+use Rattle.std.specs.List.{filter, list_all}
 use Rattle.dns_answer.specs.DraftForm.{Offers}
 use Rattle.dns_answer.specs.Walks.{Took}
 use Rattle.dns_answer.specs.Targets.{targets_of_first, side_items, side_nodes, side_takes}
 use Rattle.dns_answer.proofs.addresses.offer_addresses.Given as goal
 
--- what was offered and taken for the first targets
+-- what was offered and taken for the first targets, and whether they are meant
 abbrev pub invariant-targets : goal.invariant-targets
 invariant-targets g l =
     let z = l.fn.steps.zone in
@@ -15,4 +15,5 @@ invariant-targets g l =
       took : Took l.fn.steps l.steps (side_nodes z p (targets_of_first l.i l.set)) (length (filter p (targets_of_first l.i l.set)));
       hits : length (filter p (targets_of_first l.i l.set)) ≤ l.i;
       few : side_nodes z p (targets_of_first l.i l.set) ≤ 127 * l.i;
+      all : l.all ≡ list_all p (targets_of_first l.i l.set);
     }

@@ -1,8 +1,7 @@
 use Rattle.std.proofs.Common.{rules, arith, sym, ◌∙◌}
-use Rattle.dns_spec.specs.Data.{target}
 use Rattle.dns_answer.proofs.chain.next_sought.Goals as goal
 
 pub returns : goal.returns
 returns c =
-    let is = sym (c.target.ensures ∙ (λ j. target (c.rtype.ensures j) (c.rdata.ensures.value j))) in
+    let is = sym c.target.ensures.value in
     record { next = (omega (arith, c.if-more-eq0.false), is ∙ c.in-Some.is, search rules, search rules, search rules, search rules) }

@@ -2,19 +2,18 @@ use Rattle.std.proofs.Common.{rules, ◌+◌, ◌∷◌, [], length, refl, sym, 
 use Rattle.dns_spec.specs.Names.{at_or_below}
 use Rattle.dns_spec.specs.Records.{ZoneContents}
 use Rattle.dns_answer.specs.Walks.{IsApex}
-use Rattle.dns_answer.specs.Seeking.{Seeks, TookFrom, LeadsTo, LedOn}
+use Rattle.dns_answer.specs.Seeking.{LedOn}
 use Rattle.dns_answer.proofs.SeekSteps.{led-begin, led-seeks, led-took, led-further}
 use Rattle.dns_answer.proofs.chain.seek.Given as given
 use Rattle.dns_answer.proofs.chain.seek.Goals as goal
 
 pub returns-in-Last-clause-seeks : goal.returns-in-Last-clause-seeks
 returns-in-Last-clause-seeks g c =
-    subst (λ ks. Seeks c.args.draft.now c.seek_one.new.draft c.args.steps.now.zone c.args.qtype 16 ks c.args.name.now c.in-Last.verdict)
-    c.from_ref.ensures.value c.in-Last.ensures.seeks
+    c.in-Last.ensures.seeks
 
 pub returns-in-Last-clause-took : goal.returns-in-Last-clause-took
 returns-in-Last-clause-took g c =
-    subst (λ ks. TookFrom c.args.steps.now c.seek_one.new.steps c.args.qtype 16 ks c.args.name.now) c.from_ref.ensures.value c.in-Last.ensures.took
+    c.in-Last.ensures.took
 
 pub returns-in-Last-clause-followed : goal.returns-in-Last-clause-followed
 returns-in-Last-clause-followed g c = λ r. sym (c.in-Last.ensures.own r)
@@ -45,8 +44,7 @@ seek_target-requires g c =
 module _ (g : given.Over) (c : goal.After-seek_target g) where
   led : LedOn c.args.draft.now c.seek_one.new.draft c.args.steps.now c.seek_one.new.steps c.args.qtype 16 15 (c.args.name.now ∷ []) (c.args.name.now ∷ c.in-Alias.target ∷ []) c.args.name.now c.in-Alias.target
   led =
-      let next = subst (λ ks. LeadsTo c.args.draft.now c.seek_one.new.draft c.args.steps.now c.seek_one.new.steps c.args.qtype 16 ks c.args.name.now c.in-Alias.target c.in-Alias.below)
-      c.from_ref.ensures.value c.in-Alias.ensures in
+      let next = c.in-Alias.ensures in
       led-further c.args.draft.now c.args.draft.now c.seek_one.new.draft c.args.steps.now c.args.steps.now c.seek_one.new.steps c.args.qtype 16 16
       (c.args.name.now ∷ []) (c.args.name.now ∷ []) (c.args.name.now ∷ c.in-Alias.target ∷ []) c.args.name.now c.args.name.now c.in-Alias.target c.in-Alias.below
       (led-begin c.args.draft.now c.args.steps.now c.args.qtype 16 (c.args.name.now ∷ []) c.args.name.now c.args.name.now refl c.requires.below) next refl

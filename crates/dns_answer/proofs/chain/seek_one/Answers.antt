@@ -8,7 +8,7 @@ use Rattle.dns_spec.specs.Reading.{name_error}
 use Rattle.dns_zone.specs.Nodes.{ZoneNode}
 use Rattle.dns_answer.specs.Ending.{Ends, TookTargets}
 use Rattle.dns_answer.specs.Walks.{IsApex, IsBelowCut}
-use Rattle.dns_answer.specs.Seeking.{NextIs}
+use Rattle.dns_answer.specs.Seeking.{NextIs, names_of}
 use Rattle.dns_answer.proofs.ChainSteps.{ends-cut, ends-nothing, ends-records}
 use Rattle.dns_answer.proofs.SeekSteps.{seeks-ended, took-ended, took-less, own-cut, found-at, none-followed, none-own, seeks-alias, alias-ends, alias-item, alias-goes_on, has-alias, completes-on}
 use Rattle.dns_answer.proofs.chain.seek_one.Goals as goal
@@ -117,15 +117,15 @@ returns-in_default-next_sought g c =
     let here = found-at z s c.in-Records.node c.args.apex.now at_node c.in-Records.ensures.found c.requires.apex.node c.or_apex-node.ensures in
     let no_cut = c.in-Records.ensures.found.no_cut in
     let is = c.in-Some.ensures.alias in
-    let origin_is : c.origin-2.result.now ≡ z.origin = c.origin-2.ensures.value ∙ ap (λ (y : ZoneContents). y.origin) c.look_up.ensures.took.zone in
-    let next = subst (λ o. NextIs set c.args.more c.args.sought.now o None) origin_is c.in_default-next_sought.ensures.next in
+    let origin_is : c.lent-2.result ≡ z.origin = c.lent-2.ensures.value ∙ c.origin-origin-2.ensures.value ∙ ap (λ (y : ZoneContents). y.origin) c.look_up.ensures.took.zone in
+    let next = subst (λ o. NextIs set c.args.more (names_of c.args.sought) o None) origin_is c.in_default-next_sought.ensures.next in
     record {
       seeks = λ before were. seeks-alias z c.args.qtype c.args.more before s _ _ _ _
-          (alias-ends z s at_node no_cut here.1 set is.1 c.in-Some.ensures.rtype c.in-Some.ensures.kept c.args.qtype c.args.more c.args.sought.now before is.0 were next)
+          (alias-ends z s at_node no_cut here.1 set is.1 c.in-Some.ensures.rtype c.in-Some.ensures.kept c.args.qtype c.args.more (names_of c.args.sought) before is.0 were next)
           (alias-item z s at_node no_cut here.1 set is.1 c.in-Some.ensures.rtype c.in-Some.ensures.kept c.ttl.result c.ttl.ensures)
           c.offer.ensures refl refl c.is_full.ensures;
       took = λ before were. took-less z c.args.qtype c.args.more before s _ _ c.args.depth (item answer (alias_set z s)) (positive [])
-          (alias-ends z s at_node no_cut here.1 set is.1 c.in-Some.ensures.rtype c.in-Some.ensures.kept c.args.qtype c.args.more c.args.sought.now before is.0 were next)
+          (alias-ends z s at_node no_cut here.1 set is.1 c.in-Some.ensures.rtype c.in-Some.ensures.kept c.args.qtype c.args.more (names_of c.args.sought) before is.0 were next)
           c.requires.depth c.in-Records.ensures.took;
       own = λ r. absurd (false≢true r);
     }
@@ -140,8 +140,8 @@ returns g c =
     let here = found-at z s c.in-Records.node c.args.apex.now at_node c.in-Records.ensures.found c.requires.apex.node c.or_apex-node.ensures in
     let no_cut = c.in-Records.ensures.found.no_cut in
     let is = c.in-Some.ensures.alias in
-    let origin_is : c.origin-2.result.now ≡ z.origin = c.origin-2.ensures.value ∙ ap (λ (y : ZoneContents). y.origin) c.look_up.ensures.took.zone in
-    let next = subst (λ o. NextIs set c.args.more c.args.sought.now o (Some (m, c.in-Some-next_sought.depth))) origin_is c.in-Some-next_sought.ensures.next in
+    let origin_is : c.lent-2.result ≡ z.origin = c.lent-2.ensures.value ∙ c.origin-origin-2.ensures.value ∙ ap (λ (y : ZoneContents). y.origin) c.look_up.ensures.took.zone in
+    let next = subst (λ o. NextIs set c.args.more (names_of c.args.sought) o (Some (m, c.in-Some-next_sought.depth))) origin_is c.in-Some-next_sought.ensures.next in
     let first = c.in-Records.ensures.took in
     record {
       more = next.0;
@@ -156,7 +156,7 @@ returns g c =
         comparisons = first.comparisons;
       };
       completes = λ before were. completes-on z c.args.qtype c.args.more before s _ _ _ _ _ c.args.depth (c.args.more - 1) m
-          (alias-goes_on z s at_node no_cut here.1 set is.1 c.in-Some.ensures.rtype c.in-Some.ensures.kept c.args.qtype c.args.more c.args.sought.now before m c.in-Some-next_sought.depth is.0 were next)
+          (alias-goes_on z s at_node no_cut here.1 set is.1 c.in-Some.ensures.rtype c.in-Some.ensures.kept c.args.qtype c.args.more (names_of c.args.sought) before m c.in-Some-next_sought.depth is.0 were next)
           (alias-item z s at_node no_cut here.1 set is.1 c.in-Some.ensures.rtype c.in-Some.ensures.kept c.ttl.result c.ttl.ensures)
           c.offer.ensures c.requires.depth first;
     }

@@ -6,12 +6,12 @@ use Rattle.dns_answer.proofs.chain.seek_rest.Goals as goal
 
 pub names-init : goal.names-init
 names-init g c =
-    let one = c.push.ensures.items ∙ ap (λ xs. xs ++ c.copied.result ∷ []) c.new-sought.ensures in
-    let two = c.push-2.ensures.items ∙ ap (λ xs. xs ++ c.copied-2.result ∷ []) one in
+    let one = c.push.ensures.items ∙ ap (λ xs. xs ++ c.to_name.result ∷ []) c.new-sought.ensures in
+    let two = c.push-2.ensures.items ∙ ap (λ xs. xs ++ c.to_name-2.result ∷ []) one in
     let three : c.push-3.new.self.items ≡ c.args.first.now ∷ c.args.second.now ∷ c.args.target ∷ [] =
-    c.push-3.ensures.items ∙ ap (λ xs. xs ++ c.copied-3.result ∷ []) two
-    ∙ ap₂ (λ a b. a ∷ b ∷ c.copied-3.result ∷ []) c.copied.ensures.value c.copied-2.ensures.value
-    ∙ ap (λ m. c.args.first.now ∷ c.args.second.now ∷ m ∷ []) c.copied-3.ensures.value in
+    c.push-3.ensures.items ∙ ap (λ xs. xs ++ c.to_name-3.result ∷ []) two
+    ∙ ap₂ (λ a b. a ∷ b ∷ c.to_name-3.result ∷ []) c.to_name.ensures.value c.to_name-2.ensures.value
+    ∙ ap (λ m. c.args.first.now ∷ c.args.second.now ∷ m ∷ []) c.to_name-3.ensures.value in
     let kept = c.args.first.now ∷ c.args.second.now ∷ c.args.target ∷ [] in
     record {
       led = subst (λ ks. LedOn c.args.draft.now c.args.draft.now c.args.steps.now c.args.steps.now c.args.qtype 14 14 kept ks c.args.target c.args.target)
@@ -40,12 +40,12 @@ names-preserved g c =
     let room = c.names.invariant.room in
     let items = c.push-in-Alias.ensures.items in
     record {
-      led = led-further _ _ _ _ _ _ _ _ _ _ _ _ _ _ _ _ led next (items ∙ ap (λ m. c.names.sought.items ++ m ∷ []) c.copied-in-Alias.ensures.value);
+      led = led-further _ _ _ _ _ _ _ _ _ _ _ _ _ _ _ _ led next (items ∙ ap (λ m. c.names.sought.items ++ m ∷ []) c.to_name-in-Alias.ensures.value);
       deep = next.deep ∙ ap (λ (z : ZoneContents). length z.origin + c.in-Alias.below) led.zone;
       few = next.few;
       room = record {
         visits = omega (arith, next.took.visits, next.more, room.visits);
         comparisons = omega (arith, next.took.visits, next.took.comparisons, next.more, room.comparisons);
       };
-      count = omega (arith, ap length items, length-append c.names.sought.items (c.copied-in-Alias.result ∷ []), next.more, c.names.invariant.count);
+      count = omega (arith, ap length items, length-append c.names.sought.items (c.to_name-in-Alias.result ∷ []), next.more, c.names.invariant.count);
     }

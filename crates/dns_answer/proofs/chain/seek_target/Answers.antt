@@ -1,21 +1,19 @@
-use Rattle.std.proofs.Common.{rules, ◌+◌, ◌∷◌, [], length, refl, sym, ap, ap₂, subst, ◌∙◌, arith}
+use Rattle.std.proofs.Common.{rules, ◌+◌, ◌∷◌, [], length, refl, sym, ap, subst, ◌∙◌, arith}
 use Rattle.dns_spec.specs.Names.{at_or_below}
 use Rattle.dns_spec.specs.Records.{ZoneContents}
 use Rattle.dns_answer.specs.Walks.{IsApex}
-use Rattle.dns_answer.specs.Seeking.{Seeks, TookFrom, LeadsTo, LedOn}
+use Rattle.dns_answer.specs.Seeking.{LedOn}
 use Rattle.dns_answer.proofs.SeekSteps.{led-begin, led-seeks, led-took, led-further}
 use Rattle.dns_answer.proofs.chain.seek_target.Given as given
 use Rattle.dns_answer.proofs.chain.seek_target.Goals as goal
 
 pub returns-in-Last-clause-seeks : goal.returns-in-Last-clause-seeks
 returns-in-Last-clause-seeks g c =
-    subst (λ ks. Seeks c.args.draft.now c.seek_one.new.draft c.args.steps.now.zone c.args.qtype 15 ks c.args.target c.in-Last.verdict)
-    (ap₂ (λ a b. a ∷ b ∷ []) c.copied.ensures.value c.copied-2.ensures.value) c.in-Last.ensures.seeks
+    c.in-Last.ensures.seeks
 
 pub returns-in-Last-clause-took : goal.returns-in-Last-clause-took
 returns-in-Last-clause-took g c =
-    subst (λ ks. TookFrom c.args.steps.now c.seek_one.new.steps c.args.qtype 15 ks c.args.target)
-    (ap₂ (λ a b. a ∷ b ∷ []) c.copied.ensures.value c.copied-2.ensures.value) c.in-Last.ensures.took
+    c.in-Last.ensures.took
 
 pub seek_rest-requires : goal.seek_rest-requires
 seek_rest-requires g c =
@@ -41,20 +39,19 @@ seek_rest-requires g c =
     )
 
 module _ (g : given.Over) (c : goal.After-seek_rest g) where
-  led : LedOn c.args.draft.now c.seek_one.new.draft c.args.steps.now c.seek_one.new.steps c.args.qtype 15 14 (c.args.first.now ∷ c.args.target ∷ []) (c.args.first.now ∷ c.args.target ∷ c.in-Alias.next ∷ []) c.args.target c.in-Alias.next
+  led : LedOn c.args.draft.now c.seek_one.new.draft c.args.steps.now c.seek_one.new.steps c.args.qtype 15 14 (c.args.first.now ∷ c.args.target.now ∷ []) (c.args.first.now ∷ c.args.target.now ∷ c.in-Alias.next ∷ []) c.args.target.now c.in-Alias.next
   led =
-      let next = subst (λ ks. LeadsTo c.args.draft.now c.seek_one.new.draft c.args.steps.now c.seek_one.new.steps c.args.qtype 15 ks c.args.target c.in-Alias.next c.in-Alias.below)
-      (ap₂ (λ a b. a ∷ b ∷ []) c.copied.ensures.value c.copied-2.ensures.value) c.in-Alias.ensures in
+      let next = c.in-Alias.ensures in
       led-further c.args.draft.now c.args.draft.now c.seek_one.new.draft c.args.steps.now c.args.steps.now c.seek_one.new.steps c.args.qtype 15 15
-      (c.args.first.now ∷ c.args.target ∷ []) (c.args.first.now ∷ c.args.target ∷ []) (c.args.first.now ∷ c.args.target ∷ c.in-Alias.next ∷ []) c.args.target c.args.target c.in-Alias.next c.in-Alias.below
-      (led-begin c.args.draft.now c.args.steps.now c.args.qtype 15 (c.args.first.now ∷ c.args.target ∷ []) c.args.target c.args.target refl c.requires.below) next refl
+      (c.args.first.now ∷ c.args.target.now ∷ []) (c.args.first.now ∷ c.args.target.now ∷ []) (c.args.first.now ∷ c.args.target.now ∷ c.in-Alias.next ∷ []) c.args.target.now c.args.target.now c.in-Alias.next c.in-Alias.below
+      (led-begin c.args.draft.now c.args.steps.now c.args.qtype 15 (c.args.first.now ∷ c.args.target.now ∷ []) c.args.target.now c.args.target.now refl c.requires.below) next refl
 
 pub returns-in-Alias-clause-seeks : goal.returns-in-Alias-clause-seeks
 returns-in-Alias-clause-seeks g c =
-    led-seeks c.args.draft.now c.seek_one.new.draft c.seek_rest.new.draft c.args.steps.now c.seek_one.new.steps c.args.qtype 15 14 (c.args.first.now ∷ c.args.target ∷ [])
-    (c.args.first.now ∷ c.args.target ∷ c.in-Alias.next ∷ []) c.args.target c.in-Alias.next c.seek_rest.result (led g c) c.seek_rest.ensures.seeks
+    led-seeks c.args.draft.now c.seek_one.new.draft c.seek_rest.new.draft c.args.steps.now c.seek_one.new.steps c.args.qtype 15 14 (c.args.first.now ∷ c.args.target.now ∷ [])
+    (c.args.first.now ∷ c.args.target.now ∷ c.in-Alias.next ∷ []) c.args.target.now c.in-Alias.next c.seek_rest.result (led g c) c.seek_rest.ensures.seeks
 
 pub returns-in-Alias-clause-took : goal.returns-in-Alias-clause-took
 returns-in-Alias-clause-took g c =
-    led-took c.args.draft.now c.seek_one.new.draft c.args.steps.now c.seek_one.new.steps c.seek_rest.new.steps c.args.qtype 15 14 (c.args.first.now ∷ c.args.target ∷ [])
-    (c.args.first.now ∷ c.args.target ∷ c.in-Alias.next ∷ []) c.args.target c.in-Alias.next (led g c) c.seek_rest.ensures.took
+    led-took c.args.draft.now c.seek_one.new.draft c.args.steps.now c.seek_one.new.steps c.seek_rest.new.steps c.args.qtype 15 14 (c.args.first.now ∷ c.args.target.now ∷ [])
+    (c.args.first.now ∷ c.args.target.now ∷ c.in-Alias.next ∷ []) c.args.target.now c.in-Alias.next (led g c) c.seek_rest.ensures.took

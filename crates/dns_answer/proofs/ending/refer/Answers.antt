@@ -1,11 +1,14 @@
-use Rattle.std.proofs.Common.{rules, refl, ap, ◌∙◌, arith}
+use Rattle.std.proofs.Common.{rules, [], refl, sym, ap, ◌∙◌, arith}
 use Rattle.std.proofs.lemmas.Bool.{false≢true}
 use Rattle.std.specs.Option.{is_some}
 use Rattle.dns_spec.specs.Names.{folded}
 use Rattle.dns_spec.specs.Records.{ZoneContents, rrset}
 use Rattle.dns_spec.specs.Data.{type_ns}
 use Rattle.dns_spec.specs.Sets.{set_of}
-use Rattle.dns_answer.proofs.Endings.{Ends-referred, cut-has_servers, Took-referred, servers_targets}
+use Rattle.dns_answer.proofs.Endings.{Ends-referred, cut-has_servers, none-outside_cut, Took-referred, servers_targets}
+use Rattle.dns_answer.specs.Targets.{set_targets}
+use Rattle.dns_answer.proofs.Offering.{Offers-is, Offers-nothing}
+use Rattle.dns_answer.proofs.TargetLaws.{Took-none}
 use Rattle.dns_answer.proofs.ending.refer.Goals as goal
 
 pub unreachable-requires : goal.unreachable-requires
@@ -13,9 +16,9 @@ unreachable-requires g c =
     let below = c.requires.cut.1 in
     false≢true (ap is_some c.in_default.ensures.set ∙ ap (λ (z : ZoneContents). is_some (set_of (rrset z c.args.cut.now.name type_ns))) below.zone ∙ cut-has_servers c.args.steps.now.zone c.requires.cut.0 c.args.cut.now.name below.cut)
 
-pub offer_addresses-requires-2 : goal.offer_addresses-requires-2
-offer_addresses-requires-2 g c =
-    let bound = c.offer_addresses.ensures.bound in (
+pub offer_addresses-requires : goal.offer_addresses-requires
+offer_addresses-requires g c =
+    let bound = c.offer_addresses-are_all_inside.ensures.bound in (
       search rules,
       (
         search rules,
@@ -32,17 +35,39 @@ offer_addresses-requires-2 g c =
       ),
     )
 
-pub returns-clause-ends : goal.returns-clause-ends
-returns-clause-ends g c =
+pub returns-then-not-are_all_inside-clause-ends : goal.returns-then-not-are_all_inside-clause-ends
+returns-then-not-are_all_inside-clause-ends g c =
     let below = c.requires.cut.1 in
-    Ends-referred _ _ _ _ c.args.steps.now.zone c.offer_addresses.new.steps.zone c.args.cut.now c.lent-owner.result c.ttl.result c.in-Some.servers _ below.zone c.offer_addresses.ensures.took.zone
+    let first = c.offer_addresses-are_all_inside in
+    Ends-referred _ _ _ _ c.args.steps.now.zone first.new.steps.zone c.args.cut.now c.lent-owner.result c.ttl.result c.in-Some.servers _ below.zone first.ensures.took.zone
     (c.lent-owner.ensures.value ∙ c.fold_in_place.ensures ∙ ap folded c.from_octets-name.ensures.value ∙ below.spelled) c.ttl.ensures c.in-Some.ensures.set c.in-Some.ensures.rtype c.in-Some.ensures.kept
-    c.offer_at.ensures c.offer_addresses.ensures.offers c.offer_addresses-2.ensures.offers refl refl c.is_full-is_truncated.ensures
+    c.offer.ensures first.ensures.offers c.offer_addresses.ensures.offers refl refl c.is_full-is_truncated.ensures
 
-pub returns-clause-took : goal.returns-clause-took
-returns-clause-took g c =
+pub returns-then-not-are_all_inside-clause-took : goal.returns-then-not-are_all_inside-clause-took
+returns-then-not-are_all_inside-clause-took g c =
     let below = c.requires.cut.1 in
+    let first = c.offer_addresses-are_all_inside in
     let named = c.lent-owner.ensures.value ∙ c.fold_in_place.ensures ∙ ap folded c.from_octets-name.ensures.value ∙ below.spelled in
-    Took-referred _ _ _ c.args.steps.now.zone c.offer_addresses.new.steps.zone c.args.cut.now.name c.lent-owner.result _ _ c.offer_addresses.ensures.took.zone named
+    Took-referred _ _ _ c.args.steps.now.zone first.new.steps.zone c.args.cut.now.name c.lent-owner.result _ _ first.ensures.took.zone named
     (servers_targets c.args.steps.now.zone c.args.cut.now c.lent-owner.result c.ttl.result c.in-Some.servers below.zone named c.ttl.ensures c.in-Some.ensures.set c.in-Some.ensures.rtype c.in-Some.ensures.kept)
-    c.offer_addresses.ensures.took c.offer_addresses-2.ensures.took
+    first.ensures.took c.offer_addresses.ensures.took
+
+-- where all targets are at or below the cut nothing is offered, and taken, for others
+pub returns-else-not-are_all_inside-clause-ends : goal.returns-else-not-are_all_inside-clause-ends
+returns-else-not-are_all_inside-clause-ends g c =
+    let below = c.requires.cut.1 in
+    let first = c.offer_addresses-are_all_inside in
+    let z = c.args.steps.now.zone in
+    let none = none-outside_cut z c.lent-owner.result [] (set_targets c.in-Some.servers) (sym first.ensures.all ∙ c.if-not-are_all_inside.false) in
+    Ends-referred _ _ _ _ z z c.args.cut.now c.lent-owner.result c.ttl.result c.in-Some.servers _ below.zone refl
+    (c.lent-owner.ensures.value ∙ c.fold_in_place.ensures ∙ ap folded c.from_octets-name.ensures.value ∙ below.spelled) c.ttl.ensures c.in-Some.ensures.set c.in-Some.ensures.rtype c.in-Some.ensures.kept
+    c.offer.ensures first.ensures.offers (Offers-is _ _ [] _ (sym none) (Offers-nothing _)) refl refl c.is_full-is_truncated.ensures
+
+pub returns-else-not-are_all_inside-clause-took : goal.returns-else-not-are_all_inside-clause-took
+returns-else-not-are_all_inside-clause-took g c =
+    let below = c.requires.cut.1 in
+    let first = c.offer_addresses-are_all_inside in
+    let named = c.lent-owner.ensures.value ∙ c.fold_in_place.ensures ∙ ap folded c.from_octets-name.ensures.value ∙ below.spelled in
+    Took-referred _ _ _ c.args.steps.now.zone c.args.steps.now.zone c.args.cut.now.name c.lent-owner.result _ _ refl named
+    (servers_targets c.args.steps.now.zone c.args.cut.now c.lent-owner.result c.ttl.result c.in-Some.servers below.zone named c.ttl.ensures c.in-Some.ensures.set c.in-Some.ensures.rtype c.in-Some.ensures.kept)
+    first.ensures.took (Took-none _ _ _)

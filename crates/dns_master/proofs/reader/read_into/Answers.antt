@@ -1,4 +1,4 @@
-use Rattle.std.proofs.Common.{rules, ◌≡◌, ◌≢◌, subst}
+use Rattle.std.proofs.Common.{◌≢◌, subst}
 use Rattle.dns_spec.specs.Meaning.{Meaning, Means, records, fault_at}
 use Rattle.dns_master.specs.Codes.{fault_of}
 use Rattle.dns_master.specs.SourceForm.{GivesMeaning}

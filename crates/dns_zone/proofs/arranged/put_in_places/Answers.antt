@@ -7,6 +7,6 @@ places-preserved c =
     let same_length = length_permutation c.args.records.now c.places.records c.places.invariant.permutation in
     record {
       permutation = IsPermutation-trans c.args.records.now c.places.records c.settle.new.records c.places.invariant.permutation c.settle.ensures.permutation;
-      below = subst (λ n. All (λ r. r < n) c.settle.new.ranks) same_length c.settle.ensures.below;
-      count = c.settle.auto.ranks ∙ c.places.invariant.count;
+      below = subst (λ n. All (λ p. p < n) c.settle.new.places) same_length c.settle.ensures.below;
+      count = c.settle.auto.places ∙ c.places.invariant.count;
     }

@@ -5,6 +5,7 @@ use Rattle.dns_zone.proofs.arranged.settle.Given as goal
 abbrev pub invariant-moves : goal.invariant-moves
 invariant-moves l = record {
   permutation : IsPermutation l.fn.records l.records;
-  below : All (λ r. r < length l.fn.records) l.ranks;
-  count : length l.ranks ≡ length l.fn.records;
+  below : All (λ p. p < length l.fn.records) l.places;
+  count : length l.places ≡ length l.fn.records;
+  at : l.at < length l.fn.records;
 }

@@ -1,9 +1,16 @@
-use Rattle.std.proofs.Common.{◌∷◌, [], subst}
-use Rattle.dns_wire.specs.Draft.{item_of}
-use Rattle.dns_answer.specs.DraftForm.{Offers}
+use Rattle.std.proofs.Common.{rules}
+use Rattle.dns_answer.proofs.Offering.{Offers-full, put_in, left_out}
 use Rattle.dns_answer.proofs.draft.Draft.offer.Goals as goal
 
-pub returns : goal.returns
-returns g c =
-    subst (λ n. Offers c.args.self.now c.offer_at.new.self (item_of c.args.section n c.args.ttl (g.S.SetView.set c.args.set.now) ∷ []))
-    c.lent.ensures.value c.offer_at.ensures
+pub returns-then-self : goal.returns-then-self
+returns-then-self g c = Offers-full _ _ (search rules)
+
+pub returns-then-not-put_set : goal.returns-then-not-put_set
+returns-then-not-put_set g c =
+    let p = c.put_set.ensures in
+    left_out _ _ c.put_set.new.self _ _ _ c.self.view_is (search rules) c.if-self.false c.if-not-put_set.true p.fits p.unchanged
+
+pub returns-else-not-put_set : goal.returns-else-not-put_set
+returns-else-not-put_set g c =
+    let p = c.put_set.ensures in
+    put_in _ _ c.put_set.new.self _ _ _ c.self.view_is (search rules) c.if-self.false c.if-not-put_set.false p.limit p.fits p.put

@@ -1,4 +1,4 @@
-use Rattle.std.proofs.Common.{rules, ◌≡◌, ◌≢◌, true, List, Some, subst}
+use Rattle.std.proofs.Common.{rules, refl, ◌≡◌, ◌≢◌, true, List, Some, subst}
 use Rattle.dns_spec.specs.Names.{DomainName, folded}
 use Rattle.dns_spec.specs.ZoneText.{Entry}
 use Rattle.dns_spec.specs.FileFaults.{no_owner}
@@ -7,17 +7,33 @@ use Rattle.dns_master.specs.Codes.{fault_of}
 use Rattle.dns_master.specs.declared.fault.ReadCode.{ReadCode}
 use Rattle.dns_master.specs.declared.fault.ReadCode.TheVariants.{NoMemory}
 use Rattle.dns_master.specs.RecordForm.{LastOwner}
+use Rattle.dns_master.specs.declared.state.Reader.{Reader}
 use Rattle.dns_master.specs.ReaderForm.{Knows, RecordTaken, EntryTaken, handed, owner_of}
 use Rattle.dns_name.proofs.Results.{OnOk-map, IfErr-map}
-use Rattle.dns_master.proofs.KnowsSteps.{unowned-taken, given-owner}
+use Rattle.dns_master.proofs.KnowsSteps.{owner-read, unowned-taken, given-owner}
 use Rattle.dns_master.proofs.state.Reader.take_unowned.Goals as goal
 use Rattle.dns_master.proofs.state.Reader.take_unowned.Goals.{After-take_record}
 
+-- the reader, with the owner that was read
+abbrev read : (c : After-take_record) → Reader
+read c = record {
+  origin = c.args.self.now.origin;
+  default_ttl = c.args.self.now.default_ttl;
+  stated_ttl = c.args.self.now.stated_ttl;
+  line = c.args.self.now.line;
+  owner = c.copy_from.new.self;
+  last = c.args.self.now.last;
+  count = c.args.self.now.count;
+  default_short = c.self-2-1.given.0;
+  stated_short = c.self-2-1.given.1.0;
+  few = c.self-2-1.given.1.1.0;
+}
+
 -- the owner that is copied is in lower case, since that of the last record is
-low : (c : After-take_record) → folded c.copied-owner.result ≡ c.copied-owner.result
+low : (c : After-take_record) → folded c.copy_from.new.self ≡ c.copy_from.new.self
 low c = search rules
 
-last_is : (c : After-take_record) → owner_of c.args.self.now.last ≡ Some c.copied-owner.result
+last_is : (c : After-take_record) → owner_of c.args.self.now.last ≡ Some c.copy_from.new.self
 last_is c = search rules
 
 pub take_record-requires : goal.take_record-requires
@@ -25,22 +41,22 @@ take_record-requires c = search rules
 
 pub returns-clause-ok : goal.returns-clause-ok
 returns-clause-ok c =
-    let all : ((o : DomainName) (earlier : List Entry) → Knows o earlier c.args.self.now
-    → RecordTaken o earlier c.copied-owner.result (fields c.args.words.now) c.args.self.now c.take_record.new.self)
+    let all : ((o : DomainName) (earlier : List Entry) → Knows o earlier (read c)
+    → RecordTaken o earlier c.copy_from.new.self (fields c.args.words.now) (read c) c.take_record.new.self)
     → (o : DomainName) (earlier : List Entry) (e : Entry) → Knows o earlier c.args.self.now → kind_of e ≡ unowned c.args.words.now
     → EntryTaken o earlier e (handed true c.take_record.new.self.last) c.args.self.now c.take_record.new.self =
     λ taken o earlier e known is.
     let last = subst (LastOwner o earlier) (last_is c) known.owner_is in
-    unowned-taken o earlier e _ _ known c.args.words.now last.0 c.copied-owner.result is last.1 last.2 (low c) (taken o earlier known) in
+    unowned-taken o earlier e _ _ known c.args.words.now last.0 c.copy_from.new.self is last.1 last.2 (low c) (owner-read o earlier _ _ _ (read c) _ (taken o earlier known) refl refl refl refl) in
     OnOk-map _ all c.take_record.ensures.ok
 
 pub returns-clause-err : goal.returns-clause-err
 returns-clause-err c =
     let all : (code : ReadCode) → (code ≢ NoMemory → (o : DomainName) (earlier : List Entry) → Knows o earlier c.args.self.now
-    → RecordGives o earlier no_owner (λ n. n ≡ c.copied-owner.result) (fields c.args.words.now) (faulty (fault_of code)))
+    → RecordGives o earlier no_owner (λ n. n ≡ c.copy_from.new.self) (fields c.args.words.now) (faulty (fault_of code)))
     → code ≢ NoMemory → (o : DomainName) (earlier : List Entry) → Knows o earlier c.args.self.now
     → RecordGives o earlier no_owner (OwnerBefore o earlier) (fields c.args.words.now) (faulty (fault_of code)) =
     λ code reported other o earlier known.
     let last = subst (LastOwner o earlier) (last_is c) known.owner_is in
-    given-owner o earlier (OwnerBefore o earlier) (fields c.args.words.now) last.0 c.copied-owner.result last.1 last.2 (low c) no_owner _ (reported other o earlier known) in
+    given-owner o earlier (OwnerBefore o earlier) (fields c.args.words.now) last.0 c.copy_from.new.self last.1 last.2 (low c) no_owner _ (reported other o earlier known) in
     IfErr-map _ all c.take_record.ensures.err

@@ -1,4 +1,4 @@
-use Rattle.std.proofs.Common.{rules, ◌≡◌, true, [], subst, sym}
+use Rattle.std.proofs.Common.{rules, ◌≡◌, true, [], subst}
 use Rattle.std.proofs.lemmas.List.{nil_from_length}
 use Rattle.dns_spec.specs.FileFaults.{too_long}
 use Rattle.dns_spec.specs.Meaning.{Meaning, records, fault_at, after}

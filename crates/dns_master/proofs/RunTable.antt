@@ -1,0 +1,36 @@
+-- The table of the runs that each octet stands in says what the definitions say of it.
+use Rattle.std.proofs.Common.{◌≡◌, ℕ, zero, suc, ◌<◌, Bool, true, false, ◌&&◌, ◌==◌, not, refl, subst, arith, inl, inr}
+use Rattle.std.specs.Prelude.{slice_index_or}
+use Rattle.std.proofs.lemmas.Bool.{false≢true, and_parts, eqb-true, cases_Bool, eqb-false}
+use Rattle.dns_spec.specs.ZoneText.{is_word_octet, is_string_octet}
+use Rattle.dns_master.specs.declared.run.TheConstants.{RUNS_WITH}
+
+abbrev all_below : (ℕ → Bool) → ℕ → Bool
+all_below p zero = true
+all_below p (suc n) = p n && all_below p n
+
+-- a test that computes to true at each number below n holds at any of them
+every_below : (p : ℕ → Bool) (n : ℕ) → all_below p n ≡ true → (i : ℕ) → i < n → p i ≡ true
+every_below p zero h i l = absurd (omega (arith, l))
+every_below p (suc n) h i l =
+    let parts = and_parts (p n) _ h in
+    elim (cases_Bool (n == i)) [
+      | inl e ↦ subst (λ x. p x ≡ true) (eqb-true n i e) parts.0
+      | inr d ↦ every_below p n parts.1 i (let other : n ≡ i → ⊥ = eqb-false n i d in omega (arith, l, other))
+    ]
+
+abbrev agree : Bool → Bool → Bool
+agree true b = b
+agree false b = not b
+
+same_test : (a b : Bool) → agree a b ≡ true → a ≡ b
+same_test true true h = refl
+same_test true false h = absurd (false≢true h)
+same_test false true h = absurd (false≢true h)
+same_test false false h = refl
+
+pub in-words : (o : ℕ) → o < 256 → (slice_index_or RUNS_WITH o 0 == 2) ≡ is_word_octet o
+in-words o h = same_test _ _ (every_below (λ x. agree (slice_index_or RUNS_WITH x 0 == 2) (is_word_octet x)) 256 refl o h)
+
+pub in-strings : (o : ℕ) → o < 256 → not (slice_index_or RUNS_WITH o 0 == 0) ≡ is_string_octet o
+in-strings o h = same_test _ _ (every_below (λ x. agree (not (slice_index_or RUNS_WITH x 0 == 0)) (is_string_octet x)) 256 refl o h)

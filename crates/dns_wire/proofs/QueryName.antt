@@ -1,0 +1,116 @@
+-- Where the name of a question ends: the labels before a place, as they stand in the datagram, are the beginning of it.
+use Rattle.std.proofs.Common.{Bool, true, ◌≡◌, ℕ, suc, ◌+◌, ◌-◌, ◌<◌, ◌≤◌, [], ◌∷◌, ◌++◌, length, take, drop, get_or, refl, sym, ◌∙◌, ap, arith, Option, None, Some, length-append, length-take, length-drop}
+use Rattle.std.proofs.Math.Seq.{take-add, drop-cons}
+use Rattle.std.proofs.lemmas.Bool.{eq-eqb}
+use Rattle.std.specs.Prelude.{if◌then◌else◌}
+use Rattle.std.proofs.lemmas.List.{append_assoc, append-nil, drop-drop}
+use Rattle.dns_spec.specs.Names.{Octets, DomainName, wire, is_name}
+use Rattle.dns_spec.specs.Reading.{MessageQuestion}
+use Rattle.dns_spec.specs.ComputedReading.{name_at}
+use Rattle.dns_spec.specs.Query.{field16, question_of, question_at}
+use Rattle.dns_spec.proofs.DomainNames.NameLaws.{is_name-push, is_label-IsLabel}
+use Rattle.dns_wire.specs.QueryForm.{NameEnds}
+use Rattle.dns_wire.proofs.NameLoop.{read_on, read_on-start, read_on-root, read_on-label, read_on-past, read_on-high, read_on-long, read_on-missing}
+
+-- the labels before a place, and what is read from there on, are the name
+pub record ReadTo (d : Octets) (at : ℕ) : Type 0 where
+  pub labels : DomainName
+  pub name_is : read_on d labels at ≡ name_at d 12
+  pub is_name : is_name labels ≡ true
+  pub octets : (m : DomainName) → wire (labels ++ m) ≡ take (at - 12) (drop 12 d) ++ wire m
+  pub from : 12 ≤ at
+
+pub read_nothing : (d : Octets) → ReadTo d 12
+read_nothing d = record { labels = []; name_is = read_on-start d; is_name = refl; octets = λ m. refl; from = omega arith }
+
+-- what stands at a place after the header
+octets_at : (d : Octets) (at : ℕ) → 12 ≤ at → at < length d → drop (at - 12) (drop 12 d) ≡ get_or d at 0 ∷ drop (suc at) d
+octets_at d at from inside =
+    let whole : 12 + (at - 12) ≡ at = omega (arith, from) in
+    drop-drop (at - 12) 12 d ∙ ap (λ n. drop n d) whole ∙ drop-cons d at 0 inside
+
+module _ (d : Octets) (at : ℕ) (r : ReadTo d at) where
+  pub ends_missing : length d ≤ at → name_at d 12 ≡ None
+  ends_missing past = sym r.name_is ∙ read_on-missing d r.labels at past
+
+  module _ (inside : at < length d) where
+    pub ends_here : get_or d at 0 ≡ 0 → NameEnds d (at + 1)
+    ends_here zero =
+        let size : at + 1 - 12 ≡ at - 12 + 1 = omega (arith, r.from) in
+        let first : take 1 (drop (at - 12) (drop 12 d)) ≡ 0 ∷ [] = ap (take 1) (octets_at d at r.from inside) ∙ ap (λ o. o ∷ []) zero in
+        record {
+          name = r.labels;
+          read = sym r.name_is ∙ read_on-root d r.labels at inside zero r.is_name;
+          octets =
+              ap (λ n. take n (drop 12 d)) size ∙ take-add (at - 12) 1 (drop 12 d)
+              ∙ ap (λ os. take (at - 12) (drop 12 d) ++ os) first ∙ sym (r.octets []) ∙ ap wire (append-nil r.labels);
+          is_name = r.is_name;
+          some = omega (arith, r.from);
+          inside = omega (arith, inside);
+        }
+
+    module _ (k : ℕ) (here : get_or d at 0 ≡ k) (some : k ≡ 0 → ⊥) where
+      pub ends_high : 64 ≤ k → name_at d 12 ≡ None
+      ends_high high = sym r.name_is ∙ read_on-high d r.labels at k inside here high
+
+      pub ends_past : length d < at + 1 + k → name_at d 12 ≡ None
+      ends_past past = sym r.name_is ∙ read_on-past d r.labels at k inside here (omega (arith, some)) past
+
+      -- a whole label stands here
+      module _ (low : k < 64) (whole : at + 1 + k ≤ length d) where
+        abbrev label : Octets
+        label = take k (drop (at + 1) d)
+
+        label_length : length label ≡ k
+        label_length = simp (length-take, length-drop) (omega (arith, whole))
+
+        label_read : read_on d (r.labels ++ label ∷ []) (at + 1 + k) ≡ name_at d 12
+        label_read = sym (read_on-label d r.labels at k inside here (omega (arith, some)) low whole) ∙ r.name_is
+
+        next_octets : take (at + 1 + k - 12) (drop 12 d) ≡ take (at - 12) (drop 12 d) ++ (k ∷ label)
+        next_octets =
+            let size : at + 1 + k - 12 ≡ at - 12 + suc k = omega (arith, r.from) in
+            let next : suc at ≡ at + 1 = omega arith in
+            ap (λ n. take n (drop 12 d)) size ∙ take-add (at - 12) (suc k) (drop 12 d)
+            ∙ ap (λ os. take (at - 12) (drop 12 d) ++ take (suc k) os) (octets_at d at r.from inside)
+            ∙ ap (λ o. take (at - 12) (drop 12 d) ++ (o ∷ take k (drop (suc at) d))) here
+            ∙ ap (λ n. take (at - 12) (drop 12 d) ++ (k ∷ take k (drop n d))) next
+
+        labels_octets : (m : DomainName) → wire ((r.labels ++ label ∷ []) ++ m) ≡ take (at + 1 + k - 12) (drop 12 d) ++ wire m
+        labels_octets m =
+            ap wire (append_assoc r.labels (label ∷ []) m) ∙ r.octets (label ∷ m)
+            ∙ ap (λ n. take (at - 12) (drop 12 d) ++ (n ∷ (label ++ wire m))) label_length
+            ∙ sym (append_assoc (take (at - 12) (drop 12 d)) (k ∷ label) (wire m)) ∙ ap (λ os. os ++ wire m) (sym next_octets)
+
+        labels_length : length (wire (r.labels ++ label ∷ [])) ≡ at + 1 + k - 12 + 1
+        labels_length =
+            ap length (ap wire (sym (append-nil (r.labels ++ label ∷ []))) ∙ labels_octets [])
+            ∙ length-append (take (at + 1 + k - 12) (drop 12 d)) (0 ∷ [])
+            ∙ simp (length-take, length-drop) (omega (arith, whole, r.from))
+
+        pub ends_long : 266 < at + 1 + k → name_at d 12 ≡ None
+        ends_long long =
+            sym label_read ∙ read_on-long d (r.labels ++ label ∷ []) (at + 1 + k) (omega (arith, labels_length, long))
+
+        pub read_label : at + 1 + k ≤ 266 → ReadTo d (at + 1 + k)
+        read_label short =
+            record {
+              labels = r.labels ++ label ∷ [];
+              name_is = label_read;
+              is_name =
+                  is_name-push r.labels label r.is_name
+                  (is_label-IsLabel label (omega (arith, label_length, some)) (omega (arith, label_length, low)))
+                  (omega (arith, labels_length, short));
+              octets = labels_octets;
+              from = omega (arith, r.from);
+            }
+
+-- the question that a datagram ends in, four octets after its name
+abbrev pub question_then : Octets → DomainName → ℕ → MessageQuestion
+question_then d n e = record { qname = n; qtype = field16 d e; qclass = field16 d (e + 2) }
+
+pub question_here : (d : Octets) (n : DomainName) (e : ℕ) → name_at d 12 ≡ Some (n, e) → length d ≡ e + 4 → question_at d ≡ Some (question_then d n e)
+unfolding question_at
+question_here d n e read whole =
+    ap (λ (r : Option (DomainName × ℕ)). elim r [ None ↦ None | Some r ↦ question_of d r ]) read
+    ∙ ap (λ (b : Bool). if b then Some (question_then d n e) else None) (eq-eqb (length d) (e + 4) whole)
