@@ -2,6 +2,7 @@ pub mod Entries
 pub mod Targets
 pub mod KnownRecords
 pub mod RisenRecords
+pub mod BoundedKids
 pub mod BuiltZone
 pub mod PrintedRecords
 pub mod Pairs

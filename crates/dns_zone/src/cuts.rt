@@ -39,20 +39,19 @@ pub(crate) fn topmost_cuts<'a>(
     Ok(cuts)
 }
 
-// Whether the record makes a cut that is not at or below the last of the cuts.
+// Whether the record makes a cut that is not at or below the last of the cuts. The records of a cut
+// but for its first are at the last one, which costs less to see.
 fn is_topmost(origin: &NameRef<'_>, cuts: &[&Keyed<'_>], listed: &Keyed<'_>) -> bool
     ensures { result ≡ ((listed.now.rtype == type_ns && below listed.now.owner origin.now)
         && not (last_passes (λ (c : ResourceRecord). at_or_below listed.now.owner c.owner)
         (after cuts.now))) }
 {
     let record = listed.listed();
-    is_delegation(origin, record) && !is_covered(cuts, &record.owner())
-}
-
-fn is_delegation(origin: &NameRef<'_>, listed: &Entry) -> bool
-    ensures { result ≡ (listed.now.rtype == type_ns && below listed.now.owner origin.now) }
-{
-    listed.rtype == RType::NS && listed.owner().below(origin)
+    if record.rtype != RType::NS {
+        return false;
+    }
+    let owner = record.owner();
+    !is_covered(cuts, &owner) && owner.below(origin)
 }
 
 /// The cuts that are not after the name in canonical order.

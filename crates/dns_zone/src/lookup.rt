@@ -1,5 +1,6 @@
 //! Records of a name, found by halves among records in canonical order.
 ghost use Rattle.std.specs.Prelude.{◌≡◌, ◌≤◌, ◌==◌, length, take, drop, not, nat_lt, IfSome};
+ghost use Rattle.std.specs.Bool.{OnTrue};
 ghost use Rattle.std.specs.List.{list_any, filter, prefix_len};
 ghost use Rattle.std.specs.List.Sorted.{IsPartitionedBy, IsNonDecreasingBy};
 ghost use Rattle.std.specs.Ordering.{is_lt};
@@ -96,6 +97,9 @@ pub(crate) fn count_under(records: &[Entry], name: &NameRef<'_>) -> usize
     if let Some(count) = count_under_among(records, name, 0) {
         return count;
     }
+    if are_all_under(records, name) {
+        return records.len();
+    }
     if let Some(count) = count_under_among(records, name, NEAR) {
         return count;
     }
@@ -115,6 +119,21 @@ fn count_under_among(records: &[Entry], name: &NameRef<'_>, near: usize) -> Opti
         return None;
     }
     Some(records[..near].partition_point(|listed| is_under(listed, name)))
+}
+
+// Whether a record stands at the end whose owner is at or below the name: then all are. On a way of
+// labels that no record owns they mostly are.
+fn are_all_under(records: &[Entry], name: &NameRef<'_>) -> bool
+    requires in_front { IsPartitionedBy
+        (λ (r : ResourceRecord). at_or_below r.owner name.now) records.now }
+    requires lower { folded name.now ≡ name.now }
+    ensures { OnTrue result (IsFront (λ (r : ResourceRecord). at_or_below r.owner name.now)
+        records.now (length records.now)) }
+{
+    match records.last() {
+        Some(last) => is_under(last, name),
+        None => false,
+    }
 }
 
 /// How many records stand in front whose owner is the name. They are passed one by one.

@@ -1,12 +1,12 @@
 //! The names of a zone as rows, level by level: the children of a row stand side by side, by their
 //! labels.
-ghost use Rattle.std.specs.Prelude.{◌≡◌, ℕ, ◌+◌, ◌<◌, ◌≤◌, ◌∷◌, length, take, drop, get_or, true, IfOk, OnOk};
+ghost use Rattle.std.specs.Prelude.{◌≡◌, ℕ, ◌+◌, ◌<◌, ◌≤◌, [], ◌∷◌, length, take, drop, get_or, true, IfOk, OnOk};
 ghost use Rattle.dns_spec.specs.Names.{folded, at_or_below, below};
 ghost use Rattle.dns_spec.specs.Records.{ResourceRecord};
 ghost use Rattle.dns_spec.specs.Meaning.{most_records};
 ghost use Rattle.dns_name.specs.WireForm.{labels_of, IsWireForm};
 ghost use Rattle.dns_zone.specs.ZoneForm.{IsBuilt, IsCanonical};
-ghost use Rattle.dns_zone.specs.TreeForm.{owners, row_octets, row_name, row_at, IsRow, IsTree};
+ghost use Rattle.dns_zone.specs.TreeForm.{owners, row_octets, row_name, row_at, under, IsRow, IsTree};
 ghost use Rattle.dns_zone.specs.TreeSteps.{IsChildOf, IsNext, IsKidAt, AddsKids};
 
 use crate::entry::Entry;
@@ -81,7 +81,7 @@ fn add_kids(records: &[Entry], number: usize, rows: &mut Vec<Row>) -> Result<(),
     let end = row.end as usize;
     let mut next = row.own_end as usize;
     'kids: while next < end {
-        let kid = kid_at(records, parent, next);
+        let kid = kid_at(records, parent, next, end);
         next = kid.end as usize;
         rows.push(kid)?;
     }
@@ -99,18 +99,22 @@ pub(crate) fn octets_of<'a>(records: &'a [Entry], row: &Row) -> &'a [u8]
     first.owner().octets().split_at(row.place as usize).1
 }
 
-// The row of a child of the name of `parent`: the one that the record at `next` is at or below.
-fn kid_at(records: &[Entry], parent: &[u8], next: usize) -> Row
+// The row of a child of the name of `parent`: the one that the record at `next` is at or below. No
+// record from `end` on is below `parent`.
+fn kid_at(records: &[Entry], parent: &[u8], next: usize, end: usize) -> Row
     requires canonical { IsCanonical records.now }
     requires parent { IsWireForm parent.now }
     requires next { IsNext records.now (labels_of parent.now) next }
+    requires before { next ≤ end }
+    requires fits { end ≤ length records.now }
+    requires none { under (labels_of parent.now) (drop end records.now) ≡ [] }
     ensures { IsKidAt records.now (labels_of parent.now) next result }
 {
     let record = &records[next];
     let owner = record.owner().octets();
     let octets = child_octets(owner, parent);
     let name = NameRef::new(octets);
-    let (_, others) = records.split_at(next);
+    let others = &records[next..end];
     let own = count_at(others, &name);
     let (_, after) = others.split_at(own);
     Row {

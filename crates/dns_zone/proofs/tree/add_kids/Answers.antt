@@ -1,10 +1,11 @@
-use Rattle.std.proofs.Common.{◌≡◌, ◌≤◌, ◌<◌, ◌∙◌, ap, sym, subst, List}
+use Rattle.std.proofs.Common.{◌≡◌, ◌≤◌, ◌<◌, ◌∙◌, ap, sym, subst, List, [], length, drop, arith}
 use Rattle.dns_spec.specs.Names.{DomainName}
 use Rattle.dns_name.specs.WireForm.{labels_of}
-use Rattle.dns_zone.specs.TreeForm.{row_at, row_name}
+use Rattle.dns_zone.specs.TreeForm.{row_at, row_name, under}
 use Rattle.dns_zone.specs.TreeSteps.{IsNext, IsKidAt}
 use Rattle.dns_zone.specs.declared.row.Row.{Row}
-use Rattle.dns_zone.proofs.Spans.{get_or_any}
+use Rattle.dns_zone.proofs.KidRows.{is_under}
+use Rattle.dns_zone.proofs.Spans.{get_or_any, none_past}
 use Rattle.dns_zone.proofs.GrowingKids.{Adding, start, next_is, step, done}
 use Rattle.dns_zone.proofs.tree.add_kids.Goals as goal
 
@@ -31,6 +32,33 @@ kid_at-kid-requires-clause-next c =
     (next_is rs c.requires.canonical (row_name rs row) row c.requires.row rows c.kids.rows.items
     c.kids.next c.kids.invariant
     (subst (λ (r : Row). c.kids.next < r.end) same c.kids-test.true))
+
+pub kid_at-kid-requires-clause-before : goal.kid_at-kid-requires-clause-before
+kid_at-kid-requires-clause-before c = let h = c.kids-test.true in omega arith
+
+pub kid_at-kid-requires-clause-fits : goal.kid_at-kid-requires-clause-fits
+kid_at-kid-requires-clause-fits c =
+    let rows = c.args.rows.now.items in
+    let row = row_at rows c.args.number in
+    let same : c.index-row.result.now ≡ row =
+    c.index-row.ensures ∙ get_or_any rows c.args.number _ _ c.requires.number in
+    subst (λ (r : Row). r.end ≤ length c.args.records.now) (sym same) c.requires.row.end_fits
+
+pub kid_at-kid-requires-clause-none : goal.kid_at-kid-requires-clause-none
+kid_at-kid-requires-clause-none c =
+    let rs = c.args.records.now in
+    let rows = c.args.rows.now.items in
+    let row = row_at rows c.args.number in
+    let same : c.index-row.result.now ≡ row =
+    c.index-row.ensures ∙ get_or_any rows c.args.number _ _ c.requires.number in
+    let named : labels_of c.octets_of-parent.result.now ≡ row_name rs row =
+    c.octets_of-parent.ensures.name ∙ ap (row_name rs) same in
+    let is_row = c.requires.row in
+    let order : row.first ≤ row.end = let a = is_row.first_own in let b = is_row.own_end in
+    omega arith in
+    subst (λ (n : DomainName). under n (drop c.index-row.result.now.end rs) ≡ []) (sym named)
+    (subst (λ (r : Row). under (row_name rs row) (drop r.end rs) ≡ []) (sym same)
+    (none_past (is_under (row_name rs row)) rs row.first row.end order is_row.below))
 
 pub kids-preserved : goal.kids-preserved
 kids-preserved c =
