@@ -1,10 +1,12 @@
-use Rattle.std.proofs.Common.{◌≡◌, ◌+◌, ◌≤◌, Bool, true, ap, sym, ◌∙◌, subst, length, take, drop, filter, arith, length-drop, ◌-◌, List}
+use Rattle.std.proofs.Common.{◌≡◌, ◌+◌, ◌≤◌, Bool, true, ap, sym, ◌∙◌, subst, length, take, drop, map, filter, arith, length-drop, ◌-◌, List}
+use Rattle.std.specs.Char.{to_ascii_lowercase}
 use Rattle.std.specs.List.Sorted.{IsPartitionedBy}
 use Rattle.dns_spec.specs.Names.{DomainName, Octets, wire, folded, below}
 use Rattle.dns_spec.specs.Records.{ResourceRecord}
 use Rattle.dns_name.specs.WireForm.{labels_of}
 use Rattle.dns_name.proofs.WireLemmas.{IsWireForm-wire, labels_of_spelled}
-use Rattle.dns_zone.specs.TreeForm.{under}
+use Rattle.dns_zone.specs.LabelKey.{IsKey}
+use Rattle.dns_zone.specs.TreeForm.{under, first_of}
 use Rattle.dns_zone.specs.TreeSteps.{IsChildOf}
 use Rattle.dns_zone.proofs.AtName.{is_at}
 use Rattle.dns_zone.proofs.KidRows.{is_under, owner_name, owner_lower, owner_below, under_front, own_front, parted_drop, own_then_below, made}
@@ -108,7 +110,9 @@ returns c =
     ≡ under (labels_of octets) (drop own (drop c.args.next rs)) =
     rw (← back, ← after, ← named) c.count_under.ensures.own in
     made rs c.requires.canonical n c.args.next c.requires.next r c.index-records-next.is octets
-    child own (own + count) _
+    child own (own + count) _ _
     (rw (← back) c.count_at-own.ensures.bound) (rw (← back) fits)
     own_is (own_then_below (labels_of octets) (drop c.args.next rs) own count own_is below_is)
     (ap (λ (o : Octets). length o - length octets) spelled)
+    (subst (λ (k : DomainName). IsKey c.first_key.result (map to_ascii_lowercase (first_of k)))
+    named c.first_key.ensures)
