@@ -1,6 +1,4 @@
-use Rattle.std.proofs.Common.{◌≡◌, map, subst, ◌∙◌, ap}
-use Rattle.std.specs.Char.{to_ascii_lowercase}
-use Rattle.dns_spec.specs.Names.{Octets}
+use Rattle.std.proofs.Common.{subst, ◌∙◌}
 use Rattle.dns_zone.specs.LabelKey.{IsKey}
 use Rattle.dns_zone.specs.TreeForm.{row_label, row_name}
 use Rattle.dns_zone.proofs.LabelKeys.{first_lower, key_order}
