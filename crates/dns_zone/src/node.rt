@@ -17,7 +17,6 @@ use crate::search::find;
 use crate::set::{RecordSet, lent_set};
 use crate::steps::Steps;
 use crate::tree::Tree;
-use arrayvec::ArrayVec;
 use dns_name::Label;
 use dns_rdata::RType;
 use std::marker::Model;
@@ -78,9 +77,8 @@ impl<'z> Node<'z> {
         ensures compared { IfSome result (λ _. steps.old.comparisons < steps.new.comparisons) }
         ensures same_zone { steps.new.zone ≡ steps.old.zone }
     {
-        let lower = lower_case(label);
         let (start, kids) = kids_of(self.tree, self.row);
-        let found = find(self.tree.records.as_slice(), kids, lower.as_slice(), steps)?;
+        let found = find(self.tree.records.as_slice(), kids, label.octets(), steps)?;
         steps.count_visit();
         Some(Node {
             tree: self.tree,
@@ -117,18 +115,6 @@ impl<'z> Node<'z> {
         let row = &self.tree.rows[self.row];
         &self.tree.records.as_slice()[row.first as usize..row.own_end as usize]
     }
-}
-
-// The octets of a label in lower case.
-fn lower_case(label: Label<'_>) -> ArrayVec<u8, 63>
-    ensures { result.items ≡ map to_ascii_lowercase label.entry }
-{
-    let mut octets = ArrayVec::new();
-    if octets.try_extend_from_slice(label.octets()).is_err() {
-        unreachable!();
-    }
-    octets.as_mut_slice().make_ascii_lowercase();
-    octets
 }
 
 // The number of the first child of a row, and its children.
