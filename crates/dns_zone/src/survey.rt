@@ -132,6 +132,7 @@ impl<'a> Survey<'a> {
         after: &[Entry],
     ) -> (bool, bool)
         requires cut { owner_is_cut ≡ is_cut self.now owner.now }
+        requires lower_owner { folded owner.now ≡ owner.now }
         requires after { HasOwners self.now after.now }
         ensures alias { result.0 ≡ option_map_or
             (λ m. at_or_below m self.now.origin && owns self.now m type_cname)
@@ -155,6 +156,7 @@ impl<'a> Survey<'a> {
     ) -> (bool, bool)
         requires lower { folded target.now ≡ target.now }
         requires cut { owner_is_cut ≡ is_cut self.now owner.now }
+        requires lower_owner { folded owner.now ≡ owner.now }
         requires after { HasOwners self.now after.now }
         ensures alias { result.0 ≡ (at_or_below target.now self.now.origin
             && owns self.now target.now type_cname) }
@@ -230,12 +232,13 @@ impl<'a> Survey<'a> {
         requires own { own.now ≡ at self.now target.now }
         requires by_types { IsNonDecreasingBy (λ (r : ResourceRecord). r.rtype) own.now }
         requires cut { owner_is_cut ≡ is_cut self.now owner.now }
+        requires lower_owner { folded owner.now ≡ owner.now }
         ensures { result ≡ lacks_address self.now owner.now target.now }
     {
         if self.has_address(target, own) {
             return false;
         }
-        !self.is_at_or_below_cut(target) || owner_is_cut && target.at_or_below(owner)
+        !self.is_at_or_below_cut(target) || owner_is_cut && is_at_or_below(target, owner)
     }
 
     fn has_address(&self, name: &NameRef<'_>, own: &[Entry]) -> bool
