@@ -3,7 +3,7 @@
 ghost use Rattle.std.specs.Prelude.{◌≡◌, ◌≢◌, ◌+◌, ◌≤◌, ◌++◌, [], ◌∷◌, ◌⊎◌, true, false, Some, None, length, take, IfOk, IfErr, IfSome, OnOk};
 ghost use Rattle.std.specs.List.{list_any};
 ghost use Rattle.std.specs.Option.{option_map};
-ghost use Rattle.dns_spec.specs.ZoneText.{is_blank, begins_line_end, is_cut_short, extent_by, stop_at, stop_fault, string_fault, token_fault, unless_cut_short};
+ghost use Rattle.dns_spec.specs.ZoneText.{beginning, is_blank, begins_line_end, is_cut_short, extent_by, stop_at, stop_fault, string_fault, token_fault, unless_cut_short};
 ghost use Rattle.dns_master.specs.TokenForm.{shown_token};
 ghost use Rattle.dns_master.specs.EntryForm.{EntryRead, IsWrong, outcome_of, step, token_words, line_ends};
 ghost use Rattle.dns_master.specs.Steps.{shown_step};
@@ -68,16 +68,16 @@ pub(crate) fn read_entry<'a>(
     })
 }
 
-// How reading an entry goes on after a token: not at all, since a parenthesis is misplaced, or
-// since the entry has ended; or inside parentheses or outside them.
+/// How reading an entry goes on after a token: not at all, since a parenthesis is misplaced, or
+/// since the entry has ended; or inside parentheses or outside them.
 #[derive(Clone, Copy, Debug, PartialEq, Eq)]
-enum Step {
+pub(crate) enum Step {
     Misplaced,
     Over,
     Onward(bool),
 }
 
-fn step_after(token: Token<'_>, is_open: bool) -> Step
+pub(crate) fn step_after(token: Token<'_>, is_open: bool) -> Step
     ensures { shown_step result ≡ step is_open (shown_token token.entry) }
 {
     match token {
@@ -136,6 +136,25 @@ pub(crate) fn check_end(end: &EntryEnd<'_>, goes_on: bool) -> Result<(), ReadCod
     match end_fault(end, goes_on) {
         Some(code) => Err(code),
         None => Ok(()),
+    }
+}
+
+/// Whether an entry is ended by its line end, where its text is a beginning of one that may go on.
+///
+/// False where more of the text would be needed to tell; else the entry's fault by its place.
+pub(crate) fn is_ended(end: &EntryEnd<'_>) -> Result<bool, ReadCode>
+    ensures ok { IfOk result (λ now. now ≡ end.now.is_ended) }
+    ensures err { IfErr result (λ code. (end.now.is_ended ≡ false)
+        × (stop_fault beginning end.now.is_open (stop_at end.now.rest.now)
+        ≡ Some (fault_of code)) × (code ≢ ReadCode.TooLong)) }
+    ensures source { IfErr result (λ code. code ≢ ReadCode.SourceFailed) }
+{
+    if end.is_ended {
+        return Ok(true);
+    }
+    match end_fault(end, true) {
+        None | Some(ReadCode::TooLong) => Ok(false),
+        Some(code) => Err(code),
     }
 }
 
@@ -198,8 +217,8 @@ fn token_fault(place: &[u8]) -> ReadCode
     ReadCode::BadOctet
 }
 
-// Whether more octets might end what the text is: an escape or CR LF.
-fn is_cut_short(text: &[u8]) -> bool
+/// Whether more octets might end what the text is: an escape or CR LF.
+pub(crate) fn is_cut_short(text: &[u8]) -> bool
     ensures { result ≡ is_cut_short text.now }
 {
     match text {

@@ -1,5 +1,5 @@
 //! The reader of zone files (RFC 1035 section 5).
-ghost use Rattle.std.specs.Prelude.{◌≡◌, ◌≢◌, ◌+◌, ◌-◌, ◌^◌, ◌≤◌, ◌<◌, ◌⊎◌, length, List, [], ◌∷◌, ◌++◌, IfOk, IfErr, OnOk, IfSome, IsSome, IsTrue, Some, true, codes, if◌then◌else◌};
+ghost use Rattle.std.specs.Prelude.{◌≡◌, ◌≢◌, ◌+◌, ◌-◌, ◌^◌, ◌≤◌, ◌<◌, ◌⊎◌, length, List, [], ◌∷◌, ◌++◌, IfOk, IfErr, OnOk, IfSome, IsSome, IsTrue, Some, None, true, codes, if◌then◌else◌};
 ghost use Rattle.std.specs.Option.{option_or};
 ghost use Rattle.dns_spec.specs.Names.{DomainName, folded};
 ghost use Rattle.dns_spec.specs.Data.{Valid, lower_case};
@@ -15,9 +15,10 @@ ghost use Rattle.dns_master.specs.OwnedBody.{with_owner};
 ghost use Rattle.dns_master.specs.RecordForm.{IsKept};
 ghost use Rattle.dns_master.specs.ReaderForm.{Knows, RecordTaken, EntryTaken, EntryDone, handed};
 ghost use Rattle.dns_master.specs.RecordsForm.{StillGives, came, given_so_far};
+ghost use Rattle.dns_master.specs.PieceForm.{FrontTaken, FrontFaulty};
 
 use crate::directive::{is_directive, read_default_ttl, read_origin};
-use crate::entry::{begins_blank, check_end, read_entry};
+use crate::entry::{begins_blank, check_end, is_ended, read_entry};
 use crate::fault::{ReadCode, ReadFault};
 use crate::fields::{Fields, is_other_class, stated_ttl, type_and_words};
 use crate::gathers::{Gathers, WholeRecords};
@@ -175,6 +176,39 @@ impl Reader {
         let taken = self.take_words(begins_blank(text), words.as_slice(), room)?;
         self.line += end.lines;
         Ok((taken, end.rest))
+    }
+
+    /// Takes the entry that a text begins with, where the text tells its end whatever comes after
+    /// it: gives whether it is a record, which is the last one then, and the text after it. `None`
+    /// where more of the text would be needed to tell; then nothing was taken.
+    pub(crate) fn take_ended<'a>(
+        &mut self,
+        text: &'a [u8],
+        words: &mut Vec<Word<'a>>,
+        room: &mut DataRoom,
+    ) -> Result<Option<(bool, &'a [u8])>, ReadCode>
+        requires fits { self.old.line + length text.now ≤ 16777217 }
+        ensures ok { IfOk result (λ found. IfSome found (λ x. FrontTaken self.old text.now
+            (handed x.0 self.new.last) self.new x.1.now)) }
+        ensures none { IfOk result (λ found. found ≡ None → self.new ≡ self.old) }
+        ensures counted { IfOk result (λ found. IfSome found (λ x.
+            self.new.count ≡ self.old.count + length (handed x.0 self.new.last))) }
+        ensures shorter { IfOk result (λ found. IfSome found (λ x.
+            length x.1.now < length text.now)) }
+        ensures lines { IfOk result (λ found. IfSome found (λ x.
+            self.new.line + length x.1.now ≤ self.old.line + length text.now)) }
+        ensures err { IfErr result (λ code. code ≢ ReadCode.NoMemory
+            → FrontFaulty self.old text.now (fault_of code) self.old.line) }
+        ensures source { IfErr result (λ code. code ≢ ReadCode.SourceFailed) }
+    {
+        words.clear();
+        let end = read_entry(text, words)?;
+        if !is_ended(&end)? {
+            return Ok(None);
+        }
+        let taken = self.take_words(begins_blank(text), words.as_slice(), room)?;
+        self.line += end.lines;
+        Ok(Some((taken, end.rest)))
     }
 
     // Takes what the words of an entry say.

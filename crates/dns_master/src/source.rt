@@ -12,8 +12,8 @@ use std::io::Read;
 /// A text has at most so many octets.
 pub(crate) const MOST_OCTETS: usize = 16_777_216;
 
-// How many octets are asked for at once.
-const PIECE: usize = 65_536;
+/// How many octets are asked for at once.
+pub(crate) const PIECE: usize = 4_096;
 
 /// The octets of a source to its end, or the first 16,777,217 of them: no more are asked for.
 ///
@@ -44,8 +44,8 @@ fn new_piece(alloc: Global) -> Result<Vec<u8>, ReadCode>
     Ok(vec![in alloc; 0; PIECE]?)
 }
 
-// Reads so many octets at most, once, and appends what came: false at the end of the source.
-fn append_piece<R: Read>(
+/// Reads so many octets at most, once, and appends what came: false at the end of the source.
+pub(crate) fn append_piece<R: Read>(
     source: &mut Tally<R>,
     asked: usize,
     piece: &mut [u8],

@@ -8,7 +8,7 @@ invariant-pieces g l = record {
   consumed : Consumes (g.R.Read.remaining l.initial.source.device) (g.R.Read.remaining l.source.device) l.text.items;
   short : length l.text.items ≤ 16777217;
   counted : l.source.failures ≡ l.initial.source.failures;
-  room : length l.piece.items ≡ 65536;
+  room : length l.piece.items ≡ 4096;
 }
 
 abbrev pub decreases-pieces : goal.decreases-pieces
