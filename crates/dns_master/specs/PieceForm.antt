@@ -6,7 +6,7 @@ use Rattle.dns_spec.specs.Names.{Octets, DomainName}
 use Rattle.dns_spec.specs.Records.{ResourceRecord}
 use Rattle.dns_spec.specs.FileFaults.{FileFault}
 use Rattle.dns_spec.specs.ZoneText.{Entry}
-use Rattle.dns_spec.specs.Meaning.{Meaning, Means, fault_at, after, line_after}
+use Rattle.dns_spec.specs.Meaning.{Meaning, Means, records, fault_at, after, line_after}
 use Rattle.dns_master.specs.EntryForm.{TextMeans}
 use Rattle.dns_master.specs.ReaderForm.{Knows}
 use Rattle.dns_master.specs.declared.state.Reader.{Reader}
@@ -29,7 +29,14 @@ abbrev pub FrontFaulty : Reader → Octets → FileFault → ℕ → Type 0
 FrontFaulty r text fault line =
     (more : Octets) (goes_on : Bool) → ReaderMeans r goes_on (text ++ more) (fault_at fault line)
 
--- the same, where the records were added to what the caller keeps them in
+-- all entries of a text were taken, and their records added to what the caller keeps them in
+pub record TextGathered (r : Reader) (goes_on : Bool) (text : Octets)
+    (before after : List ResourceRecord) : Type 0 where
+  pub came : List ResourceRecord
+  pub grown : after ≡ before ++ came
+  pub means : ReaderMeans r goes_on text (records came)
+
+-- entries were taken from the front, where the records were added to what the caller keeps them in
 pub record FrontGathered (old : Reader) (text : Octets) (new : Reader) (rest : Octets)
     (before after : List ResourceRecord) : Type 0 where
   pub came : List ResourceRecord

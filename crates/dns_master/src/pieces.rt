@@ -26,7 +26,6 @@ pub(crate) struct Begun {
     /// How many more octets may be looked at.
     pub(crate) left: usize,
     scan: Scan,
-    ghost fits: { reader.line + length held.items + left ≤ 16777217 },
 }
 
 impl Begun {
@@ -59,12 +58,16 @@ impl Begun {
         requires room { source.old.failures < 2 ^ 64 - 1 }
         requires some { 0 < self.old.left }
         requires piece { length piece.old ≡ 4096 }
+        requires fits { self.old.reader.line + length self.old.held.items + self.old.left
+            ≤ 16777217 }
         requires count { length (G.gathered found.old) ≡ self.old.reader.count }
         ensures ok { IfOk result (λ more. PieceTaken (R.remaining source.old.device)
             (R.remaining source.new.device) self.old.reader self.old.held.items self.old.left
             self.new.reader self.new.held.items self.new.left more (G.gathered found.old)
             (G.gathered found.new)) }
         ensures count { OnOk result (length (G.gathered found.new) ≡ self.new.reader.count) }
+        ensures fits { OnOk result (self.new.reader.line + length self.new.held.items
+            + self.new.left ≤ 16777217) }
         ensures same { length piece.new ≡ length piece.old }
         ensures err { IfErr result (λ f. f.code ≢ ReadCode.SourceFailed
             → f.code ≢ ReadCode.NoMemory → PieceFaulty (R.remaining source.old.device)
@@ -89,11 +92,14 @@ impl Begun {
 
     // Adds the records of the entries that are ended in the octets at hand.
     fn take_front<G: Gathers>(&mut self, found: &mut G) -> Result<(), ReadFault>
-        requires { length (G.gathered found.old) ≡ self.old.reader.count }
+        requires count { length (G.gathered found.old) ≡ self.old.reader.count }
+        requires fits { self.old.reader.line + length self.old.held.items ≤ 16777217 }
         ensures ok { OnOk result (FrontGathered self.old.reader self.old.held.items
             self.new.reader self.new.held.items (G.gathered found.old) (G.gathered found.new)) }
         ensures count { OnOk result (length (G.gathered found.new) ≡ self.new.reader.count) }
         ensures left { self.new.left ≡ self.old.left }
+        ensures fits { OnOk result (self.new.reader.line + length self.new.held.items
+            ≤ self.old.reader.line + length self.old.held.items) }
         ensures err { IfErr result (λ f. f.code ≢ ReadCode.NoMemory
             → FrontFaulty self.old.reader self.old.held.items (fault_of f.code) f.line) }
         ensures source { IfErr result (λ f. f.code ≢ ReadCode.SourceFailed) }

@@ -15,7 +15,7 @@ ghost use Rattle.dns_master.specs.OwnedBody.{with_owner};
 ghost use Rattle.dns_master.specs.RecordForm.{IsKept};
 ghost use Rattle.dns_master.specs.ReaderForm.{Knows, RecordTaken, EntryTaken, EntryDone, handed};
 ghost use Rattle.dns_master.specs.RecordsForm.{StillGives, came, given_so_far};
-ghost use Rattle.dns_master.specs.PieceForm.{FrontTaken, FrontFaulty};
+ghost use Rattle.dns_master.specs.PieceForm.{FrontTaken, FrontFaulty, ReaderMeans, TextGathered};
 
 use crate::directive::{is_directive, read_default_ttl, read_origin};
 use crate::entry::{begins_blank, check_end, is_ended, read_entry};
@@ -23,7 +23,8 @@ use crate::fault::{ReadCode, ReadFault};
 use crate::fields::{Fields, is_other_class, stated_ttl, type_and_words};
 use crate::gathers::{Gathers, WholeRecords};
 use crate::record::{Record, RecordBody};
-use crate::source::read_text;
+use crate::pieces::Begun;
+use crate::source::{is_more, new_piece};
 use crate::state::{Reader, Records};
 use crate::words::{is_word, spell_name};
 use dns_name::{Name, Tally};
@@ -89,19 +90,49 @@ pub fn read_into<R: Read, G: Gathers>(
         ⊎ (f.code ≡ ReadCode.NoMemory) → f.line ≡ 0) }
     ensures counted { source.new.failures ≡ failures_after_read source.old.failures result }
 {
-    let text = match read_text(alloc, source) {
-        Ok(text) => text,
+    let mut piece = match new_piece(alloc) {
+        Ok(piece) => piece,
         Err(code) => return Err(ReadFault { code, line: 0 }),
     };
-    let mut entries = Records::new(alloc, origin, text.as_slice());
+    let mut begun = Begun::new(alloc, origin);
+    'pieces: while begun.left > 0 {
+        if !begun.take_piece(source, piece.as_mut_slice(), found)? {
+            return finish(begun, false, found);
+        }
+    }
+    match is_more(alloc, source, piece.as_mut_slice()) {
+        Ok(goes_on) => finish(begun, goes_on, found),
+        Err(code) => Err(ReadFault { code, line: 0 }),
+    }
+}
+
+// Adds the records of what is left of a text, after which it is over or goes on past its limit.
+fn finish<G: Gathers>(begun: Begun, goes_on: bool, found: &mut G) -> Result<(), ReadFault>
+    requires count { length (G.gathered found.old) ≡ begun.reader.count }
+    requires fits { begun.reader.line + length begun.held.items ≤ 16777217 }
+    ensures ok { OnOk result (TextGathered begun.reader goes_on begun.held.items
+        (G.gathered found.old) (G.gathered found.new)) }
+    ensures few { OnOk result (length (G.gathered found.new) ≤ most_records) }
+    ensures err { IfErr result (λ f. f.code ≢ ReadCode.NoMemory
+        → ReaderMeans begun.reader goes_on begun.held.items (fault_at (fault_of f.code) f.line)) }
+    ensures source { IfErr result (λ f. f.code ≢ ReadCode.SourceFailed) }
+    ensures memory { IfErr result (λ f. f.code ≡ ReadCode.NoMemory → f.line ≡ 0) }
+{
+    let mut entries = Records {
+        reader: begun.reader,
+        words: Vec::new(begun.alloc),
+        room: begun.room,
+        rest: begun.held.as_slice(),
+        goes_on,
+    };
     gather(&mut entries, found)
 }
 
 // Adds all records that are still to come.
 fn gather<G: Gathers>(entries: &mut Records<'_>, found: &mut G) -> Result<(), ReadFault>
-    requires first { given_so_far entries.old ≡ 0 }
-    requires nothing { G.gathered found.old ≡ [] }
-    ensures ok { OnOk result (StillGives entries.old (records (G.gathered found.new))) }
+    requires { length (G.gathered found.old) ≡ given_so_far entries.old }
+    ensures ok { OnOk result (TextGathered entries.old.reader entries.old.goes_on
+        entries.old.rest.now (G.gathered found.old) (G.gathered found.new)) }
     ensures few { OnOk result (length (G.gathered found.new) ≤ most_records) }
     ensures err { IfErr result (λ f. f.code ≢ ReadCode.NoMemory
         → StillGives entries.old (fault_at (fault_of f.code) f.line)) }
