@@ -101,9 +101,12 @@ module _ (old mid new : Option Octets) (o : DomainName) (r : Reader) (held : Oct
         given = so.given;
         consumed = so.consumed;
         few = omega (arith, few);
-        decided = inl (over, looked-means o so.given so.given false (after found m) (sym (take_all 16777216 so.given few)) (sym (le-ltb 16777216 (length so.given) few))
-            (subst (λ x. TextMeans o [] false x (after found m)) (append-nil so.given)
-            (so.means [] false m (subst (λ x. ReaderMeans r false x m) (sym (append-nil held)) h))));
+        decided = inl (
+          over,
+          looked-means o so.given so.given false (after found m) (sym (take_all 16777216 so.given few)) (sym (le-ltb 16777216 (length so.given) few))
+              (subst (λ x. TextMeans o [] false x (after found m)) (append-nil so.given)
+              (so.means [] false m (subst (λ x. ReaderMeans r false x m) (sym (append-nil held)) h))),
+        );
       }
 
   -- the same, where as many octets came as are looked at, and another one was asked for
@@ -131,9 +134,12 @@ module _ (old mid new : Option Octets) (o : DomainName) (r : Reader) (held : Oct
         given = so.given;
         consumed = subst (Consumes old new) (ap (λ x. so.given ++ x) none.0 ∙ append-nil so.given) (Consumes-more old mid new so.given more.came (so.given ++ more.came) so.consumed more.consumed refl);
         few = omega (arith, few);
-        decided = inl (none.1, looked-means o so.given so.given false (after found m) (sym (take_all 16777216 so.given few)) (sym (le-ltb 16777216 (length so.given) few))
-            (subst (λ x. TextMeans o [] false x (after found m)) (append-nil so.given)
-            (so.means [] false m (subst (λ x. ReaderMeans r false x m) (sym (append-nil held)) h))));
+        decided = inl (
+          none.1,
+          looked-means o so.given so.given false (after found m) (sym (take_all 16777216 so.given few)) (sym (le-ltb 16777216 (length so.given) few))
+              (subst (λ x. TextMeans o [] false x (after found m)) (append-nil so.given)
+              (so.means [] false m (subst (λ x. ReaderMeans r false x m) (sym (append-nil held)) h))),
+        );
       }
 
 -- what is decided is what all that the source gives means

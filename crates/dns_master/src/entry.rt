@@ -68,16 +68,16 @@ pub(crate) fn read_entry<'a>(
     })
 }
 
-/// How reading an entry goes on after a token: not at all, since a parenthesis is misplaced, or
-/// since the entry has ended; or inside parentheses or outside them.
+// How reading an entry goes on after a token: not at all, since a parenthesis is misplaced, or
+// since the entry has ended; or inside parentheses or outside them.
 #[derive(Clone, Copy, Debug, PartialEq, Eq)]
-pub(crate) enum Step {
+enum Step {
     Misplaced,
     Over,
     Onward(bool),
 }
 
-pub(crate) fn step_after(token: Token<'_>, is_open: bool) -> Step
+fn step_after(token: Token<'_>, is_open: bool) -> Step
     ensures { shown_step result ≡ step is_open (shown_token token.entry) }
 {
     match token {

@@ -4,9 +4,8 @@
 //! beginning, so that an entry of many pieces is read once, and that at its end or its fault.
 ghost use Rattle.std.specs.Prelude.{◌≢◌, ◌<◌, [], length, IfOk};
 
-use crate::entry::{Step, is_cut_short, step_after};
+use crate::entry::is_cut_short;
 use crate::run::{Run, after_comment};
-use crate::token::first_token;
 
 // What a text goes on with.
 #[derive(Clone, Copy, Debug, PartialEq, Eq)]
@@ -71,24 +70,26 @@ impl Scan {
         ensures { IfOk result (λ others. length others.now < length text.now) }
     {
         match text {
+            [b' ' | b'\t', others @ ..] => Ok(others),
             [b'"', others @ ..] => {
                 self.inside = Inside::Quoted;
-                return Ok(others);
+                Ok(others)
             }
             [b';', others @ ..] => {
                 self.inside = Inside::Comment;
-                return Ok(others);
+                Ok(others)
             }
-            _ => {}
+            [b'(', others @ ..] if !self.is_open => {
+                self.is_open = true;
+                Ok(others)
+            }
+            [b')', others @ ..] if self.is_open => {
+                self.is_open = false;
+                Ok(others)
+            }
+            [b'\n', others @ ..] | [b'\r', b'\n', others @ ..] if self.is_open => Ok(others),
+            _ => after_word(text),
         }
-        let Some((token, others)) = first_token(text) else {
-            return Err(text);
-        };
-        let Step::Onward(is_open) = step_after(token, self.is_open) else {
-            return Err(text);
-        };
-        self.is_open = is_open;
-        Ok(others)
     }
 
     fn after_string<'a>(&mut self, text: &'a [u8]) -> Result<&'a [u8], &'a [u8]>
@@ -120,4 +121,15 @@ impl Scan {
         self.inside = Inside::Plain;
         Ok(others)
     }
+}
+
+// The text after its first word; the text itself where it begins with none.
+fn after_word(text: &[u8]) -> Result<&[u8], &[u8]>
+    ensures { IfOk result (λ others. length others.now < length text.now) }
+{
+    let length = Run::Word.length(text);
+    if length == 0 {
+        return Err(text);
+    }
+    Ok(text.split_at(length).1)
 }

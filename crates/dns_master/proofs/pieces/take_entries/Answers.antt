@@ -1,4 +1,4 @@
-use Rattle.std.proofs.Common.{◌≡◌, ◌+◌, ◌<◌, ◌≤◌, length, refl, subst, arith, IfSome}
+use Rattle.std.proofs.Common.{◌≡◌, ◌+◌, ◌≤◌, length, subst, arith, IfSome}
 use Rattle.dns_master.specs.Codes.{fault_of}
 use Rattle.dns_master.specs.ReaderForm.{handed}
 use Rattle.dns_master.specs.PieceForm.{FrontTaken}
