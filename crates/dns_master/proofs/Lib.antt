@@ -5,5 +5,6 @@ pub mod RecordSteps
 pub mod KnowsSteps
 pub mod EntryCuts
 pub mod TextSteps
+pub mod PieceSteps
 pub mod SourceSteps
 pub mod EntriesLoop

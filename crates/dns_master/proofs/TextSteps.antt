@@ -294,6 +294,9 @@ ended-shorter text rest (p ∷ ps) c =
     let more : length rest ≤ length c.spelled.0 = tokens-shorter c.spelled.0 rest ps c.spelled.2 in
     omega (arith, first, more)
 
+pub read-shorter : (text rest : Octets) (ps : List Token) → Reads false text ps (form.ended rest) → length rest < length text
+read-shorter text rest ps h = ended-shorter text rest ps (reads-ended false text ps rest h)
+
 some-shorter : (text rest : Octets) → (text ≡ [] → ⊥) → rest ≡ [] → length rest < length text
 some-shorter [] rest some e = absurd (some refl)
 some-shorter (o ∷ text) rest some e = let none : length rest ≡ 0 = ap length e in omega (arith, none)

@@ -6,4 +6,5 @@ pub mod RecordForm
 pub mod ReaderForm
 pub mod RecordsForm
 pub mod SourceForm
+pub mod PieceForm
 pub mod OwnedBody

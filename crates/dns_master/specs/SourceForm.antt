@@ -1,6 +1,6 @@
 -- What a reader learns here: what one read of a source appends to a text, and which text all reads
 -- give.
-use Rattle.std.specs.Prelude.{⊤, ◌≡◌, ℕ, ◌≤◌, ◌<◌, Bool, true, false, [], ◌++◌, length, take, MatchOption, Option}
+use Rattle.std.specs.Prelude.{⊤, ◌≡◌, ℕ, ◌≤◌, ◌<◌, Bool, true, false, [], ◌++◌, length, MatchOption, Option}
 use Rattle.std.specs.Io.KnownBytes.{Consumes, IsAtEnd}
 use Rattle.dns_spec.specs.Names.{Octets, DomainName}
 use Rattle.dns_spec.specs.Meaning.{Meaning, Means}
@@ -15,9 +15,13 @@ pub record AppendsPiece (old new : Option Octets) (most : ℕ) (before after : O
   pub some : more ≡ true → 0 < length came
   pub over : more ≡ false → (came ≡ []) × IsAtEnd new
 
--- the known octets, as far as they are looked at
-abbrev pub TextOf : Option Octets → Octets → Type 0
-TextOf known text = MatchOption known ⊤ (λ x. text ≡ take 16777217 x)
+-- an octet more was asked for, and came, or the source is at its end
+pub record HasMore (old new : Option Octets) (more : Bool) : Type 0 where
+  pub came : Octets
+  pub consumed : Consumes old new came
+  pub short : length came ≤ 1
+  pub some : more ≡ true → 0 < length came
+  pub over : more ≡ false → (came ≡ []) × IsAtEnd new
 
 -- the octets that the source has still to give, to its end, mean this as the file of a zone with
 -- this origin

@@ -3,7 +3,7 @@
 ghost use Rattle.std.specs.Prelude.{◌≡◌, ◌≢◌, ◌+◌, ◌≤◌, ◌++◌, [], ◌∷◌, ◌⊎◌, true, false, Some, None, length, take, IfOk, IfErr, IfSome, OnOk};
 ghost use Rattle.std.specs.List.{list_any};
 ghost use Rattle.std.specs.Option.{option_map};
-ghost use Rattle.dns_spec.specs.ZoneText.{is_blank, begins_line_end, is_cut_short, extent_by, stop_at, stop_fault, string_fault, token_fault, unless_cut_short};
+ghost use Rattle.dns_spec.specs.ZoneText.{beginning, is_blank, begins_line_end, is_cut_short, extent_by, stop_at, stop_fault, string_fault, token_fault, unless_cut_short};
 ghost use Rattle.dns_master.specs.TokenForm.{shown_token};
 ghost use Rattle.dns_master.specs.EntryForm.{EntryRead, IsWrong, outcome_of, step, token_words, line_ends};
 ghost use Rattle.dns_master.specs.Steps.{shown_step};
@@ -139,6 +139,25 @@ pub(crate) fn check_end(end: &EntryEnd<'_>, goes_on: bool) -> Result<(), ReadCod
     }
 }
 
+/// Whether an entry is ended by its line end, where its text is a beginning of one that may go on.
+///
+/// False where more of the text would be needed to tell; else the entry's fault by its place.
+pub(crate) fn is_ended(end: &EntryEnd<'_>) -> Result<bool, ReadCode>
+    ensures ok { IfOk result (λ now. now ≡ end.now.is_ended) }
+    ensures err { IfErr result (λ code. (end.now.is_ended ≡ false)
+        × (stop_fault beginning end.now.is_open (stop_at end.now.rest.now)
+        ≡ Some (fault_of code)) × (code ≢ ReadCode.TooLong)) }
+    ensures source { IfErr result (λ code. code ≢ ReadCode.SourceFailed) }
+{
+    if end.is_ended {
+        return Ok(true);
+    }
+    match end_fault(end, true) {
+        None | Some(ReadCode::TooLong) => Ok(false),
+        Some(code) => Err(code),
+    }
+}
+
 // The fault of an entry that no line end ends: `goes_on` is whether the text goes on past its
 // limit.
 fn end_fault(end: &EntryEnd<'_>, goes_on: bool) -> Option<ReadCode>
@@ -198,8 +217,8 @@ fn token_fault(place: &[u8]) -> ReadCode
     ReadCode::BadOctet
 }
 
-// Whether more octets might end what the text is: an escape or CR LF.
-fn is_cut_short(text: &[u8]) -> bool
+/// Whether more octets might end what the text is: an escape or CR LF.
+pub(crate) fn is_cut_short(text: &[u8]) -> bool
     ensures { result ≡ is_cut_short text.now }
 {
     match text {

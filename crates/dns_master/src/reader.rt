@@ -1,5 +1,5 @@
 //! The reader of zone files (RFC 1035 section 5).
-ghost use Rattle.std.specs.Prelude.{◌≡◌, ◌≢◌, ◌+◌, ◌-◌, ◌^◌, ◌≤◌, ◌<◌, ◌⊎◌, length, List, [], ◌∷◌, ◌++◌, IfOk, IfErr, OnOk, IfSome, IsSome, IsTrue, Some, true, codes, if◌then◌else◌};
+ghost use Rattle.std.specs.Prelude.{◌≡◌, ◌≢◌, ◌+◌, ◌-◌, ◌^◌, ◌≤◌, ◌<◌, ◌⊎◌, length, List, [], ◌∷◌, ◌++◌, IfOk, IfErr, OnOk, IfSome, IsSome, IsTrue, Some, None, true, codes, if◌then◌else◌};
 ghost use Rattle.std.specs.Option.{option_or};
 ghost use Rattle.dns_spec.specs.Names.{DomainName, folded};
 ghost use Rattle.dns_spec.specs.Data.{Valid, lower_case};
@@ -15,14 +15,16 @@ ghost use Rattle.dns_master.specs.OwnedBody.{with_owner};
 ghost use Rattle.dns_master.specs.RecordForm.{IsKept};
 ghost use Rattle.dns_master.specs.ReaderForm.{Knows, RecordTaken, EntryTaken, EntryDone, handed};
 ghost use Rattle.dns_master.specs.RecordsForm.{StillGives, came, given_so_far};
+ghost use Rattle.dns_master.specs.PieceForm.{FrontTaken, FrontFaulty, ReaderMeans, TextGathered};
 
 use crate::directive::{is_directive, read_default_ttl, read_origin};
-use crate::entry::{begins_blank, check_end, read_entry};
+use crate::entry::{begins_blank, check_end, is_ended, read_entry};
 use crate::fault::{ReadCode, ReadFault};
 use crate::fields::{Fields, is_other_class, stated_ttl, type_and_words};
 use crate::gathers::{Gathers, WholeRecords};
+use crate::pieces::Begun;
 use crate::record::{Record, RecordBody};
-use crate::source::read_text;
+use crate::source::{is_more, new_piece};
 use crate::state::{Reader, Records};
 use crate::words::{is_word, spell_name};
 use dns_name::{Name, Tally};
@@ -88,19 +90,49 @@ pub fn read_into<R: Read, G: Gathers>(
         ⊎ (f.code ≡ ReadCode.NoMemory) → f.line ≡ 0) }
     ensures counted { source.new.failures ≡ failures_after_read source.old.failures result }
 {
-    let text = match read_text(alloc, source) {
-        Ok(text) => text,
+    let mut piece = match new_piece(alloc) {
+        Ok(piece) => piece,
         Err(code) => return Err(ReadFault { code, line: 0 }),
     };
-    let mut entries = Records::new(alloc, origin, text.as_slice());
+    let mut begun = Begun::new(alloc, origin);
+    'pieces: while begun.left > 0 {
+        if !begun.take_piece(source, piece.as_mut_slice(), found)? {
+            return finish(begun, false, found);
+        }
+    }
+    match is_more(alloc, source, piece.as_mut_slice()) {
+        Ok(goes_on) => finish(begun, goes_on, found),
+        Err(code) => Err(ReadFault { code, line: 0 }),
+    }
+}
+
+// Adds the records of what is left of a text, after which it is over or goes on past its limit.
+fn finish<G: Gathers>(begun: Begun, goes_on: bool, found: &mut G) -> Result<(), ReadFault>
+    requires count { length (G.gathered found.old) ≡ begun.reader.count }
+    requires fits { begun.reader.line + length begun.held.items ≤ 16777217 }
+    ensures ok { OnOk result (TextGathered begun.reader goes_on begun.held.items
+        (G.gathered found.old) (G.gathered found.new)) }
+    ensures few { OnOk result (length (G.gathered found.new) ≤ most_records) }
+    ensures err { IfErr result (λ f. f.code ≢ ReadCode.NoMemory
+        → ReaderMeans begun.reader goes_on begun.held.items (fault_at (fault_of f.code) f.line)) }
+    ensures source { IfErr result (λ f. f.code ≢ ReadCode.SourceFailed) }
+    ensures memory { IfErr result (λ f. f.code ≡ ReadCode.NoMemory → f.line ≡ 0) }
+{
+    let mut entries = Records {
+        reader: begun.reader,
+        words: Vec::new(begun.alloc),
+        room: begun.room,
+        rest: begun.held.as_slice(),
+        goes_on,
+    };
     gather(&mut entries, found)
 }
 
 // Adds all records that are still to come.
 fn gather<G: Gathers>(entries: &mut Records<'_>, found: &mut G) -> Result<(), ReadFault>
-    requires first { given_so_far entries.old ≡ 0 }
-    requires nothing { G.gathered found.old ≡ [] }
-    ensures ok { OnOk result (StillGives entries.old (records (G.gathered found.new))) }
+    requires { length (G.gathered found.old) ≡ given_so_far entries.old }
+    ensures ok { OnOk result (TextGathered entries.old.reader entries.old.goes_on
+        entries.old.rest.now (G.gathered found.old) (G.gathered found.new)) }
     ensures few { OnOk result (length (G.gathered found.new) ≤ most_records) }
     ensures err { IfErr result (λ f. f.code ≢ ReadCode.NoMemory
         → StillGives entries.old (fault_at (fault_of f.code) f.line)) }
@@ -175,6 +207,39 @@ impl Reader {
         let taken = self.take_words(begins_blank(text), words.as_slice(), room)?;
         self.line += end.lines;
         Ok((taken, end.rest))
+    }
+
+    /// Takes the entry that a text begins with, where the text tells its end whatever comes after
+    /// it: gives whether it is a record, which is the last one then, and the text after it. `None`
+    /// where more of the text would be needed to tell; then nothing was taken.
+    pub(crate) fn take_ended<'a>(
+        &mut self,
+        text: &'a [u8],
+        words: &mut Vec<Word<'a>>,
+        room: &mut DataRoom,
+    ) -> Result<Option<(bool, &'a [u8])>, ReadCode>
+        requires fits { self.old.line + length text.now ≤ 16777217 }
+        ensures ok { IfOk result (λ found. IfSome found (λ x. FrontTaken self.old text.now
+            (handed x.0 self.new.last) self.new x.1.now)) }
+        ensures none { IfOk result (λ found. found ≡ None → self.new ≡ self.old) }
+        ensures counted { IfOk result (λ found. IfSome found (λ x.
+            self.new.count ≡ self.old.count + length (handed x.0 self.new.last))) }
+        ensures shorter { IfOk result (λ found. IfSome found (λ x.
+            length x.1.now < length text.now)) }
+        ensures lines { IfOk result (λ found. IfSome found (λ x.
+            self.new.line + length x.1.now ≤ self.old.line + length text.now)) }
+        ensures err { IfErr result (λ code. code ≢ ReadCode.NoMemory
+            → FrontFaulty self.old text.now (fault_of code) self.old.line) }
+        ensures source { IfErr result (λ code. code ≢ ReadCode.SourceFailed) }
+    {
+        words.clear();
+        let end = read_entry(text, words)?;
+        if !is_ended(&end)? {
+            return Ok(None);
+        }
+        let taken = self.take_words(begins_blank(text), words.as_slice(), room)?;
+        self.line += end.lines;
+        Ok(Some((taken, end.rest)))
     }
 
     // Takes what the words of an entry say.

@@ -97,8 +97,8 @@ impl<'a> Records<'a> {
     }
 }
 
-// The fault of an entry that begins on this line.
-fn entry_fault(code: ReadCode, line: u32) -> ReadFault
+/// The fault of an entry that begins on this line.
+pub(crate) fn entry_fault(code: ReadCode, line: u32) -> ReadFault
     ensures code { result.code ≡ code }
     ensures line { code ≢ ReadCode.NoMemory → result.line ≡ line }
     ensures memory { code ≡ ReadCode.NoMemory → result.line ≡ 0 }
