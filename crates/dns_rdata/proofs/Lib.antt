@@ -8,7 +8,7 @@ pub mod Ipv6Lemmas
 pub mod Ipv6TextLemmas
 pub mod UnknownLemmas
 pub mod FormWords
-pub mod WordsLoop
+pub mod FormFronts
 pub mod NameFronts
 pub mod PartLemmas
 pub mod SpacedWords

@@ -1,11 +1,12 @@
 -- Reading a string from left to right finds what it spells, and nothing else.
-use Rattle.std.proofs.Common.{◌≡◌, ◌↔◌, ℕ, ◌<◌, ◌≤◌, inl, inr, ◌==◌, [], ◌∷◌, ◌++◌, length, refl, sym, ◌∙◌, ap, subst, arith, length-append}
+use Rattle.std.proofs.Common.{◌≡◌, ◌↔◌, ℕ, ◌<◌, ◌≤◌, false, inl, inr, ◌==◌, ◌||◌, if◌then◌else◌, [], ◌∷◌, ◌++◌, length, refl, sym, ◌∙◌, ap, subst, arith, length-append}
 use Rattle.std.specs.Prelude.{Some, None}
 use Rattle.std.proofs.lemmas.List.{append_assoc, append-nil}
-use Rattle.std.proofs.lemmas.Bool.{cases_Bool, eqb-true}
+use Rattle.std.proofs.lemmas.Bool.{cases_Bool, eqb-true, false≢true}
+use Rattle.std.specs.List.{list_any}
 use Rattle.dns_spec.specs.Names.{Octets}
 use Rattle.dns_spec.specs.DataText.{SpellsString, SpellsStringOctet}
-use Rattle.dns_name.specs.TextForm.{octet_at}
+use Rattle.dns_name.specs.TextForm.{octet_at, escaped_at}
 use Rattle.dns_name.proofs.TextLemmas.{octet_at-OctetThen, OctetThen-octet_at}
 
 -- a text is the spelling of an octet of a string, and others
@@ -129,3 +130,19 @@ octet_at-shorter text x others e = let spelled = read_spelled text x others e in
     by_cases [] f (inl h) = absurd h
     by_cases [] f (inr (h, k)) = omega (arith, ap length h)
     by_cases (a ∷ first) f h = omega (arith, ap length f, length-append first others)
+
+-- octets without a backslash are read as they stand
+plain_read : (text read rest : Octets) → StringSoFar text read rest → list_any (λ (o : ℕ). o == 92) rest ≡ false → StringSoFar text (read ++ rest) []
+unfolding octet_at
+plain_read text read [] so_far none = subst (λ r. StringSoFar text r []) (sym (append-nil read)) so_far
+plain_read text read (a ∷ rest) so_far none = elim (cases_Bool (a == 92)) [
+  | inl is ↦ absurd (false≢true (sym none ∙ ap (λ b. b || list_any (λ (o : ℕ). o == 92) rest) is))
+  | inr other ↦
+      let next = StringSoFar-push text read (a ∷ rest) a rest so_far (ap (λ b. if b then escaped_at rest else Some (a, rest)) other) in
+      let left : list_any (λ (o : ℕ). o == 92) rest ≡ false = sym (ap (λ b. b || list_any (λ (o : ℕ). o == 92) rest) other) ∙ none in
+      subst (λ r. StringSoFar text r []) (append_assoc read (a ∷ []) rest) (plain_read text (read ++ a ∷ []) rest next left)
+]
+
+-- a text without a backslash spells its own octets alone
+pub plain_string : (text : Octets) → list_any (λ (o : ℕ). o == 92) text ≡ false → (s : Octets) → SpellsString text s ↔ (s ≡ text)
+plain_string text none = StringSoFar-iff text text [] (plain_read text [] text (StringSoFar-none text) none) refl

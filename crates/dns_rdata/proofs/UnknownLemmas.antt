@@ -1,11 +1,11 @@
 -- Words of hex digits read from left to right, each of whole octets.
-use Rattle.std.proofs.Common.{◌≡◌, drop, get_or, subst, ◌↔◌, Bool, ◌%◌, ◌+◌, ◌<◌, ◌≤◌, ℕ, true, false, List, [], ◌∷◌, ◌++◌, length, refl, sym, ◌∙◌, ap, arith, decimal, IsTrue, length-append}
+use Rattle.std.proofs.Common.{◌≡◌, subst, ◌↔◌, Bool, ◌%◌, ◌<◌, ◌≤◌, ℕ, true, false, List, [], ◌∷◌, ◌++◌, length, refl, sym, ◌∙◌, ap, arith, decimal, IsTrue, length-append}
 use Rattle.std.specs.Prelude.{Option, Some, None, ◌&&◌, not, nat_lt, ◌==◌}
 use Rattle.std.specs.List.{list_all, flat_map}
 use Rattle.std.specs.Option.{option_map}
 use Rattle.std.specs.Prelude.{Result, Ok, Err, IfErr}
 use Rattle.std.specs.Result.{IsErrAnd}
-use Rattle.std.proofs.lemmas.List.{append_assoc, append-nil, drop_all, drop_more}
+use Rattle.std.proofs.lemmas.List.{append_assoc, append-nil}
 use Rattle.std.proofs.lemmas.Bool.{and_parts, eqb-true, eq-eqb, lt-ltb}
 use Rattle.std.proofs.lemmas.Fmt.{decimal_injective}
 use Rattle.dns_spec.specs.Names.{Octets}
@@ -112,15 +112,6 @@ word_refused w ws rest octets d so_far none said =
     let (e, says, split) = rest_says ws (w ∷ rest) octets d so_far said in
     let (first, says_first) = first_says w rest e says in
     none first says_first
-
--- the next word is the first of the rest
-pub at_word : (ws : List Word) (i : ℕ) (w : Word) (octets : Octets) → i < length ws → w ≡ get_or ws i w → WordsSoFar ws (drop i ws) octets → WordsSoFar ws (w ∷ drop (i + 1) ws) octets
-at_word ws i w octets inside is so_far =
-    subst (λ rest. WordsSoFar ws rest octets) (drop_more ws i w inside ∙ ap (λ v. v ∷ drop (i + 1) ws) (sym is)) so_far
-
--- after the last word there is none
-pub at_end : (ws : List Word) (i : ℕ) (octets : Octets) → length ws ≤ i → WordsSoFar ws (drop i ws) octets → WordsSoFar ws [] octets
-at_end ws i octets end so_far = subst (λ rest. WordsSoFar ws rest octets) (drop_all i ws end) so_far
 
 -- an error handed on is the same
 pub same_fault : {X E : Type 0} (r : Result X E) (Q : E → Type 0) (f : E) → IsErrAnd r (λ e. e ≡ f) → Q f → IfErr r Q

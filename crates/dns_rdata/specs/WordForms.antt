@@ -1,7 +1,7 @@
 -- What a reader learns here: what the code's forms of words are in the words of the definitions,
 -- and what is appended for a word.
-use Rattle.std.specs.Prelude.{◌≡◌, ◌++◌}
-use Rattle.dns_spec.specs.Names.{Octets}
+use Rattle.std.specs.Prelude.{◌≡◌, ◌++◌, List}
+use Rattle.dns_spec.specs.Names.{Octets, DomainName}
 use Rattle.dns_spec.specs.DataText as text
 use Rattle.dns_spec.specs.DataText.{number_word, ipv4_word, ipv6_word, name_word, string_word, SaysForm, SaysWord, SaysForms}
 use Rattle.dns_rdata.specs.TypeRows.{size_of}
@@ -21,3 +21,15 @@ pub record AppendsOnly (says : Octets → Type 0) (before after : Octets) : Type
   pub grown : after ≡ before ++ piece
   pub said : says piece
   pub only : (d : Octets) → says d → d ≡ piece
+
+-- the first words were taken, and octets grew by the only ones that they say, each by its form
+pub record AppendsFront (fs : List text.WordForm) (origin : DomainName) (ws rest : List text.Word)
+    (before after : Octets) : Type 0 where
+  pub taken : List text.Word
+  pub split : ws ≡ taken ++ rest
+  pub appends : AppendsOnly (SaysForms fs origin taken) before after
+
+-- the first words, whatever stands after them, say nothing by these forms
+abbrev pub SaysNoFront : List text.WordForm → DomainName → List text.Word → Type 0
+SaysNoFront fs origin ws =
+    (taken rest : List text.Word) → ws ≡ taken ++ rest → (d : Octets) → SaysForms fs origin taken d → ⊥

@@ -28,7 +28,7 @@ pub use read::DataRoom;
 pub use rtype::RType;
 pub use set::SetView;
 pub use table::{Fixed, NumberSize, Piece, pieces_of_type};
-pub use word::Word;
+pub use word::{Word, Words};
 
 #[cfg(test)]
 mod tests;

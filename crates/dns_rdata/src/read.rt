@@ -7,9 +7,9 @@ ghost use Rattle.dns_spec.specs.DataText.{Says, SaysAsSpelled};
 use crate::fault::RdataFault;
 use crate::rdata::{MAX_OCTETS, Rdata};
 use crate::rtype::RType;
-use crate::typed::{USUAL_OCTETS, WordRoom, put_typed};
+use crate::typed::{USUAL_OCTETS, put_typed};
 use crate::unknown::{is_unknown_mark, put_unknown};
-use crate::word::Word;
+use crate::word::{Word, Words};
 use dns_name::Name;
 use std::alloc::{AllocError, Global};
 use std::mem::replace;
@@ -18,7 +18,7 @@ use std::mem::replace;
 #[derive(Drop)]
 pub struct DataRoom {
     alloc: Global,
-    words: WordRoom,
+    name: Name,
     octets: Vec<u8>,
 }
 
@@ -27,7 +27,7 @@ impl DataRoom {
     pub fn new(alloc: Global) -> DataRoom {
         DataRoom {
             alloc,
-            words: WordRoom::new(alloc),
+            name: Name::root(),
             octets: Vec::new(alloc),
         }
     }
@@ -78,21 +78,21 @@ impl Rdata {
 
     /// The data that words say, read in room that is lent: all of what `read_words` says. Its
     /// memory is that of the room, which `take_back` gives back.
-    pub fn read_words_in(
+    pub fn read_words_in<'w, W: Words<'w>>(
         room: &mut DataRoom,
         rtype: RType,
-        words: &[Word<'_>],
+        words: W,
         origin: &Name,
     ) -> Result<Rdata, RdataFault>
         ensures valid { IfOk result (λ d. Valid rtype.0 d) }
-        ensures ok { IfOk result (λ d. Says rtype.0 words.now origin.now d) }
+        ensures ok { IfOk result (λ d. Says rtype.0 (W.to_come words) origin.now d) }
         ensures only { IfOk result
-            (λ d. (e : Octets) → Says rtype.0 words.now origin.now e → e ≡ d) }
+            (λ d. (e : Octets) → Says rtype.0 (W.to_come words) origin.now e → e ≡ d) }
         ensures fault { IfErr result (λ fault. fault ≢ RdataFault.NoMemory → (d : Octets)
-            → Says rtype.0 words.now origin.now d → ⊥) }
+            → Says rtype.0 (W.to_come words) origin.now d → ⊥) }
     {
         let mut octets = room.cleared()?;
-        spell_octets(rtype, words, origin, &mut room.words, &mut octets)?;
+        spell_octets(rtype, words, origin, &mut room.name, &mut octets)?;
         if octets.len() > MAX_OCTETS {
             return Err(RdataFault::BadString);
         }
@@ -101,24 +101,24 @@ impl Rdata {
 }
 
 // Puts the octets that words spell, names in the case that they have, where none are yet.
-fn spell_octets(
+fn spell_octets<'w, W: Words<'w>>(
     rtype: RType,
-    words: &[Word<'_>],
+    words: W,
     origin: &Name,
-    room: &mut WordRoom,
+    name: &mut Name,
     octets: &mut Vec<u8>,
 ) -> Result<(), RdataFault>
     requires { octets.old.items ≡ [] }
-    ensures ok { OnOk result (SaysAsSpelled rtype.0 origin.now words.now octets.new.items) }
-    ensures only { OnOk result
-        ((d : Octets) → SaysAsSpelled rtype.0 origin.now words.now d → d ≡ octets.new.items) }
+    ensures ok { OnOk result (SaysAsSpelled rtype.0 origin.now (W.to_come words) octets.new.items) }
+    ensures only { OnOk result ((d : Octets)
+        → SaysAsSpelled rtype.0 origin.now (W.to_come words) d → d ≡ octets.new.items) }
     ensures fault { IfErr result (λ fault. fault ≢ RdataFault.NoMemory → (d : Octets)
-        → SaysAsSpelled rtype.0 origin.now words.now d → length d ≤ 65535 → ⊥) }
+        → SaysAsSpelled rtype.0 origin.now (W.to_come words) d → length d ≤ 65535 → ⊥) }
 {
     if let Some((first, others)) = words.split_first() {
-        if is_unknown_mark(first) {
+        if is_unknown_mark(&first) {
             return put_unknown(others, octets);
         }
     }
-    put_typed(rtype, words, origin, room, octets)
+    put_typed(rtype, words, origin, name, octets)
 }

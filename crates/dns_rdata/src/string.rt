@@ -25,6 +25,10 @@ pub(crate) fn read_string(word: &[u8]) -> Option<ArrayVec<u8, MOST_STRING_OCTETS
     ensures none { IsNone result → (s : Octets) → SpellsString word.now s → length s ≤ 255 → ⊥ }
 {
     let mut octets = ArrayVec::new();
+    if word.len() <= MOST_STRING_OCTETS && !word.contains(&b'\\') {
+        octets.try_extend_from_slice(word).ok()?;
+        return Some(octets);
+    }
     let mut rest = word;
     'octets: while !rest.is_empty() {
         let (octet, others) = first_octet(rest)?;

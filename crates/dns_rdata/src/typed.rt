@@ -1,11 +1,11 @@
 //! Data in the form of its type: a word for each number, address, name and string (RFC 1035 5.1).
-ghost use Rattle.std.specs.Prelude.{◌≡◌, ◌≢◌, ◌++◌, [], length, map, replicate, OnOk, IfOk, IfErr};
+ghost use Rattle.std.specs.Prelude.{◌≡◌, ◌≢◌, ◌≤◌, ◌==◌, ◌++◌, [], length, replicate, OnOk, IfOk, IfErr};
 ghost use Rattle.std.specs.List.{flat_map};
 ghost use Rattle.dns_spec.specs.Names.{Octets};
 ghost use Rattle.dns_spec.specs.DataText.{SaysNumber, SaysName, SaysString, SaysForm, SaysWord, SaysForms, SaysTyped, forms_in};
 ghost use Rattle.dns_spec.specs.AddressText.{SaysIpv4, SaysIpv6};
 ghost use Rattle.dns_rdata.specs.TypeRows.{size_of, piece_of, pieces_in};
-ghost use Rattle.dns_rdata.specs.WordForms.{form_of, AppendsOnly};
+ghost use Rattle.dns_rdata.specs.WordForms.{form_of, AppendsOnly, AppendsFront, SaysNoFront};
 
 use crate::fault::RdataFault;
 use crate::ipv4::read_ipv4;
@@ -14,9 +14,8 @@ use crate::number::read_number;
 use crate::rtype::RType;
 use crate::string::read_string;
 use crate::table::{Fixed, NumberSize, Piece, row_of_type};
-use crate::word::Word;
+use crate::word::{Word, Words};
 use dns_name::Name;
-use std::alloc::{AllocError, Global};
 
 /// Most data has no more octets, so that its memory never grows. An allocator hands out little less
 /// for fewer.
@@ -32,115 +31,121 @@ pub(crate) enum WordForm {
     String,
 }
 
-/// Room in which words are read: their forms, and a name that one of them spells.
-#[derive(Drop)]
-pub(crate) struct WordRoom {
-    forms: Vec<WordForm>,
-    name: Name,
-}
-
-impl WordRoom {
-    /// Room without memory.
-    pub(crate) fn new(alloc: Global) -> WordRoom {
-        WordRoom {
-            forms: Vec::new(alloc),
-            name: Name::root(),
-        }
-    }
+/// Words of one form, side by side.
+#[derive(Clone, Copy, Debug)]
+struct FormRun {
+    form: WordForm,
+    times: usize,
 }
 
 /// Puts the octets that words say in the form of the type, where none are yet.
 ///
 /// `BadHex` where the type has no such form, `WordCount` where it has another number of words; else
 /// the fault of the first word from the left that is none of its form.
-pub(crate) fn put_typed(
+pub(crate) fn put_typed<'w, W: Words<'w>>(
     rtype: RType,
-    words: &[Word<'_>],
-    origin: &Name,
-    room: &mut WordRoom,
-    octets: &mut Vec<u8>,
-) -> Result<(), RdataFault>
-    requires { octets.old.items ≡ [] }
-    ensures ok { OnOk result (SaysTyped rtype.0 origin.now words.now octets.new.items) }
-    ensures only { OnOk result ((d : Octets) → SaysTyped rtype.0 origin.now words.now d
-        → d ≡ octets.new.items) }
-    ensures fault { IfErr result (λ fault. fault ≢ RdataFault.NoMemory → (d : Octets)
-        → SaysTyped rtype.0 origin.now words.now d → ⊥) }
-{
-    let row = row_of_type(rtype).ok_or(RdataFault::BadHex)?;
-    let WordRoom { forms, name } = room;
-    put_forms(row.pieces, words.len(), forms)?;
-    if forms.len() != words.len() {
-        return Err(RdataFault::WordCount);
-    }
-    append_words(forms.as_slice(), words, origin, name, octets)
-}
-
-// Makes the forms those of so many words for these pieces.
-fn put_forms(pieces: &[Piece], count: usize, forms: &mut Vec<WordForm>) -> Result<(), AllocError>
-    ensures { OnOk result (map form_of forms.new.items ≡ flat_map (forms_in count)
-        (pieces_in pieces.now)) }
-{
-    forms.clear();
-    'pieces: for piece in pieces {
-        push_forms(forms, *piece, count)?;
-    }
-    Ok(())
-}
-
-// RFC 1035 3.3.14: strings, which stand alone, take all words, and one at least.
-fn push_forms(forms: &mut Vec<WordForm>, piece: Piece, count: usize) -> Result<(), AllocError>
-    ensures { OnOk result (map form_of forms.new.items ≡ map form_of forms.old.items
-        ++ forms_in count (piece_of piece)) }
-{
-    match piece {
-        Piece::Fixed(Fixed::Numbers { count, size }) => {
-            push_times(forms, WordForm::Number(size), usize::from(count))
-        }
-        Piece::Fixed(Fixed::Ipv4) => push_times(forms, WordForm::Ipv4, 1),
-        Piece::Fixed(Fixed::Ipv6) => push_times(forms, WordForm::Ipv6, 1),
-        Piece::Domain => push_times(forms, WordForm::Domain, 1),
-        Piece::String => push_times(forms, WordForm::String, 1),
-        Piece::Strings => push_times(forms, WordForm::String, count.max(1)),
-        Piece::Anything => Ok(()),
-    }
-}
-
-fn push_times(forms: &mut Vec<WordForm>, form: WordForm, times: usize) -> Result<(), AllocError>
-    ensures { OnOk result (map form_of forms.new.items ≡ map form_of forms.old.items
-        ++ replicate times (form_of form)) }
-{
-    let mut left = times;
-    'times: while left > 0 {
-        forms.push(form)?;
-        left -= 1;
-    }
-    Ok(())
-}
-
-// Appends what words say, each by its form, from the left. `name` is room for those that are names.
-fn append_words(
-    forms: &[WordForm],
-    words: &[Word<'_>],
+    words: W,
     origin: &Name,
     name: &mut Name,
     octets: &mut Vec<u8>,
 ) -> Result<(), RdataFault>
-    requires { length forms.now ≡ length words.now }
-    ensures ok { OnOk result (AppendsOnly (SaysForms (map form_of forms.now) origin.now words.now)
-        octets.old.items octets.new.items) }
+    requires { octets.old.items ≡ [] }
+    ensures ok { OnOk result (SaysTyped rtype.0 origin.now (W.to_come words) octets.new.items) }
+    ensures only { OnOk result ((d : Octets) → SaysTyped rtype.0 origin.now (W.to_come words) d
+        → d ≡ octets.new.items) }
     ensures fault { IfErr result (λ fault. fault ≢ RdataFault.NoMemory → (d : Octets)
-        → SaysForms (map form_of forms.now) origin.now words.now d → ⊥) }
+        → SaysTyped rtype.0 origin.now (W.to_come words) d → ⊥) }
 {
-    let mut forms = forms;
-    'words: for word in words {
-        let Some((form, others)) = forms.split_first() else {
-            unreachable!();
-        };
-        append_word(*form, word, origin, name, octets)?;
-        forms = others;
+    let row = row_of_type(rtype).ok_or(RdataFault::BadHex)?;
+    let count = words.count();
+    if !is_word_count(row.pieces, count) {
+        return Err(RdataFault::WordCount);
+    }
+    append_words(row.pieces, count, words, origin, name, octets)
+}
+
+// Whether pieces have so many words, where the record has so many.
+fn is_word_count(pieces: &[Piece], count: usize) -> bool
+    ensures { result ≡ (length (flat_map (forms_in count) (pieces_in pieces.now)) == count) }
+{
+    let mut left = count;
+    'pieces: for piece in pieces {
+        let run = run_of(*piece, count);
+        if run.times > left {
+            return false;
+        }
+        left -= run.times;
+    }
+    left == 0
+}
+
+// The words of a piece, where the record has so many words. RFC 1035 3.3.14: strings, which stand
+// alone, take all words, and one at least.
+fn run_of(piece: Piece, count: usize) -> FormRun
+    ensures { forms_in count (piece_of piece) ≡ replicate result.times (form_of result.form) }
+{
+    let (form, times) = match piece {
+        Piece::Fixed(Fixed::Numbers { count, size }) => {
+            (WordForm::Number(size), usize::from(count))
+        }
+        Piece::Fixed(Fixed::Ipv4) => (WordForm::Ipv4, 1),
+        Piece::Fixed(Fixed::Ipv6) => (WordForm::Ipv6, 1),
+        Piece::Domain => (WordForm::Domain, 1),
+        Piece::String => (WordForm::String, 1),
+        Piece::Strings => (WordForm::String, count.max(1)),
+        Piece::Anything => (WordForm::String, 0),
+    };
+    FormRun { form, times }
+}
+
+// Appends what words say, each by its form, piece by piece from the left. `name` is room for those
+// that are names.
+fn append_words<'w, W: Words<'w>>(
+    pieces: &[Piece],
+    count: usize,
+    words: W,
+    origin: &Name,
+    name: &mut Name,
+    octets: &mut Vec<u8>,
+) -> Result<(), RdataFault>
+    requires { length (flat_map (forms_in count) (pieces_in pieces.now))
+        ≡ length (W.to_come words) }
+    ensures ok { OnOk result (AppendsOnly (SaysForms (flat_map (forms_in count)
+        (pieces_in pieces.now)) origin.now (W.to_come words)) octets.old.items octets.new.items) }
+    ensures fault { IfErr result (λ fault. fault ≢ RdataFault.NoMemory → (d : Octets)
+        → SaysForms (flat_map (forms_in count) (pieces_in pieces.now)) origin.now
+        (W.to_come words) d → ⊥) }
+{
+    let mut words = words;
+    'pieces: for piece in pieces {
+        words = append_run(run_of(*piece, count), words, origin, name, octets)?;
     }
     Ok(())
+}
+
+// Appends what the first words say, all by one form, and answers the words after them.
+fn append_run<'w, W: Words<'w>>(
+    run: FormRun,
+    words: W,
+    origin: &Name,
+    name: &mut Name,
+    octets: &mut Vec<u8>,
+) -> Result<W, RdataFault>
+    requires { run.times ≤ length (W.to_come words) }
+    ensures ok { IfOk result (λ others. AppendsFront (replicate run.times (form_of run.form))
+        origin.now (W.to_come words) (W.to_come others) octets.old.items octets.new.items) }
+    ensures fault { IfErr result (λ fault. fault ≢ RdataFault.NoMemory
+        → SaysNoFront (replicate run.times (form_of run.form)) origin.now (W.to_come words)) }
+{
+    let mut others = words;
+    'run: for _ in 0..run.times {
+        let Some((word, after)) = others.split_first() else {
+            unreachable!();
+        };
+        append_word(run.form, &word, origin, name, octets)?;
+        others = after;
+    }
+    Ok(others)
 }
 
 // Appends what a word says by its form. Only a string may be quoted.

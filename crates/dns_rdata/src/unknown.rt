@@ -7,7 +7,7 @@ ghost use Rattle.dns_rdata.specs.UnknownForm.{AppendsWord, SaysHexWord};
 use crate::fault::RdataFault;
 use crate::hex::append_hex;
 use crate::number::read_number;
-use crate::word::Word;
+use crate::word::{Word, Words};
 
 // Data has at most 65,535 octets (RFC 1035 3.2.1).
 const MOST_OCTETS: u32 = 65_535;
@@ -23,24 +23,29 @@ pub(crate) fn is_unknown_mark(word: &Word<'_>) -> bool
 /// of whole octets.
 ///
 /// The error is `NoMemory` only where no memory was found, and else `BadHex`.
-pub(crate) fn put_unknown(words: &[Word<'_>], octets: &mut Vec<u8>) -> Result<(), RdataFault>
+pub(crate) fn put_unknown<'w, W: Words<'w>>(
+    words: W,
+    octets: &mut Vec<u8>,
+) -> Result<(), RdataFault>
     requires { octets.old.items ≡ [] }
-    ensures ok { OnOk result (SaysUnknown words.now octets.new.items) }
-    ensures only { OnOk result ((d : Octets) → SaysUnknown words.now d
+    ensures ok { OnOk result (SaysUnknown (W.to_come words) octets.new.items) }
+    ensures only { OnOk result ((d : Octets) → SaysUnknown (W.to_come words) d
         → d ≡ octets.new.items) }
     ensures fault { IfErr result (λ fault. fault ≢ RdataFault.NoMemory → (d : Octets)
-        → SaysUnknown words.now d → length d ≤ 65535 → ⊥) }
+        → SaysUnknown (W.to_come words) d → length d ≤ 65535 → ⊥) }
     ensures kind { IfErr result (λ fault. fault ≢ RdataFault.NoMemory → fault ≡ RdataFault.BadHex) }
 {
     let Some((first, others)) = words.split_first() else {
         return Err(RdataFault::BadHex);
     };
-    let count = octet_count(first).ok_or(RdataFault::BadHex)?;
-    'words: for word in others {
-        append_word(word, octets)?;
+    let count = octet_count(&first).ok_or(RdataFault::BadHex)?;
+    let mut others = others;
+    'words: while let Some((word, after)) = others.split_first() {
+        append_word(&word, octets)?;
         if octets.len() > count as usize {
             return Err(RdataFault::BadHex);
         }
+        others = after;
     }
     if octets.len() != count as usize {
         return Err(RdataFault::BadHex);

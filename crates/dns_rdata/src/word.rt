@@ -1,4 +1,7 @@
 //! Words of a zone file.
+ghost use Rattle.std.specs.Prelude.{◌≡◌, [], ◌∷◌, List, length, MatchOption};
+ghost use Rattle.dns_spec.specs.DataText as text;
+
 use std::marker::Model;
 
 /// A word of a record's data as it is spelled in a zone file: without the quotation marks where it
@@ -17,4 +20,40 @@ impl<'a> Model for Word<'a> {
     ghost Value = { text.Word };
 
     ghost view = { λ w. record { raw = w.raw.now; is_quoted = w.quoted } };
+}
+
+/// Words that are still to come, taken one after another from the left.
+pub trait Words<'w>: Copy {
+    /// The words that are still to come.
+    ghost to_come: { Self → List text.Word };
+
+    /// How many words are still to come.
+    fn count(&self) -> usize
+        ensures { result ≡ length (to_come self.now) };
+
+    /// The first word, and those after it; or there is none.
+    fn split_first(self) -> Option<(Word<'w>, Self)>
+        ensures { MatchOption result (to_come self ≡ []) (λ x. to_come self ≡ x.0 ∷ to_come x.1) };
+}
+
+/// Words in a list.
+impl<'a, 'w> Words<'w> for &'a [Word<'w>] {
+    ghost to_come = { λ words. words.now };
+
+    fn count(&self) -> usize {
+        self.len()
+    }
+
+    fn split_first(self) -> Option<(Word<'w>, Self)> {
+        match self {
+            [first, others @ ..] => {
+                let word = Word {
+                    raw: first.raw,
+                    quoted: first.quoted,
+                };
+                Some((word, others))
+            }
+            [] => None,
+        }
+    }
 }

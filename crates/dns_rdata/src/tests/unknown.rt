@@ -50,7 +50,7 @@ fn octets_said(rt: HostRuntime) -> Result<(), Fail> {
     ];
     for (raws, wanted) in rows {
         let words = words(rt.alloc(), raws, false)?;
-        match octets_of(rt.alloc(), &words) {
+        match octets_of(rt.alloc(), words.as_slice()) {
             Ok(octets) => assert_eq!(rt; octets.as_slice(), wanted, "at {raws:?}"),
             Err(_) => return Err("words that say octets".into()),
         }
@@ -79,7 +79,7 @@ fn words_refused(rt: HostRuntime) -> Result<(), Fail> {
     ];
     for (raws, quoted) in rows {
         let words = words(rt.alloc(), raws, quoted)?;
-        match octets_of(rt.alloc(), &words) {
+        match octets_of(rt.alloc(), words.as_slice()) {
             Ok(_) => return Err("words that say no octets".into()),
             Err(fault) => assert_eq!(rt; fault.code(), 6, "at {raws:?}"),
         }
@@ -94,7 +94,7 @@ fn words_refused(rt: HostRuntime) -> Result<(), Fail> {
             quoted: true,
         },
     ];
-    assert!(rt; octets_of(rt.alloc(), &words).is_err());
+    assert!(rt; octets_of(rt.alloc(), words.as_slice()).is_err());
     Ok(())
 }
 

@@ -1,4 +1,6 @@
-use crate::{DataRoom, RType, Rdata, RdataFault, Word};
+ghost use Rattle.std.specs.Prelude.{false, replicate};
+
+use crate::{DataRoom, RType, Rdata, RdataFault, Word, Words};
 use dns_name::Name;
 use std::alloc::Global;
 use std::test::Fail;
@@ -152,6 +154,80 @@ fn most_data(rt: HostRuntime) -> Result<(), Fail> {
         let found = Rdata::read_words(rt.alloc(), RType::TXT, words.as_slice(), &Name::root());
         assert_eq!(rt; found.err(), wanted);
         words.pop();
+    }
+    Ok(())
+}
+
+// One word, so many times: no list of them is kept.
+#[derive(Clone, Copy)]
+struct Repeated<'w> {
+    raw: &'w [u8],
+    left: usize,
+}
+
+impl<'w> Words<'w> for Repeated<'w> {
+    ghost to_come = { λ w. replicate w.left (record { raw = w.raw.now; is_quoted = false }) };
+
+    fn count(&self) -> usize {
+        self.left
+    }
+
+    fn split_first(self) -> Option<(Word<'w>, Self)> {
+        if self.left == 0 {
+            return None;
+        }
+        let word = Word {
+            raw: self.raw,
+            quoted: false,
+        };
+        let others = Repeated {
+            raw: self.raw,
+            left: self.left - 1,
+        };
+        Some((word, others))
+    }
+}
+
+#[test]
+fn data_of_words_that_are_no_list(rt: HostRuntime) -> Result<(), Fail> {
+    let rows: [(RType, &[u8], usize, &[u8]); 5] = [
+        (RType::A, b"192.0.2.1", 1, b"\xc0\x00\x02\x01"),
+        (RType::HINFO, b"ab", 2, b"\x02ab\x02ab"),
+        (RType::MX, b"10", 2, b"\x00\x0a\x0210\x00"),
+        (RType::TXT, b"a", 4, b"\x01a\x01a\x01a\x01a"),
+        (RType::SRV, b"1", 4, b"\x00\x01\x00\x01\x00\x01\x011\x00"),
+    ];
+    let mut room = DataRoom::new(rt.alloc());
+    for (rtype, raw, left, wanted) in rows {
+        let words = Repeated { raw, left };
+        match Rdata::read_words_in(&mut room, rtype, words, &Name::root()) {
+            Ok(data) => {
+                assert_eq!(rt; data.octets(), wanted, "at {raw:?}");
+                room.take_back(data);
+            }
+            Err(_) => return Err("words that say data".into()),
+        }
+    }
+    Ok(())
+}
+
+#[test]
+fn faults_of_words_that_are_no_list(rt: HostRuntime) -> Result<(), Fail> {
+    let rows: [(RType, &[u8], usize, RdataFault); 8] = [
+        (RType::TXT, b"a", 0, RdataFault::WordCount),
+        (RType::NS, b"a..b", 2, RdataFault::WordCount),
+        (RType::SOA, b"a..b", 6, RdataFault::WordCount),
+        (RType::SOA, b".", 5_592_000, RdataFault::WordCount),
+        (RType::SOA, b".", 7, RdataFault::BadNumber),
+        (RType::HINFO, b"\\256", 2, RdataFault::BadString),
+        (ANY, b"x", 5_592_000, RdataFault::BadHex),
+        (RType::A, b"\\#", 5_592_000, RdataFault::BadHex),
+    ];
+    let mut room = DataRoom::new(rt.alloc());
+    for (rtype, raw, left, wanted) in rows {
+        let words = Repeated { raw, left };
+        let found = Rdata::read_words_in(&mut room, rtype, words, &Name::root());
+        assert_eq!(rt; found.err(), Some(wanted), "at {raw:?}");
     }
     Ok(())
 }

@@ -1,8 +1,10 @@
-use Rattle.std.proofs.Common.{map}
-use Rattle.dns_rdata.specs.WordForms.{form_of}
-use Rattle.dns_rdata.proofs.WordsLoop.{WordsDone}
+use Rattle.std.proofs.Common.{take}
+use Rattle.std.specs.List.{flat_map}
+use Rattle.dns_spec.specs.DataText.{forms_in}
+use Rattle.dns_rdata.specs.TypeRows.{pieces_in}
+use Rattle.dns_rdata.specs.WordForms.{AppendsFront}
 use Rattle.dns_rdata.proofs.typed.append_words.Given as goal
 
--- what is appended, and what the words to come say, are what all say
-abbrev pub invariant-words : goal.invariant-words
-invariant-words l = WordsDone l.origin (map form_of l.fn.forms) l.words l.initial.octets.items l.word-index (map form_of l.forms) l.octets.items
+-- the words of the pieces before the index are taken
+abbrev pub invariant-pieces : goal.invariant-pieces
+invariant-pieces g l = AppendsFront (flat_map (forms_in l.count) (pieces_in (take l.piece-index l.pieces))) l.origin (g.W.Words.to_come l.fn.words) (g.W.Words.to_come l.words) l.initial.octets.items l.octets.items

@@ -1,0 +1,9 @@
+use Rattle.std.proofs.Common.{◌≡◌, ◌+◌, drop, length}
+use Rattle.std.specs.List.{flat_map}
+use Rattle.dns_spec.specs.DataText.{forms_in}
+use Rattle.dns_rdata.specs.TypeRows.{pieces_in}
+use Rattle.dns_rdata.proofs.typed.is_word_count.Given as goal
+
+-- the words of the pieces so far are taken from the count
+abbrev pub invariant-pieces : goal.invariant-pieces
+invariant-pieces l = length (flat_map (forms_in l.count) (pieces_in l.pieces)) + l.left ≡ l.count + length (flat_map (forms_in l.count) (pieces_in (drop l.piece-index l.pieces)))
