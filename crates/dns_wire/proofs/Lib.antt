@@ -11,5 +11,6 @@ mod Suffixes
 mod NameWritten
 mod DataWritten
 mod DataPatched
+mod DataNames
 mod RecordsWritten
 mod DraftLemmas

@@ -1,16 +1,20 @@
 -- What is spelled from a place on is decided by what stands there and by what comes after it.
-use Rattle.std.proofs.Common.{◌≡◌, ℕ, ◌+◌, true, false, IfSome, IsNone, MatchOption, [], ◌∷◌, ◌++◌, length, take, drop, slice_get, Option, None, Some, refl, sym, ap, ap₂, ◌∙◌, subst, arith, eqb, take_at, drop_at, take-append-drop}
-use Rattle.std.proofs.lemmas.Bool.{false≢true, true≢false}
+use Rattle.std.proofs.Common.{◌≡◌, ℕ, ◌+◌, ◌<◌, true, false, IfSome, IsNone, MatchOption, [], ◌∷◌, ◌++◌, length, take, drop, slice_get, Option, None, Some, refl, sym, ap, ap₂, ◌∙◌, subst, arith, eqb, take_at, drop_at, take-append-drop}
+use Rattle.std.proofs.lemmas.Bool.{false≢true, true≢false, and_parts}
+use Rattle.std.proofs.lemmas.List.{length-take-le}
 use Rattle.std.proofs.lemmas.Option.{same_Some}
 use Rattle.std.specs.Borrow.{Bor}
 use Rattle.std.specs.Cmp.Lexicographic.{pointwise}
-use Rattle.dns_spec.specs.Names.{Octets, DomainName, wire}
+use Rattle.std.specs.List.{list_all}
+use Rattle.dns_spec.specs.Names.{Octets, DomainName, wire, is_name, is_label}
 use Rattle.dns_spec.specs.Reading.{pointer_place, RunAt}
 use Rattle.dns_spec.specs.Reading.RunAt.{ends, goes_on, jumps}
-use Rattle.dns_spec.proofs.DomainNames.NameLaws.{octets_equal-decides}
+use Rattle.dns_spec.proofs.DomainNames.NameLaws.{octets_equal-decides, is_name-tail}
+use Rattle.dns_spec.proofs.Messages.Places.{Stands, run_written}
 use Rattle.dns_wire.specs.Labels.{LabelAt, PointerAt}
-use Rattle.dns_wire.specs.Kept.{SpelledFrom}
+use Rattle.dns_wire.specs.Kept.{SpelledFrom, SpellsName, HasAt}
 use Rattle.dns_wire.proofs.Runs.{GoesOn, at_end, at_label, at_pointer, goes_on_at}
+use Rattle.dns_wire.proofs.Suffixes.{first_label}
 
 -- the label is compared with the octets
 pub after_some : (w label rest : Octets) (o : Option (Bor Octets)) → w ≡ length label ∷ rest
@@ -83,3 +87,38 @@ spelled_jump {b} {s} {i} {p} {o} there = (forth, λ h. back h.0 h.1 h.3 (goes_on
         let two = same_Some pointer.second there.second (sym pointer.second_there ∙ there.second_there) in
         let same : q ≡ p = pointer.place ∙ ap₂ pointer_place one two ∙ sym there.place in
         (n, d, subst (λ j. RunAt b j j n d) same run, w)
+
+stands_at : {b o : Octets} {p : ℕ} → HasAt b p o → Stands b p o
+stands_at {b} {o} {p} has = record {
+  before = take p b;
+  after = drop (length o) (drop p b);
+  whole = sym (take-append-drop p b) ∙ ap (λ z. take p b ++ z) (sym (take-append-drop (length o) (drop p b)) ∙ ap (λ z. z ++ drop (length o) (drop p b)) has.1);
+  place = length-take-le p b has.0;
+}
+
+-- a name that stands in a message octet by octet is spelled there
+pub spelled_whole : {b o : Octets} {p : ℕ} → HasAt b p o → SpellsName b p o
+spelled_whole {b} {o} {p} has n e ok =
+    (n, p + length (wire n), run_written n (and_parts (list_all is_label n) _ ok).0 (subst (Stands b p) e (stands_at has)), sym e)
+
+-- the octets after the first label of a name are those of a name
+pub named_after : {o : Octets} (l after : Octets) → 0 < length l → o ≡ length l ∷ (l ++ after) → (n : DomainName) → o ≡ wire n → is_name n ≡ true
+    → (m : DomainName) × (after ≡ wire m) × (is_name m ≡ true)
+named_after {o} l after some is n e ok =
+    let f = first_label o (l ++ after) (length l) n e is (λ none. omega (arith, none, some)) in (
+      f.labels,
+      sym (drop_at l after (length l) refl) ∙ ap (drop (length l)) f.others_are ∙ drop_at f.label (wire f.labels) (length l) (sym f.long),
+      is_name-tail f.label f.labels (subst (λ x. is_name x ≡ true) f.whole ok),
+    )
+
+-- what is spelled from a label on begins with it
+pub spelled_front : {b : Octets} {s i : ℕ} {o : Octets} (l : Octets) → LabelAt b i l → SpelledFrom b s i o → (more : Octets) × (o ≡ length l ∷ (l ++ more))
+spelled_front {b} {s} {i} {o} l there h = go h.0 h.1 h.3 (goes_on_at h.2)
+  where
+    go : (n : DomainName) (e : ℕ) → wire n ≡ o → GoesOn b s i n e → (more : Octets) × (o ≡ length l ∷ (l ++ more))
+    go n e w (at_end root none end) = absurd (omega (arith, same_Some (length l) 0 (sym there.length_there ∙ root), there.some))
+    go n e w (at_label k m label shape run) =
+        let long : length k ≡ length l = same_Some (length k) (length l) (sym label.length_there ∙ there.length_there) in
+        let same : k ≡ l = label.label ∙ ap (λ j. take j (drop (i + 1) b)) long ∙ sym there.label in
+        (wire m, sym w ∙ ap wire shape ∙ ap (λ x. length x ∷ (x ++ wire m)) same)
+    go n e w (at_pointer p d pointer end run) = absurd (omega (arith, same_Some (length l) pointer.first (sym there.length_there ∙ pointer.first_there), there.short, pointer.high))

@@ -11,7 +11,7 @@ use Rattle.dns_spec.proofs.DomainNames.NameLaws.{is_name-tail, is_label-head, wi
 use Rattle.dns_spec.specs.Reading.{pointer_place}
 use Rattle.dns_spec.specs.Reading.RunAt.{ends, goes_on, jumps}
 use Rattle.dns_wire.proofs.Runs.{GoesOn, at_end, at_label, at_pointer, goes_on_at}
-use Rattle.dns_wire.specs.Kept.{Kept, IsKept, SpelledAt, NoneSpelled}
+use Rattle.dns_wire.specs.Kept.{Kept, HasPlace, SpelledAt, SpellsName, NoneSpelled}
 use Rattle.dns_wire.specs.Writing.{front_size, pointed_place, new_places, Holds, Grows, Extends}
 
 -- how a name is laid out, by whether its first suffix is shared
@@ -62,16 +62,27 @@ one_from {b} {m = m} (jumps i o o' p n e at high at' is from before rest) (at_po
 one_run : {b : Octets} {s i e f : ℕ} {n m : DomainName} → RunAt b s i n e → RunAt b s i m f → n ≡ m
 one_run h g = one_from h (goes_on_at g)
 
--- what is found is the place, and where nothing is found there is none
-pub found : {head : Octets → ℕ} {ms : List Placed} {b : Octets} {ks : List Kept} (l : Octets) (n : DomainName) (p h : ℕ) → Holds head ms b ks → is_name (l ∷ n) ≡ true
-    → IsKept ks p h → SpelledAt b p (wire (l ∷ n)) → shared_place ms (l ∷ n) ≡ Some p
-found {head} {ms} {b} {ks} l n p h holds ok kept there =
-    let s = holds.answers.sound p h kept in
+-- a name that is spelled at a place that is kept is not the root, and shared there
+pub record FoundAt (ms : List Placed) (n : DomainName) (p : ℕ) : Type 0 where
+  pub label : Octets
+  pub labels : DomainName
+  pub whole : n ≡ label ∷ labels
+  pub shared : shared_place ms (label ∷ labels) ≡ Some p
+
+pub found : {head : Octets → ℕ} {ms : List Placed} {b : Octets} {ks : List Kept} {p : ℕ} (n : DomainName) → Holds head ms b ks → is_name n ≡ true
+    → HasPlace ks p → SpelledAt b p (wire n) → FoundAt ms n p
+found {head} {ms} {b} {ks} {p} n holds ok kept there =
+    let s = holds.answers.sound p kept.0 kept.1 in
     let run = (holds.spelled s.0 s.1 p s.2).3 in
     let same : there.0 ≡ s.0 ∷ s.1 = one_run there.2 run in
-    let is : s.0 ∷ s.1 ≡ l ∷ n = wire-injective (s.0 ∷ s.1) (l ∷ n) s.3 ok (sym (ap wire same) ∙ there.3) in
-    sym (ap (shared_place ms) is) ∙ s.2
+    record {
+      label = s.0;
+      labels = s.1;
+      whole = sym (wire-injective (s.0 ∷ s.1) n s.3 ok (sym (ap wire same) ∙ there.3));
+      shared = s.2;
+    }
 
+-- where nothing is found there is none
 pub not_found : {head : Octets → ℕ} {ms : List Placed} {b : Octets} {ks : List Kept} (l : Octets) (n : DomainName) → Holds head ms b ks
     → NoneSpelled ks (head (wire (l ∷ n))) b (wire (l ∷ n)) → shared_place ms (l ∷ n) ≡ None
 not_found {head} {ms} {b} {ks} l n holds none = go (shared_place ms (l ∷ n)) refl
@@ -151,16 +162,14 @@ left_root {name = name} {rest} ms n left root holds e ok =
     let front = a.front in
     (omega (arith, front, ap (front_size ms) none, front-root ms), a.place ∙ ap (pointed_place ms) none ∙ pointed-root ms)
 
-pub left_found : {head : Octets → ℕ} {b : Octets} {ks : List Kept} {name rest others : Octets} (k p : ℕ) (ms : List Placed) (n : DomainName) → Left head b ks name rest → rest ≡ k ∷ others → (k ≡ 0 → ⊥)
-    → IsKept ks p (head rest) → SpelledAt b p rest → Holds head ms b ks → name ≡ wire n → is_name n ≡ true
+pub left_found : {head : Octets → ℕ} {b : Octets} {ks : List Kept} {name rest : Octets} (p : ℕ) (ms : List Placed) (n : DomainName) → Left head b ks name rest
+    → HasPlace ks p → SpellsName b p rest → Holds head ms b ks → name ≡ wire n → is_name n ≡ true
     → (front_size ms n ≡ length name - length rest) × (pointed_place ms n ≡ Some p)
-left_found {head} {b} {ks} {name} {rest} {others} k p ms n left first some kept there holds e ok =
+left_found {b = b} {name = name} {rest} p ms n left kept there holds e ok =
     let a = left.all ms n holds e ok in
-    let f = first_label rest others k a.left a.spelled first some in
-    let w : rest ≡ wire (f.label ∷ f.labels) = a.spelled ∙ ap wire f.whole in
-    let at = found f.label f.labels p (head rest) holds (subst (λ x. is_name x ≡ true) f.whole a.is_name) kept (subst (SpelledAt b p) w there) in
+    let f = found a.left holds a.is_name kept (subst (SpelledAt b p) a.spelled (there a.left a.spelled a.is_name)) in
     let front = a.front in
-    (omega (arith, front, ap (front_size ms) f.whole, front-some ms f.label f.labels p at), a.place ∙ ap (pointed_place ms) f.whole ∙ pointed-some ms f.label f.labels p at)
+    (omega (arith, front, ap (front_size ms) f.whole, front-some ms f.label f.labels p f.shared), a.place ∙ ap (pointed_place ms) f.whole ∙ pointed-some ms f.label f.labels p f.shared)
 
 -- which places are kept of a name, by whether its first suffix is shared
 module _ (head : Octets → ℕ) (ms : List Placed) (l : Octets) (n : DomainName) (p : ℕ) where
@@ -292,6 +301,11 @@ keep_past {head} {old} {ks} {rest = rest} {others} {place = place} k keep first 
     let fit = a.fits in
     let none = kept-shared head ms g.label g.labels place (omega (arith, fit, past, g.long, ap (front_size ms) g.whole)) in
     sym (a.kept ∙ ap (λ x. ks ++ new_places head ms x place) g.whole ∙ ap (λ x. ks ++ x) none ∙ append-nil ks)
+
+-- nothing is kept of a name that is a pointer alone
+pub keep_none : (head : Octets → ℕ) (ms : List Placed) (n : DomainName) (at : ℕ) (ks : List Kept) → front_size ms n ≡ 0 → ks ≡ ks ++ new_places head ms n at
+keep_none head ms [] at ks none = sym (append-nil ks) ∙ ap (λ x. ks ++ x) (sym (kept-root head ms at))
+keep_none head ms (l ∷ n) at ks none = sym (append-nil ks) ∙ ap (λ x. ks ++ x) (sym (kept-shared head ms l n at (omega (arith, none))))
 
 -- octets that have no first label are the wire form of no other name than the root
 pub root_empty : (o : Octets) (n : DomainName) → o ≡ wire n → length o ≡ 0 → n ≡ []

@@ -2,7 +2,7 @@
 //! 4.1.4).
 ghost use Rattle.std.specs.Prelude.{◌≡◌, ◌↔◌, ◌-◌, ◌<◌, ◌≤◌, [], ◌∷◌, ◌++◌, length, take, replicate, get_or, IsTrue, IfSome, IsNone};
 ghost use Rattle.dns_wire.specs.Chains.{chain_of};
-ghost use Rattle.dns_wire.specs.Kept.{IsKept, SpelledAt, NoneSpelled};
+ghost use Rattle.dns_wire.specs.Kept.{IsKept, HasPlace, SpelledAt, SpellsName, NoneSpelled};
 
 use crate::spelled::is_spelled;
 use arrayvec::ArrayVec;
@@ -130,7 +130,7 @@ impl<const N: usize> Places<N> {
     pub(crate) fn find(&self, head: u16, message: &[u8], suffix: &[u8]) -> Option<u16>
         requires { head < 1024 }
         ensures kept { IfSome result (λ place. IsKept self.now place head) }
-        ensures spelled { IfSome result (λ place. SpelledAt message.now place suffix.now) }
+        ensures spelled { IfSome result (λ place. SpellsName message.now place suffix.now) }
         ensures reached { IfSome result (λ place. place < 16384) }
         ensures none { IsNone result → NoneSpelled self.now head message.now suffix.now }
     {
@@ -141,6 +141,27 @@ impl<const N: usize> Places<N> {
                 return Some(entry.place);
             }
             number = entry.next;
+        }
+        None
+    }
+
+    /// This place, where it is kept: looked for among those that came first, while they are lower.
+    pub(crate) fn kept_at(&self, place: usize) -> Option<u16>
+        ensures kept { IfSome result (λ own. HasPlace self.now own) }
+        ensures reached { IfSome result (λ own. own < 16384) }
+    {
+        let entries = self.entries.as_slice();
+        let mut i = 0;
+        'entries: while i < entries.len() {
+            let own = entries[i].place;
+            if usize::from(own) >= place {
+                return if usize::from(own) == place {
+                    Some(own)
+                } else {
+                    None
+                };
+            }
+            i += 1;
         }
         None
     }
@@ -162,7 +183,10 @@ fn chain_of(head: u16) -> usize
 
 // Whether an entry has this number, and the message spells the suffix at its place.
 fn is_sought(entry: Entry, head: u16, message: &[u8], suffix: &[u8]) -> bool
-    ensures { IsTrue result ↔ ((entry.head ≡ head) × SpelledAt message.now entry.place suffix.now) }
+    ensures yes { IsTrue result
+        → (entry.head ≡ head) × SpellsName message.now entry.place suffix.now }
+    ensures no { (entry.head ≡ head) × SpelledAt message.now entry.place suffix.now
+        → IsTrue result }
 {
     entry.head == head && is_spelled(message, usize::from(entry.place), suffix)
 }

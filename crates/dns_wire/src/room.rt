@@ -3,17 +3,18 @@
 ghost use Rattle.std.specs.Prelude.{◌≡◌, ◌↔◌, List, ◌+◌, ◌-◌, ◌*◌, ◌≤◌, ◌<◌, ◌^◌, [], ◌∷◌, ◌++◌, length, take, drop, replicate, min, All, IsTrue, IfSome, IsNone};
 ghost use Rattle.std.specs.Bool.{OnTrue, OnFalse};
 ghost use Rattle.dns_spec.specs.Names.{Octets, DomainName, wire, is_name};
-ghost use Rattle.dns_spec.specs.Data.{Valid, class_in, compresses, laid_parts};
+ghost use Rattle.dns_spec.specs.Data.{Valid, class_in, compresses, laid_parts, pieces_of, domain, type_mx};
 ghost use Rattle.dns_spec.specs.Layout.{Placed, question_octets, octets16, octets32, pointer, shared_octets, cost, data_laid, record_laid};
 ghost use Rattle.dns_wire.specs.Writing.{front_size, pointed_place, new_places, end_octets, Grows, AfterLabel, Holds, StandsIn, shown, tail_laid, records_laid};
-ghost use Rattle.dns_wire.specs.Kept.{IsKept, SpelledAt, NoneSpelled};
+ghost use Rattle.dns_wire.specs.Kept.{HasPlace, SpellsName, NoneSpelled};
 ghost use Rattle.dns_wire.specs.Rooms.{IsSoundRoom, HasNames, HasGrown, HasWritten};
 ghost use Rattle.dns_spec.specs.Sets.{records_at};
 ghost use Rattle.dns_spec.specs.Laws.{IsAskable};
 ghost use Rattle.dns_rdata.specs.Parts.{HasName};
 
-use crate::message::{CLASS_IN, QuestionRef};
+use crate::message::{CLASS_IN, HEADER_OCTETS, QuestionRef};
 use crate::places::{Places, SuffixHash};
+use crate::spelled::has_at;
 use arrayvec::ArrayVec;
 use byteorder::{BigEndian, ByteOrder};
 use dns_name::NameRef;
@@ -29,6 +30,8 @@ pub(crate) struct Room<const N: usize, const SIZE: usize> {
     pub(crate) octets: ArrayVec<u8, SIZE>,
     pub(crate) places: Places<N>,
     pub(crate) limit: usize,
+    // Where the name of the question ends; 0 before it is written.
+    asked_end: usize,
 }
 
 impl<const N: usize, const SIZE: usize> Room<N, SIZE> {
@@ -47,6 +50,7 @@ impl<const N: usize, const SIZE: usize> Room<N, SIZE> {
             octets,
             places: Places::new(),
             limit,
+            asked_end: 0,
         }
     }
 
@@ -64,6 +68,7 @@ impl<const N: usize, const SIZE: usize> Room<N, SIZE> {
         }
         self.places.clear();
         self.limit = limit;
+        self.asked_end = 0;
     }
 
     /// Writes the question, which nothing stands before but the room for a header.
@@ -79,7 +84,10 @@ impl<const N: usize, const SIZE: usize> Room<N, SIZE> {
         ensures same { H.numbers hash.new ≡ H.numbers hash.old }
         ensures sound { IsSoundRoom self.new }
     {
-        let _ = self.put_name(hash, question.name.octets());
+        let name = question.name.octets();
+        self.extend(name);
+        keep_suffixes(&mut self.places, hash, name, name.len() - 1, HEADER_OCTETS);
+        self.asked_end = self.octets.len();
         let _ = self.append(
             &number_octets(question.qtype),
             &number_octets(question.qclass),
@@ -102,7 +110,9 @@ impl<const N: usize, const SIZE: usize> Room<N, SIZE> {
         if room < front.len() || room - front.len() < end.len() {
             return false;
         }
-        self.extend(front);
+        if !front.is_empty() {
+            self.extend(front);
+        }
         self.extend(end);
         true
     }
@@ -142,7 +152,11 @@ impl<const N: usize, const SIZE: usize> Room<N, SIZE> {
         ensures same { H.numbers hash.new ≡ H.numbers hash.old }
         ensures sound { IsSoundRoom self.new }
     {
-        let shared = shared_suffix(&self.places, self.octets.as_slice(), hash, name);
+        let message = self.octets.as_slice();
+        if let Some(place) = place_before(&self.places, message, self.asked_end, name) {
+            return self.append(&pointer_octets(place), &[]);
+        }
+        let shared = shared_suffix(&self.places, message, hash, name, self.asked_end);
         let (front, _) = name.split_at(shared.front);
         let at = self.octets.len();
         if !self.append_end(front, shared.place) {
@@ -188,7 +202,8 @@ impl<const N: usize, const SIZE: usize> Room<N, SIZE> {
             → HasWritten self.old self.new (H.numbers hash.old) ms
             (data_laid ms (length self.old.octets.items) (laid_parts rtype.0 rdata.now)) result }
         ensures elsewhere { (ms : List Placed) (b : Octets)
-            → HasNames self.old (H.numbers hash.old) ms → Holds (H.numbers hash.old) ms b self.old.places
+            → HasNames self.old (H.numbers hash.old) ms
+            → Holds (H.numbers hash.old) ms b self.old.places
             → length b ≡ length self.old.octets.items
             → OnTrue result (StandsIn (H.numbers hash.old) ms b
             (data_laid ms (length b) (laid_parts rtype.0 rdata.now)) self.new.places) }
@@ -197,7 +212,29 @@ impl<const N: usize, const SIZE: usize> Room<N, SIZE> {
         ensures same { H.numbers hash.new ≡ H.numbers hash.old }
         ensures sound { IsSoundRoom self.new }
     {
+        if is_one_name(rtype) {
+            return self.put_name(hash, rdata);
+        }
+        if rtype == RType::MX {
+            return self.put_exchange(hash, rdata);
+        }
         self.put_parts(hash, Rdata::parts(rtype, rdata))
+    }
+
+    // Writes data of type MX: a preference, and the name of an exchange (RFC 1035 3.3.9).
+    fn put_exchange<H: SuffixHash>(&mut self, hash: &mut H, rdata: &[u8]) -> bool
+        requires sound { IsSoundRoom self.old }
+        requires valid { Valid type_mx rdata.now }
+        ensures written { (ms : List Placed) → HasNames self.old (H.numbers hash.old) ms
+            → HasWritten self.old self.new (H.numbers hash.old) ms
+            (data_laid ms (length self.old.octets.items) (laid_parts type_mx rdata.now)) result }
+        ensures extends { HasGrown self.old self.new }
+        ensures limit { self.new.limit ≡ self.old.limit }
+        ensures same { H.numbers hash.new ≡ H.numbers hash.old }
+        ensures sound { IsSoundRoom self.new }
+    {
+        let (preference, exchange) = rdata.split_at(2);
+        self.append(preference, &[]) && self.put_name(hash, exchange)
     }
 
     // Takes octets and places back, but for those that came first.
@@ -401,6 +438,13 @@ impl<const N: usize, const SIZE: usize> Room<N, SIZE> {
     }
 }
 
+// Whether data of the type is one name (RFC 1035 3.3.1, 3.3.11 and 3.3.12).
+fn is_one_name(rtype: RType) -> bool
+    ensures { IsTrue result → pieces_of rtype.0 ≡ domain ∷ [] }
+{
+    rtype == RType::NS || rtype == RType::CNAME || rtype == RType::PTR
+}
+
 // A pointer to a place (RFC 1035 4.1.4).
 fn pointer_octets(place: u16) -> [u8; 2]
     requires { place < 16384 }
@@ -425,6 +469,7 @@ fn shared_suffix<H: SuffixHash, const N: usize>(
     message: &[u8],
     hash: &mut H,
     name: &[u8],
+    asked_end: usize,
 ) -> Shared
     ensures front { (ms : List Placed) (n : DomainName)
         → Holds (H.numbers hash.old) ms message.now places.now → name.now ≡ wire n
@@ -445,6 +490,12 @@ fn shared_suffix<H: SuffixHash, const N: usize>(
             };
         }
         rest = after;
+        if let Some(place) = place_before(places, message, asked_end, rest) {
+            return Shared {
+                front: name.len() - rest.len(),
+                place: Some(place),
+            };
+        }
     }
     Shared {
         front: name.len() - rest.len(),
@@ -460,9 +511,8 @@ fn find_suffix<H: SuffixHash, const N: usize>(
     hash: &mut H,
     suffix: &[u8],
 ) -> Option<u16>
-    ensures kept { IfSome result
-        (λ place. IsKept places.now place (H.numbers hash.old suffix.now)) }
-    ensures spelled { IfSome result (λ place. SpelledAt message.now place suffix.now) }
+    ensures kept { IfSome result (λ place. HasPlace places.now place) }
+    ensures spelled { IfSome result (λ place. SpellsName message.now place suffix.now) }
     ensures reached { IfSome result (λ place. place < 16384) }
     ensures none { IsNone result
         → NoneSpelled places.now (H.numbers hash.old suffix.now) message.now suffix.now }
@@ -473,6 +523,24 @@ fn find_suffix<H: SuffixHash, const N: usize>(
     }
     let head = hash.head(suffix);
     places.find(head, message, suffix)
+}
+
+// The place that is kept and from which on a message has a suffix octet by octet, up to an end.
+fn place_before<const N: usize>(
+    places: &Places<N>,
+    message: &[u8],
+    end: usize,
+    suffix: &[u8],
+) -> Option<u16>
+    ensures kept { IfSome result (λ place. HasPlace places.now place) }
+    ensures spelled { IfSome result (λ place. SpellsName message.now place suffix.now) }
+    ensures reached { IfSome result (λ place. place < 16384) }
+{
+    let place = places.kept_at(end.checked_sub(suffix.len())?)?;
+    if !has_at(message, usize::from(place), suffix) {
+        return None;
+    }
+    Some(place)
 }
 
 // Keeps the places of the suffixes that begin in the first `front` octets of a name laid out at a
@@ -495,6 +563,9 @@ fn keep_suffixes<H: SuffixHash, const N: usize>(
     ensures grows { Grows places.old places.new }
     ensures same { H.numbers hash.new ≡ H.numbers hash.old }
 {
+    if front == 0 {
+        return;
+    }
     let mut rest = name;
     let mut place = at;
     'suffixes: while let Some((length, after)) = after_first_label(rest) {

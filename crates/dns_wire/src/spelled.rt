@@ -1,13 +1,14 @@
 //! Whether a message spells a suffix at a place, pointers followed (RFC 1035 4.1.4).
 ghost use Rattle.std.specs.Prelude.{◌≡◌, ◌↔◌, [], ◌∷◌, ◌++◌, length, IsTrue, IfSome, IsNone};
 ghost use Rattle.dns_spec.specs.Names.{Octets};
-ghost use Rattle.dns_wire.specs.Kept.{SpelledAt};
+ghost use Rattle.dns_wire.specs.Kept.{SpelledAt, SpellsName, HasAt};
 
 use crate::name::{Step, step_at};
 
 /// Whether the name that a message spells at a place has these octets as its wire form.
 pub(crate) fn is_spelled(message: &[u8], at: usize, suffix: &[u8]) -> bool
-    ensures { IsTrue result ↔ SpelledAt message.now at suffix.now }
+    ensures yes { IsTrue result → SpellsName message.now at suffix.now }
+    ensures no { SpelledAt message.now at suffix.now → IsTrue result }
 {
     let mut run = at;
     let mut place = at;
@@ -26,10 +27,23 @@ pub(crate) fn is_spelled(message: &[u8], at: usize, suffix: &[u8]) -> bool
                 place += 1 + label.octets().len();
             }
             Step::Jump(target) => {
+                if has_at(message, target, rest) {
+                    return true;
+                }
                 run = target;
                 place = target;
             }
         }
+    }
+}
+
+/// Whether a message has these octets from a place on.
+pub(crate) fn has_at(message: &[u8], at: usize, octets: &[u8]) -> bool
+    ensures { IsTrue result → HasAt message.now at octets.now }
+{
+    match message.split_at_checked(at) {
+        Some((_, rest)) => rest.starts_with(octets),
+        None => false,
     }
 }
 

@@ -1,7 +1,14 @@
-use Rattle.std.proofs.Common.{◌∙◌, refl, ap}
-use Rattle.dns_wire.proofs.Suffixes.{grows_none, grows_more, keep_begins, keep_label, keep_root, keep_high, keep_past}
+use Rattle.std.proofs.Common.{◌∙◌, refl, sym, ap}
+use Rattle.dns_wire.proofs.Suffixes.{grows_none, grows_more, keep_begins, keep_label, keep_root, keep_high, keep_past, keep_none}
 use Rattle.dns_wire.proofs.room.keep_suffixes.Goals.{then-next-at-via-then-next-at, then-next-at-via-else-next-at+then-place-gt-LAST_PLACE}
 use Rattle.dns_wire.proofs.room.keep_suffixes.Goals as goal
+
+pub returns-then-front-eq0-clause-kept : goal.returns-then-front-eq0-clause-kept
+returns-then-front-eq0-clause-kept g c = λ ms n e ok front.
+    keep_none (g.H.SuffixHash.numbers c.args.hash.now) ms n c.args.at c.args.places.now (sym front ∙ c.if-front-eq0.true)
+
+pub returns-then-front-eq0-clause-grows : goal.returns-then-front-eq0-clause-grows
+returns-then-front-eq0-clause-grows g c = grows_none c.args.places.now
 
 pub suffixes-init : goal.suffixes-init
 suffixes-init g c = record {

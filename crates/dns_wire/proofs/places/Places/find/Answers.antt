@@ -23,7 +23,7 @@ pub returns-then-is_sought-clause-kept : goal.returns-then-is_sought-clause-kept
 returns-then-is_sought-clause-kept g c =
     let r = found g c in
     let own = ap (λ (e : Entry). Some (kept_in e)) (sym r.own) in
-    let number = (c.is_sought.ensures.0 c.if-is_sought.true).0 in
+    let number = (c.is_sought.ensures.yes c.if-is_sought.true).0 in
     let e = get_or c.as_slice.result.now (c.from.result - 1) (record { place = 0; head = 0; next = 0 }) in
     (r.k, ap (λ x. slice_get x r.k) (sym c.self.view_is) ∙ entry_kept c.self.inside.entries.items (chain_of c.args.head) r.k r.last ∙ own ∙ ap (λ n. Some (record { place = e.place; head = n })) number)
 
@@ -41,7 +41,7 @@ module _ (g : given.Over) (c : goal.Else-is_sought g) where
   next =
       let P = λ (e : Entry). (e.head ≡ c.args.head) × SpelledAt c.args.message.now e.place c.args.suffix.now in
       let es = c.self.inside.entries.items in
-      let other : P passed.last.entry → ⊥ = λ there. false≢true (sym c.if-is_sought.false ∙ c.is_sought.ensures.1 (subst P (sym passed.own) there)) in
+      let other : P passed.last.entry → ⊥ = λ there. false≢true (sym c.if-is_sought.false ∙ c.is_sought.ensures.no (subst P (sym passed.own) there)) in
       chain_next P c.self.inside.heads es (chain_of c.args.head) passed.k c.self.invariant (subst (Chain P (chain_of c.args.head) es) passed.is c.chain.invariant) passed.last other
 
 pub chain-smaller : goal.chain-smaller

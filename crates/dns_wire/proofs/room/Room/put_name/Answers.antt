@@ -1,14 +1,51 @@
-use Rattle.std.proofs.Common.{◌∙◌, refl, sym, ap, ap₂, subst, subst₂, arith, length, take, ◌++◌, ◌∷◌, []}
+use Rattle.std.proofs.Common.{◌≡◌, true, List, append-nil, ◌∙◌, refl, sym, ap, ap₂, subst, subst₂, arith, length, take, ◌++◌, ◌∷◌, []}
 use Rattle.std.proofs.lemmas.Bool.{false≢true}
+use Rattle.std.specs.Bool.{OnTrue}
+use Rattle.dns_spec.specs.Names.{DomainName, wire, is_name}
+use Rattle.dns_spec.specs.Layout.{Placed, shared_octets, cost}
 use Rattle.dns_wire.specs.Writing.{end_octets, new_places, Holds, Extends}
 use Rattle.dns_wire.proofs.Suffixes.{extends_none}
-use Rattle.dns_wire.proofs.NameWritten.{name_laid, cost_is, holds_name}
+use Rattle.dns_wire.proofs.DataWritten.{octets_extend}
+use Rattle.dns_wire.proofs.NameWritten.{name_laid, cost_is, holds_name, LaidAt, laid_at, holds_pointed}
 use Rattle.dns_wire.proofs.room.Room.put_name.Goals as goal
+use Rattle.dns_wire.proofs.room.Room.put_name.Given as given
+
+-- the whole name is a suffix of the question's
+module _ (g : given.Over) (c : goal.After-append g) (ms : List Placed) (n : DomainName) (holds : Holds (g.H.SuffixHash.numbers c.args.hash.now) ms c.args.self.now.octets.items c.args.self.now.places)
+    (e : c.args.name.now ≡ wire n) (ok : is_name n ≡ true) where
+  laid : LaidAt (g.H.SuffixHash.numbers c.args.hash.now) ms n c.in-Some.place (length c.args.self.now.octets.items)
+  laid =
+      let head = g.H.SuffixHash.numbers c.args.hash.now in
+      let found = c.in-Some.ensures in
+      let there = subst (λ b. Holds head ms b c.args.self.now.places) (sym c.as_slice-message.ensures.value) holds in
+      laid_at n c.in-Some.place (length c.args.self.now.octets.items) there found.kept found.spelled e ok
+
+  pointed : OnTrue c.append.result (c.append.new.self.octets.items ≡ c.args.self.now.octets.items ++ shared_octets ms n)
+  pointed =
+      subst (λ x. OnTrue c.append.result (c.append.new.self.octets.items ≡ c.args.self.now.octets.items ++ x))
+      (append-nil c.pointer_octets.result ∙ c.pointer_octets.ensures ∙ sym laid.octets) c.append.ensures.octets
+
+pub returns-in-Some-clause-fits : goal.returns-in-Some-clause-fits
+returns-in-Some-clause-fits g c = λ ms n holds e ok.
+    let size : cost ms n ≡ length c.pointer_octets.result = (laid g c ms n holds e ok).cost ∙ ap length (sym c.pointer_octets.ensures) in (
+      λ yes. let room = c.append.ensures.fits.0 yes in omega (arith, room, size),
+      λ room. c.append.ensures.fits.1 (omega (arith, room, size)),
+    )
+
+pub returns-in-Some-clause-octets : goal.returns-in-Some-clause-octets
+returns-in-Some-clause-octets g c = λ ms n holds e ok. pointed g c ms n holds e ok
+
+pub returns-in-Some-clause-holds : goal.returns-in-Some-clause-holds
+returns-in-Some-clause-holds g c = λ ms n holds e ok.
+    holds_pointed c.args.self.now.octets.items c.append.new.self.octets.items n c.in-Some.place c.append.result holds ok (laid g c ms n holds e ok) (pointed g c ms n holds e ok) c.append.ensures.places
+
+pub returns-in-Some-clause-extends : goal.returns-in-Some-clause-extends
+returns-in-Some-clause-extends g c = octets_extend (c.pointer_octets.result ++ []) c.append.result c.append.ensures.octets c.append.ensures.unchanged c.append.ensures.places
 
 pub returns-then-not-append_end-clause-fits : goal.returns-then-not-append_end-clause-fits
 returns-then-not-append_end-clause-fits g c = λ ms n holds e ok.
     let head = g.H.SuffixHash.numbers c.args.hash.now in
-    let there = subst (λ b. Holds head ms b c.args.self.now.places) (sym c.as_slice.ensures.value) holds in
+    let there = subst (λ b. Holds head ms b c.args.self.now.places) (sym c.as_slice-message.ensures.value) holds in
     let front = c.shared_suffix-shared.ensures.front ms n there e ok in
     let end = ap (λ p. length (end_octets p)) (c.shared_suffix-shared.ensures.place ms n there e ok) in
     let cost = cost_is ms n in (
@@ -19,7 +56,7 @@ returns-then-not-append_end-clause-fits g c = λ ms n holds e ok.
 pub returns-clause-fits : goal.returns-clause-fits
 returns-clause-fits g c = λ ms n holds e ok.
     let head = g.H.SuffixHash.numbers c.args.hash.now in
-    let there = subst (λ b. Holds head ms b c.args.self.now.places) (sym c.as_slice.ensures.value) holds in
+    let there = subst (λ b. Holds head ms b c.args.self.now.places) (sym c.as_slice-message.ensures.value) holds in
     let front = c.shared_suffix-shared.ensures.front ms n there e ok in
     let end = ap (λ p. length (end_octets p)) (c.shared_suffix-shared.ensures.place ms n there e ok) in
     let cost = cost_is ms n in
@@ -29,7 +66,7 @@ returns-clause-fits g c = λ ms n holds e ok.
 pub returns-clause-octets : goal.returns-clause-octets
 returns-clause-octets g c = λ ms n holds e ok.
     let head = g.H.SuffixHash.numbers c.args.hash.now in
-    let there = subst (λ b. Holds head ms b c.args.self.now.places) (sym c.as_slice.ensures.value) holds in
+    let there = subst (λ b. Holds head ms b c.args.self.now.places) (sym c.as_slice-message.ensures.value) holds in
     let front = c.shared_suffix-shared.ensures.front ms n there e ok in
     let place = c.shared_suffix-shared.ensures.place ms n there e ok in
     c.if-not-append_end.ensures.octets
@@ -40,7 +77,7 @@ pub returns-clause-holds : goal.returns-clause-holds
 returns-clause-holds g c = λ ms n holds e ok.
     let head = g.H.SuffixHash.numbers c.args.hash.now in
     let b = c.args.self.now.octets.items in
-    let there = subst (λ x. Holds head ms x c.args.self.now.places) (sym c.as_slice.ensures.value) holds in
+    let there = subst (λ x. Holds head ms x c.args.self.now.places) (sym c.as_slice-message.ensures.value) holds in
     let front = c.shared_suffix-shared.ensures.front ms n there e ok in
     let octets = returns-clause-octets g c ms n holds e ok in
     let numbers = c.shared_suffix-shared.ensures.same in

@@ -1,12 +1,12 @@
-use Rattle.std.proofs.Common.{◌≡◌, ℕ, ◌∙◌, List, true, sym, ap, ap₂, subst, subst₂, arith, length, replicate, [], ◌∷◌, ◌++◌, append_assoc, length-append}
+use Rattle.std.proofs.Common.{◌≡◌, ℕ, ◌-◌, ◌∙◌, List, sym, ap, ap₂, subst, subst₂, arith, length, replicate, [], ◌∷◌, ◌++◌, append_assoc, length-append}
 use Rattle.std.specs.Bool.{OnTrue}
 use Rattle.dns_spec.specs.Names.{Octets, DomainName, wire}
 use Rattle.dns_spec.specs.Reading.{MessageQuestion}
-use Rattle.dns_spec.specs.Layout.{Placed, octets16, shared_octets, question_octets}
+use Rattle.dns_spec.specs.Layout.{Placed, octets16, question_octets}
 use Rattle.dns_spec.proofs.Layouts.SharedNames.{shared_alone}
 use Rattle.dns_spec.specs.Laws.{IsAskable}
-use Rattle.dns_wire.specs.Writing.{Holds}
-use Rattle.dns_wire.proofs.NameWritten.{holds_nothing, holds_octets, cost_alone}
+use Rattle.dns_wire.specs.Writing.{Holds, front_size, new_places}
+use Rattle.dns_wire.proofs.NameWritten.{holds_nothing, holds_octets, holds_name, front_alone}
 use Rattle.dns_wire.proofs.room.Room.put_question.Goals as goal
 use Rattle.dns_wire.proofs.room.Room.put_question.Given as given
 
@@ -17,40 +17,37 @@ module _ (g : given.Over) (c : goal.After-append g) where
   abbrev asked : DomainName
   asked = c.question.inside.name
 
-  -- nothing stands before the question but room for the header
-  blank : Holds head [] c.args.self.now.octets.items c.args.self.now.places
-  blank = subst₂ (Holds head []) (sym c.requires.blank) (sym c.requires.first) (holds_nothing head)
+  name_octets : c.extend.new.self.octets.items ≡ replicate 12 0 ++ wire asked
+  name_octets = c.extend.ensures.octets ∙ ap₂ ◌++◌ c.requires.blank c.octets-name.ensures.value
 
-  name_fits : c.put_name.result ≡ true
-  name_fits =
-      let short = c.octets.ensures.bound in
-      let room = c.requires.room in
-      (c.put_name.ensures.fits [] asked blank c.octets.ensures.value c.octets.ensures.is_name).1
-      (omega (arith, ap length c.requires.blank, cost_alone asked, ap length c.octets.ensures.value, short, room))
-
-  name_octets : c.put_name.new.self.octets.items ≡ replicate 12 0 ++ wire asked
-  name_octets =
-      subst (λ t. OnTrue t (c.put_name.new.self.octets.items ≡ c.args.self.now.octets.items ++ shared_octets [] asked)) name_fits
-      (c.put_name.ensures.octets [] asked blank c.octets.ensures.value c.octets.ensures.is_name)
-      ∙ ap₂ ◌++◌ c.requires.blank (shared_alone asked)
-
-  all_octets : c.append.new.self.octets.items ≡ c.put_name.new.self.octets.items ++ (c.number_octets.result ++ c.number_octets-2.result)
+  all_octets : c.append.new.self.octets.items ≡ c.extend.new.self.octets.items ++ (c.number_octets.result ++ c.number_octets-2.result)
   all_octets =
-      let short = c.octets.ensures.bound in
+      let short = c.octets-name.ensures.bound in
       let room = c.requires.room in
-      subst (λ t. OnTrue t (c.append.new.self.octets.items ≡ c.put_name.new.self.octets.items ++ (c.number_octets.result ++ c.number_octets-2.result)))
+      subst (λ t. OnTrue t (c.append.new.self.octets.items ≡ c.extend.new.self.octets.items ++ (c.number_octets.result ++ c.number_octets-2.result)))
       (c.append.ensures.fits.1 (omega (
         arith,
         ap length name_octets,
         length-append (replicate 12 0) (wire asked),
         ap length c.number_octets.ensures.octets,
         ap length c.number_octets-2.ensures.octets,
-        ap length c.octets.ensures.value,
+        ap length c.octets-name.ensures.value,
         short,
         room,
-        c.put_name.ensures.limit,
+        c.extend.ensures.limit,
       )))
       c.append.ensures.octets
+
+  -- the places of all its suffixes are kept
+  kept : c.keep_suffixes.new.places ≡ new_places head [] asked 12
+  kept =
+      let whole = front_alone asked in
+      c.keep_suffixes.ensures.kept [] asked c.octets-name.ensures.value c.octets-name.ensures.is_name
+      (let f : length c.octets-name.result.now - 1 ≡ front_size [] asked = omega (arith, ap length c.octets-name.ensures.value, whole) in f)
+      ∙ ap (λ ks. ks ++ new_places head [] asked 12) (c.extend.ensures.places ∙ c.requires.first)
+
+pub overflow_sub-name : goal.overflow_sub-name
+overflow_sub-name g c = let whole = front_alone c.question.inside.name in omega (arith, whole, ap length c.octets-name.ensures.value)
 
 pub returns-clause-octets : goal.returns-clause-octets
 returns-clause-octets g c =
@@ -66,15 +63,16 @@ pub returns-clause-holds : goal.returns-clause-holds
 returns-clause-holds g c =
     let head = g.H.SuffixHash.numbers c.args.hash.now in
     let n = c.question.inside.name in
-    let b = c.args.self.now.octets.items in
-    let b' = c.put_name.new.self.octets.items in
-    let ks' = c.put_name.new.self.places in
-    let held = subst (λ t. OnTrue t (Holds head ([] ++ (n, length b) ∷ []) b' ks')) (name_fits g c) (c.put_name.ensures.holds [] n (blank g c) c.octets.ensures.value c.octets.ensures.is_name) in
-    let place : (n, length b) ∷ [] ≡ (c.args.question.now.qname, 12) ∷ [] =
-    ap₂ (λ m k. (m, k) ∷ []) (ap (λ (q : MessageQuestion). q.qname) c.question.view_is) (ap length c.requires.blank) in
+    let b' = c.extend.new.self.octets.items in
+    let ks' = c.keep_suffixes.new.places in
+    let alone = holds_name head [] (replicate 12 0) [] (holds_nothing head) n c.octets-name.ensures.is_name in
+    let held : Holds head ((n, 12) ∷ []) b' ks' =
+    subst₂ (Holds head ((n, 12) ∷ [])) (ap (λ x. replicate 12 0 ++ x) (shared_alone n) ∙ sym (name_octets g c)) (sym (kept g c)) alone in
+    let place : (n, 12) ∷ [] ≡ (c.args.question.now.qname, 12) ∷ [] =
+    ap (λ m. (m, 12) ∷ []) (ap (λ (q : MessageQuestion). q.qname) c.question.view_is) in
     subst₂ (Holds head ((c.args.question.now.qname, 12) ∷ [])) (sym (all_octets g c)) (sym c.append.ensures.places)
     (holds_octets (c.number_octets.result ++ c.number_octets-2.result) (subst (λ (ms : List Placed). Holds head ms b' ks') place held))
 
 pub returns-clause-askable : goal.returns-clause-askable
 returns-clause-askable g c =
-    subst IsAskable c.question.view_is (record { qname = c.octets.ensures.is_name; qtype = c.number_octets.ensures.fits; qclass = c.number_octets-2.ensures.fits })
+    subst IsAskable c.question.view_is (record { qname = c.octets-name.ensures.is_name; qtype = c.number_octets.ensures.fits; qclass = c.number_octets-2.ensures.fits })
