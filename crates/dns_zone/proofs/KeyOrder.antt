@@ -12,6 +12,11 @@ use Rattle.std.specs.Ordering.{ordering_then}
 use Rattle.dns_spec.specs.Names.{Octets, DomainName, folded, label_order, name_order, wire}
 use Rattle.dns_zone.specs.KeyForm.{raised, ended, name_key}
 
+-- the root's length ends a name
+pub some_octets : (n : DomainName) → 0 < length (wire n)
+some_octets [] = omega arith
+some_octets (l ∷ n) = omega arith
+
 -- an octet of a name in lower case
 abbrev IsLow : ℕ → Type 0
 IsLow o = (o < 65) ⊎ (90 < o)

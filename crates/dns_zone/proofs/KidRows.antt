@@ -1,18 +1,20 @@
 -- The row of a child, among records in canonical order.
-use Rattle.std.proofs.Common.{◌≡◌, ℕ, zero, suc, ◌+◌, ◌-◌, ◌<◌, ◌≤◌, Bool, true, false, not, cond, ◌⊎◌, inl, inr, List, [], ◌∷◌, ◌++◌, length, take, drop, get_or, refl, sym, ap, ap₂, ◌∙◌, arith, subst, filter, is_gt, is_lt, Ordering, Less, Equal, Greater, length-take, length-drop}
+use Rattle.std.proofs.Common.{◌≡◌, ℕ, zero, suc, ◌+◌, ◌-◌, ◌<◌, ◌≤◌, Bool, true, false, not, cond, ◌⊎◌, inl, inr, List, [], ◌∷◌, ◌++◌, length, take, drop, get_or, map, refl, sym, ap, ap₂, ◌∙◌, arith, subst, filter, is_gt, is_lt, Ordering, Less, Equal, Greater, length-take, length-drop}
 use Rattle.std.proofs.lemmas.Bool.{false≢true, true≢false}
 use Rattle.std.proofs.lemmas.Cmp.{upto}
 use Rattle.std.proofs.lemmas.List.{take-append-drop, get_or-map, get_or-drop, drop_more}
 use Rattle.std.proofs.Math.Seq.{take-add}
 use Rattle.std.proofs.lemmas.List.Elements.{filter-append}
+use Rattle.std.specs.Char.{to_ascii_lowercase}
 use Rattle.std.specs.List.Sorted.{IsPartitionedBy}
 use Rattle.std.specs.Ordering.{ordering_reverse}
 use Rattle.dns_spec.specs.Names.{Octets, DomainName, wire, is_name, folded, at_or_below, below, name_order}
 use Rattle.dns_spec.specs.Records.{ResourceRecord, record_order}
 use Rattle.dns_spec.proofs.Records.SortedOnce.{Each, each_weaker}
 use Rattle.dns_name.specs.WireForm.{labels_of}
+use Rattle.dns_zone.specs.LabelKey.{IsKey}
 use Rattle.dns_zone.specs.ZoneForm.{AreOrdered, IsCanonical}
-use Rattle.dns_zone.specs.TreeForm.{owners, under, row_octets}
+use Rattle.dns_zone.specs.TreeForm.{owners, under, row_octets, first_of}
 use Rattle.dns_zone.specs.TreeSteps.{IsChildOf, IsNext, IsKidAt}
 use Rattle.dns_zone.proofs.Pairs.{Pairs, pairs_of, parted, filter_all, filter_within}
 use Rattle.dns_zone.proofs.NameOrder.{name_order_total}
@@ -218,14 +220,20 @@ module _ (rs : List ResourceRecord) (canonical : IsCanonical rs) (n : DomainName
         let size = ap length first in
         omega arith
 
-    pub made : (own count place : ℕ) → own ≤ length (drop next rs) → count ≤ length (drop next rs)
+    pub made : (own count place key : ℕ) → own ≤ length (drop next rs) → count ≤ length (drop next rs)
         → take own (drop next rs) ≡ filter (is_at (labels_of octets)) (drop next rs)
         → take count (drop next rs) ≡ under (labels_of octets) (drop next rs)
         → place ≡ length (wire r.owner) - length octets
-        → IsKidAt rs n next
-        (record { first = next; own_end = next + own; end = next + count; place = place })
+        → IsKey key (map to_ascii_lowercase (first_of (labels_of octets)))
+        → IsKidAt rs n next (record {
+          first = next;
+          own_end = next + own;
+          end = next + count;
+          place = place;
+          key = key;
+        })
     unfolding m row_octets
-    made own count place own_fits fits o u p =
+    made own count place key own_fits fits o u p is_key =
         let own_is : take own (drop next rs) ≡ filter (is_at m) (drop next rs) =
         o ∙ ap (λ (k : DomainName). filter (is_at k) (drop next rs)) child.labels in
         let under_is : take count (drop next rs) ≡ under m (drop next rs) =
@@ -261,6 +269,9 @@ module _ (rs : List ResourceRecord) (canonical : IsCanonical rs) (n : DomainName
               own_end = omega arith;
               end_fits = omega arith;
               below = ap (λ i. take i (drop next rs)) at_count ∙ under_is ∙ sym all_from;
+              key =
+                  subst (λ (k : DomainName). IsKey key (map to_ascii_lowercase (first_of k)))
+                  child.labels is_key;
               own = ap (λ i. take i (drop next rs)) at_own ∙ own_is ∙ sym own_from;
             };
           };

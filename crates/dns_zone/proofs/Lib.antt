@@ -28,4 +28,5 @@ pub mod GrowingTree
 pub mod FoundKid
 pub mod NodeRows
 pub mod KeyOrder
+pub mod LabelKeys
 pub mod KeysLeft

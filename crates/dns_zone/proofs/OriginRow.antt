@@ -1,15 +1,17 @@
 -- The row of the origin of a built zone.
-use Rattle.std.proofs.Common.{◌≡◌, ℕ, ◌-◌, ◌<◌, ◌≤◌, true, ◌&&◌, ◌==◌, List, [], ◌∷◌, length, take, get_or, refl, sym, ap, ◌∙◌, arith, subst, filter}
+use Rattle.std.proofs.Common.{◌≡◌, ℕ, ◌-◌, ◌<◌, ◌≤◌, true, ◌&&◌, ◌==◌, List, [], ◌∷◌, length, take, get_or, map, refl, sym, ap, ◌∙◌, arith, subst, filter}
 use Rattle.std.proofs.lemmas.Bool.{and_parts}
 use Rattle.std.proofs.lemmas.List.{get_or-map, take_all}
+use Rattle.std.specs.Char.{to_ascii_lowercase}
 use Rattle.std.specs.List.Sorted.{IsPartitionedBy}
 use Rattle.dns_spec.specs.Names.{DomainName, wire, is_name, same, at_or_below}
 use Rattle.dns_spec.specs.Data.{type_soa}
 use Rattle.dns_spec.specs.Records.{ResourceRecord, ZoneContents}
 use Rattle.dns_spec.proofs.Records.SortedOnce.{Each, Among}
 use Rattle.dns_spec.proofs.Records.RecordOrder.{among_contains}
+use Rattle.dns_zone.specs.LabelKey.{IsKey}
 use Rattle.dns_zone.specs.ZoneForm.{AreOrdered, IsBuilt}
-use Rattle.dns_zone.specs.TreeForm.{owners, row_octets, IsRow}
+use Rattle.dns_zone.specs.TreeForm.{owners, row_octets, first_of, IsRow}
 use Rattle.dns_zone.proofs.Pairs.{filter_all}
 use Rattle.dns_zone.proofs.NameOrder.{same-is}
 use Rattle.dns_zone.proofs.AtName.{is_at, owners_in_order}
@@ -67,9 +69,10 @@ module _ (o : DomainName) (rs : List ResourceRecord)
       (kept.each 0 d some).owner
 
   pub origin_is_row : (own : ℕ) → own ≤ length rs → take own rs ≡ filter (is_at o) rs
-      → IsRow rs (record { first = 0; own_end = own; end = length rs; place = 0 }) o
+      → (key : ℕ) → IsKey key (map to_ascii_lowercase (first_of o))
+      → IsRow rs (record { first = 0; own_end = own; end = length rs; place = 0; key = key }) o
   unfolding row_octets
-  origin_is_row own fits e =
+  origin_is_row own fits e key is_key =
       let whole : length rs - 0 ≡ length rs = omega arith in
       let part : own - 0 ≡ own = omega arith in
       record {
@@ -86,5 +89,6 @@ module _ (o : DomainName) (rs : List ResourceRecord)
             ap (λ i. take i rs) whole ∙ take_all (length rs) rs (omega arith)
             ∙ sym (filter_all (is_under o) rs
             (all-inside (record { origin = o; records = rs }) kept));
+        key = is_key;
         own = ap (λ i. take i rs) part ∙ e;
       }

@@ -1,11 +1,12 @@
 -- Records that stand by their types: the types of one owner.
-use Rattle.std.proofs.Common.{◌≡◌, ◌==◌, ℕ, ◌<◌, ◌≤◌, Bool, true, false, not, ◌||◌, ◌⊎◌, cond, nat_lt, eqb, Some, None, List, [], ◌∷◌, refl, sym, ap, ap₂, ◌∙◌, arith, filter, inl, inr}
+use Rattle.std.proofs.Common.{◌≡◌, ◌==◌, ℕ, ◌-◌, ◌<◌, ◌≤◌, length, get_or, Bool, true, false, not, ◌||◌, ◌⊎◌, cond, nat_lt, eqb, Some, None, List, [], ◌∷◌, refl, sym, ap, ap₂, ◌∙◌, arith, filter, inl, inr}
 use Rattle.std.proofs.lemmas.Bool.{ltb-true, ltb-false, eqb-true, eq-eqb, ne_eqb, eqb-false, cases_lt, le-ltb, not-true}
+use Rattle.std.proofs.lemmas.List.{take_all}
 use Rattle.std.specs.List.{list_any, slice_get}
 use Rattle.std.specs.List.Sorted.{IsPartitionedBy, IsNonDecreasingBy}
 use Rattle.dns_spec.specs.Records.{ResourceRecord}
 use Rattle.dns_spec.proofs.Records.SortedOnce.{Each, filter_each}
-use Rattle.dns_zone.proofs.Pairs.{Pairs, pairs_of, pairs_filter, pairs_rising, parted, filter_within, first_passes}
+use Rattle.dns_zone.proofs.Pairs.{halves, Pairs, pairs_of, pairs_filter, pairs_rising, parted, filter_within, first_passes}
 
 pub none_pass : {X : Type 0} (p : X → Bool) (xs : List X) → Each (λ x. p x ≡ false) xs → list_any p xs ≡ false
 none_pass p [] e = refl
@@ -75,3 +76,36 @@ module _ (t : ℕ) where
       filter_within not_below of_t rs (λ r e.
       let b : r.rtype ≡ t = eqb-true r.rtype t e in
       ap not (le-ltb r.rtype t (omega arith)))
+
+  -- where the first and the last one have the type, all have
+  pub all_of_type : (rs : List ResourceRecord) → IsNonDecreasingBy (λ (r : ResourceRecord). r.rtype) rs → 0 < length rs
+      → ((d : ResourceRecord) → (get_or rs 0 d).rtype ≡ t) → ((d : ResourceRecord) → (get_or rs (length rs - 1) d).rtype ≡ t) → rs ≡ filter of_t rs
+  all_of_type rs h some first last =
+      sym (take_all (length rs) rs (omega arith))
+      ∙ (halves of_t rs (length rs) (omega arith) (
+        λ k d a b.
+            let from : (get_or rs 0 d).rtype ≤ (get_or rs k d).rtype = h 0 k d (omega arith) (omega arith) in
+            let to : (get_or rs k d).rtype ≤ (get_or rs (length rs - 1) d).rtype = h k (length rs - 1) d (omega arith) (omega arith) in
+            eq-eqb (get_or rs k d).rtype t (omega (arith, from, to, first d, last d)),
+        λ k d a b. absurd (omega arith),
+      )).0
+
+  -- where the first one is of a type above, none has the type
+  pub none_above : (rs : List ResourceRecord) → IsNonDecreasingBy (λ (r : ResourceRecord). r.rtype) rs
+      → ((d : ResourceRecord) → t < (get_or rs 0 d).rtype) → [] ≡ filter of_t rs
+  none_above rs h first = (halves of_t rs 0 (omega arith) (
+    λ k d a b. absurd (omega arith),
+    λ k d a b.
+        let from : (get_or rs 0 d).rtype ≤ (get_or rs k d).rtype = h 0 k d (omega arith) (omega arith) in
+        ne_eqb (get_or rs k d).rtype t (λ e. absurd (omega (arith, from, first d, e))),
+  )).0
+
+  -- where the last one is of a type below, none has the type
+  pub none_below : (rs : List ResourceRecord) → IsNonDecreasingBy (λ (r : ResourceRecord). r.rtype) rs
+      → ((d : ResourceRecord) → (get_or rs (length rs - 1) d).rtype < t) → [] ≡ filter of_t rs
+  none_below rs h last = (halves of_t rs 0 (omega arith) (
+    λ k d a b. absurd (omega arith),
+    λ k d a b.
+        let to : (get_or rs k d).rtype ≤ (get_or rs (length rs - 1) d).rtype = h k (length rs - 1) d (omega arith) (omega arith) in
+        ne_eqb (get_or rs k d).rtype t (λ e. absurd (omega (arith, to, last d, e))),
+  )).0

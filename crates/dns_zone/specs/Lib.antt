@@ -10,3 +10,4 @@ pub mod CutForm
 pub mod OwnerForm
 pub mod ReportedForm
 pub mod KeyForm
+pub mod LabelKey

@@ -7,6 +7,7 @@ use Rattle.dns_spec.specs.Names.{Octets, DomainName, wire, is_name, folded, same
 use Rattle.dns_spec.specs.Records.{ResourceRecord}
 use Rattle.dns_spec.proofs.Records.SortedOnce.{Each, Among, Rises}
 use Rattle.dns_name.specs.WireForm.{labels_of}
+use Rattle.dns_zone.specs.LabelKey.{IsKey}
 use Rattle.dns_zone.specs.declared.row.Row.{Row}
 
 -- the elements from place a up to place b
@@ -48,6 +49,7 @@ pub record IsRow (rs : List ResourceRecord) (row : Row) (n : DomainName) : Type 
   pub own_end : row.own_end ≤ row.end
   pub end_fits : row.end ≤ length rs
   pub below : span rs row.first row.end ≡ under n rs
+  pub key : IsKey row.key (map to_ascii_lowercase (first_of n))
   pub own : span rs row.first row.own_end ≡ filter (λ (r : ResourceRecord). same r.owner n) rs
 
 -- a row of a name one label below
@@ -64,7 +66,7 @@ pub record AreKids (rs : List ResourceRecord) (n : DomainName) (kids : List Row)
   pub few : length kids ≤ length rs
 
 abbrev pub row_at : List Row → ℕ → Row
-row_at rows k = get_or rows k (record { first = 0; own_end = 0; end = 0; place = 0 })
+row_at rows k = get_or rows k (record { first = 0; own_end = 0; end = 0; place = 0; key = 0 })
 
 -- the children of row k are the rows from bound k up to the next bound
 abbrev pub kids_at : List Row → List ℕ → ℕ → List Row

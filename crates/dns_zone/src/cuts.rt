@@ -6,6 +6,7 @@ ghost use Rattle.dns_spec.specs.Names.{folded, name_order, at_or_below, below};
 ghost use Rattle.dns_spec.specs.Records.{ResourceRecord};
 ghost use Rattle.dns_spec.specs.Data.{type_ns};
 ghost use Rattle.dns_zone.specs.ZoneForm.{AreOrdered};
+ghost use Rattle.dns_zone.specs.KeyForm.{name_key};
 ghost use Rattle.dns_zone.specs.CutForm.{after, AreTopmost, AreApart, last_passes};
 
 use crate::above::is_at_or_below;
@@ -54,18 +55,19 @@ fn is_topmost(origin: &NameRef<'_>, cuts: &[&Keyed<'_>], listed: &Keyed<'_>) -> 
     !is_covered(cuts, &owner) && owner.below(origin)
 }
 
-/// The cuts that are not after the name in canonical order.
+/// The cuts that are not after the name, whose key this is, in canonical order.
 pub(crate) fn not_after<'a, 'b>(
     cuts: &'b [&'a Keyed<'a>],
     name: &NameRef<'_>,
+    key: &Key,
 ) -> &'b [&'a Keyed<'a>]
     requires apart { AreApart (after cuts.now) }
     requires lower { folded name.now ≡ name.now }
+    requires key { key.now ≡ name_key name.now }
     ensures { after result.now ≡ filter
         (λ (c : ResourceRecord). not (is_gt (name_order c.owner name.now))) (after cuts.now) }
 {
-    let key = Key::of(name);
-    &cuts[..cuts.partition_point(|cut| !cut.order(name, &key).is_gt())]
+    &cuts[..cuts.partition_point(|cut| !cut.order(name, key).is_gt())]
 }
 
 /// Whether the name is at or below the last of the cuts.

@@ -9,6 +9,7 @@ ghost use Rattle.dns_zone.specs.ReportedForm.{HasOwners, failed_from, owners_onc
 
 use crate::entry::Entry;
 use crate::fault::CheckFault;
+use crate::key::Key;
 use crate::keyed::{beside_keys, keys_of};
 use crate::lookup::{count_at, count_before, count_in_front};
 use crate::owner::Owner;
@@ -33,7 +34,11 @@ pub(crate) fn faults(
     let keys = keys_of(alloc, records)?;
     let keyed = beside_keys(alloc, records, keys.as_slice())?;
     let survey = Survey::new(alloc, origin, records, keyed.as_slice())?;
-    let (before, others) = records.split_at(count_before(keyed.as_slice(), origin));
+    let (before, others) = records.split_at(count_before(
+        keyed.as_slice(),
+        origin,
+        &Key::of(origin),
+    ));
     let (own, after) = others.split_at(count_at(others, origin));
     let mut found = Vec::new(alloc);
     report_around(&survey, before, origin, own, after, &mut found)?;

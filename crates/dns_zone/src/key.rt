@@ -1,6 +1,5 @@
 //! Keys of names: octets whose plain order is the canonical order of the names.
-ghost use Rattle.std.specs.Prelude.{◌≡◌, ◌+◌, ◌≤◌, ◌++◌, map, take, length};
-ghost use Rattle.arrayvec.specs.ArrayVec.{array_vec_len};
+ghost use Rattle.std.specs.Prelude.{◌≡◌, ◌+◌, length};
 ghost use Rattle.dns_name.specs.WireForm.{labels_of, IsWireForm};
 ghost use Rattle.dns_zone.specs.KeyForm.{raised, ended, name_key};
 
@@ -47,8 +46,12 @@ impl Key {
     pub(crate) fn make_that_of(&mut self, name: &NameRef<'_>)
         ensures { self.new ≡ name_key name.now }
     {
+        let octets = name.octets();
         self.octets.clear();
-        append_labels(name.octets(), &mut self.octets);
+        if self.octets.try_extend_from_slice(&octets[1..]).is_err() {
+            unreachable!();
+        }
+        put_labels(octets, self.octets.as_mut_slice());
     }
 
     /// Its octets, one fewer than the wire form of the name has.
@@ -59,29 +62,31 @@ impl Key {
     }
 }
 
-// Appends the labels of a name in wire form, from the right.
-fn append_labels(octets: &[u8], key: &mut ArrayVec<u8, MAX_OCTETS>)
+// Puts the labels of a name in wire form into a key, from its end.
+fn put_labels(octets: &[u8], key: &mut [u8])
     requires wire { IsWireForm octets.now }
-    requires room { array_vec_len key.old + length octets.now ≤ 256 }
-    ensures key { key.new.items ≡ key.old.items ++ name_key (labels_of octets.now) }
-    ensures room { array_vec_len key.new + 1 ≡ array_vec_len key.old + length octets.now }
+    requires room { length octets.now ≡ length key.old + 1 }
+    ensures { key.new ≡ name_key (labels_of octets.now) }
 {
-    if let Some((label, rest)) = first_label(octets) {
-        append_labels(rest, key);
-        append_label(label.octets(), key);
+    let mut rest = octets;
+    let mut end = key.len();
+    'labels: while let Some((label, after)) = first_label(rest) {
+        let begin = end - (label.octets().len() + 1);
+        put_label(label.octets(), &mut key[begin..end]);
+        end = begin;
+        rest = after;
     }
 }
 
-// Appends a label and its end.
-fn append_label(label: &[u8], key: &mut ArrayVec<u8, MAX_OCTETS>)
-    requires { array_vec_len key.old + length label.now ≤ 254 }
-    ensures key { key.new.items ≡ key.old.items ++ ended label.now }
-    ensures room { array_vec_len key.new ≡ array_vec_len key.old + (length label.now + 1) }
+// Puts a label and its end.
+fn put_label(label: &[u8], key: &mut [u8])
+    requires { length key.old ≡ length label.now + 1 }
+    ensures { key.new ≡ ended label.now }
 {
-    'octets: for octet in label {
-        key.push(raised(*octet));
+    'octets: for place in 0..label.len() {
+        key[place] = raised(label[place]);
     }
-    key.push(0);
+    key[label.len()] = 0;
 }
 
 // An octet of a name in lower case, where 65 to 90 do not stand: those below are one more, so that

@@ -10,6 +10,7 @@ mod fault;
 mod faults;
 mod key;
 mod keyed;
+mod label_key;
 mod lookup;
 mod node;
 mod order;

@@ -6,6 +6,7 @@ ghost use Rattle.std.specs.List.Sorted.{IsPartitionedBy, IsNonDecreasingBy};
 ghost use Rattle.std.specs.Ordering.{is_lt};
 ghost use Rattle.dns_spec.specs.Names.{folded, same, at_or_below, name_order};
 ghost use Rattle.dns_spec.specs.Records.{ResourceRecord};
+ghost use Rattle.dns_zone.specs.KeyForm.{name_key};
 ghost use Rattle.dns_zone.specs.ZoneForm.{AreOrdered, IsFront};
 
 use crate::above::is_at_or_below;
@@ -19,33 +20,35 @@ use dns_rdata::RType;
 // below them.
 const NEAR: usize = 4;
 
-/// The records whose owner is the name, which stand side by side.
+/// The records whose owner is the name, whose key this is. They stand side by side.
 pub(crate) fn records_at<'a>(
     keyed: &[Keyed<'_>],
     records: &'a [Entry],
     name: &NameRef<'_>,
+    key: &Key,
 ) -> &'a [Entry]
     requires keyed { keyed.now ≡ records.now }
     requires ordered { AreOrdered records.now }
     requires lower { folded name.now ≡ name.now }
+    requires key { key.now ≡ name_key name.now }
     ensures { result.now ≡ filter (λ (r : ResourceRecord). same r.owner name.now) records.now }
 {
-    let others = &records[count_before(keyed, name)..];
+    let others = &records[count_before(keyed, name, key)..];
     &others[..count_at(others, name)]
 }
 
-/// How many of the records have an owner that comes before the name.
-pub(crate) fn count_before(records: &[Keyed<'_>], name: &NameRef<'_>) -> usize
+/// How many of the records have an owner that comes before the name, whose key this is.
+pub(crate) fn count_before(records: &[Keyed<'_>], name: &NameRef<'_>, key: &Key) -> usize
     requires ordered { AreOrdered records.now }
     requires lower { folded name.now ≡ name.now }
+    requires key { key.now ≡ name_key name.now }
     ensures bound { result ≤ length records.now }
     ensures before { take result records.now
         ≡ filter (λ (r : ResourceRecord). is_lt (name_order r.owner name.now)) records.now }
     ensures others { drop result records.now
         ≡ filter (λ (r : ResourceRecord). not (is_lt (name_order r.owner name.now))) records.now }
 {
-    let key = Key::of(name);
-    records.partition_point(|listed| listed.order(name, &key).is_lt())
+    records.partition_point(|listed| listed.order(name, key).is_lt())
 }
 
 /// How many of the records have the name as owner, where these stand in front.
@@ -163,11 +166,24 @@ pub(crate) fn has_type(records: &[Entry], rtype: RType) -> bool
     }
 }
 
-/// The records of a type, where they stand by their types.
+/// The records of a type, where they stand by their types. Most names own records of one type
+/// alone, so that the first and the last one tell.
 pub(crate) fn of_type<'a>(records: &'a [Entry], rtype: RType) -> &'a [Entry]
     requires { IsNonDecreasingBy (λ (r : ResourceRecord). r.rtype) records.now }
     ensures { result.now ≡ filter (λ (r : ResourceRecord). r.rtype == rtype.0) records.now }
 {
+    let Some(first) = records.first() else {
+        return records;
+    };
+    let Some(last) = records.last() else {
+        return records;
+    };
+    if rtype.0 < first.rtype.0 || last.rtype.0 < rtype.0 {
+        return &[];
+    }
+    if first.rtype == last.rtype {
+        return records;
+    }
     let others = &records[count_below(records, rtype)..];
     &others[..count_of(others, rtype)]
 }

@@ -1,5 +1,5 @@
 //! The nodes of a zone: the names that exist in it (RFC 1034 3.1, RFC 4592 2.2).
-ghost use Rattle.std.specs.Prelude.{◌≡◌, ◌+◌, ◌<◌, ◌≤◌, ◌↔◌, ◌∷◌, map, length, get_or, is_some, if◌then◌else◌, IsTrue, IsSome, IsNone, IfSome, true};
+ghost use Rattle.std.specs.Prelude.{◌≡◌, ◌+◌, ◌<◌, ◌≤◌, ◌↔◌, [], ◌∷◌, map, length, get_or, is_some, if◌then◌else◌, IsTrue, IsSome, IsNone, IfSome, MatchOption, true};
 ghost use Rattle.std.specs.Char.{to_ascii_lowercase};
 ghost use Rattle.std.specs.List.Sorted.{IsNonDecreasingBy};
 ghost use Rattle.dns_spec.specs.Names.{folded, wire};
@@ -17,8 +17,7 @@ use crate::search::find;
 use crate::set::{RecordSet, lent_set};
 use crate::steps::Steps;
 use crate::tree::Tree;
-use arrayvec::ArrayVec;
-use dns_name::Label;
+use dns_name::{Label, NameRef};
 use dns_rdata::RType;
 use std::marker::Model;
 
@@ -78,9 +77,8 @@ impl<'z> Node<'z> {
         ensures compared { IfSome result (λ _. steps.old.comparisons < steps.new.comparisons) }
         ensures same_zone { steps.new.zone ≡ steps.old.zone }
     {
-        let lower = lower_case(label);
         let (start, kids) = kids_of(self.tree, self.row);
-        let found = find(self.tree.records.as_slice(), kids, lower.as_slice(), steps)?;
+        let found = find(self.tree.records.as_slice(), kids, label.octets(), steps)?;
         steps.count_visit();
         Some(Node {
             tree: self.tree,
@@ -96,6 +94,16 @@ impl<'z> Node<'z> {
         ensures kept { IfSome result (IsSetOf self.now) }
     {
         lent_set(of_type(self.own(), rtype))
+    }
+
+    /// The node's name in lower case, lent out of the zone, where it owns a record.
+    pub fn owner(&self) -> Option<NameRef<'z>>
+        ensures name { MatchOption result (at self.now.zone self.now.name ≡ [])
+            (λ n. n ≡ self.now.name) }
+        ensures node { IsNode self.now.zone self.now.name }
+    {
+        let first = self.own().first()?;
+        Some(first.owner())
     }
 
     /// The records of the lowest type at the name; `None` where it owns none.
@@ -117,18 +125,6 @@ impl<'z> Node<'z> {
         let row = &self.tree.rows[self.row];
         &self.tree.records.as_slice()[row.first as usize..row.own_end as usize]
     }
-}
-
-// The octets of a label in lower case.
-fn lower_case(label: Label<'_>) -> ArrayVec<u8, 63>
-    ensures { result.items ≡ map to_ascii_lowercase label.entry }
-{
-    let mut octets = ArrayVec::new();
-    if octets.try_extend_from_slice(label.octets()).is_err() {
-        unreachable!();
-    }
-    octets.as_mut_slice().make_ascii_lowercase();
-    octets
 }
 
 // The number of the first child of a row, and its children.

@@ -12,4 +12,6 @@ pub(crate) struct Row {
     pub(crate) end: u32,
     /// Where the name begins in the wire form of the first record's owner, which ends in it.
     pub(crate) place: u32,
+    /// The key of the name's first label.
+    pub(crate) key: u32,
 }

@@ -1,19 +1,22 @@
 //! A label, found among those of children by binary search.
 ghost use Rattle.std.specs.Prelude.{◌≡◌, ◌+◌, ◌<◌, ◌≤◌, map, length, IfSome, IsNone};
+ghost use Rattle.std.specs.Char.{to_ascii_lowercase};
 ghost use Rattle.dns_spec.specs.Names.{label_order};
 ghost use Rattle.dns_spec.specs.Meaning.{most_records};
 ghost use Rattle.dns_spec.proofs.Records.SortedOnce.{Each, Among, Rises};
+ghost use Rattle.dns_zone.specs.LabelKey.{IsKey};
 ghost use Rattle.dns_zone.specs.TreeForm.{row_label, row_name, row_at, IsRow};
 
 use crate::entry::Entry;
+use crate::label_key::{label_key, order_to};
 use crate::row::Row;
 use crate::steps::Steps;
 use crate::tree::octets_of;
 use dns_name::first_label;
 use std::cmp::Ordering;
 
-/// Which of the children has the label, if one has it. Each comparison is counted: they are at most
-/// 17, since 100,000 children are fewer than 2 ^ 17.
+/// Which of the children has the label, in lower case, if one has it. Each comparison is counted:
+/// they are at most 17, since 100,000 children are fewer than 2 ^ 17.
 pub(crate) fn find(
     records: &[Entry],
     kids: &[Row],
@@ -25,9 +28,10 @@ pub(crate) fn find(
     requires few { length kids.now ≤ most_records }
     requires comparisons { steps.old.comparisons ≤ 4294967278 }
 
-    ensures found { IfSome result (λ k.
-        (k < length kids.now) × (row_label records.now (row_at kids.now k) ≡ label.now)) }
-    ensures none { IsNone result → Among label.now (map (row_label records.now) kids.now) → ⊥ }
+    ensures found { IfSome result (λ k. (k < length kids.now)
+        × (row_label records.now (row_at kids.now k) ≡ map to_ascii_lowercase label.now)) }
+    ensures none { IsNone result → Among (map to_ascii_lowercase label.now)
+        (map (row_label records.now) kids.now) → ⊥ }
 
     ensures rise { steps.old.comparisons ≤ steps.new.comparisons }
     ensures bound { steps.new.comparisons ≤ steps.old.comparisons + 17 }
@@ -35,6 +39,10 @@ pub(crate) fn find(
     ensures visits { steps.new.visits ≡ steps.old.visits }
     ensures zone { steps.new.zone ≡ steps.old.zone }
 {
+    if kids.is_empty() {
+        return None;
+    }
+    let key = label_key(label);
     let (mut low, mut high) = (0, kids.len());
     'turns: for turn in 0..17_u32 {
         if low == high {
@@ -42,13 +50,26 @@ pub(crate) fn find(
         }
         let middle = low + (high - low) / 2;
         steps.count_comparison();
-        match label_of(records, &kids[middle]).cmp(label) {
+        match order(records, &kids[middle], key, label) {
             Ordering::Less => low = middle + 1,
             Ordering::Equal => return Some(middle),
             Ordering::Greater => high = middle,
         }
     }
     None
+}
+
+// The order of a row's label and of another, whose key this is. Mostly their keys differ.
+fn order(records: &[Entry], row: &Row, key: u32, label: &[u8]) -> Ordering
+    requires row { IsRow records.now row.now (row_name records.now row.now) }
+    requires key { IsKey key (map to_ascii_lowercase label.now) }
+    ensures { result ≡ label_order (row_label records.now row.now)
+        (map to_ascii_lowercase label.now) }
+{
+    if row.key != key {
+        return row.key.cmp(&key);
+    }
+    order_to(label_of(records, row), label)
 }
 
 // The first label of a row's name. The root has none.

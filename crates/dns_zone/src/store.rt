@@ -4,7 +4,7 @@ ghost use Rattle.dns_spec.specs.Records.{zone_of, ordered_zone};
 ghost use Rattle.dns_spec.specs.Checks.{faults};
 ghost use Rattle.dns_spec.specs.Meaning.{most_records, records, fault_at};
 ghost use Rattle.dns_master.specs.Codes.{fault_of, failures_after_read};
-ghost use Rattle.dns_master.specs.SourceForm.{GivesMeaning};
+ghost use Rattle.dns_master.specs.SourceForm.{GivesMeaning, Decides};
 ghost use Rattle.dns_zone.specs.ZoneForm.{ReportsFaults};
 
 use crate::entry::Entry;
@@ -61,6 +61,11 @@ impl Store {
             → f.code ≢ ReadCode.NoMemory
             → GivesMeaning (R.remaining source.old.device) origin.now
             (fault_at (fault_of f.code) f.line)) }
+        ensures whole { IfOk result (λ found. Decides (R.remaining source.old.device)
+            (R.remaining source.new.device) origin.now (records found)) }
+        ensures decided { IfErr result (λ f. f.code ≢ ReadCode.SourceFailed
+            → f.code ≢ ReadCode.NoMemory → Decides (R.remaining source.old.device)
+            (R.remaining source.new.device) origin.now (fault_at (fault_of f.code) f.line)) }
         ensures few { IfOk result (λ found. length found ≤ most_records) }
         ensures line { IfErr result (λ f. (f.code ≡ ReadCode.SourceFailed)
             ⊎ (f.code ≡ ReadCode.NoMemory) → f.line ≡ 0) }

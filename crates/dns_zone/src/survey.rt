@@ -1,5 +1,5 @@
 //! A zone under check: its origin, its records in canonical order, and its cuts.
-ghost use Rattle.std.specs.Prelude.{◌≡◌, ◌==◌, ◌&&◌, true, not, false, IfOk, IfSome, OnOk, length, take};
+ghost use Rattle.std.specs.Prelude.{◌≡◌, ◌==◌, ◌&&◌, ◌||◌, true, not, false, IfOk, IfSome, OnOk, length, take};
 ghost use Rattle.std.specs.List.{filter, list_any};
 ghost use Rattle.std.specs.Ordering.{is_gt};
 ghost use Rattle.dns_spec.specs.Names.{folded, name_order, at_or_below, below};
@@ -11,12 +11,14 @@ ghost use Rattle.dns_spec.specs.Tree.{is_cut};
 ghost use Rattle.dns_spec.specs.Checks.{at_or_below_cut, below_cut, lacks_address, has_address};
 ghost use Rattle.dns_zone.specs.ZoneForm.{AreOrdered};
 ghost use Rattle.dns_zone.specs.CutForm.{after, AreTopmost, AreApart, last_passes};
+ghost use Rattle.dns_zone.specs.KeyForm.{name_key};
 ghost use Rattle.dns_zone.specs.OwnerForm.{IsOwner};
 ghost use Rattle.dns_zone.specs.ReportedForm.{HasOwners};
 
 use crate::above::{ends_in, is_at_or_below};
 use crate::cuts::{is_below_last, is_covered, not_after, topmost_cuts};
 use crate::entry::Entry;
+use crate::key::Key;
 use crate::keyed::Keyed;
 use crate::lookup::{count_in_front, has_type, records_at};
 use crate::target::target;
@@ -85,13 +87,14 @@ impl<'a> Survey<'a> {
         self.origin
     }
 
-    // The records at the name, by their types.
-    fn at(&self, name: &NameRef<'_>) -> &'a [Entry]
-        requires { folded name.now ≡ name.now }
+    // The records at the name, whose key this is, by their types.
+    fn at(&self, name: &NameRef<'_>, key: &Key) -> &'a [Entry]
+        requires lower { folded name.now ≡ name.now }
+        requires key { key.now ≡ name_key name.now }
         ensures own { result.now ≡ at self.now name.now }
         ensures by_types { IsNonDecreasingBy (λ (r : ResourceRecord). r.rtype) result.now }
     {
-        records_at(self.keyed, self.records, name)
+        records_at(self.keyed, self.records, name, key)
     }
 
     /// Whether the name owns a record of the type.
@@ -99,7 +102,7 @@ impl<'a> Survey<'a> {
         requires { folded name.now ≡ name.now }
         ensures { result ≡ owns self.now name.now rtype.0 }
     {
-        has_type(self.at(name), rtype)
+        has_type(self.at(name, &Key::of(name)), rtype)
     }
 
     /// Whether the record's target is a name of the zone that owns a CNAME.
@@ -132,6 +135,7 @@ impl<'a> Survey<'a> {
         after: &[Entry],
     ) -> (bool, bool)
         requires cut { owner_is_cut ≡ is_cut self.now owner.now }
+        requires lower_owner { folded owner.now ≡ owner.now }
         requires after { HasOwners self.now after.now }
         ensures alias { result.0 ≡ option_map_or
             (λ m. at_or_below m self.now.origin && owns self.now m type_cname)
@@ -155,6 +159,7 @@ impl<'a> Survey<'a> {
     ) -> (bool, bool)
         requires lower { folded target.now ≡ target.now }
         requires cut { owner_is_cut ≡ is_cut self.now owner.now }
+        requires lower_owner { folded owner.now ≡ owner.now }
         requires after { HasOwners self.now after.now }
         ensures alias { result.0 ≡ (at_or_below target.now self.now.origin
             && owns self.now target.now type_cname) }
@@ -164,31 +169,34 @@ impl<'a> Survey<'a> {
         if !is_at_or_below(target, self.origin()) {
             return (false, false);
         }
-        let own = self.at_server(target, owner, after);
-        let is_alias = has_type(own, RType::CNAME);
-        let is_lost = self.lacks_address(target, own, owner, owner_is_cut);
-        (is_alias, is_lost)
+        if let Some(own) = self.at_server(target, owner, after) {
+            let is_lost = !self.has_address(target, own)
+                && self.lacks_glue(target, &Key::of(target), owner, owner_is_cut);
+            return (has_type(own, RType::CNAME), is_lost);
+        }
+        let key = Key::of(target);
+        let own = self.at(target, &key);
+        let is_lost = !self.has_address(target, own)
+            && self.lacks_glue(target, &key, owner, owner_is_cut);
+        (has_type(own, RType::CNAME), is_lost)
     }
 
-    // The records at the name, by their types. Those of a server below `owner` mostly come soon
-    // after those of `owner`.
+    // The records at the name, by their types, where they come soon after those of `owner`, as those
+    // of a server below it mostly do.
     fn at_server<'b>(
         &'b self,
         name: &NameRef<'_>,
         owner: &NameRef<'_>,
         after: &'b [Entry],
-    ) -> &'b [Entry]
-        requires lower { folded name.now ≡ name.now }
-        requires after { HasOwners self.now after.now }
-        ensures own { result.now ≡ at self.now name.now }
-        ensures by_types { IsNonDecreasingBy (λ (r : ResourceRecord). r.rtype) result.now }
+    ) -> Option<&'b [Entry]>
+        requires { HasOwners self.now after.now }
+        ensures { IfSome result (λ own. IsOwner self.now name.now own.now) }
     {
         if ends_in(name, owner) {
-            if let Some(own) = self.at_near(name, owner, after) {
-                return own;
-            }
+            self.at_near(name, owner, after)
+        } else {
+            None
         }
-        self.at(name)
     }
 
     // The same where they are those of one of the first owners of the records. It ends where an
@@ -218,24 +226,22 @@ impl<'a> Survey<'a> {
         None
     }
 
-    // Whether a name that owns these records lacks an address that a server of `owner` needs.
-    fn lacks_address(
+    // Whether a name without addresses, whose key this is, lacks one that a server of `owner` needs.
+    fn lacks_glue(
         &self,
         target: &NameRef<'_>,
-        own: &[Entry],
+        key: &Key,
         owner: &NameRef<'_>,
         owner_is_cut: bool,
     ) -> bool
         requires lower { folded target.now ≡ target.now }
-        requires own { own.now ≡ at self.now target.now }
-        requires by_types { IsNonDecreasingBy (λ (r : ResourceRecord). r.rtype) own.now }
+        requires lower_owner { folded owner.now ≡ owner.now }
         requires cut { owner_is_cut ≡ is_cut self.now owner.now }
-        ensures { result ≡ lacks_address self.now owner.now target.now }
+        requires key { key.now ≡ name_key target.now }
+        ensures { result ≡ (not (at_or_below_cut self.now target.now)
+            || (is_cut self.now owner.now && at_or_below target.now owner.now)) }
     {
-        if self.has_address(target, own) {
-            return false;
-        }
-        !self.is_at_or_below_cut(target) || owner_is_cut && target.at_or_below(owner)
+        !self.is_at_or_below_cut(target, key) || owner_is_cut && is_at_or_below(target, owner)
     }
 
     fn has_address(&self, name: &NameRef<'_>, own: &[Entry]) -> bool
@@ -246,12 +252,13 @@ impl<'a> Survey<'a> {
         has_type(own, RType::A) || has_type(own, RType::AAAA)
     }
 
-    /// Whether the name is at or below a cut (RFC 1034 4.2).
-    pub(crate) fn is_at_or_below_cut(&self, name: &NameRef<'_>) -> bool
-        requires { folded name.now ≡ name.now }
+    // Whether the name, whose key this is, is at or below a cut (RFC 1034 4.2).
+    fn is_at_or_below_cut(&self, name: &NameRef<'_>, key: &Key) -> bool
+        requires lower { folded name.now ≡ name.now }
+        requires key { key.now ≡ name_key name.now }
         ensures { result ≡ at_or_below_cut self.now name.now }
     {
-        is_covered(not_after(self.cuts.as_slice(), name), name)
+        is_covered(not_after(self.cuts.as_slice(), name, key), name)
     }
 
     /// Whether the name is below a cut. A cut is below the origin, so what is below a cut has two
@@ -263,7 +270,8 @@ impl<'a> Survey<'a> {
         if name.label_count().saturating_sub(self.origin.label_count()) < 2 {
             return false;
         }
-        is_below_last(not_after(self.cuts.as_slice(), name), name)
+        let key = Key::of(name);
+        is_below_last(not_after(self.cuts.as_slice(), name, &key), name)
     }
 }
 

@@ -10,6 +10,7 @@ ghost use Rattle.dns_zone.specs.TreeForm.{owners, row_octets, row_name, row_at, 
 ghost use Rattle.dns_zone.specs.TreeSteps.{IsChildOf, IsNext, IsKidAt, AddsKids};
 
 use crate::entry::Entry;
+use crate::label_key::first_key;
 use crate::lookup::{count_at, count_under};
 use crate::row::Row;
 use dns_name::{Name, NameRef, first_label};
@@ -31,7 +32,7 @@ pub(crate) struct Rows {
     pub(crate) bounds: Vec<usize>,
 }
 
-/// The rows of all names of a zone. Memory is taken for 24 octets for each name.
+/// The rows of all names of a zone. Memory is taken for 28 octets for each name.
 pub(crate) fn rows_of(
     alloc: Global,
     origin: &NameRef<'_>,
@@ -64,6 +65,7 @@ fn origin_row(origin: &NameRef<'_>, records: &[Entry]) -> Row
         own_end: count_at(records, origin) as u32,
         end: records.len() as u32,
         place: 0,
+        key: first_key(origin),
     }
 }
 
@@ -122,6 +124,7 @@ fn kid_at(records: &[Entry], parent: &[u8], next: usize, end: usize) -> Row
         own_end: (next + own) as u32,
         end: (next + (own + count_under(after, &name))) as u32,
         place: (owner.len() - octets.len()) as u32,
+        key: first_key(&name),
     }
 }
 

@@ -1,10 +1,12 @@
-use Rattle.std.proofs.Common.{◌≡◌, ◌+◌, ◌≤◌, Bool, true, ap, sym, ◌∙◌, subst, length, take, drop, filter, arith, length-drop, length-take, ◌-◌, List}
+use Rattle.std.proofs.Common.{◌≡◌, ◌+◌, ◌≤◌, Bool, true, ap, sym, ◌∙◌, subst, length, take, drop, map, filter, arith, length-drop, length-take, ◌-◌, List}
+use Rattle.std.specs.Char.{to_ascii_lowercase}
 use Rattle.std.specs.List.Sorted.{IsPartitionedBy}
 use Rattle.dns_spec.specs.Names.{DomainName, Octets, wire, folded, at_or_below, below}
 use Rattle.dns_spec.specs.Records.{ResourceRecord}
 use Rattle.dns_name.specs.WireForm.{labels_of}
 use Rattle.dns_name.proofs.WireLemmas.{IsWireForm-wire, labels_of_spelled}
-use Rattle.dns_zone.specs.TreeForm.{span, under}
+use Rattle.dns_zone.specs.LabelKey.{IsKey}
+use Rattle.dns_zone.specs.TreeForm.{span, under, first_of}
 use Rattle.dns_zone.specs.TreeSteps.{IsChildOf}
 use Rattle.dns_zone.proofs.AtName.{is_at}
 use Rattle.dns_zone.proofs.BoundedKids.{none_at, none_under, parted_take, widened}
@@ -119,9 +121,11 @@ returns c =
     rw (← after, ← named) c.count_under.ensures.own in
     let own_fits : own ≤ length others = c.count_at-own.ensures.bound in
     made rs c.requires.canonical n next c.requires.next r c.index-records-next.is octets
-    child own (own + count) _
+    child own (own + count) _ _
     (omega (arith, own_fits, shorter)) (omega (arith, fits, shorter))
     (widened (is_at m) rs next end c.requires.before none_own own own_fits own_is)
     (widened (is_under m) rs next end c.requires.before none (own + count) fits
     (own_then_below m others own count own_is below_is))
     (ap (λ (o : Octets). length o - length octets) spelled)
+    (subst (λ (k : DomainName). IsKey c.first_key.result (map to_ascii_lowercase (first_of k)))
+    named c.first_key.ensures)

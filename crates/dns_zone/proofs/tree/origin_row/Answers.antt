@@ -7,4 +7,4 @@ count_at-requires-clause-in_front c = own_in_front c.args.origin.now c.args.reco
 pub returns : goal.returns
 returns c =
     origin_is_row c.args.origin.now c.args.records.now c.requires c.count_at.result
-    c.count_at.ensures.bound c.count_at.ensures.own
+    c.count_at.ensures.bound c.count_at.ensures.own _ c.first_key.ensures

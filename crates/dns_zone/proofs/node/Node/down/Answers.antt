@@ -32,13 +32,14 @@ returns-in_err-found-clause-child c =
     ap₂ (λ (rs : List ResourceRecord) xs. map (row_label rs) xs) c.as_slice.ensures.value
     c.kids_of-start.ensures.kids
     in
+    let asked = c.octets.result.now in
     let absent : exists c.args.self.now.zone (l ∷ c.args.self.now.name) ≡ true
-    → Among c.as_slice-2.result.now
+    → Among (map to_ascii_lowercase asked)
     (map (row_label c.as_slice.result.now) c.kids_of-start.result.1.now) =
-    λ h. subst (Among c.as_slice-2.result.now) (sym labels)
+    λ h. subst (Among (map to_ascii_lowercase asked)) (sym labels)
     (subst (λ (x : Octets). Among x
     (map (row_label t.records.items) (kids_at t.rows.items t.bounds.items k)))
-    (sym (c.as_slice-2.ensures.value ∙ c.lower_case-lower.ensures))
+    (ap (map to_ascii_lowercase) (sym c.octets.ensures.value))
     ((are_kids t k c.self.invariant).all l
     (ap (λ (v : ZoneNode). exists v.zone (l ∷ v.name)) c.self.view_is ∙ h)))
     in
@@ -60,7 +61,8 @@ module _ (c : goal.After-count_visit) where
   label =
       sym (ap₂ (λ (rs : List ResourceRecord) (xs : List Row). row_label rs
       (row_at xs c.in_ok-found.found)) c.as_slice.ensures.value c.kids_of-start.ensures.kids)
-      ∙ c.in_ok-found.ensures.found.1 ∙ c.as_slice-2.ensures.value ∙ c.lower_case-lower.ensures
+      ∙ c.in_ok-found.ensures.found.1
+      ∙ ap (map to_ascii_lowercase) c.octets.ensures.value
 
 pub returns-clause-child : goal.returns-clause-child
 returns-clause-child c =
