@@ -2,10 +2,10 @@
 use Rattle.std.proofs.Common.{◌≡◌, ℕ, ◌+◌, ◌<◌, ◌≤◌, Bool, true, false, cond, ◌||◌, not, min, List, [], ◌∷◌, ◌++◌, map, reverse, length, get_or, None, Some, refl, sym, ap, ap₂, ◌∙◌, arith, append-nil}
 use Rattle.std.proofs.lemmas.Bool.{and_parts}
 use Rattle.std.proofs.lemmas.List.{length-map}
-use Rattle.std.specs.Prelude.{◌==◌}
+use Rattle.std.specs.Prelude.{◌==◌, nat_lt}
 use Rattle.std.specs.List.{filter, find, list_all}
 use Rattle.std.specs.Option.{is_some}
-use Rattle.dns_spec.specs.Names.{Octets, DomainName, folded, suffixes, below}
+use Rattle.dns_spec.specs.Names.{Octets, DomainName, folded, suffixes, below, at_or_below}
 use Rattle.dns_spec.specs.Data.{type_ns, type_soa, type_mx, type_srv, soa_minimum}
 use Rattle.dns_spec.specs.Records.{ResourceRecord, ZoneContents, rrset, owns, with_owner}
 use Rattle.dns_spec.specs.Sets.{RecordSet, set_of, records_at}
@@ -116,6 +116,12 @@ find_passes p (y ∷ ys) x e = go (p y) refl e (find_passes p ys x)
 
 pub cut-has_servers : (z : ZoneContents) (n c : DomainName) → cut_of z n ≡ Some c → is_some (set_of (rrset z c type_ns)) ≡ true
 cut-has_servers z n c e = set-owned z c type_ns ∙ (and_parts (below c z.origin) (owns z c type_ns) (find_passes (is_cut z) (reverse (suffixes (folded n))) c e)).1
+
+pub cut-in_zone : (z : ZoneContents) (n c : DomainName) → cut_of z n ≡ Some c → at_or_below c z.origin ≡ true
+cut-in_zone z n c e =
+    let cut = find_passes (is_cut z) (reverse (suffixes (folded n))) c e in
+    let under = (and_parts (below c z.origin) (owns z c type_ns) cut).0 in
+    (and_parts (nat_lt (length z.origin) (length c)) (at_or_below c z.origin) under).1
 
 -- the servers of a referral, and their names
 pub servers_item : (z : ZoneContents) (node : ZoneNode) (name : DomainName) (ttl : ℕ) (set : RecordSet) → node.zone ≡ z → name ≡ node.name → ttl ≡ set.ttl

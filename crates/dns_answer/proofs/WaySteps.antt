@@ -15,7 +15,7 @@ use Rattle.dns_zone.proofs.NameOrder.{same-is, same-from, lower_twice}
 use Rattle.dns_zone.proofs.NameTree.{itself-under, below-cons, same-under}
 use Rattle.dns_zone.proofs.AboveCuts.{any_weaker}
 use Rattle.dns_zone.proofs.Existing.{exists-lower}
-use Rattle.dns_answer.specs.Walks.{node_of, node_or, IsThere, IsMissing, IsBelowCut, IsNothing, AreRecords, IsReached}
+use Rattle.dns_answer.specs.Walks.{node_of, node_or, IsThere, IsMissing, IsBelowCut, IsNothing, AreRecords, IsStart, IsReached}
 use Rattle.dns_answer.proofs.WayLaws.{under_same, cut-above, cut-here, cut-none, cut-by_set, exists-folded, exists-up, encloser-here, encloser-above, no_cut-at_origin, at-folded}
 
 pub there-at_origin : (z : ZoneContents) (n : DomainName) → IsNode z z.origin → at_or_below n z.origin ≡ true → length n ≡ length z.origin → IsThere z n None
@@ -25,6 +25,15 @@ there-at_origin z n node under len =
       no_cut = no_cut-at_origin z n (omega arith);
       stands = exists-lower z n z.origin alike len ∙ node.stands;
       at_name = ap (node_of z) (sym (alike ∙ node.lower));
+    }
+
+-- a name as long as that of the node where its way begins is the node's
+pub reached-start : (z : ZoneContents) (start : ZoneNode) (n : DomainName) → IsStart z start → at_or_below n start.name ≡ true → length n ≡ length start.name → IsReached z start n None
+reached-start z start n begins under len =
+    let alike = same-is n start.name (under_same n start.name under len) in
+    record {
+      stands = exists-lower z n start.name alike len ∙ begins.exists.stands;
+      at_name = ap (λ y. node_of y start.name) begins.zone ∙ ap (node_of z) (sym (alike ∙ begins.exists.lower));
     }
 
 -- what owns a record exists
@@ -40,8 +49,8 @@ no_cut-missing z n e = go (below (folded n) z.origin) (owns-exists z (folded n) 
     go true f = f
     go false f = refl
 
-pub cut-further : (z : ZoneContents) (l : Octets) (n : DomainName) (node : ZoneNode) (name : DomainName) → IsBelowCut z n node name → IsBelowCut z (l ∷ n) node name
-cut-further z l n node name h = record { cut = cut-above z l n node.name h.cut; zone = h.zone; spelled = h.spelled }
+pub cut-further : (z : ZoneContents) (l : Octets) (n : DomainName) (node : ZoneNode) → IsBelowCut z n node → IsBelowCut z (l ∷ n) node
+cut-further z l n node h = record { cut = cut-above z l n node.name h.cut; zone = h.zone }
 
 pub missing-further : (z : ZoneContents) (l : Octets) (n : DomainName) (node : Option ZoneNode) → IsMissing z n node → IsMissing z (l ∷ n) node
 missing-further z l n node h =
@@ -89,11 +98,10 @@ module _ (z : ZoneContents) (l : Octets) (n : DomainName) (above : Option ZoneNo
   cut_is : is_cut z (folded (l ∷ n)) ≡ is_some (set_of (rrset node.zone node.name type_ns))
   cut_is = cut-by_set z (folded (l ∷ n)) (below-lower z l n under) ∙ ap (λ (v : ZoneNode). is_some (set_of (rrset v.zone v.name type_ns))) (sym is)
 
-  pub cut-at_child : (name : DomainName) → name ≡ l ∷ n → is_some (set_of (rrset node.zone node.name type_ns)) ≡ true → IsBelowCut z (l ∷ n) node name
-  cut-at_child name s some = record {
+  pub cut-at_child : is_some (set_of (rrset node.zone node.name type_ns)) ≡ true → IsBelowCut z (l ∷ n) node
+  cut-at_child some = record {
     cut = cut-here z l n h.no_cut (cut_is ∙ some) ∙ ap (λ (v : ZoneNode). Some v.name) (sym is);
     zone = ap (λ (v : ZoneNode). v.zone) is;
-    spelled = ap folded s ∙ ap (λ (v : ZoneNode). v.name) (sym is);
   }
 
   pub there-at_child : is_some (set_of (rrset node.zone node.name type_ns)) ≡ false → IsThere z (l ∷ n) (Some node)
@@ -103,17 +111,17 @@ module _ (z : ZoneContents) (l : Octets) (n : DomainName) (above : Option ZoneNo
     at_name = is;
   }
 
-pub reached-child : (z : ZoneContents) (l : Octets) (n : DomainName) (above : Option ZoneNode) (at_node node : ZoneNode) → IsReached z n above
-    → at_node ≡ node_or (node_of z z.origin) above → node ≡ record { zone = at_node.zone; name = map to_ascii_lowercase l ∷ at_node.name }
-    → exists at_node.zone (l ∷ at_node.name) ≡ true → IsReached z (l ∷ n) (Some node)
-reached-child z l n above at_node node h e f there = record {
+pub reached-child : (z : ZoneContents) (start : ZoneNode) (l : Octets) (n : DomainName) (above : Option ZoneNode) (at_node node : ZoneNode) → IsReached z start n above
+    → at_node ≡ node_or start above → node ≡ record { zone = at_node.zone; name = map to_ascii_lowercase l ∷ at_node.name }
+    → exists at_node.zone (l ∷ at_node.name) ≡ true → IsReached z start (l ∷ n) (Some node)
+reached-child z start l n above at_node node h e f there = record {
   stands = sym (child-lower z l n) ∙ ap (λ (v : ZoneNode). exists v.zone (l ∷ v.name)) (sym (e ∙ h.at_name)) ∙ there;
   at_name = child-is z l n at_node node (e ∙ h.at_name) f;
 }
 
-pub unreached-child : (z : ZoneContents) (l : Octets) (n : DomainName) (above : Option ZoneNode) (at_node : ZoneNode) → IsReached z n above
-    → at_node ≡ node_or (node_of z z.origin) above → (exists at_node.zone (l ∷ at_node.name) ≡ true → ⊥) → exists z (l ∷ n) ≡ false
-unreached-child z l n above at_node h e absent =
+pub unreached-child : (z : ZoneContents) (start : ZoneNode) (l : Octets) (n : DomainName) (above : Option ZoneNode) (at_node : ZoneNode) → IsReached z start n above
+    → at_node ≡ node_or start above → (exists at_node.zone (l ∷ at_node.name) ≡ true → ⊥) → exists z (l ∷ n) ≡ false
+unreached-child z start l n above at_node h e absent =
     false_from_ne_true (exists z (l ∷ n)) (λ there. absent (ap (λ (v : ZoneNode). exists v.zone (l ∷ v.name)) (e ∙ h.at_name) ∙ child-lower z l n ∙ there))
 
 -- what is found for a name that is there

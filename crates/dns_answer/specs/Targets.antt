@@ -1,5 +1,5 @@
 -- What a reader learns here: which addresses are offered for targets, one target after the other.
-use Rattle.std.specs.Prelude.{ℕ, ◌-◌, Bool, true, ◌&&◌, not, sum, List, [], ◌∷◌, ◌++◌, map, length, take, if◌then◌else◌}
+use Rattle.std.specs.Prelude.{⊤, ◌≡◌, ℕ, ◌+◌, ◌-◌, ◌≤◌, Bool, true, false, ◌&&◌, not, sum, List, [], ◌∷◌, ◌++◌, map, length, take, if◌then◌else◌}
 use Rattle.std.specs.Prelude.{Option, None, Some}
 use Rattle.std.specs.List.{list_any, filter, filter_map}
 use Rattle.dns_spec.specs.Names.{Octets, DomainName, same, at_or_below}
@@ -10,6 +10,10 @@ use Rattle.dns_spec.specs.Layout.{Item, additional}
 use Rattle.dns_spec.specs.Answer.{item, targets_in_zone}
 use Rattle.dns_answer.specs.declared.addresses.Side.{Side}
 use Rattle.dns_answer.specs.declared.addresses.Side.TheVariants.{All, Inside, Outside}
+use Rattle.dns_answer.specs.declared.addresses.Start.{Start}
+use Rattle.dns_answer.specs.declared.addresses.Start.TheVariants.{NotMeant, Elsewhere, Node}
+use Rattle.dns_answer.specs.Walks.{IsStart}
+use Rattle.dns_zone.specs.Nodes.{ZoneNode}
 
 -- the targets of a set
 abbrev pub set_targets : RecordSet → List DomainName
@@ -21,8 +25,35 @@ targets_of_first k set = filter_map (λ (d : Octets). target set.rtype d) (take 
 
 abbrev pub side_takes : Side → DomainName → Bool
 side_takes All m = true
-side_takes (Inside cut) m = at_or_below m cut.now
+side_takes (Inside cut node) m = at_or_below m cut.now
 side_takes (Outside cut) m = not (at_or_below m cut.now)
+
+-- the node from which the targets inside of a cut are sought is the cut's
+pub record IsCutNode (z : ZoneContents) (cut : DomainName) (node : ZoneNode) : Type 0 where
+  pub start : IsStart z node
+  pub name : node.name ≡ cut
+  pub below : at_or_below cut z.origin ≡ true
+
+abbrev pub IsSide : ZoneContents → Side → Type 0
+IsSide z All = ⊤
+IsSide z (Inside cut node) = IsCutNode z cut.now node.now
+IsSide z (Outside cut) = ⊤
+
+-- a target that is meant and in the zone is sought from this node, so many labels below it
+pub record IsSoughtFrom (z : ZoneContents) (side : Side) (m : DomainName) (node : ZoneNode)
+    (depth : ℕ) : Type 0 where
+  pub meant : side_takes side m ≡ true
+  pub inside : at_or_below m z.origin ≡ true
+  pub start : IsStart z node
+  pub below : at_or_below m node.name ≡ true
+  pub labels : length m ≡ length node.name + depth
+  pub fewer : depth + length z.origin ≤ length m
+  pub few : length m ≤ length z.origin + 127
+
+abbrev pub SoughtFrom : ZoneContents → Side → DomainName → Start → Type 0
+SoughtFrom z side m NotMeant = side_takes side m ≡ false
+SoughtFrom z side m Elsewhere = (side_takes side m ≡ true) × (at_or_below m z.origin ≡ false)
+SoughtFrom z side m (Node node depth) = IsSoughtFrom z side m node.now depth
 
 -- a target, if there is one, passes a test
 abbrev pub takes_target : (DomainName → Bool) → Option DomainName → Bool

@@ -6,7 +6,6 @@ use Rattle.std.specs.Option.{unwrap_or}
 use Rattle.dns_spec.specs.Names.{DomainName, folded}
 use Rattle.dns_spec.specs.Records.{ZoneContents, at, with_owner}
 use Rattle.dns_spec.specs.Tree.{exists, cut_of, closest_encloser, found}
-use Rattle.dns_name.specs.WireForm.{labels_of, IsWireForm}
 use Rattle.dns_zone.specs.Nodes.{Walk, ZoneNode, IsNode}
 use Rattle.dns_answer.specs.declared.lookup.Way.{Way}
 use Rattle.dns_answer.specs.declared.lookup.Way.TheVariants as ways
@@ -28,6 +27,11 @@ pub record IsApex (z : ZoneContents) (apex : ZoneNode) : Type 0 where
   pub node : apex ≡ node_of z z.origin
   pub exists : IsNode z z.origin
 
+-- a node from which the way down to a name begins
+pub record IsStart (z : ZoneContents) (start : ZoneNode) : Type 0 where
+  pub zone : start.zone ≡ z
+  pub exists : IsNode z start.name
+
 -- no cut is on the way, and the name exists
 pub record IsThere (z : ZoneContents) (n : DomainName) (node : Option ZoneNode) : Type 0 where
   pub no_cut : cut_of z n ≡ None
@@ -43,17 +47,13 @@ pub record IsMissing (z : ZoneContents) (n : DomainName) (node : Option ZoneNode
   pub lower : folded (node_or (node_of z z.origin) node).name
       ≡ (node_or (node_of z z.origin) node).name
 
--- RFC 1034 4.3.2 step 3b: the cut at or above the name, whose name is also that of the last labels
--- asked for
-pub record IsBelowCut (z : ZoneContents) (n : DomainName) (node : ZoneNode)
-    (name : DomainName) : Type 0 where
+-- RFC 1034 4.3.2 step 3b: the cut at or above the name
+pub record IsBelowCut (z : ZoneContents) (n : DomainName) (node : ZoneNode) : Type 0 where
   pub cut : cut_of z n ≡ Some node.name
   pub zone : node.zone ≡ z
-  pub spelled : folded name ≡ node.name
 
 abbrev pub WalkedTo : ZoneContents → DomainName → Way → Type 0
-WalkedTo z n (ways.Cut node octets) = IsBelowCut z n node (labels_of octets.now)
-    × IsWireForm octets.now
+WalkedTo z n (ways.Cut node) = IsBelowCut z n node
 WalkedTo z n (ways.Name node) = IsThere z n node
 WalkedTo z n (ways.Encloser node) = IsMissing z n node
 
@@ -68,19 +68,19 @@ pub record AreRecords (z : ZoneContents) (n : DomainName) (node : Option ZoneNod
   pub records : found z n ≡ Some (with_owner n (at z (node_or (node_of z z.origin) node).name))
 
 abbrev pub FoundAs : ZoneContents → DomainName → Found → Type 0
-FoundAs z n (finds.Cut node octets) = IsBelowCut z n node (labels_of octets.now)
-    × IsWireForm octets.now
+FoundAs z n (finds.Cut node) = IsBelowCut z n node
 FoundAs z n finds.Nothing = IsNothing z n
 FoundAs z n (finds.Records node) = AreRecords z n node
 
--- the name itself, below a cut too
-pub record IsReached (z : ZoneContents) (n : DomainName) (node : Option ZoneNode) : Type 0 where
+-- the name itself, below a cut too; or the node where the way began
+pub record IsReached (z : ZoneContents) (start : ZoneNode) (n : DomainName)
+    (node : Option ZoneNode) : Type 0 where
   pub stands : exists z n ≡ true
-  pub at_name : node_or (node_of z z.origin) node ≡ node_of z (folded n)
+  pub at_name : node_or start node ≡ node_of z (folded n)
 
-abbrev pub ReachedAs : ZoneContents → DomainName → Reached → Type 0
-ReachedAs z n (reaches.Name node) = IsReached z n node
-ReachedAs z n reaches.Missing = exists z n ≡ false
+abbrev pub ReachedAs : ZoneContents → ZoneNode → DomainName → Reached → Type 0
+ReachedAs z start n (reaches.Name node) = IsReached z start n node
+ReachedAs z start n reaches.Missing = exists z n ≡ false
 
 -- a walk that may still be handed so many nodes, and make 17 comparisons for each
 pub record HasRoom (s : Walk) (nodes : ℕ) : Type 0 where
@@ -96,7 +96,7 @@ pub record Took (s s' : Walk) (nodes misses : ℕ) : Type 0 where
   pub comparisons : s'.comparisons + 17 * s.visits ≤ s.comparisons + 17 * (s'.visits + misses)
 
 abbrev pub missed : Way → ℕ
-missed (ways.Cut c o) = 0
+missed (ways.Cut c) = 0
 missed (ways.Name n) = 0
 missed (ways.Encloser n) = 1
 

@@ -7,9 +7,9 @@ ghost use Rattle.dns_spec.specs.Answer.{item};
 ghost use Rattle.dns_spec.specs.Records.{rrset};
 ghost use Rattle.dns_spec.specs.Layout.{additional};
 ghost use Rattle.dns_spec.specs.Sets.{HasValidData};
-ghost use Rattle.dns_answer.specs.Walks.{IsApex, HasRoom, Took};
+ghost use Rattle.dns_answer.specs.Walks.{IsApex, IsStart, HasRoom, Took};
 ghost use Rattle.dns_answer.specs.DraftForm.{Offers};
-ghost use Rattle.dns_answer.specs.Targets.{addresses_of, side_items, side_nodes, side_takes, takes_target, set_targets, targets_of_first, target_items, target_nodes, target_misses};
+ghost use Rattle.dns_answer.specs.Targets.{addresses_of, IsSide, SoughtFrom, side_items, side_nodes, side_takes, takes_target, set_targets, targets_of_first, target_items, target_nodes, target_misses};
 
 use crate::draft::Draft;
 use crate::lookup::{Reached, or_apex, reach};
@@ -21,24 +21,50 @@ use dns_zone::{Node, RecordSet, Steps};
 
 /// Which targets are meant: all, or those at or below a cut, or the others.
 #[derive(Clone, Copy)]
-pub(crate) enum Side<'c, 'n> {
+pub(crate) enum Side<'c, 'n, 'z> {
     /// All of them.
     All,
-    /// Those at or below the cut, without whose addresses the asker gets no further.
-    Inside(&'c NameRef<'n>),
+    /// Those at or below the cut, without whose addresses the asker gets no further. This is the
+    /// cut's node, from which the ways to them are shorter.
+    Inside(&'c NameRef<'n>, &'c Node<'z>),
     /// Those that are not.
     Outside(&'c NameRef<'n>),
 }
 
-impl Side<'_, '_> {
-    // Whether the target is meant.
-    fn takes(self, target: &NameRef<'_>) -> bool
-        ensures { result ≡ side_takes self.entry target.now }
+// From where a target is sought.
+#[derive(Clone, Copy)]
+enum Start<'c, 'z> {
+    // It is not meant.
+    NotMeant,
+    // It is not in the zone.
+    Elsewhere,
+    // From this node, so many labels below it.
+    Node(&'c Node<'z>, usize),
+}
+
+impl<'c, 'z> Side<'c, '_, 'z> {
+    // From where the target is sought, if it is meant.
+    fn start(self, target: &NameRef<'_>, origin: &NameRef<'_>, apex: &'c Node<'z>) -> Start<'c, 'z>
+        requires apex { IsApex apex.now.zone apex.now }
+        requires origin { origin.now ≡ apex.now.zone.origin }
+        requires side { IsSide apex.now.zone self }
+        ensures { SoughtFrom apex.now.zone self.entry target.now result }
     {
         match self {
-            Side::All => true,
-            Side::Inside(cut) => target.at_or_below(cut),
-            Side::Outside(cut) => !target.at_or_below(cut),
+            Side::Inside(cut, node) => match depth_below(target, cut) {
+                Some(depth) => return Start::Node(node, depth),
+                None => return Start::NotMeant,
+            },
+            Side::Outside(cut) => {
+                if target.at_or_below(cut) {
+                    return Start::NotMeant;
+                }
+            }
+            Side::All => {}
+        }
+        match depth_below(target, origin) {
+            Some(depth) => Start::Node(apex, depth),
+            None => Start::Elsewhere,
         }
     }
 }
@@ -47,12 +73,13 @@ impl Side<'_, '_> {
 /// target that stood before are not offered again. Answers whether all targets are meant.
 pub(crate) fn offer_addresses<'z, const N: usize, const SIZE: usize>(
     set: &RecordSet<'z>,
-    side: Side<'_, '_>,
+    side: Side<'_, '_, 'z>,
     apex: &Node<'z>,
     steps: &mut Steps<'z>,
     draft: &mut Draft<N, SIZE>,
 ) -> bool
     requires apex { IsApex steps.old.zone apex.now }
+    requires side { IsSide steps.old.zone side }
     requires valid { HasValidData set.now }
     requires few { length set.now.rdata ≤ 64 }
     requires room { HasRoom steps.old (64 * 128) }
@@ -76,12 +103,13 @@ pub(crate) fn offer_addresses<'z, const N: usize, const SIZE: usize>(
 fn offer_target<'z, const N: usize, const SIZE: usize>(
     set: &RecordSet<'z>,
     i: usize,
-    side: Side<'_, '_>,
+    side: Side<'_, '_, 'z>,
     apex: &Node<'z>,
     steps: &mut Steps<'z>,
     draft: &mut Draft<N, SIZE>,
 ) -> bool
     requires apex { IsApex steps.old.zone apex.now }
+    requires side { IsSide steps.old.zone side }
     requires valid { HasValidData set.now }
     requires inside { i < length set.now.rdata }
     requires room { HasRoom steps.old 128 }
@@ -100,16 +128,14 @@ fn offer_target<'z, const N: usize, const SIZE: usize>(
     let Some(target) = set.target(i) else {
         return true;
     };
-    if !side.takes(&target) {
-        return false;
-    }
-    let Some(depth) = depth_below(&target, &steps.origin().lent()) else {
-        return true;
+    let (start, depth) = match side.start(&target, &steps.origin().lent(), apex) {
+        Start::NotMeant => return false,
+        Start::Elsewhere => return true,
+        Start::Node(start, depth) => (start, depth),
     };
-    if stood_before(set, i, &target) {
-        return true;
+    if !stood_before(set, i, &target) {
+        offer_address(&target, depth, start, steps, draft);
     }
-    offer_address(&target, depth, apex, steps, draft);
     true
 }
 
@@ -134,23 +160,23 @@ fn stood_before(set: &RecordSet<'_>, count: usize, target: &NameRef<'_>) -> bool
 fn offer_address<'z, const N: usize, const SIZE: usize>(
     target: &NameRef<'_>,
     depth: usize,
-    apex: &Node<'z>,
+    start: &Node<'z>,
     steps: &mut Steps<'z>,
     draft: &mut Draft<N, SIZE>,
 )
-    requires apex { IsApex steps.old.zone apex.now }
-    requires below { IsTrue (at_or_below target.now steps.old.zone.origin) }
-    requires depth { length target.now ≡ length steps.old.zone.origin + depth }
+    requires start { IsStart steps.old.zone start.now }
+    requires below { IsTrue (at_or_below target.now start.now.name) }
+    requires depth { length target.now ≡ length start.now.name + depth }
     requires lower { folded target.now ≡ target.now }
     requires room { HasRoom steps.old (depth + 1) }
     ensures offers { Offers draft.old draft.new (addresses_of steps.old.zone target.now) }
     ensures took { Took steps.old steps.new depth 1 }
 {
-    let node = match reach(target.octets(), depth, apex, steps) {
+    let node = match reach(target.octets(), depth, start, steps) {
         Reached::Missing => return,
         Reached::Name(node) => node,
     };
-    let node = or_apex(&node, &*apex);
+    let node = or_apex(&node, &*start);
     offer_type(node, RType::A, target, draft);
     offer_type(node, RType::AAAA, target, draft);
 }

@@ -217,7 +217,7 @@ fn seek_one<'z, const N: usize, const SIZE: usize>(
         name.now result }
 {
     let node = match look_up(name, depth, apex, steps) {
-        Found::Cut(cut, octets) => return Sought::Last(refer(&cut, octets, apex, steps, draft)),
+        Found::Cut(cut) => return Sought::Last(refer(&cut, apex, steps, draft)),
         Found::Nothing => {
             let origin = steps.origin();
             return Sought::Last(deny(Rcode::NameError, apex, &origin.lent(), draft));

@@ -6,7 +6,6 @@ ghost use Rattle.dns_spec.specs.Data.{type_ns, type_mx, type_srv, qtype_any, typ
 ghost use Rattle.dns_spec.specs.Records.{at, rrset, with_owner, of_type};
 ghost use Rattle.dns_spec.specs.Sets.{set_of, of_lowest_type};
 ghost use Rattle.dns_spec.specs.Answer.{referral_to, negative, outcome_by, follows_alias, has_any, asked_records};
-ghost use Rattle.dns_name.specs.WireForm.{labels_of, IsWireForm};
 ghost use Rattle.dns_zone.specs.Nodes.{IsSetOf};
 ghost use Rattle.dns_wire.specs.QueryForm.{code_of};
 ghost use Rattle.dns_answer.specs.Walks.{IsApex, IsBelowCut, HasRoom};
@@ -14,7 +13,7 @@ ghost use Rattle.dns_answer.specs.Ending.{Ends, TookTargets};
 
 use crate::addresses::{Side, offer_addresses};
 use crate::draft::Draft;
-use dns_name::{Name, NameRef};
+use dns_name::NameRef;
 use dns_rdata::{RType, Rdata, SetView};
 use dns_wire::{Rcode, Section};
 use dns_zone::{Node, RecordSet, Steps};
@@ -36,27 +35,25 @@ pub(crate) struct Verdict {
 /// cut, and those of the others (RFC 1034 4.3.2 step 3b).
 pub(crate) fn refer<'z, const N: usize, const SIZE: usize>(
     cut: &Node<'z>,
-    octets: &[u8],
     apex: &Node<'z>,
     steps: &mut Steps<'z>,
     draft: &mut Draft<N, SIZE>,
 ) -> Verdict
     requires apex { IsApex steps.old.zone apex.now }
-    requires cut { (n : DomainName) × IsBelowCut steps.old.zone n cut.now (labels_of octets.now) }
-    requires form { IsWireForm octets.now }
+    requires cut { (n : DomainName) × IsBelowCut steps.old.zone n cut.now }
     requires room { HasRoom steps.old (128 * 128) }
     ensures ends { Ends draft.old draft.new steps.old.zone
         (referral_to steps.old.zone cut.now.name) result }
     ensures took { TookTargets steps.old steps.new (referral_to steps.old.zone cut.now.name) }
 {
-    let mut name = Name::from_octets(octets);
-    name.fold_in_place();
-    let owner = name.lent();
     let Some(servers) = cut.set(RType::NS) else {
         unreachable!();
     };
+    let Some(owner) = cut.owner() else {
+        unreachable!();
+    };
     draft.offer(Section::Authority, &owner, servers.ttl(), &servers);
-    let are_all_inside = offer_addresses(&servers, Side::Inside(&owner), apex, steps, draft);
+    let are_all_inside = offer_addresses(&servers, Side::Inside(&owner, cut), apex, steps, draft);
     let is_truncated = draft.is_full();
     if !are_all_inside {
         offer_addresses(&servers, Side::Outside(&owner), apex, steps, draft);

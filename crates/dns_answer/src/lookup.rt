@@ -4,7 +4,7 @@ ghost use Rattle.dns_spec.specs.Names.{Octets, DomainName, at_or_below, folded};
 ghost use Rattle.dns_spec.specs.Tree.{exists, asterisk};
 ghost use Rattle.dns_name.specs.WireForm.{labels_of, IsWireForm};
 ghost use Rattle.dns_zone.specs.Nodes.{ZoneNode, IsNode};
-ghost use Rattle.dns_answer.specs.Walks.{IsApex, node_or, WalkedTo, FoundAs, ReachedAs, HasRoom, Took, TookWay, TookChild, missed, missed_name};
+ghost use Rattle.dns_answer.specs.Walks.{IsApex, IsStart, node_or, WalkedTo, FoundAs, ReachedAs, HasRoom, Took, TookWay, TookChild, missed, missed_name};
 
 use dns_name::{Label, NameRef, first_label};
 use dns_rdata::RType;
@@ -12,9 +12,9 @@ use dns_zone::{Node, Steps};
 
 /// Where the way from the apex down to a name ends.
 #[derive(Drop)]
-pub(crate) enum Way<'n, 'z> {
-    /// At the first cut on the way: its node, and the octets of its name as they are spelled.
-    Cut(Node<'z>, &'n [u8]),
+pub(crate) enum Way<'z> {
+    /// At the first cut on the way.
+    Cut(Node<'z>),
     /// At the name. `None` is the apex.
     Name(Option<Node<'z>>),
     /// At the closest encloser of a name that does not exist. `None` is the apex.
@@ -23,31 +23,31 @@ pub(crate) enum Way<'n, 'z> {
 
 /// What is found for a name.
 #[derive(Drop)]
-pub(crate) enum Found<'n, 'z> {
-    /// A cut is at or above it: the cut's node, and the octets of its name as they are spelled.
-    Cut(Node<'z>, &'n [u8]),
+pub(crate) enum Found<'z> {
+    /// A cut is at or above it.
+    Cut(Node<'z>),
     /// Nothing: the name is in error.
     Nothing,
     /// The records at a node, its own or those of a wildcard. `None` is the apex.
     Records(Option<Node<'z>>),
 }
 
-/// Where the way from the apex down to a name ends that cuts do not end.
+/// Where the way from a node down to a name ends that cuts do not end.
 #[derive(Drop)]
 pub(crate) enum Reached<'z> {
-    /// At the name. `None` is the apex.
+    /// At the name. `None` is the node where it began.
     Name(Option<Node<'z>>),
     /// The name does not exist.
     Missing,
 }
 
 /// What is found for a name at or below the origin, `depth` labels below it.
-pub(crate) fn look_up<'n, 'z>(
-    name: &NameRef<'n>,
+pub(crate) fn look_up<'z>(
+    name: &NameRef<'_>,
     depth: usize,
     apex: &Node<'z>,
     steps: &mut Steps<'z>,
-) -> Found<'n, 'z>
+) -> Found<'z>
     requires apex { IsApex steps.old.zone apex.now }
     requires below { IsTrue (at_or_below name.now steps.old.zone.origin) }
     requires depth { length name.now ≡ length steps.old.zone.origin + depth }
@@ -56,7 +56,7 @@ pub(crate) fn look_up<'n, 'z>(
     ensures took { Took steps.old steps.new depth 2 }
 {
     match walk(name.octets(), depth, apex, steps) {
-        Way::Cut(node, octets) => Found::Cut(node, octets),
+        Way::Cut(node) => Found::Cut(node),
         Way::Name(node) => Found::Records(node),
         Way::Encloser(node) => match wildcard_below(or_apex(&node, &*apex), steps) {
             Some(node) => Found::Records(Some(node)),
@@ -93,12 +93,7 @@ fn wildcard_below<'z>(encloser: &Node<'z>, steps: &mut Steps<'z>) -> Option<Node
 
 // The way from the apex down to a name, up to the first cut on it (RFC 1034 4.3.2 step 3b). The
 // labels are taken from the right.
-fn walk<'n, 'z>(
-    octets: &'n [u8],
-    depth: usize,
-    apex: &Node<'z>,
-    steps: &mut Steps<'z>,
-) -> Way<'n, 'z>
+fn walk<'z>(octets: &[u8], depth: usize, apex: &Node<'z>, steps: &mut Steps<'z>) -> Way<'z>
     requires form { IsWireForm octets.now }
     requires apex { IsApex steps.old.zone apex.now }
     requires below { IsTrue (at_or_below (labels_of octets.now) steps.old.zone.origin) }
@@ -114,7 +109,7 @@ fn walk<'n, 'z>(
         unreachable!();
     };
     let above = match walk(rest, depth - 1, &*apex, steps) {
-        Way::Cut(node, octets) => return Way::Cut(node, octets),
+        Way::Cut(node) => return Way::Cut(node),
         Way::Encloser(node) => return Way::Encloser(node),
         Way::Name(node) => node,
     };
@@ -122,24 +117,24 @@ fn walk<'n, 'z>(
         return Way::Encloser(above);
     };
     if node.set(RType::NS).is_some() {
-        return Way::Cut(node, octets);
+        return Way::Cut(node);
     }
     Way::Name(Some(node))
 }
 
-/// The node of a name at or below the origin, `depth` labels below it, below a cut too.
+/// The node of a name at or below that of another node, `depth` labels below it, below a cut too.
 pub(crate) fn reach<'z>(
     octets: &[u8],
     depth: usize,
-    apex: &Node<'z>,
+    start: &Node<'z>,
     steps: &mut Steps<'z>,
 ) -> Reached<'z>
     requires form { IsWireForm octets.now }
-    requires apex { IsApex steps.old.zone apex.now }
-    requires below { IsTrue (at_or_below (labels_of octets.now) steps.old.zone.origin) }
-    requires depth { length (labels_of octets.now) ≡ length steps.old.zone.origin + depth }
+    requires start { IsStart steps.old.zone start.now }
+    requires below { IsTrue (at_or_below (labels_of octets.now) start.now.name) }
+    requires depth { length (labels_of octets.now) ≡ length start.now.name + depth }
     requires room { HasRoom steps.old (depth + 1) }
-    ensures reached { ReachedAs steps.old.zone (labels_of octets.now) result }
+    ensures reached { ReachedAs steps.old.zone start.now (labels_of octets.now) result }
     ensures took { Took steps.old steps.new depth (missed_name result) }
 {
     if depth == 0 {
@@ -148,11 +143,11 @@ pub(crate) fn reach<'z>(
     let Some((label, rest)) = first_label(octets) else {
         unreachable!();
     };
-    let above = match reach(rest, depth - 1, &*apex, steps) {
+    let above = match reach(rest, depth - 1, &*start, steps) {
         Reached::Name(node) => node,
         Reached::Missing => return Reached::Missing,
     };
-    match or_apex(&above, &*apex).down(label, steps) {
+    match or_apex(&above, &*start).down(label, steps) {
         Some(node) => Reached::Name(Some(node)),
         None => Reached::Missing,
     }

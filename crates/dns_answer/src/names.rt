@@ -9,7 +9,7 @@ pub(crate) fn depth_below(name: &NameRef<'_>, ancestor: &NameRef<'_>) -> Option<
     ensures { MatchOption result
         (at_or_below name.now ancestor.now ≡ false)
         (λ depth. (at_or_below name.now ancestor.now ≡ true)
-        × (length name.now ≡ length ancestor.now + depth) × (depth ≤ 127)) }
+        × (length name.now ≡ length ancestor.now + depth) × (length name.now ≤ 127)) }
 {
     let least = ancestor.octets().len();
     let mut suffix = name.octets();

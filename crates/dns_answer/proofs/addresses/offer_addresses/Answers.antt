@@ -5,7 +5,7 @@ use Rattle.std.specs.List.{filter, filter_map, list_all}
 use Rattle.dns_spec.specs.Names.{Octets}
 use Rattle.dns_answer.specs.DraftForm.{Offers}
 use Rattle.dns_answer.specs.Walks.{Took}
-use Rattle.dns_answer.specs.Targets.{target_items, target_nodes, target_misses, targets_of_first, side_takes, side_nodes}
+use Rattle.dns_answer.specs.Targets.{target_items, target_nodes, target_misses, targets_of_first, side_takes, side_nodes, IsSide}
 use Rattle.dns_answer.proofs.Offering.{Offers-is, Offers-nothing, Offers-then}
 use Rattle.dns_answer.proofs.TargetLaws.{side_items-none, side_items-more, Took-nothing, Took-more, nodes-more, hits-more, all-more}
 use Rattle.dns_answer.proofs.addresses.offer_addresses.Goals as goal
@@ -26,13 +26,16 @@ offer_target-all-requires g c =
       (
         search rules,
         (
-          search rules,
+          subst (λ z. IsSide z c.args.side) (sym inv.took.zone) c.requires.side,
           (
             search rules,
-            record {
-              visits = omega (arith, inv.took.visits, inv.few, c.requires.room.visits, c.requires.few, c.targets-test.true);
-              comparisons = omega (arith, inv.took.comparisons, inv.took.visits, inv.hits, inv.few, c.requires.room.comparisons, c.requires.few, c.targets-test.true);
-            },
+            (
+              search rules,
+              record {
+                visits = omega (arith, inv.took.visits, inv.few, c.requires.room.visits, c.requires.few, c.targets-test.true);
+                comparisons = omega (arith, inv.took.comparisons, inv.took.visits, inv.hits, inv.few, c.requires.room.comparisons, c.requires.few, c.targets-test.true);
+              },
+            ),
           ),
         ),
       ),

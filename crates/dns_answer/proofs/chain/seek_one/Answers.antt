@@ -26,14 +26,11 @@ refer-requires g c =
       (
         subst (λ z. IsApex z c.args.apex.now) (sym same_zone) c.requires.apex,
         (
-          (c.args.name.now, subst (λ z. IsBelowCut z c.args.name.now c.in-Cut.cut (labels_of c.in-Cut.octets.now)) (sym same_zone) c.in-Cut.ensures.found.0),
-          (
-            c.in-Cut.ensures.found.1,
-            record {
-              visits = omega (arith, c.in-Cut.ensures.took.visits, c.requires.room.visits, c.requires.few);
-              comparisons = omega (arith, c.in-Cut.ensures.took.visits, c.in-Cut.ensures.took.comparisons, c.requires.room.comparisons, c.requires.few);
-            },
-          ),
+          (c.args.name.now, subst (λ z. IsBelowCut z c.args.name.now c.in-Cut.cut) (sym same_zone) c.in-Cut.ensures.found),
+          record {
+            visits = omega (arith, c.in-Cut.ensures.took.visits, c.requires.room.visits, c.requires.few);
+            comparisons = omega (arith, c.in-Cut.ensures.took.visits, c.in-Cut.ensures.took.comparisons, c.requires.room.comparisons, c.requires.few);
+          },
         ),
       ),
     )
@@ -44,13 +41,13 @@ returns-in-Cut g c =
     let o = referral_to z c.in-Cut.cut.name in
     record {
       seeks = λ before were. seeks-ended z c.args.qtype c.args.more before c.args.name.now _ _ _ o
-          (ends-cut z c.args.qtype c.args.more before c.args.name.now c.in-Cut.cut.name c.in-Cut.ensures.found.0.cut)
+          (ends-cut z c.args.qtype c.args.more before c.args.name.now c.in-Cut.cut.name c.in-Cut.ensures.found.cut)
           (subst (λ y. Ends c.args.draft.now c.refer.new.draft y (referral_to y c.in-Cut.cut.name) c.refer.result) c.look_up.ensures.took.zone c.refer.ensures.ends);
       took = λ before were. took-ended z c.args.qtype c.args.more before c.args.name.now _ c.look_up.new.steps _ c.args.depth [] o
-          (ends-cut z c.args.qtype c.args.more before c.args.name.now c.in-Cut.cut.name c.in-Cut.ensures.found.0.cut)
+          (ends-cut z c.args.qtype c.args.more before c.args.name.now c.in-Cut.cut.name c.in-Cut.ensures.found.cut)
           c.requires.depth c.look_up.ensures.took.zone c.in-Cut.ensures.took
           (subst (λ y. TookTargets c.look_up.new.steps c.refer.new.steps (referral_to y c.in-Cut.cut.name)) c.look_up.ensures.took.zone c.refer.ensures.took);
-      own = λ r. own-cut z c.args.qtype c.args.name.now c.in-Cut.cut.name c.in-Cut.ensures.found.0.cut;
+      own = λ r. own-cut z c.args.qtype c.args.name.now c.in-Cut.cut.name c.in-Cut.ensures.found.cut;
     }
 
 pub returns-in-Nothing : goal.returns-in-Nothing

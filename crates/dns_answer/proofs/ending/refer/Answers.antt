@@ -1,11 +1,12 @@
-use Rattle.std.proofs.Common.{rules, [], refl, sym, ap, ◌∙◌, arith}
+use Rattle.std.proofs.Common.{rules, [], refl, sym, ap, ◌∙◌, subst, arith}
 use Rattle.std.proofs.lemmas.Bool.{false≢true}
 use Rattle.std.specs.Option.{is_some}
-use Rattle.dns_spec.specs.Names.{folded}
+use Rattle.dns_spec.specs.Names.{at_or_below}
 use Rattle.dns_spec.specs.Records.{ZoneContents, rrset}
 use Rattle.dns_spec.specs.Data.{type_ns}
 use Rattle.dns_spec.specs.Sets.{set_of}
-use Rattle.dns_answer.proofs.Endings.{Ends-referred, cut-has_servers, none-outside_cut, Took-referred, servers_targets}
+use Rattle.dns_answer.proofs.Endings.{Ends-referred, cut-has_servers, cut-in_zone, none-outside_cut, Took-referred, servers_targets}
+use Rattle.dns_zone.specs.Nodes.{IsNode}
 use Rattle.dns_answer.specs.Targets.{set_targets}
 use Rattle.dns_answer.proofs.Offering.{Offers-is, Offers-nothing}
 use Rattle.dns_answer.proofs.TargetLaws.{Took-none}
@@ -16,6 +17,34 @@ unreachable-requires g c =
     let below = c.requires.cut.1 in
     false≢true (ap is_some c.in_default.ensures.set ∙ ap (λ (z : ZoneContents). is_some (set_of (rrset z c.args.cut.now.name type_ns))) below.zone ∙ cut-has_servers c.args.steps.now.zone c.requires.cut.0 c.args.cut.now.name below.cut)
 
+-- the ways to the targets inside begin at the cut
+pub offer_addresses-are_all_inside-requires : goal.offer_addresses-are_all_inside-requires
+offer_addresses-are_all_inside-requires g c =
+    let below = c.requires.cut.1 in
+    let named = c.in-Some-owner.ensures.name in (
+      search rules,
+      (
+        search rules,
+        (
+          record {
+            start = record { zone = below.zone; exists = subst (λ z. IsNode z c.args.cut.now.name) below.zone c.in-Some-owner.ensures.node };
+            name = sym named;
+            below = ap (λ n. at_or_below n c.args.steps.now.zone.origin) named ∙ cut-in_zone c.args.steps.now.zone c.requires.cut.0 c.args.cut.now.name below.cut;
+          },
+          (
+            c.in-Some.ensures.kept.valid,
+            (
+              c.in-Some.ensures.kept.few,
+              record {
+                visits = omega (arith, c.requires.room.visits);
+                comparisons = omega (arith, c.requires.room.comparisons);
+              },
+            ),
+          ),
+        ),
+      ),
+    )
+
 pub offer_addresses-requires : goal.offer_addresses-requires
 offer_addresses-requires g c =
     let bound = c.offer_addresses-are_all_inside.ensures.bound in (
@@ -23,13 +52,16 @@ offer_addresses-requires g c =
       (
         search rules,
         (
-          c.in-Some.ensures.kept.valid,
+          tt,
           (
-            c.in-Some.ensures.kept.few,
-            record {
-              visits = omega (arith, bound.visits, c.requires.room.visits);
-              comparisons = omega (arith, bound.visits, bound.comparisons, c.requires.room.comparisons);
-            },
+            c.in-Some.ensures.kept.valid,
+            (
+              c.in-Some.ensures.kept.few,
+              record {
+                visits = omega (arith, bound.visits, c.requires.room.visits);
+                comparisons = omega (arith, bound.visits, bound.comparisons, c.requires.room.comparisons);
+              },
+            ),
           ),
         ),
       ),
@@ -39,17 +71,17 @@ pub returns-then-not-are_all_inside-clause-ends : goal.returns-then-not-are_all_
 returns-then-not-are_all_inside-clause-ends g c =
     let below = c.requires.cut.1 in
     let first = c.offer_addresses-are_all_inside in
-    Ends-referred _ _ _ _ c.args.steps.now.zone first.new.steps.zone c.args.cut.now c.lent-owner.result c.ttl.result c.in-Some.servers _ below.zone first.ensures.took.zone
-    (c.lent-owner.ensures.value ∙ c.fold_in_place.ensures ∙ ap folded c.from_octets-name.ensures.value ∙ below.spelled) c.ttl.ensures c.in-Some.ensures.set c.in-Some.ensures.rtype c.in-Some.ensures.kept
+    Ends-referred _ _ _ _ c.args.steps.now.zone first.new.steps.zone c.args.cut.now c.in-Some-owner.owner c.ttl.result c.in-Some.servers _ below.zone first.ensures.took.zone
+    c.in-Some-owner.ensures.name c.ttl.ensures c.in-Some.ensures.set c.in-Some.ensures.rtype c.in-Some.ensures.kept
     c.offer.ensures first.ensures.offers c.offer_addresses.ensures.offers refl refl c.is_full-is_truncated.ensures
 
 pub returns-then-not-are_all_inside-clause-took : goal.returns-then-not-are_all_inside-clause-took
 returns-then-not-are_all_inside-clause-took g c =
     let below = c.requires.cut.1 in
     let first = c.offer_addresses-are_all_inside in
-    let named = c.lent-owner.ensures.value ∙ c.fold_in_place.ensures ∙ ap folded c.from_octets-name.ensures.value ∙ below.spelled in
-    Took-referred _ _ _ c.args.steps.now.zone first.new.steps.zone c.args.cut.now.name c.lent-owner.result _ _ first.ensures.took.zone named
-    (servers_targets c.args.steps.now.zone c.args.cut.now c.lent-owner.result c.ttl.result c.in-Some.servers below.zone named c.ttl.ensures c.in-Some.ensures.set c.in-Some.ensures.rtype c.in-Some.ensures.kept)
+    let named = c.in-Some-owner.ensures.name in
+    Took-referred _ _ _ c.args.steps.now.zone first.new.steps.zone c.args.cut.now.name c.in-Some-owner.owner _ _ first.ensures.took.zone named
+    (servers_targets c.args.steps.now.zone c.args.cut.now c.in-Some-owner.owner c.ttl.result c.in-Some.servers below.zone named c.ttl.ensures c.in-Some.ensures.set c.in-Some.ensures.rtype c.in-Some.ensures.kept)
     first.ensures.took c.offer_addresses.ensures.took
 
 -- where all targets are at or below the cut nothing is offered, and taken, for others
@@ -58,16 +90,16 @@ returns-else-not-are_all_inside-clause-ends g c =
     let below = c.requires.cut.1 in
     let first = c.offer_addresses-are_all_inside in
     let z = c.args.steps.now.zone in
-    let none = none-outside_cut z c.lent-owner.result [] (set_targets c.in-Some.servers) (sym first.ensures.all ∙ c.if-not-are_all_inside.false) in
-    Ends-referred _ _ _ _ z z c.args.cut.now c.lent-owner.result c.ttl.result c.in-Some.servers _ below.zone refl
-    (c.lent-owner.ensures.value ∙ c.fold_in_place.ensures ∙ ap folded c.from_octets-name.ensures.value ∙ below.spelled) c.ttl.ensures c.in-Some.ensures.set c.in-Some.ensures.rtype c.in-Some.ensures.kept
+    let none = none-outside_cut z c.in-Some-owner.owner [] (set_targets c.in-Some.servers) (sym first.ensures.all ∙ c.if-not-are_all_inside.false) in
+    Ends-referred _ _ _ _ z z c.args.cut.now c.in-Some-owner.owner c.ttl.result c.in-Some.servers _ below.zone refl
+    c.in-Some-owner.ensures.name c.ttl.ensures c.in-Some.ensures.set c.in-Some.ensures.rtype c.in-Some.ensures.kept
     c.offer.ensures first.ensures.offers (Offers-is _ _ [] _ (sym none) (Offers-nothing _)) refl refl c.is_full-is_truncated.ensures
 
 pub returns-else-not-are_all_inside-clause-took : goal.returns-else-not-are_all_inside-clause-took
 returns-else-not-are_all_inside-clause-took g c =
     let below = c.requires.cut.1 in
     let first = c.offer_addresses-are_all_inside in
-    let named = c.lent-owner.ensures.value ∙ c.fold_in_place.ensures ∙ ap folded c.from_octets-name.ensures.value ∙ below.spelled in
-    Took-referred _ _ _ c.args.steps.now.zone c.args.steps.now.zone c.args.cut.now.name c.lent-owner.result _ _ refl named
-    (servers_targets c.args.steps.now.zone c.args.cut.now c.lent-owner.result c.ttl.result c.in-Some.servers below.zone named c.ttl.ensures c.in-Some.ensures.set c.in-Some.ensures.rtype c.in-Some.ensures.kept)
+    let named = c.in-Some-owner.ensures.name in
+    Took-referred _ _ _ c.args.steps.now.zone c.args.steps.now.zone c.args.cut.now.name c.in-Some-owner.owner _ _ refl named
+    (servers_targets c.args.steps.now.zone c.args.cut.now c.in-Some-owner.owner c.ttl.result c.in-Some.servers below.zone named c.ttl.ensures c.in-Some.ensures.set c.in-Some.ensures.rtype c.in-Some.ensures.kept)
     first.ensures.took (Took-none _ _ _)

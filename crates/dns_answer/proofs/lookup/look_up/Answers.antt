@@ -1,6 +1,5 @@
 use Rattle.std.proofs.Common.{ap, ◌∙◌, subst}
 use Rattle.dns_zone.specs.Nodes.{ZoneNode}
-use Rattle.dns_name.specs.WireForm.{labels_of}
 use Rattle.dns_name.proofs.WireLemmas.{IsWireForm-wire, labels_of_spelled}
 use Rattle.dns_answer.specs.Walks.{IsThere, IsMissing, IsBelowCut, node_or}
 use Rattle.dns_answer.proofs.WaySteps.{records-there, records-by_wildcard, nothing-there}
@@ -18,7 +17,7 @@ walk-requires-clause-depth c = rw (labels_of_spelled c.octets.result.now c.args.
 pub returns-in-Cut-clause-found : goal.returns-in-Cut-clause-found
 returns-in-Cut-clause-found c =
     let spelled = labels_of_spelled c.octets.result.now c.args.name.now c.octets.ensures.value c.octets.ensures.is_name in
-    (subst (λ n. IsBelowCut c.args.steps.now.zone n c.in-Cut.node (labels_of c.in-Cut.octets.now)) spelled c.in-Cut.ensures.way.0, c.in-Cut.ensures.way.1)
+    subst (λ n. IsBelowCut c.args.steps.now.zone n c.in-Cut.node) spelled c.in-Cut.ensures.way
 
 pub returns-in-Name-clause-found : goal.returns-in-Name-clause-found
 returns-in-Name-clause-found c =

@@ -53,5 +53,5 @@ returns c =
     let deep : length c.args.name.now ≡ length c.args.ancestor.now + c.labels.depth = omega (arith, labels.deep, long) in (
       sym labels.below ∙ decides _ _ _ labels.form c.octets-least.ensures.value c.labels-test.false ∙ is_same,
       deep,
-      omega (arith, deep, length-is_name c.args.name.now c.octets-suffix.ensures.is_name),
+      length-is_name c.args.name.now c.octets-suffix.ensures.is_name,
     )
