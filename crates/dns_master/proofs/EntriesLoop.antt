@@ -1,20 +1,17 @@
 -- The entries of a text one after another: what the rest means, with the records so far before it, the whole means.
-use Rattle.std.proofs.Common.{◌≡◌, ◌+◌, ◌≤◌, ◌<◌, Bool, true, false, List, [], ◌∷◌, ◌++◌, length, take, nat_lt, length-append, append-nil, append_assoc, refl, sym, ap, ◌∙◌, subst, arith, Option, Some, None}
-use Rattle.std.proofs.lemmas.Bool.{ltb-true, ltb-false, lt-ltb, le-ltb}
-use Rattle.std.proofs.lemmas.List.{take_all, take-take, length-take-le}
+use Rattle.std.proofs.Common.{◌≡◌, ◌+◌, Bool, true, false, List, [], ◌∷◌, ◌++◌, length, take, nat_lt, length-append, append-nil, append_assoc, refl, sym, ap, ◌∙◌, subst}
 use Rattle.dns_spec.specs.Names.{Octets, DomainName}
 use Rattle.dns_spec.specs.Records.{ResourceRecord}
-use Rattle.dns_spec.specs.ZoneText.{Entry, TokensThen, with_end, cut_entries, extent_by, extent_of}
+use Rattle.dns_spec.specs.ZoneText.{Entry, TokensThen, with_end, cut_entries, extent_by}
 use Rattle.dns_spec.specs.FileFaults.{too_long, FileFault}
-use Rattle.dns_spec.specs.Meaning.{Meaning, records, fault_at, after, line_after, Means, OctetsMean}
+use Rattle.dns_spec.specs.Meaning.{Meaning, records, fault_at, after, line_after, Means}
 use Rattle.dns_master.specs.EntryForm.{TextMeans}
-use Rattle.dns_master.specs.SourceForm.{TextOf, GivesMeaning}
 use Rattle.dns_master.specs.ReaderForm.{Knows, EntryDone}
 use Rattle.dns_master.specs.RecordsForm.{StillGives, came, given_so_far}
 use Rattle.dns_master.specs.declared.state.Records.{Records}
 use Rattle.dns_master.proofs.TextSteps.{nothing-means, past-means}
 
-after-append : (rs taken : List ResourceRecord) (m : Meaning) → after rs (after taken m) ≡ after (rs ++ taken) m
+pub after-append : (rs taken : List ResourceRecord) (m : Meaning) → after rs (after taken m) ≡ after (rs ++ taken) m
 after-append rs taken (records more) = ap records (sym (append_assoc rs taken more))
 after-append rs taken (fault_at code line) = refl
 
@@ -39,6 +36,12 @@ count-more mid new found grown taken is count counted = ap length is ∙ length-
 pub all-records : (old new : Records) (found : List ResourceRecord) → SoFar old found new → StillGives new (records []) → StillGives old (records found)
 all-records old new found so h = subst (λ rs. StillGives old (records rs)) (append-nil found) (so (records []) h)
 
+-- the same, where records were added to others
+pub record AddedSoFar (old new : Records) (before found : List ResourceRecord) : Type 0 where
+  pub came : List ResourceRecord
+  pub grown : found ≡ before ++ came
+  pub so_far : SoFar old came new
+
 -- an entry was taken
 pub one-entry : (old new : Records) (taken : List ResourceRecord)
     → ((o : DomainName) (earlier : List Entry) → Knows o earlier old.reader → old.reader.line ≡ line_after earlier
@@ -59,20 +62,6 @@ past-limit old empty on o earlier known line =
 pub nothing-left : (old : Records) → old.rest.now ≡ [] → old.goes_on ≡ false → StillGives old (records [])
 nothing-left old empty off o earlier known line = rw off (rw empty (nothing-means o earlier))
 
--- a text goes on after what is looked at, where one octet more of it is left
-goes_on_after : (x : Octets) → nat_lt 16777216 (length (take 16777217 x)) ≡ nat_lt 16777216 (length x)
-goes_on_after x = go (nat_lt 16777216 (length x)) refl
-  where
-    go : (b : Bool) → nat_lt 16777216 (length x) ≡ b → nat_lt 16777216 (length (take 16777217 x)) ≡ b
-    go true e =
-        let more : 16777216 < length x = ltb-true 16777216 (length x) e in
-        let full : length (take 16777217 x) ≡ 16777217 = length-take-le 16777217 x (omega (arith, more)) in
-        lt-ltb 16777216 (length (take 16777217 x)) (omega (arith, full))
-    go false e =
-        let few : length x ≤ 16777216 = ltb-false 16777216 (length x) e in
-        let all : length (take 16777217 x) ≡ length x = ap length (take_all 16777217 x (omega (arith, few))) in
-        le-ltb 16777216 (length (take 16777217 x)) (omega (arith, few, all))
-
 -- the meaning of what is looked at is that of a text
 pub looked-means : (o : DomainName) (text front : Octets) (goes_on : Bool) (m : Meaning) → front ≡ take 16777216 text
     → goes_on ≡ nat_lt 16777216 (length text) → TextMeans o [] goes_on front m → Means o text m
@@ -87,15 +76,3 @@ looked-means o text front goes_on m looked after h = (
   },
   h.meant,
 )
-
--- what the octets that were read mean is what the whole text means
-whole-means : (o : DomainName) (x text : Octets) (m : Meaning) → text ≡ take 16777217 x → Means o text m → Means o x m
-whole-means o x text m e h =
-    let looked : take 16777216 text ≡ take 16777216 x = ap (take 16777216) e ∙ take-take 16777216 16777217 x (omega arith) in
-    let after : nat_lt 16777216 (length text) ≡ nat_lt 16777216 (length x) = ap (λ y. nat_lt 16777216 (length y)) e ∙ goes_on_after x in
-    subst (λ b. OctetsMean o [] (extent_by b) (take 16777216 x) m) after (subst (λ y. OctetsMean o [] (extent_of text) y m) looked h)
-
--- the octets that are known mean what is read of them
-pub known-means : (known : Option Octets) (o : DomainName) (text : Octets) (m : Meaning) → TextOf known text → Means o text m → GivesMeaning known o m
-known-means None o text m e h = tt
-known-means (Some x) o text m e h = whole-means o x text m e h

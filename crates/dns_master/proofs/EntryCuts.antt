@@ -1,11 +1,13 @@
 -- What reading an entry token by token says of the entries that a text's tokens are cut into.
-use Rattle.std.proofs.Common.{◌≡◌, ℕ, Bool, true, false, ◌&&◌, ◌==◌, not, List, [], ◌∷◌, ◌++◌, refl, sym, ap, ◌∙◌, subst, Some, None}
+use Rattle.std.proofs.Common.{◌≡◌, ℕ, Bool, true, false, ◌&&◌, ◌==◌, not, List, [], ◌∷◌, ◌++◌, refl, sym, ap, ◌∙◌, subst, Some, None, ◌⊎◌, inl, inr}
 use Rattle.std.proofs.lemmas.Bool.{false≢true, eq-eqb}
+use Rattle.std.proofs.lemmas.Option.{none-some}
 use Rattle.std.specs.Prelude.{fold}
 use mathlib.Core.Bool.{xor}
 use Rattle.std.specs.List.{cons_option}
 use Rattle.dns_spec.specs.Names.{Octets}
-use Rattle.dns_spec.specs.ZoneText.{Token, blank, comment, word, quoted_string, opening, closing, line_end, token_front, TokensThen, parenthesis, parentheses, is_line_end, open_after, before_first, cut_entries, take_turns}
+use Rattle.dns_spec.specs.ZoneText.{Token, blank, comment, word, quoted_string, opening, closing, line_end, token_front, TokensThen, parenthesis, parentheses, is_line_end, open_after, before_first, cut_entries, take_turns, is_cut_short}
+use Rattle.dns_spec.proofs.ZoneTexts.Beginnings.{Loose, front_kept, cut_none}
 use Rattle.dns_master.specs.EntryForm.{Step, misplaced, over, onward, step, Outcome, ended, unended, wrong, Reads}
 
 step_code : Step → ℕ
@@ -249,3 +251,33 @@ reads-wrong b text (p ∷ ps) h = go (step b p) refl h.2 (λ now. reads-wrong no
         })
     go over e k more = absurd (other_outcome wrong (ended h.0) refl k.1)
     go (onward now) e k more = wrong-on b now text h.0 p ps h.1 (goes b p now e) (more now k)
+
+-- an entry that is ended stands so in every text that goes on
+pub reads-more : (more : Octets) (b : Bool) (text : Octets) (ps : List Token) (rest : Octets) → Reads b text ps (ended rest)
+    → Reads b (text ++ more) ps (ended (rest ++ more))
+unfolding outcome_code outcome_rest
+reads-more more b text [] rest h = absurd (other_outcome (ended rest) (unended b text) refl h.1)
+reads-more more b text (p ∷ ps) rest (others, front, tail) = go (front_kept more text p others front) (λ now k. reads-more more now others ps rest k)
+  where
+    longer : (s : Step) → elim s as (λ _. Type 0) [ misplaced ↦ (ps ≡ []) × (ended rest ≡ wrong) | over ↦ (ps ≡ []) × (ended rest ≡ ended others) | onward now ↦ Reads now others ps (ended rest) ]
+        → ((now : Bool) → Reads now others ps (ended rest) → Reads now (others ++ more) ps (ended (rest ++ more)))
+        → elim s as (λ _. Type 0) [ misplaced ↦ (ps ≡ []) × (ended (rest ++ more) ≡ wrong) | over ↦ (ps ≡ []) × (ended (rest ++ more) ≡ ended (others ++ more)) | onward now ↦ Reads now (others ++ more) ps (ended (rest ++ more)) ]
+    longer misplaced k later = absurd (other_outcome (ended rest) wrong refl k.1)
+    longer over k later = (k.0, ap (λ (x : Octets). ended (x ++ more)) (ap outcome_rest k.1))
+    longer (onward now) k later = later now k
+
+    stops : (now : Bool) (qs : List Token) → token_front others ≡ None → Reads now others qs (ended rest) → ⊥
+    stops now [] none k = other_outcome (ended rest) (unended now others) refl k.1
+    stops now (q ∷ qs) none k = none-some (q, k.0) (sym none ∙ k.1)
+
+    never : (s : Step) → step b p ≡ s → is_line_end p ≡ false → token_front others ≡ None
+        → elim s as (λ _. Type 0) [ misplaced ↦ (ps ≡ []) × (ended rest ≡ wrong) | over ↦ (ps ≡ []) × (ended rest ≡ ended others) | onward now ↦ Reads now others ps (ended rest) ] → ⊥
+    never misplaced e inside none k = other_outcome (ended rest) wrong refl k.1
+    never over e inside none k = false≢true (sym (ap (λ x. x && not b) inside) ∙ (ends b p e).is_end)
+    never (onward now) e inside none k = stops now ps none k
+
+    go : (token_front (text ++ more) ≡ Some (p, others ++ more)) ⊎ ((is_cut_short others ≡ true) × Loose p)
+        → ((now : Bool) → Reads now others ps (ended rest) → Reads now (others ++ more) ps (ended (rest ++ more)))
+        → Reads b (text ++ more) (p ∷ ps) (ended (rest ++ more))
+    go (inl kept) later = (others ++ more, kept, longer (step b p) tail later)
+    go (inr (cut, loose)) later = absurd (never (step b p) refl loose.inside (cut_none others cut) tail)

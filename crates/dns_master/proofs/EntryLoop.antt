@@ -3,11 +3,15 @@ use Rattle.std.proofs.Common.{◌≡◌, ℕ, ◌+◌, ◌≤◌, ◌<◌, Bool,
 use Rattle.std.specs.List.{filter, cons_option}
 use Rattle.dns_spec.specs.Names.{Octets}
 use Rattle.dns_spec.specs.DataText.{Word}
-use Rattle.dns_spec.specs.ZoneText.{Token, token_front, is_line_end, word_of}
+use Rattle.dns_spec.specs.ZoneText.{Token, token_front, TokensThen, is_line_end, word_of}
 use Rattle.dns_spec.proofs.ZoneTexts.TextTokens.{front-shorter}
 use Rattle.dns_master.specs.EntryForm.{misplaced, over, onward, step, Outcome, ended, unended, wrong, Reads, token_words, line_ends, EntryRead, IsWrong}
 
-cons_option-append : {X : Type 0} (x : Option X) (xs ys : List X) → cons_option x (xs ++ ys) ≡ cons_option x xs ++ ys
+pub tokens-append : (text middle rest : Octets) (ps qs : List Token) → TokensThen text ps middle → TokensThen middle qs rest → TokensThen text (ps ++ qs) rest
+tokens-append text middle rest [] qs h k = subst (λ x. TokensThen x qs rest) (sym h) k
+tokens-append text middle rest (p ∷ ps) qs h k = (h.0, h.1, tokens-append h.0 middle rest ps qs h.2 k)
+
+pub cons_option-append : {X : Type 0} (x : Option X) (xs ys : List X) → cons_option x (xs ++ ys) ≡ cons_option x xs ++ ys
 cons_option-append None xs ys = refl
 cons_option-append (Some x) xs ys = refl
 
@@ -44,31 +48,28 @@ lines-shorter text others p e =
     let less : length others < length text = front-shorter text p others e in
     omega (arith, less, line_ends-one p)
 
-module _ (text : Octets) (before : List Word) where
+module _ (text : Octets) where
   -- the tokens so far, with what their words and line ends are, and what comes of those after them
   pub record EntrySoFar (is_open : Bool) (rest : Octets) (words : List Word) (lines : ℕ) : Type 0 where
     pub tokens : List Token
     pub whole : (ps : List Token) (outcome : Outcome) → Reads is_open rest ps outcome → Reads false text (tokens ++ ps) outcome
-    pub same_words : words ≡ before ++ token_words tokens
+    pub same_words : words ≡ token_words tokens
     pub counted : lines ≡ line_ends tokens
 
-  pub nothing-read : EntrySoFar false text before 0
-  nothing-read = record { tokens = []; whole = λ ps outcome h. h; same_words = sym (append-nil before); counted = refl }
+  pub nothing-read : EntrySoFar false text [] 0
+  nothing-read = record { tokens = []; whole = λ ps outcome h. h; same_words = refl; counted = refl }
 
   -- a token after which the entry goes on
-  pub token-read : (is_open now_open : Bool) (rest others : Octets) (p : Token) (words words' : List Word) (lines lines' : ℕ)
+  pub token-read : (is_open now_open : Bool) (rest others : Octets) (p : Token) (words : List Word) (lines lines' : ℕ)
       → EntrySoFar is_open rest words lines → token_front rest ≡ Some (p, others) → step is_open p ≡ onward now_open
-      → words' ≡ words ++ token_words (p ∷ []) → lines' ≡ lines + line_ends (p ∷ [])
-      → EntrySoFar now_open others words' lines'
-  token-read is_open now_open rest others p words words' lines lines' so front goes_on w l =
+      → lines' ≡ lines + line_ends (p ∷ []) → EntrySoFar now_open others (words ++ token_words (p ∷ [])) lines'
+  token-read is_open now_open rest others p words lines lines' so front goes_on l =
       record {
         tokens = so.tokens ++ p ∷ [];
         whole = λ ps outcome h.
             subst (λ xs. Reads false text xs outcome) (sym (append_assoc so.tokens (p ∷ []) ps))
             (so.whole (p ∷ ps) outcome (others, front, rw goes_on h));
-        same_words = w ∙ ap (λ x. x ++ token_words (p ∷ [])) so.same_words
-            ∙ append_assoc before (token_words so.tokens) (token_words (p ∷ []))
-            ∙ ap (λ x. before ++ x) (sym (words-append so.tokens (p ∷ [])));
+        same_words = ap (λ x. x ++ token_words (p ∷ [])) so.same_words ∙ sym (words-append so.tokens (p ∷ []));
         counted = l ∙ ap (λ n. n + line_ends (p ∷ [])) so.counted ∙ sym (lines-append so.tokens (p ∷ []));
       }
 
@@ -76,25 +77,24 @@ module _ (text : Octets) (before : List Word) where
   pub entry-ended : (is_open : Bool) (rest others : Octets) (p : Token) (words words' : List Word) (lines lines' : ℕ)
       → EntrySoFar is_open rest words lines → token_front rest ≡ Some (p, others) → step is_open p ≡ over
       → words' ≡ words ++ token_words (p ∷ []) → lines' ≡ lines + line_ends (p ∷ [])
-      → EntryRead text before words' lines' (ended others)
+      → EntryRead text words' lines' (ended others)
   entry-ended is_open rest others p words words' lines lines' so front is_over w l =
       record {
         tokens = so.tokens ++ p ∷ [];
         reads = so.whole (p ∷ []) (ended others) (others, front, rw is_over (refl, refl));
-        words = w ∙ ap (λ x. x ++ token_words (p ∷ [])) so.same_words
-            ∙ append_assoc before (token_words so.tokens) (token_words (p ∷ []))
-            ∙ ap (λ x. before ++ x) (sym (words-append so.tokens (p ∷ [])));
+        words_are = w ∙ ap (λ x. x ++ token_words (p ∷ [])) so.same_words ∙ sym (words-append so.tokens (p ∷ []));
         counted = l ∙ ap (λ n. n + line_ends (p ∷ [])) so.counted ∙ sym (lines-append so.tokens (p ∷ []));
       }
 
   -- no token begins
-  pub entry-unended : (is_open : Bool) (rest : Octets) (words : List Word) (lines : ℕ)
-      → EntrySoFar is_open rest words lines → token_front rest ≡ None → EntryRead text before words lines (unended is_open rest)
-  entry-unended is_open rest words lines so none =
+  pub entry-unended : (is_open : Bool) (rest : Octets) (words words' : List Word) (lines : ℕ)
+      → EntrySoFar is_open rest words lines → token_front rest ≡ None → words' ≡ words
+      → EntryRead text words' lines (unended is_open rest)
+  entry-unended is_open rest words words' lines so none w =
       record {
         tokens = so.tokens;
         reads = subst (λ xs. Reads false text xs (unended is_open rest)) (append-nil so.tokens) (so.whole [] (unended is_open rest) (none, refl));
-        words = so.same_words;
+        words_are = w ∙ so.same_words;
         counted = so.counted;
       }
 

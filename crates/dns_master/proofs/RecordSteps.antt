@@ -3,9 +3,8 @@ use Rattle.std.proofs.Common.{◌≡◌, ℕ, true, false, List, [], ◌∷◌, 
 use Rattle.std.proofs.lemmas.Bool.{false≢true}
 use Rattle.std.proofs.lemmas.Option.{none-some, same_Some}
 use Rattle.std.specs.Prelude.{MatchOption, IfSome, if◌then◌else◌}
-use Rattle.std.specs.Option.{option_or, option_copied, is_none, is_some}
+use Rattle.std.specs.Option.{option_or, is_none, is_some}
 use Rattle.std.specs.Bool.{IsTrue}
-use Rattle.std.specs.Borrow.{Bor}
 use Rattle.dns_spec.specs.Names.{Octets, DomainName, folded}
 use Rattle.dns_spec.specs.Records.{ResourceRecord}
 use Rattle.dns_spec.specs.Data.{lower_case}
@@ -33,10 +32,6 @@ pub last-stated : (v w : Option Word) (ttl : ℕ) (old : Option ℕ) → IfSome 
     → TtlOf (option_or v w) (if is_some v then Some ttl else old)
 last-stated None w ttl old h k = k
 last-stated (Some v) w ttl old h k = (ttl, refl, h)
-
-pub copied-some : {T : Type 0} (x : Option (Bor T)) → is_some (option_copied x) ≡ is_some x
-copied-some None = refl
-copied-some (Some x) = refl
 
 none_known : (w : Option Word) (m : Option ℕ) → TtlOf w m → m ≡ None → is_none w ≡ true
 none_known None m h e = refl

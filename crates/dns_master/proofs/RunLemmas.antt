@@ -1,8 +1,8 @@
 -- How far a run goes, octet by octet and escape by escape.
-use Rattle.std.proofs.Common.{eqb-true, get_or, ◌≡◌, ℕ, zero, suc, sym, cond, nat_lt, ◌+◌, ◌≤◌, Bool, true, false, [], ◌∷◌, length, drop, refl, ◌∙◌, ap, arith, Option, None, Some, ◌==◌}
+use Rattle.std.proofs.Common.{eqb-true, get_or, ◌≡◌, ℕ, zero, suc, sym, cond, nat_lt, ◌+◌, ◌≤◌, Bool, true, false, [], ◌∷◌, length, take, drop, refl, ◌∙◌, ap, arith, Option, None, Some, ◌==◌}
 use Rattle.std.specs.Prelude.{if◌then◌else◌, not}
-use Rattle.std.specs.List.{position, position_or_len}
-use Rattle.std.proofs.lemmas.Bool.{false≢true, ltb-false}
+use Rattle.std.specs.List.{list_all, position, position_or_len}
+use Rattle.std.proofs.lemmas.Bool.{and_parts, false≢true, ltb-false}
 use Rattle.std.proofs.lemmas.Option.{none-some, same_Some}
 use Rattle.std.proofs.lemmas.List.{drop_all}
 use Rattle.std.proofs.lemmas.List.Sums.{prefix_len-le-length}
@@ -126,3 +126,12 @@ module _ (by : ℕ → Bool) where
 pub no-backslash : (run : Run) (o : ℕ) → by_itself run o ≡ true → (o == 92) ≡ false
 no-backslash WordRun o h = is-other is_word_octet o refl h
 no-backslash StringRun o h = is-other is_string_octet o refl h
+
+-- where octets in front all stand in a run by themselves, the run goes on after them
+pub plain-front : (by : ℕ → Bool) (n : ℕ) (text : Octets) → n ≤ length text → list_all by (take n text) ≡ true → plain_length by text ≡ n + plain_length by (drop n text)
+plain-front by zero text h e = omega arith
+plain-front by (suc n) [] h e = absurd (omega (arith, h))
+plain-front by (suc n) (o ∷ text) h e =
+    let parts = and_parts (by o) (list_all by (take n text)) e in
+    let more : plain_length by text ≡ n + plain_length by (drop n text) = plain-front by n text (omega (arith, h)) parts.1 in
+    ap (λ b. cond (not (not b)) (1 + plain_length by text) 0) parts.0 ∙ omega (arith, more)

@@ -13,12 +13,8 @@ use Rattle.dns_spec.specs.Meaning.{EntryMeaning, faulty, gives, Meaning, records
 use Rattle.dns_spec.proofs.ZoneTexts.TextTokens.{has_tokens, front-shorter}
 use Rattle.dns_master.specs.EntryForm.{Reads, unended, wrong, IsWrong, line_ends, token_words, EntryRead, outcome_of, TextMeans}
 use Rattle.dns_master.specs.EntryForm as form
-use Rattle.dns_master.proofs.EntryLoop.{lines-append}
+use Rattle.dns_master.proofs.EntryLoop.{lines-append, tokens-append}
 use Rattle.dns_master.proofs.EntryCuts.{EndedCut, HasFirst, has_first, reads-ended, reads-unended, reads-wrong}
-
-tokens-append : (text middle rest : Octets) (ps qs : List Token) → TokensThen text ps middle → TokensThen middle qs rest → TokensThen text (ps ++ qs) rest
-tokens-append text middle rest [] qs h k = subst (λ x. TokensThen x qs rest) (sym h) k
-tokens-append text middle rest (p ∷ ps) qs h k = (h.0, h.1, tokens-append h.0 middle rest ps qs h.2 k)
 
 -- an entry that nothing is wrong with by its place gives what its kind gives
 by_sort : (o : DomainName) (earlier : List Entry) (e : Entry) (answer : EntryMeaning) → take_turns false (parentheses e.tokens) ≡ true → e.end_fault ≡ None
@@ -238,13 +234,13 @@ over-at_end goes_on is_open (o ∷ rest) e = absurd (stuck-faulty (extent_by goe
 over-at_end true is_open [] e = absurd (none-some too_long (sym e))
 over-at_end false is_open [] e = (refl, refl)
 
-pub same_sort : (text : Octets) (ps : List Token) (words : List Word) (outcome : form.Outcome) → Reads false text ps outcome → words ≡ [] ++ token_words ps
+pub same_sort : (text : Octets) (ps : List Token) (words : List Word) (outcome : form.Outcome) → Reads false text ps outcome → words ≡ token_words ps
     → kind_of (ended ps) ≡ kind_by_words (list_any is_blank (take 1 text)) words
 same_sort text ps words outcome h e =
     ap (λ b. kind_by_words b (token_words ps)) (begins-blank false text ps outcome h) ∙ ap (kind_by_words (list_any is_blank (take 1 text))) (sym e)
 
 module _ (o : DomainName) (earlier : List Entry) (goes_on : Bool) (text rest : Octets) (words : List Word) (lines : ℕ) (is_ended is_open : Bool)
-    (read : EntryRead text [] words lines (outcome_of is_ended is_open rest)) where
+    (read : EntryRead text words lines (outcome_of is_ended is_open rest)) where
   -- an entry that ends without fault, and what it gives
   pub entry-means : (is_ended ≡ true) ⊎ (stop_fault (extent_by goes_on) is_open (stop_at rest) ≡ None) → (rs : List ResourceRecord) → KindGives o earlier (kind_of (ended read.tokens)) (gives rs)
       → (later : Meaning) → TextMeans o (ended read.tokens ∷ earlier) goes_on rest later → TextMeans o earlier goes_on text (after rs later)
@@ -294,13 +290,16 @@ ended-shorter text rest (p ∷ ps) c =
     let more : length rest ≤ length c.spelled.0 = tokens-shorter c.spelled.0 rest ps c.spelled.2 in
     omega (arith, first, more)
 
+pub read-shorter : (text rest : Octets) (ps : List Token) → Reads false text ps (form.ended rest) → length rest < length text
+read-shorter text rest ps h = ended-shorter text rest ps (reads-ended false text ps rest h)
+
 some-shorter : (text rest : Octets) → (text ≡ [] → ⊥) → rest ≡ [] → length rest < length text
 some-shorter [] rest some e = absurd (some refl)
 some-shorter (o ∷ text) rest some e = let none : length rest ≡ 0 = ap length e in omega (arith, none)
 
 -- an entry that ends without fault has an octet or more
-pub entry-shorter : (goes_on : Bool) (text rest : Octets) (before words : List Word) (lines : ℕ) (is_ended is_open : Bool) → (text ≡ [] → ⊥)
-    → EntryRead text before words lines (outcome_of is_ended is_open rest) → (is_ended ≡ true) ⊎ (stop_fault (extent_by goes_on) is_open (stop_at rest) ≡ None) → length rest < length text
-entry-shorter goes_on text rest before words lines true is_open some read h = ended-shorter text rest read.tokens (reads-ended false text read.tokens rest read.reads)
-entry-shorter goes_on text rest before words lines false is_open some read (inl e) = absurd (false≢true e)
-entry-shorter goes_on text rest before words lines false is_open some read (inr e) = some-shorter text rest some (over-at_end goes_on is_open rest e).0
+pub entry-shorter : (goes_on : Bool) (text rest : Octets) (words : List Word) (lines : ℕ) (is_ended is_open : Bool) → (text ≡ [] → ⊥)
+    → EntryRead text words lines (outcome_of is_ended is_open rest) → (is_ended ≡ true) ⊎ (stop_fault (extent_by goes_on) is_open (stop_at rest) ≡ None) → length rest < length text
+entry-shorter goes_on text rest words lines true is_open some read h = ended-shorter text rest read.tokens (reads-ended false text read.tokens rest read.reads)
+entry-shorter goes_on text rest words lines false is_open some read (inl e) = absurd (false≢true e)
+entry-shorter goes_on text rest words lines false is_open some read (inr e) = some-shorter text rest some (over-at_end goes_on is_open rest e).0

@@ -1,6 +1,6 @@
 -- What a reader learns here: how the tokens of an entry are read from left to right, by the cases
 -- of the code, and what a text means from one of its entries on.
-use Rattle.std.specs.Prelude.{◌≡◌, ℕ, Bool, true, false, List, [], ◌∷◌, ◌++◌, length, if◌then◌else◌, Some, None}
+use Rattle.std.specs.Prelude.{◌≡◌, ℕ, Bool, true, false, List, [], ◌∷◌, length, if◌then◌else◌, Some, None}
 use Rattle.std.specs.List.{filter, filter_map}
 use Rattle.dns_spec.specs.Names.{Octets, DomainName}
 use Rattle.dns_spec.specs.DataText.{Word}
@@ -48,12 +48,12 @@ token_words = filter_map word_of
 abbrev pub line_ends : List Token → ℕ
 line_ends ps = length (filter is_line_end ps)
 
--- an entry was read: its words are pushed, and its line ends counted
-pub record EntryRead (text : Octets) (before after : List Word) (lines : ℕ)
+-- an entry was read: its words are these, and its line ends so many
+pub record EntryRead (text : Octets) (words : List Word) (lines : ℕ)
     (outcome : Outcome) : Type 0 where
   pub tokens : List Token
   pub reads : Reads false text tokens outcome
-  pub words : after ≡ before ++ token_words tokens
+  pub words_are : words ≡ token_words tokens
   pub counted : lines ≡ line_ends tokens
 
 -- a parenthesis of the entry is misplaced

@@ -1,9 +1,12 @@
 pub mod Codes
 pub mod TokenForm
 pub mod EntryForm
+pub mod WordsForm
+pub mod WordsLeft
 pub mod Steps
 pub mod RecordForm
 pub mod ReaderForm
 pub mod RecordsForm
 pub mod SourceForm
+pub mod PieceForm
 pub mod OwnedBody

@@ -6,8 +6,8 @@ use Rattle.dns_spec.specs.Names.{Octets, DomainName}
 use Rattle.dns_spec.specs.DataText.{Word}
 use Rattle.dns_spec.specs.Records.{ResourceRecord}
 use Rattle.dns_spec.specs.ZoneText.{Entry}
-use Rattle.dns_spec.specs.FileFaults.{no_owner}
-use Rattle.dns_spec.specs.Meaning.{Fields, gives, RecordGives, KindGives, kind_of, Meaning, after, line_after}
+use Rattle.dns_spec.specs.FileFaults.{FileFault, no_owner}
+use Rattle.dns_spec.specs.Meaning.{Fields, EntryKind, EntryMeaning, gives, faulty, RecordGives, KindGives, kind_of, Meaning, fault_at, after, line_after}
 use Rattle.dns_master.specs.EntryForm.{TextMeans}
 use Rattle.dns_master.specs.RecordForm.{Inherited, TtlOf}
 use Rattle.dns_master.specs.declared.state.Reader.{Reader}
@@ -44,6 +44,31 @@ pub record EntryTaken (o : DomainName) (earlier : List Entry) (e : Entry)
   pub given : KindGives o earlier (kind_of e) (gives taken)
   pub known : Knows o (e ∷ earlier) new
 
+-- An entry of this sort was taken, whatever the entries are of which the reader knows: it gives
+-- these records.
+abbrev pub TakesEntry : Reader → EntryKind → List ResourceRecord → Reader → Type 0
+TakesEntry old kind taken new =
+    (o : DomainName) (earlier : List Entry) (e : Entry) → Knows o earlier old → kind_of e ≡ kind
+    → EntryTaken o earlier e taken old new
+
+-- an entry of this sort has this fault
+abbrev pub RefusesEntry : Reader → EntryKind → FileFault → Type 0
+RefusesEntry r kind fault =
+    (o : DomainName) (earlier : List Entry) → Knows o earlier r
+    → KindGives o earlier kind (faulty fault)
+
+-- what a record means that has these fields and the owner that the reader has at hand
+abbrev pub RecordMeans : Reader → Fields → EntryMeaning → Type 0
+RecordMeans r f given =
+    (o : DomainName) (earlier : List Entry) → Knows o earlier r
+    → RecordGives o earlier no_owner (λ n. n ≡ r.owner) f given
+
+-- a record with these fields and that owner was taken
+abbrev pub TakesRecord : Reader → Fields → Reader → Type 0
+TakesRecord old f new =
+    (o : DomainName) (earlier : List Entry) → Knows o earlier old
+    → RecordTaken o earlier old.owner f old new
+
 -- an entry was taken, and a text is left: what that means after the entry, the whole means with
 -- what the entry gives before it
 pub record EntryDone (o : DomainName) (earlier : List Entry) (goes_on : Bool) (text rest : Octets)
@@ -53,3 +78,15 @@ pub record EntryDone (o : DomainName) (earlier : List Entry) (goes_on : Bool) (t
   pub line_is : new.line ≡ line_after (entry ∷ earlier)
   pub means : (later : Meaning) → TextMeans o (entry ∷ earlier) goes_on rest later
       → TextMeans o earlier goes_on text (after taken later)
+
+-- the entry was taken that a text begins with, which gives these records
+abbrev pub TakesFirst : Reader → Bool → Octets → Octets → List ResourceRecord → Reader → Type 0
+TakesFirst old goes_on text rest taken new =
+    (o : DomainName) (earlier : List Entry) → Knows o earlier old → old.line ≡ line_after earlier
+    → EntryDone o earlier goes_on text rest taken old new
+
+-- the entry that a text begins with has this fault
+abbrev pub RefusesFirst : Reader → Bool → Octets → FileFault → Type 0
+RefusesFirst r goes_on text fault =
+    (o : DomainName) (earlier : List Entry) → Knows o earlier r
+    → TextMeans o earlier goes_on text (fault_at fault (line_after earlier))

@@ -1,7 +1,6 @@
 -- What a reader learns here: what the reader of a zone file reads from single words, and what it
 -- keeps of the entries so far.
 use Rattle.std.specs.Prelude.{⊤, ◌≡◌, ℕ, ◌≤◌, not, List, [], ◌∷◌, length, IsTrue, MatchOption, Option, Some, None, codes}
-use Rattle.std.specs.Borrow.{Bor}
 use Rattle.std.specs.List.{filter}
 use Rattle.dns_spec.specs.Names.{Octets, DomainName, folded}
 use Rattle.dns_spec.specs.Data.{Valid, lower_case}
@@ -19,12 +18,12 @@ SpelledName origin w n = IsTrue (not w.is_quoted) × SpellsName origin w.raw n
 abbrev pub NamedType : Word → ℕ → Type 0
 NamedType w t = IsTrue (not w.is_quoted) × NamesType w.raw t × IsTrue (is_zone_type t)
 
--- a word after a reference is the only one, or there is not just one
-abbrev pub OneWordIs : Option (Bor Word) → List Word → Type 0
+-- a word is the only one, or there is not just one
+abbrev pub OneWordIs : Option Word → List Word → Type 0
 OneWordIs None [] = ⊤
 OneWordIs None (w ∷ []) = ⊥
 OneWordIs None (w ∷ v ∷ ws) = ⊤
-OneWordIs (Some x) ws = ws ≡ x.now ∷ []
+OneWordIs (Some x) ws = ws ≡ x ∷ []
 
 -- the TTL that a word says, where there is one
 abbrev pub TtlOf : Option Word → Option ℕ → Type 0

@@ -3,10 +3,12 @@ ghost use Rattle.std.specs.Prelude.{◌≡◌, ◌↔◌, ℕ, Some};
 ghost use Rattle.dns_spec.specs.Names.{DomainName};
 ghost use Rattle.dns_spec.specs.Meaning.{OneWord, TtlSays, is_directive};
 ghost use Rattle.dns_master.specs.RecordForm.{OneWordIs, SpelledName};
+ghost use Rattle.dns_master.specs.WordsLeft.{words_left};
 
+use crate::entry_words::EntryWords;
 use crate::words::{read_name, read_ttl};
 use dns_name::Name;
-use dns_rdata::Word;
+use dns_rdata::{Word, Words};
 
 /// Whether an entry that begins with this word, and no blank, is a directive.
 pub(crate) fn is_directive(word: &Word<'_>) -> bool
@@ -16,30 +18,34 @@ pub(crate) fn is_directive(word: &Word<'_>) -> bool
 }
 
 /// The origin that the words of `$ORIGIN` say, which is relative to the one before.
-pub(crate) fn read_origin(words: &[Word<'_>], origin: &Name) -> Option<Name>
+pub(crate) fn read_origin(words: EntryWords<'_, '_>, origin: &Name) -> Option<Name>
     ensures { (n : DomainName) → (result ≡ Some n)
-        ↔ OneWord (λ w. SpelledName origin.now w n) words.now }
+        ↔ OneWord (λ w. SpelledName origin.now w n) (words_left words.entry) }
 {
     match only_word(words) {
-        Some(word) => read_name(word, origin),
+        Some(word) => read_name(&word, origin),
         None => None,
     }
 }
 
 /// The TTL that the words of `$TTL` say.
-pub(crate) fn read_default_ttl(words: &[Word<'_>]) -> Option<u32>
-    ensures { (n : ℕ) → (result ≡ Some n) ↔ OneWord (λ w. TtlSays w n) words.now }
+pub(crate) fn read_default_ttl(words: EntryWords<'_, '_>) -> Option<u32>
+    ensures { (n : ℕ) → (result ≡ Some n) ↔ OneWord (λ w. TtlSays w n) (words_left words.entry) }
 {
     match only_word(words) {
-        Some(word) => read_ttl(word),
+        Some(word) => read_ttl(&word),
         None => None,
     }
 }
 
 // The word of a list of one.
-fn only_word<'a, 'w>(words: &'a [Word<'w>]) -> Option<&'a Word<'w>>
-    ensures { OneWordIs result words.now }
+fn only_word<'w>(words: EntryWords<'_, 'w>) -> Option<Word<'w>>
+    ensures { OneWordIs result (words_left words.entry) }
 {
     let (first, others) = words.split_first()?;
-    if others.is_empty() { Some(first) } else { None }
+    if others.count() == 0 {
+        Some(first)
+    } else {
+        None
+    }
 }

@@ -3,20 +3,29 @@
 ghost use Rattle.std.specs.Prelude.{◌≡◌, ◌≢◌, ◌+◌, ◌≤◌, ◌++◌, [], ◌∷◌, ◌⊎◌, true, false, Some, None, length, take, IfOk, IfErr, IfSome, OnOk};
 ghost use Rattle.std.specs.List.{list_any};
 ghost use Rattle.std.specs.Option.{option_map};
-ghost use Rattle.dns_spec.specs.ZoneText.{is_blank, begins_line_end, is_cut_short, extent_by, stop_at, stop_fault, string_fault, token_fault, unless_cut_short};
+ghost use Rattle.dns_spec.specs.FileFaults.{bad_parenthesis};
+ghost use Rattle.dns_spec.specs.ZoneText.{beginning, is_blank, begins_line_end, is_cut_short, extent_by, stop_at, stop_fault, string_fault, token_fault, unless_cut_short};
 ghost use Rattle.dns_master.specs.TokenForm.{shown_token};
-ghost use Rattle.dns_master.specs.EntryForm.{EntryRead, IsWrong, outcome_of, step, token_words, line_ends};
+ghost use Rattle.dns_master.specs.EntryForm.{EntryRead, IsWrong, outcome_of, step, line_ends};
+ghost use Rattle.dns_master.specs.WordsForm.{WordTaken, words_in};
+ghost use Rattle.dns_master.specs.WordsLeft.{later_words};
 ghost use Rattle.dns_master.specs.Steps.{shown_step};
-ghost use Rattle.dns_master.specs.Codes.{fault_of};
+ghost use Rattle.dns_master.specs.Codes.{ForFault, entry_fault_of};
 
-use crate::fault::ReadCode;
+use crate::entry_words::{LaterWords, word_of};
+use crate::fault::{EntryFault, Refusal};
 use crate::run::{Run, is_blank};
 use crate::token::{Token, first_token};
 use dns_rdata::Word;
 
+// How many words of an entry are kept as they are found.
+const MOST_KEPT: usize = 16;
+
 /// Where the entry ends that a text begins with.
 #[derive(Debug, Drop)]
 pub(crate) struct EntryEnd<'a> {
+    /// Its words after those that are kept.
+    pub(crate) later: LaterWords<'a>,
     /// How many line ends it has.
     pub(crate) lines: u32,
     /// Whether a line end ends it.
@@ -27,31 +36,38 @@ pub(crate) struct EntryEnd<'a> {
     pub(crate) rest: &'a [u8],
 }
 
-/// Reads the words of the entry that a text begins with, up to its end or to where no token begins.
+/// Reads the entry that a text begins with, up to its end or to where no token begins: keeps its
+/// first words, and counts the later ones.
 ///
 /// `Parenthesis` where one is misplaced, `NoMemory` where no memory was found.
 pub(crate) fn read_entry<'a>(
     text: &'a [u8],
-    words: &mut Vec<Word<'a>>,
-) -> Result<EntryEnd<'a>, ReadCode>
+    kept: &mut Vec<Word<'a>>,
+) -> Result<EntryEnd<'a>, Refusal>
     requires { length text.now ≤ 16777217 }
-    ensures ok { IfOk result (λ end. EntryRead text.now words.old.items words.new.items end.lines
+    ensures ok { IfOk result (λ end. EntryRead text.now
+        (kept.new.items ++ later_words end.later) end.lines
         (outcome_of end.is_ended end.is_open end.rest.now)) }
+    ensures enough { IfOk result (λ end.
+        end.later.count ≤ length (words_in end.later.text.now)) }
+    ensures few { IfOk result (λ end. end.later.count ≤ length text.now) }
     ensures bound { IfOk result (λ end. end.lines + length end.rest.now ≤ length text.now) }
-    ensures err { IfErr result (λ code. code ≢ ReadCode.NoMemory
-        → (code ≡ ReadCode.Parenthesis) × IsWrong text.now) }
-    ensures source { IfErr result (λ code. code ≢ ReadCode.SourceFailed) }
+    ensures err { IfErr result (λ refusal. ForFault refusal
+        (λ fault. (fault ≡ bad_parenthesis) × IsWrong text.now)) }
 {
+    kept.clear();
+    let mut later = LaterWords { text, count: 0 };
     let mut lines = 0;
     let mut is_open = false;
     let mut rest = text;
     'tokens: while let Some((token, others)) = first_token(rest) {
-        push_word(words, token)?;
+        later = take_word(kept, later, token, others)?;
         lines += line_ends(token);
         rest = others;
         match step_after(token, is_open) {
-            Step::Misplaced => return Err(ReadCode::Parenthesis),
+            Step::Misplaced => return Err(Refusal::Faulty(EntryFault::Parenthesis)),
             Step::Over => return Ok(EntryEnd {
+                later,
                 lines,
                 is_ended: true,
                 is_open,
@@ -61,10 +77,41 @@ pub(crate) fn read_entry<'a>(
         }
     }
     Ok(EntryEnd {
+        later,
         lines,
         is_ended: false,
         is_open,
         rest,
+    })
+}
+
+// Keeps the word that a token is, before the text that comes then, or counts it.
+fn take_word<'a>(
+    kept: &mut Vec<Word<'a>>,
+    later: LaterWords<'a>,
+    token: Token<'a>,
+    others: &'a [u8],
+) -> Result<LaterWords<'a>, Refusal>
+    requires { later.count ≤ 16777217 }
+    ensures ok { IfOk result (λ now. WordTaken (shown_token token.entry) others.now
+        kept.old.items later.entry.text.now later.entry.count
+        kept.new.items now.text.now now.count) }
+    ensures bound { IfOk result (λ now. now.count ≤ later.entry.count + 1) }
+    ensures err { IfErr result (λ refusal. refusal ≡ Refusal.NoMemory) }
+{
+    let Some(word) = word_of(token) else {
+        return Ok(later);
+    };
+    if later.count > 0 || kept.len() >= MOST_KEPT {
+        return Ok(LaterWords {
+            text: later.text,
+            count: later.count + 1,
+        });
+    }
+    kept.push(word)?;
+    Ok(LaterWords {
+        text: others,
+        count: 0,
     })
 }
 
@@ -90,20 +137,6 @@ fn step_after(token: Token<'_>, is_open: bool) -> Step
     }
 }
 
-// Pushes the word that a token is.
-fn push_word<'a>(words: &mut Vec<Word<'a>>, token: Token<'a>) -> Result<(), ReadCode>
-    ensures ok { OnOk result (words.new.items ≡ words.old.items ++ token_words
-        (shown_token token.entry ∷ [])) }
-    ensures err { IfErr result (λ code. code ≡ ReadCode.NoMemory) }
-{
-    let word = match token {
-        Token::Word(raw) => Word { raw, quoted: false },
-        Token::Quoted(raw) => Word { raw, quoted: true },
-        _ => return Ok(()),
-    };
-    Ok(words.push(word)?)
-}
-
 fn line_ends(token: Token<'_>) -> u32
     ensures { result ≡ line_ends (shown_token token.entry ∷ []) }
 {
@@ -122,36 +155,52 @@ pub(crate) fn begins_blank(text: &[u8]) -> bool
 
 /// Whether an entry may end as it does: it is ended by its line end, or by the end of a text that
 /// does not go on.
-pub(crate) fn check_end(end: &EntryEnd<'_>, goes_on: bool) -> Result<(), ReadCode>
+pub(crate) fn check_end(end: &EntryEnd<'_>, goes_on: bool) -> Result<(), EntryFault>
     ensures ok { OnOk result ((end.now.is_ended ≡ true)
         ⊎ (stop_fault (extent_by goes_on) end.now.is_open (stop_at end.now.rest.now) ≡ None)) }
-    ensures err { IfErr result (λ code. (end.now.is_ended ≡ false)
+    ensures err { IfErr result (λ fault. (end.now.is_ended ≡ false)
         × (stop_fault (extent_by goes_on) end.now.is_open (stop_at end.now.rest.now)
-        ≡ Some (fault_of code))) }
-    ensures source { IfErr result (λ code. code ≢ ReadCode.SourceFailed) }
+        ≡ Some (entry_fault_of fault))) }
 {
     if end.is_ended {
         return Ok(());
     }
     match end_fault(end, goes_on) {
-        Some(code) => Err(code),
+        Some(fault) => Err(fault),
         None => Ok(()),
+    }
+}
+
+/// Whether an entry is ended by its line end, where its text is a beginning of one that may go on.
+///
+/// False where more of the text would be needed to tell; else the entry's fault by its place.
+pub(crate) fn is_ended(end: &EntryEnd<'_>) -> Result<bool, EntryFault>
+    ensures ok { IfOk result (λ now. now ≡ end.now.is_ended) }
+    ensures err { IfErr result (λ fault. (end.now.is_ended ≡ false)
+        × (stop_fault beginning end.now.is_open (stop_at end.now.rest.now)
+        ≡ Some (entry_fault_of fault)) × (fault ≢ EntryFault.TooLong)) }
+{
+    if end.is_ended {
+        return Ok(true);
+    }
+    match end_fault(end, true) {
+        None | Some(EntryFault::TooLong) => Ok(false),
+        Some(fault) => Err(fault),
     }
 }
 
 // The fault of an entry that no line end ends: `goes_on` is whether the text goes on past its
 // limit.
-fn end_fault(end: &EntryEnd<'_>, goes_on: bool) -> Option<ReadCode>
-    ensures value { option_map fault_of result ≡ stop_fault (extent_by goes_on) end.now.is_open
-        (stop_at end.now.rest.now) }
-    ensures source { IfSome result (λ code. code ≢ ReadCode.SourceFailed) }
+fn end_fault(end: &EntryEnd<'_>, goes_on: bool) -> Option<EntryFault>
+    ensures value { option_map entry_fault_of result
+        ≡ stop_fault (extent_by goes_on) end.now.is_open (stop_at end.now.rest.now) }
 {
     let Some((first, others)) = end.rest.split_first() else {
         if goes_on {
-            return Some(ReadCode::TooLong);
+            return Some(EntryFault::TooLong);
         }
         return if end.is_open {
-            Some(ReadCode::Parenthesis)
+            Some(EntryFault::Parenthesis)
         } else {
             None
         };
@@ -165,41 +214,38 @@ fn end_fault(end: &EntryEnd<'_>, goes_on: bool) -> Option<ReadCode>
 
 // A fault at a place where the text can't go on, unless more octets than are looked at would be
 // needed to tell.
-fn unless_cut_short(goes_on: bool, place: &[u8], fault: ReadCode) -> ReadCode
-    ensures value { fault_of result ≡ unless_cut_short (extent_by goes_on) place.now
-        (fault_of fault) }
-    ensures source { fault ≢ ReadCode.SourceFailed → result ≢ ReadCode.SourceFailed }
+fn unless_cut_short(goes_on: bool, place: &[u8], fault: EntryFault) -> EntryFault
+    ensures value { entry_fault_of result ≡ unless_cut_short (extent_by goes_on) place.now
+        (entry_fault_of fault) }
 {
     if goes_on && is_cut_short(place) {
-        return ReadCode::TooLong;
+        return EntryFault::TooLong;
     }
     fault
 }
 
 // The fault of a string that can't go on.
-fn string_fault(place: &[u8]) -> ReadCode
-    ensures value { fault_of result ≡ string_fault place.now }
-    ensures source { result ≢ ReadCode.SourceFailed }
+fn string_fault(place: &[u8]) -> EntryFault
+    ensures value { entry_fault_of result ≡ string_fault place.now }
 {
     if place.is_empty() || begins_line_end(place) {
-        return ReadCode::UnendedString;
+        return EntryFault::UnendedString;
     }
     token_fault(place)
 }
 
 // The fault of a text with which no token begins.
-fn token_fault(place: &[u8]) -> ReadCode
-    ensures value { fault_of result ≡ token_fault place.now }
-    ensures source { result ≢ ReadCode.SourceFailed }
+fn token_fault(place: &[u8]) -> EntryFault
+    ensures value { entry_fault_of result ≡ token_fault place.now }
 {
     if place.first() == Some(&b'\\') {
-        return ReadCode::BadEscape;
+        return EntryFault::BadEscape;
     }
-    ReadCode::BadOctet
+    EntryFault::BadOctet
 }
 
-// Whether more octets might end what the text is: an escape or CR LF.
-fn is_cut_short(text: &[u8]) -> bool
+/// Whether more octets might end what the text is: an escape or CR LF.
+pub(crate) fn is_cut_short(text: &[u8]) -> bool
     ensures { result ≡ is_cut_short text.now }
 {
     match text {

@@ -54,6 +54,100 @@ impl ReadCode {
     }
 }
 
+/// What is wrong with an entry: the codes of a file but for a source that failed and for memory that
+/// was not found.
+#[derive(Clone, Copy, Debug, PartialEq, Eq)]
+pub(crate) enum EntryFault {
+    BadOctet,
+    BadEscape,
+    UnendedString,
+    Parenthesis,
+    UnknownDirective,
+    DirectiveWords,
+    BadOwner,
+    NoOwner,
+    BadTtl,
+    OtherClass,
+    BadType,
+    NoTtl,
+    BadData,
+    TooManyRecords,
+    TooLong,
+}
+
+/// The code of an entry's fault.
+impl From<EntryFault> for ReadCode {
+    ghost use Rattle.dns_master.specs.Codes.{IsCodeOf};
+
+    ghost from_gives = { λ fault code. IsCodeOf fault code };
+
+    fn from(fault: EntryFault) -> ReadCode {
+        match fault {
+            EntryFault::BadOctet => ReadCode::BadOctet,
+            EntryFault::BadEscape => ReadCode::BadEscape,
+            EntryFault::UnendedString => ReadCode::UnendedString,
+            EntryFault::Parenthesis => ReadCode::Parenthesis,
+            EntryFault::UnknownDirective => ReadCode::UnknownDirective,
+            EntryFault::DirectiveWords => ReadCode::DirectiveWords,
+            EntryFault::BadOwner => ReadCode::BadOwner,
+            EntryFault::NoOwner => ReadCode::NoOwner,
+            EntryFault::BadTtl => ReadCode::BadTtl,
+            EntryFault::OtherClass => ReadCode::OtherClass,
+            EntryFault::BadType => ReadCode::BadType,
+            EntryFault::NoTtl => ReadCode::NoTtl,
+            EntryFault::BadData => ReadCode::BadData,
+            EntryFault::TooManyRecords => ReadCode::TooManyRecords,
+            EntryFault::TooLong => ReadCode::TooLong,
+        }
+    }
+}
+
+/// Why an entry is not taken: its fault, or no memory.
+#[derive(Clone, Copy, Debug, PartialEq, Eq)]
+pub(crate) enum Refusal {
+    Faulty(EntryFault),
+    NoMemory,
+}
+
+impl From<EntryFault> for Refusal {
+    ghost use Rattle.dns_master.specs.declared.fault.Refusal.{Refusal};
+
+    ghost from_gives = { λ fault refusal. refusal ≡ Refusal.Faulty fault };
+
+    fn from(fault: EntryFault) -> Refusal {
+        Refusal::Faulty(fault)
+    }
+}
+
+impl<T: Drop> From<AllocFailed<T>> for Refusal {
+    ghost use Rattle.dns_master.specs.declared.fault.Refusal.{Refusal};
+
+    ghost from_gives = { λ _ refusal. refusal ≡ Refusal.NoMemory };
+
+    fn from(_refused: AllocFailed<T>) -> Refusal {
+        Refusal::NoMemory
+    }
+}
+
+/// Data that is none is one fault of an entry, whatever is wrong with it.
+impl From<RdataFault> for Refusal {
+    ghost use Rattle.std.specs.Prelude.{◌≢◌, ◌⊎◌};
+    ghost use Rattle.dns_rdata.specs.declared.fault.RdataFault.{RdataFault};
+    ghost use Rattle.dns_master.specs.declared.fault.EntryFault.{EntryFault};
+    ghost use Rattle.dns_master.specs.declared.fault.Refusal.{Refusal};
+
+    ghost from_gives = { λ fault refusal.
+        ((fault ≡ RdataFault.NoMemory) × (refusal ≡ Refusal.NoMemory))
+        ⊎ ((fault ≢ RdataFault.NoMemory) × (refusal ≡ Refusal.Faulty EntryFault.BadData)) };
+
+    fn from(fault: RdataFault) -> Refusal {
+        match fault {
+            RdataFault::NoMemory => Refusal::NoMemory,
+            _ => Refusal::Faulty(EntryFault::BadData),
+        }
+    }
+}
+
 impl From<AllocError> for ReadFault {
     ghost use Rattle.dns_master.specs.declared.fault.ReadCode.{ReadCode};
 
@@ -97,24 +191,6 @@ impl<T: Drop> From<AllocFailed<T>> for ReadCode {
 
     fn from(_refused: AllocFailed<T>) -> ReadCode {
         ReadCode::NoMemory
-    }
-}
-
-/// The code of data that is none, whatever its fault.
-impl From<RdataFault> for ReadCode {
-    ghost use Rattle.std.specs.Prelude.{◌≢◌, ◌⊎◌};
-    ghost use Rattle.dns_rdata.specs.declared.fault.RdataFault.{RdataFault};
-    ghost use Rattle.dns_master.specs.declared.fault.ReadCode.{ReadCode};
-
-    ghost from_gives = { λ fault code.
-        ((fault ≡ RdataFault.NoMemory) × (code ≡ ReadCode.NoMemory))
-        ⊎ ((fault ≢ RdataFault.NoMemory) × (code ≡ ReadCode.BadData)) };
-
-    fn from(fault: RdataFault) -> ReadCode {
-        match fault {
-            RdataFault::NoMemory => ReadCode::NoMemory,
-            _ => ReadCode::BadData,
-        }
     }
 }
 

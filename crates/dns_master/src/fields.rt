@@ -4,38 +4,40 @@ ghost use Rattle.std.specs.List.{list_any};
 ghost use Rattle.std.specs.Option.{option_copied};
 ghost use Rattle.dns_spec.specs.Meaning.{Nothing, TypeIs, fields, class_after, ttl_after, is_ttl_word, is_class_word, is_word, is_other_class, is_zone_type, IsNoTtl};
 ghost use Rattle.dns_master.specs.RecordForm.{TtlOf, NamedType};
+ghost use Rattle.dns_master.specs.WordsLeft.{words_left};
 
-use crate::fault::ReadCode;
+use crate::entry_words::EntryWords;
+use crate::fault::EntryFault;
 use crate::words::{is_word, read_ttl};
-use dns_rdata::{RType, Word};
+use dns_rdata::{RType, Word, Words};
 use std::marker::Model;
 
 /// The words of the TTL and the class, in either order and where they are stated, and the words
 /// after them: the type and the data.
 #[derive(Debug, Drop)]
 pub(crate) struct Fields<'a, 'w> {
-    pub(crate) ttl: Option<&'a Word<'w>>,
-    pub(crate) class: Option<&'a Word<'w>>,
-    pub(crate) others: &'a [Word<'w>],
+    pub(crate) ttl: Option<Word<'w>>,
+    pub(crate) class: Option<Word<'w>>,
+    pub(crate) others: EntryWords<'a, 'w>,
 }
 
 impl<'a, 'w> Model for Fields<'a, 'w> {
-    ghost use Rattle.std.specs.Option.{option_copied};
     ghost use Rattle.dns_spec.specs.Meaning as meaning;
+    ghost use Rattle.dns_master.specs.WordsLeft.{words_left};
 
     ghost Value = { meaning.Fields };
 
     ghost view = { λ f. record {
-      ttl = option_copied f.ttl;
-      class = option_copied f.class;
-      others = f.others.now;
+      ttl = f.ttl;
+      class = f.class;
+      others = words_left f.others;
     } };
 }
 
 impl<'a, 'w> Fields<'a, 'w> {
     /// The fields of the words after the owner.
-    pub(crate) fn of(words: &'a [Word<'w>]) -> Fields<'a, 'w>
-        ensures { result ≡ fields words.now }
+    pub(crate) fn of(words: EntryWords<'a, 'w>) -> Fields<'a, 'w>
+        ensures { result ≡ fields (words_left words.entry) }
     {
         let Some((first, others)) = words.split_first() else {
             return Fields {
@@ -44,10 +46,10 @@ impl<'a, 'w> Fields<'a, 'w> {
                 others: words,
             };
         };
-        if is_ttl_word(first) {
+        if is_ttl_word(&first) {
             return Fields::after_ttl(first, others);
         }
-        if is_class_word(first) {
+        if is_class_word(&first) {
             return Fields::after_class(first, others);
         }
         Fields {
@@ -57,8 +59,8 @@ impl<'a, 'w> Fields<'a, 'w> {
         }
     }
 
-    fn after_ttl(ttl: &'a Word<'w>, words: &'a [Word<'w>]) -> Fields<'a, 'w>
-        ensures { result ≡ class_after ttl.now words.now }
+    fn after_ttl(ttl: Word<'w>, words: EntryWords<'a, 'w>) -> Fields<'a, 'w>
+        ensures { result ≡ class_after ttl.entry (words_left words.entry) }
     {
         let ttl = Some(ttl);
         let Some((first, others)) = words.split_first() else {
@@ -68,7 +70,7 @@ impl<'a, 'w> Fields<'a, 'w> {
                 others: words,
             };
         };
-        if is_class_word(first) {
+        if is_class_word(&first) {
             return Fields {
                 ttl,
                 class: Some(first),
@@ -82,8 +84,8 @@ impl<'a, 'w> Fields<'a, 'w> {
         }
     }
 
-    fn after_class(class: &'a Word<'w>, words: &'a [Word<'w>]) -> Fields<'a, 'w>
-        ensures { result ≡ ttl_after class.now words.now }
+    fn after_class(class: Word<'w>, words: EntryWords<'a, 'w>) -> Fields<'a, 'w>
+        ensures { result ≡ ttl_after class.entry (words_left words.entry) }
     {
         let class = Some(class);
         let Some((first, others)) = words.split_first() else {
@@ -93,7 +95,7 @@ impl<'a, 'w> Fields<'a, 'w> {
                 others: words,
             };
         };
-        if is_ttl_word(first) {
+        if is_ttl_word(&first) {
             return Fields {
                 ttl: Some(first),
                 class,
@@ -137,16 +139,16 @@ fn begins_class(raw: &[u8]) -> bool
 }
 
 /// The TTL that is stated, if one is: `Ttl` where it is none.
-pub(crate) fn stated_ttl(stated: Option<&Word<'_>>) -> Result<Option<u32>, ReadCode>
+pub(crate) fn stated_ttl(stated: Option<&Word<'_>>) -> Result<Option<u32>, EntryFault>
     ensures { MatchResult result (λ ttl. TtlOf (option_copied stated.entry) ttl)
-        (λ code. (code ≡ ReadCode.BadTtl) × IsNoTtl (option_copied stated.entry)) }
+        (λ fault. (fault ≡ EntryFault.BadTtl) × IsNoTtl (option_copied stated.entry)) }
 {
     let Some(word) = stated else {
         return Ok(None);
     };
     match read_ttl(word) {
         Some(ttl) => Ok(Some(ttl)),
-        None => Err(ReadCode::BadTtl),
+        None => Err(EntryFault::BadTtl),
     }
 }
 
@@ -158,12 +160,15 @@ pub(crate) fn is_other_class(stated: Option<&Word<'_>>) -> bool
 }
 
 /// The type that the first word names, and the words of the data after it.
-pub(crate) fn type_and_words<'a, 'w>(words: &'a [Word<'w>]) -> Option<(RType, &'a [Word<'w>])>
-    ensures { MatchOption result (Nothing (TypeIs words.now))
-        (λ x. TypeIs words.now x.0.0 × (x.1.now ≡ drop 1 words.now)) }
+pub(crate) fn type_and_words<'a, 'w>(
+    words: EntryWords<'a, 'w>,
+) -> Option<(RType, EntryWords<'a, 'w>)>
+    ensures { MatchOption result (Nothing (TypeIs (words_left words.entry)))
+        (λ x. TypeIs (words_left words.entry) x.0.0
+        × (words_left x.1 ≡ drop 1 (words_left words.entry))) }
 {
     let (first, others) = words.split_first()?;
-    Some((read_type(first)?, others))
+    Some((read_type(&first)?, others))
 }
 
 // The type that a word names, where zones have it.

@@ -3,12 +3,15 @@
 
 mod directive;
 mod entry;
+mod entry_words;
 mod fault;
 mod fields;
 mod gathers;
+mod pieces;
 mod reader;
 mod record;
 mod run;
+mod scan;
 mod source;
 mod state;
 mod stream;

@@ -1,32 +1,34 @@
 //! The reader of zone files (RFC 1035 section 5).
-ghost use Rattle.std.specs.Prelude.{◌≡◌, ◌≢◌, ◌+◌, ◌-◌, ◌^◌, ◌≤◌, ◌<◌, ◌⊎◌, length, List, [], ◌∷◌, ◌++◌, IfOk, IfErr, OnOk, IfSome, IsSome, IsTrue, Some, true, codes, if◌then◌else◌};
+ghost use Rattle.std.specs.Prelude.{◌≡◌, ◌≢◌, ◌+◌, ◌-◌, ◌^◌, ◌≤◌, ◌<◌, ◌⊎◌, length, List, [], ◌∷◌, ◌++◌, IfOk, IfErr, OnOk, IfSome, IsSome, IsTrue, Some, None, true, codes, if◌then◌else◌};
 ghost use Rattle.std.specs.Option.{option_or};
-ghost use Rattle.dns_spec.specs.Names.{DomainName, folded};
+ghost use Rattle.dns_spec.specs.Names.{folded};
+ghost use Rattle.dns_spec.specs.FileFaults.{bad_data};
 ghost use Rattle.dns_spec.specs.Data.{Valid, lower_case};
 ghost use Rattle.dns_spec.specs.DataText.{Says};
 ghost use Rattle.dns_spec.specs.TypeText.{text_in_lower_case};
-ghost use Rattle.dns_spec.specs.ZoneText.{Entry};
-ghost use Rattle.dns_spec.specs.FileFaults.{no_owner};
-ghost use Rattle.dns_spec.specs.Meaning.{Nothing, TtlSays, gives, faulty, directive, owned, unowned, kind_of, kind_by_words, fields, RecordGives, KindGives, records, fault_at, line_after, most_records};
-ghost use Rattle.dns_master.specs.Codes.{fault_of, failures_after_read};
-ghost use Rattle.dns_master.specs.EntryForm.{TextMeans};
-ghost use Rattle.dns_master.specs.SourceForm.{GivesMeaning};
+ghost use Rattle.dns_spec.specs.Meaning.{Nothing, TtlSays, gives, faulty, directive, owned, unowned, kind_by_words, fields, records, fault_at, most_records};
+ghost use Rattle.dns_master.specs.Codes.{ForFault, OfEntry, entry_fault_of, fault_of, failures_after_read};
+ghost use Rattle.dns_master.specs.SourceForm.{GivesMeaning, Decides};
 ghost use Rattle.dns_master.specs.OwnedBody.{with_owner};
 ghost use Rattle.dns_master.specs.RecordForm.{IsKept};
-ghost use Rattle.dns_master.specs.ReaderForm.{Knows, RecordTaken, EntryTaken, EntryDone, handed};
+ghost use Rattle.dns_master.specs.ReaderForm.{Knows, TakesEntry, RefusesEntry, RecordMeans, TakesRecord, TakesFirst, RefusesFirst, handed};
 ghost use Rattle.dns_master.specs.RecordsForm.{StillGives, came, given_so_far};
+ghost use Rattle.dns_master.specs.PieceForm.{FrontTaken, FrontFaulty, ReaderMeans, TextGathered};
+ghost use Rattle.dns_master.specs.WordsLeft.{words_left};
 
 use crate::directive::{is_directive, read_default_ttl, read_origin};
-use crate::entry::{begins_blank, check_end, read_entry};
-use crate::fault::{ReadCode, ReadFault};
+use crate::entry::{begins_blank, check_end, is_ended, read_entry};
+use crate::entry_words::EntryWords;
+use crate::fault::{EntryFault, ReadCode, ReadFault, Refusal};
 use crate::fields::{Fields, is_other_class, stated_ttl, type_and_words};
 use crate::gathers::{Gathers, WholeRecords};
+use crate::pieces::Begun;
 use crate::record::{Record, RecordBody};
-use crate::source::read_text;
+use crate::source::{is_more, new_piece};
 use crate::state::{Reader, Records};
 use crate::words::{is_word, spell_name};
 use dns_name::{Name, Tally};
-use dns_rdata::{DataRoom, RType, Rdata, Word};
+use dns_rdata::{DataRoom, RType, Rdata, Word, Words};
 use std::alloc::Global;
 use std::io::Read;
 
@@ -53,6 +55,11 @@ pub fn read_zone<R: Read>(
     ensures fault { IfErr result (λ f. f.code ≢ ReadCode.SourceFailed → f.code ≢ ReadCode.NoMemory
         → GivesMeaning (R.remaining source.old.device) origin.now
         (fault_at (fault_of f.code) f.line)) }
+    ensures whole { IfOk result (λ found. Decides (R.remaining source.old.device)
+        (R.remaining source.new.device) origin.now (records found.items)) }
+    ensures decided { IfErr result (λ f. f.code ≢ ReadCode.SourceFailed
+        → f.code ≢ ReadCode.NoMemory → Decides (R.remaining source.old.device)
+        (R.remaining source.new.device) origin.now (fault_at (fault_of f.code) f.line)) }
     ensures few { IfOk result (λ found. length found.items ≤ most_records) }
     ensures line { IfErr result (λ f. (f.code ≡ ReadCode.SourceFailed)
         ⊎ (f.code ≡ ReadCode.NoMemory) → f.line ≡ 0) }
@@ -83,29 +90,60 @@ pub fn read_into<R: Read, G: Gathers>(
     ensures fault { IfErr result (λ f. f.code ≢ ReadCode.SourceFailed → f.code ≢ ReadCode.NoMemory
         → GivesMeaning (R.remaining source.old.device) origin.now
         (fault_at (fault_of f.code) f.line)) }
+    ensures whole { OnOk result (Decides (R.remaining source.old.device)
+        (R.remaining source.new.device) origin.now (records (G.gathered found.new))) }
+    ensures decided { IfErr result (λ f. f.code ≢ ReadCode.SourceFailed
+        → f.code ≢ ReadCode.NoMemory → Decides (R.remaining source.old.device)
+        (R.remaining source.new.device) origin.now (fault_at (fault_of f.code) f.line)) }
     ensures few { OnOk result (length (G.gathered found.new) ≤ most_records) }
     ensures line { IfErr result (λ f. (f.code ≡ ReadCode.SourceFailed)
         ⊎ (f.code ≡ ReadCode.NoMemory) → f.line ≡ 0) }
     ensures counted { source.new.failures ≡ failures_after_read source.old.failures result }
 {
-    let text = match read_text(alloc, source) {
-        Ok(text) => text,
+    let mut piece = match new_piece(alloc) {
+        Ok(piece) => piece,
         Err(code) => return Err(ReadFault { code, line: 0 }),
     };
-    let mut entries = Records::new(alloc, origin, text.as_slice());
+    let mut begun = Begun::new(alloc, origin);
+    'pieces: while begun.left > 0 {
+        if !begun.take_piece(source, piece.as_mut_slice(), found)? {
+            return finish(begun, false, found);
+        }
+    }
+    match is_more(alloc, source, piece.as_mut_slice()) {
+        Ok(goes_on) => finish(begun, goes_on, found),
+        Err(code) => Err(ReadFault { code, line: 0 }),
+    }
+}
+
+// Adds the records of what is left of a text, after which it is over or goes on past its limit.
+fn finish<G: Gathers>(begun: Begun, goes_on: bool, found: &mut G) -> Result<(), ReadFault>
+    requires count { length (G.gathered found.old) ≡ begun.reader.count }
+    requires fits { begun.reader.line + length begun.held.items ≤ 16777217 }
+    ensures ok { OnOk result (TextGathered begun.reader goes_on begun.held.items
+        (G.gathered found.old) (G.gathered found.new)) }
+    ensures few { OnOk result (length (G.gathered found.new) ≤ most_records) }
+    ensures err { IfErr result (OfEntry (λ fault line.
+        ReaderMeans begun.reader goes_on begun.held.items (fault_at fault line))) }
+{
+    let mut entries = Records {
+        reader: begun.reader,
+        words: Vec::new(begun.alloc),
+        room: begun.room,
+        rest: begun.held.as_slice(),
+        goes_on,
+    };
     gather(&mut entries, found)
 }
 
 // Adds all records that are still to come.
 fn gather<G: Gathers>(entries: &mut Records<'_>, found: &mut G) -> Result<(), ReadFault>
-    requires first { given_so_far entries.old ≡ 0 }
-    requires nothing { G.gathered found.old ≡ [] }
-    ensures ok { OnOk result (StillGives entries.old (records (G.gathered found.new))) }
+    requires { length (G.gathered found.old) ≡ given_so_far entries.old }
+    ensures ok { OnOk result (TextGathered entries.old.reader entries.old.goes_on
+        entries.old.rest.now (G.gathered found.old) (G.gathered found.new)) }
     ensures few { OnOk result (length (G.gathered found.new) ≤ most_records) }
-    ensures err { IfErr result (λ f. f.code ≢ ReadCode.NoMemory
-        → StillGives entries.old (fault_at (fault_of f.code) f.line)) }
-    ensures source { IfErr result (λ f. f.code ≢ ReadCode.SourceFailed) }
-    ensures memory { IfErr result (λ f. f.code ≡ ReadCode.NoMemory → f.line ≡ 0) }
+    ensures err { IfErr result (OfEntry (λ fault line.
+        StillGives entries.old (fault_at fault line))) }
 {
     'records: while entries.advance()? {
         add_last(entries, found)?;
@@ -150,12 +188,11 @@ impl Reader {
         goes_on: bool,
         words: &mut Vec<Word<'a>>,
         room: &mut DataRoom,
-    ) -> Result<(bool, &'a [u8]), ReadCode>
+    ) -> Result<(bool, &'a [u8]), Refusal>
         requires some { text.now ≢ [] }
         requires fits { self.old.line + length text.now ≤ 16777217 }
-        ensures ok { IfOk result (λ x. (o : DomainName) (earlier : List Entry)
-            → Knows o earlier self.old → self.old.line ≡ line_after earlier
-            → EntryDone o earlier goes_on text.now x.1.now (handed x.0 self.new.last) self.old self.new) }
+        ensures ok { IfOk result (λ x. TakesFirst self.old goes_on text.now x.1.now
+            (handed x.0 self.new.last) self.new) }
         ensures counted { IfOk result (λ x.
             self.new.count ≡ self.old.count + length (handed x.0 self.new.last)) }
         ensures some { IfOk result (λ x. IsTrue x.0 → IsSome self.new.last) }
@@ -163,38 +200,73 @@ impl Reader {
         ensures lines { IfOk result (λ x. self.new.line + length x.1.now
             ≤ self.old.line + length text.now) }
         ensures stays { IfErr result (λ _. self.new.line ≡ self.old.line) }
-        ensures err { IfErr result (λ code. code ≢ ReadCode.NoMemory
-            → (o : DomainName) (earlier : List Entry) → Knows o earlier self.old
-            → TextMeans o earlier goes_on text.now
-            (fault_at (fault_of code) (line_after earlier))) }
-        ensures source { IfErr result (λ code. code ≢ ReadCode.SourceFailed) }
+        ensures err { IfErr result (λ refusal. ForFault refusal
+            (RefusesFirst self.old goes_on text.now)) }
     {
-        words.clear();
         let end = read_entry(text, words)?;
         check_end(&end, goes_on)?;
-        let taken = self.take_words(begins_blank(text), words.as_slice(), room)?;
-        self.line += end.lines;
-        Ok((taken, end.rest))
+        let (lines, rest) = (end.lines, end.rest);
+        let found = EntryWords {
+            kept: words.as_slice(),
+            later: end.later,
+        };
+        let taken = self.take_words(begins_blank(text), found, room)?;
+        self.line += lines;
+        Ok((taken, rest))
+    }
+
+    /// Takes the entry that a text begins with, where the text tells its end whatever comes after
+    /// it: gives whether it is a record, which is the last one then, and the text after it. `None`
+    /// where more of the text would be needed to tell; then nothing was taken.
+    pub(crate) fn take_ended<'a>(
+        &mut self,
+        text: &'a [u8],
+        words: &mut Vec<Word<'a>>,
+        room: &mut DataRoom,
+    ) -> Result<Option<(bool, &'a [u8])>, Refusal>
+        requires fits { self.old.line + length text.now ≤ 16777217 }
+        ensures ok { IfOk result (λ found. IfSome found (λ x. FrontTaken self.old text.now
+            (handed x.0 self.new.last) self.new x.1.now)) }
+        ensures none { IfOk result (λ found. found ≡ None → self.new ≡ self.old) }
+        ensures counted { IfOk result (λ found. IfSome found (λ x.
+            self.new.count ≡ self.old.count + length (handed x.0 self.new.last))) }
+        ensures shorter { IfOk result (λ found. IfSome found (λ x.
+            length x.1.now < length text.now)) }
+        ensures lines { IfOk result (λ found. IfSome found (λ x.
+            self.new.line + length x.1.now ≤ self.old.line + length text.now)) }
+        ensures err { IfErr result (λ refusal. ForFault refusal
+            (λ fault. FrontFaulty self.old text.now fault self.old.line)) }
+    {
+        let end = read_entry(text, words)?;
+        if !is_ended(&end)? {
+            return Ok(None);
+        }
+        let (lines, rest) = (end.lines, end.rest);
+        let found = EntryWords {
+            kept: words.as_slice(),
+            later: end.later,
+        };
+        let taken = self.take_words(begins_blank(text), found, room)?;
+        self.line += lines;
+        Ok(Some((taken, rest)))
     }
 
     // Takes what the words of an entry say.
     fn take_words(
         &mut self,
         is_blank_led: bool,
-        words: &[Word<'_>],
+        words: EntryWords<'_, '_>,
         room: &mut DataRoom,
-    ) -> Result<bool, ReadCode>
-        ensures ok { IfOk result (λ taken. (o : DomainName) (earlier : List Entry) (e : Entry)
-            → Knows o earlier self.old → kind_of e ≡ kind_by_words is_blank_led words.now
-            → EntryTaken o earlier e (handed taken self.new.last) self.old self.new) }
+    ) -> Result<bool, Refusal>
+        ensures ok { IfOk result (λ taken. TakesEntry self.old
+            (kind_by_words is_blank_led (words_left words.entry))
+            (handed taken self.new.last) self.new) }
         ensures counted { IfOk result (λ taken.
             self.new.count ≡ self.old.count + length (handed taken self.new.last)) }
         ensures some { IfOk result (λ taken. IsTrue taken → IsSome self.new.last) }
         ensures line { self.new.line ≡ self.old.line }
-        ensures err { IfErr result (λ code. code ≢ ReadCode.NoMemory
-            → (o : DomainName) (earlier : List Entry) → Knows o earlier self.old
-            → KindGives o earlier (kind_by_words is_blank_led words.now) (faulty (fault_of code))) }
-        ensures source { IfErr result (λ code. code ≢ ReadCode.SourceFailed) }
+        ensures err { IfErr result (λ refusal. ForFault refusal
+            (RefusesEntry self.old (kind_by_words is_blank_led (words_left words.entry)))) }
     {
         let Some((first, others)) = words.split_first() else {
             return Ok(false);
@@ -203,27 +275,23 @@ impl Reader {
             self.take_unowned(words, room)?;
             return Ok(true);
         }
-        if is_directive(first) {
+        if is_directive(&first) {
             self.take_directive(first.raw, others)?;
             return Ok(false);
         }
-        self.take_owned(first, others, room)?;
+        self.take_owned(&first, others, room)?;
         Ok(true)
     }
 
     // Takes a directive: its name, and the words after it.
-    fn take_directive(&mut self, name: &[u8], words: &[Word<'_>]) -> Result<(), ReadCode>
-        ensures ok { OnOk result ((o : DomainName) (earlier : List Entry) (e : Entry)
-            → Knows o earlier self.old → kind_of e
-            ≡ directive (text_in_lower_case name.now) words.now
-            → EntryTaken o earlier e [] self.old self.new) }
+    fn take_directive(&mut self, name: &[u8], words: EntryWords<'_, '_>) -> Result<(), EntryFault>
+        ensures ok { OnOk result (TakesEntry self.old
+            (directive (text_in_lower_case name.now) (words_left words.entry)) [] self.new) }
         ensures counted { self.new.count ≡ self.old.count }
         ensures line { self.new.line ≡ self.old.line }
-        ensures err { IfErr result (λ code. code ≢ ReadCode.NoMemory
-            → (o : DomainName) (earlier : List Entry) → Knows o earlier self.old
-            → KindGives o earlier (directive (text_in_lower_case name.now) words.now)
-            (faulty (fault_of code))) }
-        ensures source { IfErr result (λ code. code ≢ ReadCode.SourceFailed) }
+        ensures err { IfErr result (λ fault. RefusesEntry self.old
+            (directive (text_in_lower_case name.now) (words_left words.entry))
+            (entry_fault_of fault)) }
     {
         if is_word(b"$origin", name) {
             return self.take_origin(words);
@@ -231,43 +299,36 @@ impl Reader {
         if is_word(b"$ttl", name) {
             return self.take_default_ttl(words);
         }
-        Err(ReadCode::UnknownDirective)
+        Err(EntryFault::UnknownDirective)
     }
 
     // Takes the words of `$ORIGIN`.
-    fn take_origin(&mut self, words: &[Word<'_>]) -> Result<(), ReadCode>
-        ensures ok { OnOk result ((o : DomainName) (earlier : List Entry) (e : Entry)
-            → Knows o earlier self.old → kind_of e ≡ directive (codes "$origin") words.now
-            → EntryTaken o earlier e [] self.old self.new) }
+    fn take_origin(&mut self, words: EntryWords<'_, '_>) -> Result<(), EntryFault>
+        ensures ok { OnOk result (TakesEntry self.old
+            (directive (codes "$origin") (words_left words.entry)) [] self.new) }
         ensures counted { self.new.count ≡ self.old.count }
         ensures line { self.new.line ≡ self.old.line }
-        ensures err { IfErr result (λ code. (o : DomainName) (earlier : List Entry)
-            → Knows o earlier self.old
-            → KindGives o earlier (directive (codes "$origin") words.now)
-            (faulty (fault_of code))) }
-        ensures source { IfErr result (λ code. code ≢ ReadCode.SourceFailed) }
+        ensures err { IfErr result (λ fault. RefusesEntry self.old
+            (directive (codes "$origin") (words_left words.entry)) (entry_fault_of fault)) }
     {
         let Some(origin) = read_origin(words, &self.origin) else {
-            return Err(ReadCode::DirectiveWords);
+            return Err(EntryFault::DirectiveWords);
         };
         self.origin = origin;
         Ok(())
     }
 
     // Takes the words of `$TTL`.
-    fn take_default_ttl(&mut self, words: &[Word<'_>]) -> Result<(), ReadCode>
-        ensures ok { OnOk result ((o : DomainName) (earlier : List Entry) (e : Entry)
-            → Knows o earlier self.old → kind_of e ≡ directive (codes "$ttl") words.now
-            → EntryTaken o earlier e [] self.old self.new) }
+    fn take_default_ttl(&mut self, words: EntryWords<'_, '_>) -> Result<(), EntryFault>
+        ensures ok { OnOk result (TakesEntry self.old
+            (directive (codes "$ttl") (words_left words.entry)) [] self.new) }
         ensures counted { self.new.count ≡ self.old.count }
         ensures line { self.new.line ≡ self.old.line }
-        ensures err { IfErr result (λ code. (o : DomainName) (earlier : List Entry)
-            → Knows o earlier self.old
-            → KindGives o earlier (directive (codes "$ttl") words.now) (faulty (fault_of code))) }
-        ensures source { IfErr result (λ code. code ≢ ReadCode.SourceFailed) }
+        ensures err { IfErr result (λ fault. RefusesEntry self.old
+            (directive (codes "$ttl") (words_left words.entry)) (entry_fault_of fault)) }
     {
         let Some(ttl) = read_default_ttl(words) else {
-            return Err(ReadCode::DirectiveWords);
+            return Err(EntryFault::DirectiveWords);
         };
         self.default_ttl = Some(ttl);
         Ok(())
@@ -277,64 +338,57 @@ impl Reader {
     fn take_owned(
         &mut self,
         owner: &Word<'_>,
-        words: &[Word<'_>],
+        words: EntryWords<'_, '_>,
         room: &mut DataRoom,
-    ) -> Result<(), ReadCode>
-        ensures ok { OnOk result ((o : DomainName) (earlier : List Entry) (e : Entry)
-            → Knows o earlier self.old → kind_of e ≡ owned owner.now words.now
-            → EntryTaken o earlier e (handed true self.new.last) self.old self.new) }
+    ) -> Result<(), Refusal>
+        ensures ok { OnOk result (TakesEntry self.old (owned owner.now (words_left words.entry))
+            (handed true self.new.last) self.new) }
         ensures counted { OnOk result (self.new.count
             ≡ self.old.count + length (handed true self.new.last)) }
         ensures some { OnOk result (IsSome self.new.last) }
         ensures line { self.new.line ≡ self.old.line }
-        ensures err { IfErr result (λ code. code ≢ ReadCode.NoMemory
-            → (o : DomainName) (earlier : List Entry) → Knows o earlier self.old
-            → KindGives o earlier (owned owner.now words.now) (faulty (fault_of code))) }
-        ensures source { IfErr result (λ code. code ≢ ReadCode.SourceFailed) }
+        ensures err { IfErr result (λ refusal. ForFault refusal
+            (RefusesEntry self.old (owned owner.now (words_left words.entry)))) }
     {
         if !spell_name(&mut self.owner, owner, &self.origin) {
-            return Err(ReadCode::BadOwner);
+            return Err(Refusal::Faulty(EntryFault::BadOwner));
         }
         self.owner.fold_in_place();
         self.take_record(words, room)
     }
 
     // Takes a record whose owner is that of the record before.
-    fn take_unowned(&mut self, words: &[Word<'_>], room: &mut DataRoom) -> Result<(), ReadCode>
-        ensures ok { OnOk result ((o : DomainName) (earlier : List Entry) (e : Entry)
-            → Knows o earlier self.old → kind_of e ≡ unowned words.now
-            → EntryTaken o earlier e (handed true self.new.last) self.old self.new) }
+    fn take_unowned(
+        &mut self,
+        words: EntryWords<'_, '_>,
+        room: &mut DataRoom,
+    ) -> Result<(), Refusal>
+        ensures ok { OnOk result (TakesEntry self.old (unowned (words_left words.entry))
+            (handed true self.new.last) self.new) }
         ensures counted { OnOk result (self.new.count
             ≡ self.old.count + length (handed true self.new.last)) }
         ensures some { OnOk result (IsSome self.new.last) }
         ensures line { self.new.line ≡ self.old.line }
-        ensures err { IfErr result (λ code. code ≢ ReadCode.NoMemory
-            → (o : DomainName) (earlier : List Entry) → Knows o earlier self.old
-            → KindGives o earlier (unowned words.now) (faulty (fault_of code))) }
-        ensures source { IfErr result (λ code. code ≢ ReadCode.SourceFailed) }
+        ensures err { IfErr result (λ refusal. ForFault refusal
+            (RefusesEntry self.old (unowned (words_left words.entry)))) }
     {
         let Some(last) = &self.last else {
-            return Err(ReadCode::NoOwner);
+            return Err(Refusal::Faulty(EntryFault::NoOwner));
         };
         self.owner.copy_from(&last.owner);
         self.take_record(words, room)
     }
 
     // Takes the record of the owner that was read, and of the words after it.
-    fn take_record(&mut self, words: &[Word<'_>], room: &mut DataRoom) -> Result<(), ReadCode>
+    fn take_record(&mut self, words: EntryWords<'_, '_>, room: &mut DataRoom) -> Result<(), Refusal>
         requires { folded self.old.owner ≡ self.old.owner }
-        ensures ok { OnOk result ((o : DomainName) (earlier : List Entry)
-            → Knows o earlier self.old → RecordTaken o earlier self.old.owner
-            (fields words.now) self.old self.new) }
+        ensures ok { OnOk result (TakesRecord self.old (fields (words_left words.entry)) self.new) }
         ensures counted { OnOk result (self.new.count
             ≡ self.old.count + length (handed true self.new.last)) }
         ensures some { OnOk result (IsSome self.new.last) }
         ensures line { self.new.line ≡ self.old.line }
-        ensures err { IfErr result (λ code. code ≢ ReadCode.NoMemory
-            → (o : DomainName) (earlier : List Entry) → Knows o earlier self.old
-            → RecordGives o earlier no_owner (λ n. n ≡ self.old.owner) (fields words.now)
-            (faulty (fault_of code))) }
-        ensures source { IfErr result (λ code. code ≢ ReadCode.SourceFailed) }
+        ensures err { IfErr result (λ refusal. ForFault refusal
+            (λ fault. RecordMeans self.old (fields (words_left words.entry)) (faulty fault))) }
     {
         let fields = Fields::of(words);
         let body = self.read_body(&fields, room)?;
@@ -345,40 +399,30 @@ impl Reader {
     }
 
     // What the fields after the owner that was read say.
-    fn read_body(
-        &self,
-        fields: &Fields<'_, '_>,
-        room: &mut DataRoom,
-    ) -> Result<RecordBody, ReadCode>
+    fn read_body(&self, fields: &Fields<'_, '_>, room: &mut DataRoom) -> Result<RecordBody, Refusal>
         requires { folded self.now.owner ≡ self.now.owner }
-        ensures ok { IfOk result (λ body. (o : DomainName) (earlier : List Entry)
-            → Knows o earlier self.now → RecordGives o earlier no_owner
-            (λ n. n ≡ self.now.owner) fields.now (gives (with_owner self.now.owner body ∷ []))) }
+        ensures ok { IfOk result (λ body. RecordMeans self.now fields.now
+            (gives (with_owner self.now.owner body ∷ []))) }
         ensures kept { IfOk result (λ body.
             IsKept self.now.owner body.ttl body.rtype.0 body.rdata) }
         ensures few { IfOk result (λ body. self.now.count < most_records) }
         ensures ttl { IfOk result (λ body. IfSome fields.now.ttl (λ w. TtlSays w body.ttl)) }
-        ensures err { IfErr result (λ code. code ≢ ReadCode.NoMemory
-            → (o : DomainName) (earlier : List Entry) → Knows o earlier self.now
-            → RecordGives o earlier no_owner (λ n. n ≡ self.now.owner) fields.now
-            (faulty (fault_of code))) }
-        ensures source { IfErr result (λ code. code ≢ ReadCode.SourceFailed) }
+        ensures err { IfErr result (λ refusal. ForFault refusal
+            (λ fault. RecordMeans self.now fields.now (faulty fault))) }
     {
-        let Ok(stated) = stated_ttl(fields.ttl) else {
-            return Err(ReadCode::BadTtl);
-        };
-        if is_other_class(fields.class) {
-            return Err(ReadCode::OtherClass);
+        let stated = stated_ttl(fields.ttl.as_ref())?;
+        if is_other_class(fields.class.as_ref()) {
+            return Err(Refusal::Faulty(EntryFault::OtherClass));
         }
         let Some((rtype, words)) = type_and_words(fields.others) else {
-            return Err(ReadCode::BadType);
+            return Err(Refusal::Faulty(EntryFault::BadType));
         };
         let Some(ttl) = self.ttl_in_force(stated) else {
-            return Err(ReadCode::NoTtl);
+            return Err(Refusal::Faulty(EntryFault::NoTtl));
         };
         let rdata = self.read_data(rtype, words, room)?;
         if self.count >= MOST_RECORDS {
-            return Err(ReadCode::TooManyRecords);
+            return Err(Refusal::Faulty(EntryFault::TooManyRecords));
         }
         Ok(RecordBody { ttl, rtype, rdata })
     }
@@ -393,15 +437,14 @@ impl Reader {
     fn read_data(
         &self,
         rtype: RType,
-        words: &[Word<'_>],
+        words: EntryWords<'_, '_>,
         room: &mut DataRoom,
-    ) -> Result<Rdata, ReadCode>
+    ) -> Result<Rdata, Refusal>
         ensures valid { IfOk result (λ d. Valid rtype.0 d) }
         ensures lowered { IfOk result (λ d. lower_case rtype.0 d ≡ d) }
-        ensures ok { IfOk result (λ d. Says rtype.0 words.now self.now.origin d) }
-        ensures err { IfErr result (λ code. code ≢ ReadCode.NoMemory
-            → (code ≡ ReadCode.BadData) × Nothing (Says rtype.0 words.now self.now.origin)) }
-        ensures source { IfErr result (λ code. code ≢ ReadCode.SourceFailed) }
+        ensures ok { IfOk result (λ d. Says rtype.0 (words_left words.entry) self.now.origin d) }
+        ensures err { IfErr result (λ refusal. ForFault refusal (λ fault.
+            (fault ≡ bad_data) × Nothing (Says rtype.0 (words_left words.entry) self.now.origin))) }
     {
         Ok(Rdata::read_words_in(room, rtype, words, &self.origin)?)
     }

@@ -1,8 +1,8 @@
 //! The text of a source.
 ghost use Rattle.std.specs.Prelude.{◌≡◌, ◌-◌, ◌^◌, ◌<◌, ◌≤◌, ◌⊎◌, length, IfOk, IfErr};
-ghost use Rattle.dns_master.specs.SourceForm.{AppendsPiece, TextOf};
-ghost use Rattle.dns_master.specs.Codes.{failures_after_code};
+ghost use Rattle.dns_master.specs.SourceForm.{AppendsPiece, HasMore};
 ghost use Rattle.dns_master.specs.declared.source.TheConstants.{PIECE};
+ghost use Rattle.dns_master.specs.Codes.{failures_after_code};
 
 use crate::fault::ReadCode;
 use dns_name::Tally;
@@ -12,40 +12,19 @@ use std::io::Read;
 /// A text has at most so many octets.
 pub(crate) const MOST_OCTETS: usize = 16_777_216;
 
-// How many octets are asked for at once.
-const PIECE: usize = 65_536;
+/// How many octets are asked for at once.
+pub(crate) const PIECE: usize = 4_096;
 
-/// The octets of a source to its end, or the first 16,777,217 of them: no more are asked for.
-///
-/// `SourceFailed` where a call failed, `NoMemory` where no memory was found.
-pub(crate) fn read_text<R: Read>(alloc: Global, source: &mut Tally<R>) -> Result<Vec<u8>, ReadCode>
-    requires { source.old.failures < 2 ^ 64 - 1 }
-    ensures ok { IfOk result (λ text. TextOf (R.remaining source.old.device) text.items) }
-    ensures err { IfErr result (λ code. (code ≡ ReadCode.SourceFailed)
-        ⊎ (code ≡ ReadCode.NoMemory)) }
-    ensures counted { source.new.failures ≡ failures_after_code source.old.failures result }
-{
-    let mut piece = new_piece(alloc)?;
-    let mut text = Vec::new(alloc);
-    'pieces: while text.len() <= MOST_OCTETS {
-        let asked = PIECE.min(MOST_OCTETS + 1 - text.len());
-        if !append_piece(source, asked, piece.as_mut_slice(), &mut text)? {
-            return Ok(text);
-        }
-    }
-    Ok(text)
-}
-
-// Room for a piece.
-fn new_piece(alloc: Global) -> Result<Vec<u8>, ReadCode>
+/// Room for a piece.
+pub(crate) fn new_piece(alloc: Global) -> Result<Vec<u8>, ReadCode>
     ensures ok { IfOk result (λ piece. length piece.items ≡ PIECE) }
     ensures err { IfErr result (λ code. code ≡ ReadCode.NoMemory) }
 {
     Ok(vec![in alloc; 0; PIECE]?)
 }
 
-// Reads so many octets at most, once, and appends what came: false at the end of the source.
-fn append_piece<R: Read>(
+/// Reads so many octets at most, once, and appends what came: false at the end of the source.
+pub(crate) fn append_piece<R: Read>(
     source: &mut Tally<R>,
     asked: usize,
     piece: &mut [u8],
@@ -68,4 +47,22 @@ fn append_piece<R: Read>(
     let (came, _) = front.split_at(count);
     text.extend_from_slice(came)?;
     Ok(count > 0)
+}
+
+/// Reads one octet more: false at the end of the source.
+pub(crate) fn is_more<R: Read>(
+    alloc: Global,
+    source: &mut Tally<R>,
+    piece: &mut [u8],
+) -> Result<bool, ReadCode>
+    requires count { source.old.failures < 2 ^ 64 - 1 }
+    requires room { 1 ≤ length piece.old }
+    ensures ok { IfOk result (λ more. HasMore (R.remaining source.old.device)
+        (R.remaining source.new.device) more) }
+    ensures err { IfErr result (λ code. (code ≡ ReadCode.SourceFailed)
+        ⊎ (code ≡ ReadCode.NoMemory)) }
+    ensures counted { source.new.failures ≡ failures_after_code source.old.failures result }
+{
+    let mut past = Vec::new(alloc);
+    append_piece(source, 1, piece, &mut past)
 }

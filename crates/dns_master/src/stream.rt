@@ -2,10 +2,10 @@
 ghost use Rattle.std.specs.Prelude.{◌≡◌, ◌≢◌, ◌+◌, ◌<◌, ◌≤◌, [], ◌∷◌, length, false, IfOk, IfErr, IsSome, IsTrue};
 ghost use Rattle.std.specs.Option.{option_copied};
 ghost use Rattle.dns_spec.specs.Meaning.{Meaning, Means, records, fault_at, after, most_records};
-ghost use Rattle.dns_master.specs.Codes.{fault_of};
+ghost use Rattle.dns_master.specs.Codes.{IsFaultOf, OfEntry, fault_of};
 ghost use Rattle.dns_master.specs.RecordsForm.{StillGives, came, given_so_far, octets_left};
 
-use crate::fault::{ReadCode, ReadFault};
+use crate::fault::{EntryFault, ReadCode, ReadFault, Refusal};
 use crate::record::Record;
 use crate::source::MOST_OCTETS;
 use crate::state::{Reader, Records};
@@ -57,7 +57,7 @@ impl<'a> Records<'a> {
             }
         }
         if self.goes_on {
-            return Err(entry_fault(ReadCode::TooLong, self.reader.line));
+            return Err(entry_fault(Refusal::Faulty(EntryFault::TooLong), self.reader.line));
         }
         Ok(false)
     }
@@ -78,10 +78,8 @@ impl<'a> Records<'a> {
         ensures counted { IfOk result (λ taken. given_so_far self.new
             ≡ given_so_far self.old + length (came taken self.new)) }
         ensures shorter { IfOk result (λ _. octets_left self.new < octets_left self.old) }
-        ensures err { IfErr result (λ f. f.code ≢ ReadCode.NoMemory
-            → StillGives self.old (fault_at (fault_of f.code) f.line)) }
-        ensures source { IfErr result (λ f. f.code ≢ ReadCode.SourceFailed) }
-        ensures memory { IfErr result (λ f. f.code ≡ ReadCode.NoMemory → f.line ≡ 0) }
+        ensures err { IfErr result (OfEntry (λ fault line.
+            StillGives self.old (fault_at fault line))) }
     {
         let line = self.reader.line;
         match self
@@ -92,19 +90,23 @@ impl<'a> Records<'a> {
                 self.rest = rest;
                 Ok(taken)
             }
-            Err(code) => Err(entry_fault(code, line)),
+            Err(refusal) => Err(entry_fault(refusal, line)),
         }
     }
 }
 
-// The fault of an entry that begins on this line.
-fn entry_fault(code: ReadCode, line: u32) -> ReadFault
-    ensures code { result.code ≡ code }
-    ensures line { code ≢ ReadCode.NoMemory → result.line ≡ line }
-    ensures memory { code ≡ ReadCode.NoMemory → result.line ≡ 0 }
+/// The fault of an entry that begins on this line.
+pub(crate) fn entry_fault(refusal: Refusal, line: u32) -> ReadFault
+    ensures { IsFaultOf refusal line result }
 {
-    match code {
-        ReadCode::NoMemory => ReadFault { code, line: 0 },
-        _ => ReadFault { code, line },
+    match refusal {
+        Refusal::Faulty(fault) => ReadFault {
+            code: fault.into(),
+            line,
+        },
+        Refusal::NoMemory => ReadFault {
+            code: ReadCode::NoMemory,
+            line: 0,
+        },
     }
 }

@@ -18,6 +18,7 @@ pub(crate) enum Token<'a> {
 
 /// The token that a text begins with, and the text after it. `None` at the end of the text, and
 /// where no token begins.
+#[inline(always)]
 pub(crate) fn first_token(text: &[u8]) -> Option<(Token<'_>, &[u8])>
     ensures { Begins result (token_front text.now) }
 {

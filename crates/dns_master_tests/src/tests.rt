@@ -2,6 +2,8 @@ mod devices;
 mod faults;
 mod hostile;
 mod limits;
+mod many_words;
+mod pieces;
 mod plain;
 mod reading;
 mod records;

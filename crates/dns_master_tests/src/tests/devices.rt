@@ -1,10 +1,10 @@
 //! Sources that give what they have in other pieces, that fail, and that have no end.
 
-use super::reading::example;
+use super::reading::{ONE, Pieces, example};
 use dns_master::{ReadCode, ReadFault, Record, read_zone};
 use dns_name::Tally;
 use std::alloc::Global;
-use std::io::{self, ErrorKind, Read};
+use std::io::{self, Read};
 use std::test::Fail;
 
 const TEXT: &[u8] = b"$TTL 60
@@ -15,32 +15,7 @@ ns A 192.0.2.1
 ";
 
 // How many octets are given at a call, one call after another.
-const ONE: &[usize] = &[1];
-
 const ANY: &[usize] = &[3, 1, 65_536, 2, 7];
-
-// A source that gives a text in pieces of such lengths. The call `fails_at`, counted from 0, fails,
-// and later ones work.
-#[derive(Drop)]
-struct Pieces<'a> {
-    text: &'a [u8],
-    lengths: &'a [usize],
-    calls: usize,
-    fails_at: usize,
-}
-
-impl Read for Pieces<'_> {
-    fn read(&mut self, buf: &mut [u8]) -> io::Result<usize> {
-        let call = self.calls;
-        self.calls = call.saturating_add(1);
-        if call == self.fails_at {
-            return Err(io::Error::from(ErrorKind::Other));
-        }
-        let length = self.lengths.get(call % self.lengths.len().max(1));
-        let most = length.copied().unwrap_or(1).min(buf.len());
-        self.text.read(&mut buf[..most])
-    }
-}
 
 // A source that gives so many octets at a call, and never ends.
 #[derive(Drop)]

@@ -1,8 +1,9 @@
 //! What the tests of the reader share.
 
-use dns_master::{Record, read_zone};
+use dns_master::{ReadFault, Record, read_zone};
 use dns_name::{Name, Tally};
 use std::alloc::{AllocError, Global};
+use std::io::{self, ErrorKind, Read};
 use std::process::Abort;
 use std::test::Fail;
 
@@ -13,27 +14,70 @@ pub(super) fn example() -> Result<Name, Fail> {
     Ok(Name::read_text(b"example.", &Name::root())?)
 }
 
-/// The fault of a whole file, as its code and line; 0 and 0 where it has none.
-pub(super) fn fault(alloc: Global, text: &[u8]) -> Result<(u8, u32), Fail> {
+/// One octet at each call.
+pub(super) const ONE: &[usize] = &[1];
+
+/// A source that gives at most so many octets of a text at a call, one call after another. The
+/// call `fails_at`, counted from 0, fails, and later ones work.
+#[derive(Drop)]
+pub(super) struct Pieces<'a> {
+    pub(super) text: &'a [u8],
+    pub(super) lengths: &'a [usize],
+    pub(super) calls: usize,
+    pub(super) fails_at: usize,
+}
+
+impl Read for Pieces<'_> {
+    fn read(&mut self, buf: &mut [u8]) -> io::Result<usize> {
+        let call = self.calls;
+        self.calls = call.saturating_add(1);
+        if call == self.fails_at {
+            return Err(io::Error::from(ErrorKind::Other));
+        }
+        let length = self.lengths.get(call % self.lengths.len().max(1));
+        let most = length.copied().unwrap_or(1).min(buf.len());
+        self.text.read(&mut buf[..most])
+    }
+}
+
+/// A source that gives so many octets of a text at a call, and never fails.
+pub(super) fn by<'a>(text: &'a [u8], lengths: &'a [usize]) -> Pieces<'a> {
+    Pieces {
+        text,
+        lengths,
+        calls: 0,
+        fails_at: usize::MAX,
+    }
+}
+
+/// The records of what a source gives, or their fault.
+pub(super) fn read<R: Read + Drop>(
+    alloc: Global,
+    source: R,
+) -> Result<Result<Vec<Record>, ReadFault>, Fail> {
     let origin = example()?;
-    let mut source = Tally::new(text);
-    Ok(match read_zone(alloc, &origin, &mut source) {
+    let mut source = Tally::new(source);
+    Ok(read_zone(alloc, &origin, &mut source))
+}
+
+/// The fault of what a source gives, as its code and line; 0 and 0 where it has none.
+pub(super) fn fault<R: Read + Drop>(alloc: Global, source: R) -> Result<(u8, u32), Fail> {
+    Ok(match read(alloc, source)? {
         Ok(_) => (0, 0),
         Err(fault) => (fault.code.number(), fault.line),
     })
 }
 
-/// The records of a whole file.
-pub(super) fn records(alloc: Global, text: &[u8]) -> Result<Vec<Record>, Fail> {
-    let origin = example()?;
-    let mut source = Tally::new(text);
-    Ok(read_zone(alloc, &origin, &mut source)?)
-}
-
-/// Files, each with its fault.
+/// Files, each with its fault, which is the same where each octet is a piece.
 pub(super) fn judge<R: Abort + AllocGlobal>(rt: &R, rows: &[Row<'_>]) -> Result<(), Fail> {
     for (text, wanted) in rows {
-        assert_eq!(rt; fault(rt.alloc(), text)?, *wanted, "at {text:?}");
+        assert_eq!(rt; fault(rt.alloc(), *text)?, *wanted, "at {text:?}");
+        let octets = by(text, ONE);
+        assert_eq!(rt;
+            fault(rt.alloc(), octets)?,
+            *wanted,
+            "octet by octet at {text:?}"
+        );
     }
     Ok(())
 }

@@ -1,17 +1,17 @@
 //! Records that files mean.
 
-use super::reading::{example, records};
+use super::reading::{ONE, by, example, read};
 use dns_master::{Record, Records};
 use std::process::Abort;
 use std::test::Fail;
 
 // A record: owner, TTL, type and data.
-type Meant<'a> = (&'a [u8], u32, u16, &'a [u8]);
+pub(super) type Meant<'a> = (&'a [u8], u32, u16, &'a [u8]);
 
 // A file, and its records.
 type Case<'a> = (&'a [u8], &'a [Meant<'a>]);
 
-const MIXED: &[u8] = b"$TTL 60
+pub(super) const MIXED: &[u8] = b"$TTL 60
 @ SOA ns h ( 1 2
  3 4 ; c
  5 )
@@ -23,7 +23,7 @@ a\\.b 7 IN TXT hi \"x;y\"
  CLASS1 9 TYPE65280 \\# 3 AB cdef
 ";
 
-const MIXED_MEANS: [Meant<'static>; 6] = [
+pub(super) const MIXED_MEANS: [Meant<'static>; 6] = [
     (
         b"\x07example\x00",
         60,
@@ -195,12 +195,11 @@ const WORDS: [Case<'static>; 5] = [
 ];
 
 fn compare<R: Abort + AllocGlobal>(rt: &R, text: &[u8], meant: &[Meant<'_>]) -> Result<(), Fail> {
-    let listed = records(rt.alloc(), text)?;
-    assert_eq!(rt; listed.len(), meant.len(), "of {text:?}");
+    judge_all(rt, &read(rt.alloc(), text)??, text, meant)?;
+    judge_all(rt, &read(rt.alloc(), by(text, ONE))??, text, meant)?;
     let origin = example()?;
     let mut entries = Records::new(rt.alloc(), &origin, text);
-    for (record, wanted) in listed.iter().zip(meant) {
-        judge(rt, text, record, wanted);
+    for wanted in meant {
         assert!(rt; entries.advance()?, "of {text:?}");
         assert!(rt; entries.record().is_some(), "of {text:?}");
         if let Some(lent) = entries.record() {
@@ -208,6 +207,20 @@ fn compare<R: Abort + AllocGlobal>(rt: &R, text: &[u8], meant: &[Meant<'_>]) -> 
         }
     }
     assert!(rt; !entries.advance()?, "of {text:?}");
+    Ok(())
+}
+
+/// Compares the records of a text with what is meant.
+pub(super) fn judge_all<R: Abort>(
+    rt: &R,
+    listed: &[Record],
+    text: &[u8],
+    meant: &[Meant<'_>],
+) -> Result<(), Fail> {
+    assert_eq!(rt; listed.len(), meant.len(), "of {text:?}");
+    for (record, wanted) in listed.iter().zip(meant) {
+        judge(rt, text, record, wanted);
+    }
     Ok(())
 }
 

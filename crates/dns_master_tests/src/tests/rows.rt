@@ -1,4 +1,4 @@
-use super::reading::{Row, fault};
+use super::reading::{Row, judge};
 use std::test::Fail;
 
 #[test]
@@ -25,8 +25,5 @@ fn faults_of_small_files(rt: HostRuntime) -> Result<(), Fail> {
         (b"a A 1", (12, 1)),
         (b"a 1 A 192.0.2.1 ; (\r\n\tNS @\n", (0, 0)),
     ];
-    for (text, wanted) in rows {
-        assert_eq!(rt; fault(rt.alloc(), text)?, wanted);
-    }
-    Ok(())
+    judge(&rt, &rows)
 }

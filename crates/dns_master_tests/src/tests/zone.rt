@@ -1,6 +1,6 @@
 //! A whole zone, and its faults.
 
-use super::reading::{Row, fault, judge, records};
+use super::reading::{Row, fault, judge, read};
 use std::alloc::{AllocError, Global};
 use std::test::Fail;
 
@@ -39,7 +39,7 @@ fn file_of(alloc: Global, lines: &[&[u8]]) -> Result<Vec<u8>, AllocError> {
 #[test]
 fn a_zone_without_fault(rt: HostRuntime) -> Result<(), Fail> {
     let text = file_of(rt.alloc(), &LINES)?;
-    assert_eq!(rt; records(rt.alloc(), &text)?.len(), 9);
+    assert_eq!(rt; read(rt.alloc(), text.as_slice())??.len(), 9);
     Ok(())
 }
 
@@ -53,7 +53,11 @@ fn a_line_that_is_another(rt: HostRuntime) -> Result<(), Fail> {
         let mut lines = LINES;
         lines[at] = line;
         let text = file_of(rt.alloc(), &lines)?;
-        assert_eq!(rt; fault(rt.alloc(), &text)?, wanted, "with {line:?}");
+        assert_eq!(rt;
+            fault(rt.alloc(), text.as_slice())?,
+            wanted,
+            "with {line:?}"
+        );
     }
     Ok(())
 }
@@ -61,7 +65,7 @@ fn a_line_that_is_another(rt: HostRuntime) -> Result<(), Fail> {
 #[test]
 fn a_line_that_is_missing(rt: HostRuntime) -> Result<(), Fail> {
     let text = file_of(rt.alloc(), &LINES[1..])?;
-    assert_eq!(rt; fault(rt.alloc(), &text)?, (12, 1));
+    assert_eq!(rt; fault(rt.alloc(), text.as_slice())?, (12, 1));
     Ok(())
 }
 
@@ -69,7 +73,7 @@ fn a_line_that_is_missing(rt: HostRuntime) -> Result<(), Fail> {
 fn an_open_parenthesis_at_the_end(rt: HostRuntime) -> Result<(), Fail> {
     let mut text = file_of(rt.alloc(), &LINES)?;
     text.extend_from_slice(b"v TXT ( \"a\"")?;
-    assert_eq!(rt; fault(rt.alloc(), &text)?, (4, 11));
+    assert_eq!(rt; fault(rt.alloc(), text.as_slice())?, (4, 11));
     Ok(())
 }
 

@@ -1,29 +1,125 @@
-use Rattle.std.proofs.Common.{◌≢◌, subst}
-use Rattle.dns_spec.specs.Meaning.{Meaning, Means, records, fault_at}
-use Rattle.dns_master.specs.Codes.{fault_of}
-use Rattle.dns_master.specs.SourceForm.{GivesMeaning}
-use Rattle.dns_master.specs.RecordsForm.{StillGives}
+use Rattle.std.proofs.Common.{rules, ◌≡◌, ◌≢◌, ℕ, Option, Result, IfErr, List, ◌++◌, length, length-append, take, false, arith, ◌∙◌}
+use Rattle.std.proofs.lemmas.List.{length-take-le}
+use Rattle.dns_spec.specs.Names.{Octets, DomainName}
+use Rattle.dns_spec.specs.Meaning.{records, fault_at}
+use Rattle.dns_master.specs.Codes.{OfEntry, fault_of}
+use Rattle.dns_master.specs.SourceForm.{GivesMeaning, Decides}
+use Rattle.dns_master.specs.PieceForm.{ReaderMeans, TextGathered}
 use Rattle.dns_master.specs.declared.fault.ReadFault.{ReadFault}
 use Rattle.dns_master.specs.declared.fault.ReadCode.TheVariants.{SourceFailed, NoMemory}
-use Rattle.dns_name.proofs.Results.{OnOk-map, IfErr-map}
-use Rattle.dns_master.proofs.EntriesLoop.{known-means}
+use Rattle.dns_name.proofs.Results.{OnOk-map, IfErr-map, fault_handed_on}
+use Rattle.dns_master.proofs.SourceSteps.{piece-given, fault-given, end-given, limit-given, end-records, limit-records, decided-gives}
 use Rattle.dns_master.proofs.reader.read_into.Goals as goal
-use Rattle.dns_master.proofs.reader.read_into.Goals.{After-drop-text}
-use Rattle.dns_master.proofs.reader.read_into.Given as given
 
-module _ (g : given.Over) (c : After-drop-text g) where
-  -- what the records of the octets that were read say is what the source means
-  meant : (m : Meaning) → StillGives c.new-entries.result m → GivesMeaning (g.R.Read.remaining c.args.source.now.device) c.args.origin.now m
-  meant m h =
-      known-means (g.R.Read.remaining c.args.source.now.device) c.args.origin.now c.in-Ok.text.items m
-      c.in-Ok.ensures.ok (subst (λ x. Means c.args.origin.now x m) c.as_slice.ensures.value (c.new-entries.ensures.all m h))
+pub returns-in_err-take_piece-clause-decided : goal.returns-in_err-take_piece-clause-decided
+returns-in_err-take_piece-clause-decided g c =
+    fault_handed_on c.from_residual.result c.in_err-take_piece.field-0.0 _ c.from_residual.ensures.1 (λ source memory.
+    fault-given _ _ _ c.args.origin.now c.pieces.begun.reader c.pieces.begun.held.items c.pieces.begun.left _ c.pieces.invariant.so_far
+    (fault_of c.in_err-take_piece.field-0.0.code) c.in_err-take_piece.field-0.0.line (c.in_err-take_piece.ensures.err source memory))
 
-pub returns-clause-ok : goal.returns-clause-ok
-returns-clause-ok g c = OnOk-map c.gather.result (meant g c (records (g.G.Gathers.gathered c.gather.new.found))) c.gather.ensures.ok
+pub returns-then-not-branch-clause-whole : goal.returns-then-not-branch-clause-whole
+returns-then-not-branch-clause-whole g c =
+    let old = g.R.Read.remaining c.args.source.now.device in
+    let mid = g.R.Read.remaining c.pieces.source.device in
+    let new = g.R.Read.remaining c.take_piece.new.source.device in
+    let o = c.args.origin.now in
+    let before = g.G.Gathers.gathered c.take_piece.new.found in
+    let all = g.G.Gathers.gathered c.finish.new.found in
+    let last = c.take_piece.new.self in
+    let none : c.in_ok-take_piece.field-0 ≡ false = search rules in
+    let piece = c.in_ok-take_piece.ensures.ok in
+    let so = piece-given old mid new o c.pieces.begun.reader c.pieces.begun.held.items c.pieces.begun.left (g.G.Gathers.gathered c.pieces.found) c.pieces.invariant.so_far
+    last.reader last.held.items last.left _ before piece in
+    let done : TextGathered last.reader false last.held.items before all → Decides old new o (records all) =
+    end-records old new new o last.reader last.held.items last.left before so all (piece.over none).1 in
+    OnOk-map c.finish.result done c.finish.ensures.ok
 
-pub returns-clause-fault : goal.returns-clause-fault
-returns-clause-fault g c =
-    let all : (f : ReadFault) → (f.code ≢ NoMemory → StillGives c.new-entries.result (fault_at (fault_of f.code) f.line))
-    → f.code ≢ SourceFailed → f.code ≢ NoMemory → GivesMeaning (g.R.Read.remaining c.args.source.now.device) c.args.origin.now (fault_at (fault_of f.code) f.line) =
-    λ f h source memory. meant g c (fault_at (fault_of f.code) f.line) (h memory) in
-    IfErr-map c.gather.result all c.gather.ensures.err
+pub returns-then-not-branch-clause-decided : goal.returns-then-not-branch-clause-decided
+returns-then-not-branch-clause-decided g c =
+    let old = g.R.Read.remaining c.args.source.now.device in
+    let mid = g.R.Read.remaining c.pieces.source.device in
+    let new = g.R.Read.remaining c.take_piece.new.source.device in
+    let o = c.args.origin.now in
+    let before = g.G.Gathers.gathered c.take_piece.new.found in
+    let last = c.take_piece.new.self in
+    let none : c.in_ok-take_piece.field-0 ≡ false = search rules in
+    let piece = c.in_ok-take_piece.ensures.ok in
+    let so = piece-given old mid new o c.pieces.begun.reader c.pieces.begun.held.items c.pieces.begun.left (g.G.Gathers.gathered c.pieces.found) c.pieces.invariant.so_far
+    last.reader last.held.items last.left _ before piece in
+    let done : (f : ReadFault) → OfEntry (λ fault line. ReaderMeans last.reader false last.held.items (fault_at fault line)) f
+    → f.code ≢ SourceFailed → f.code ≢ NoMemory → Decides old new o (fault_at (fault_of f.code) f.line) =
+    λ f h source memory.
+    end-given old new new o last.reader last.held.items last.left before so (fault_at (fault_of f.code) f.line) (piece.over none).1 (h.told memory) in
+    IfErr-map c.finish.result done c.finish.ensures.err
+
+written-back : (n m : ℕ) (xs ys : List ℕ) → n ≡ m → length xs ≡ m → length (take n (xs ++ ys)) ≡ m
+written-back n m xs ys e size = length-take-le n (xs ++ ys) (omega (arith, e, size, length-append xs ys)) ∙ e
+
+pub pieces-preserved : goal.pieces-preserved
+pieces-preserved g c = record {
+  so_far = piece-given _ _ _ c.args.origin.now c.pieces.begun.reader c.pieces.begun.held.items c.pieces.begun.left (g.G.Gathers.gathered c.pieces.found) c.pieces.invariant.so_far
+      c.take_piece.new.self.reader c.take_piece.new.self.held.items c.take_piece.new.self.left _ (g.G.Gathers.gathered c.take_piece.new.found) c.in_ok-take_piece.ensures.ok;
+  count = c.in_ok-take_piece.ensures.count;
+  fits = c.in_ok-take_piece.ensures.fits;
+  counted = c.in_ok-take_piece.ensures.counted ∙ c.pieces.invariant.counted;
+  room = written-back c.pieces.piece.len 4096 c.take_piece.new.piece _ (search rules) (search rules);
+}
+
+pub returns-in-Ok-is_more-clause-whole : goal.returns-in-Ok-is_more-clause-whole
+returns-in-Ok-is_more-clause-whole g c =
+    let old = g.R.Read.remaining c.args.source.now.device in
+    let mid = g.R.Read.remaining c.pieces.source.device in
+    let new = g.R.Read.remaining c.is_more.new.source.device in
+    let o = c.args.origin.now in
+    let before = g.G.Gathers.gathered c.pieces.found in
+    let all = g.G.Gathers.gathered c.finish-in-Ok-is_more.new.found in
+    let last = c.pieces.begun in
+    let full : last.left ≡ 0 = search rules in
+    let done : TextGathered last.reader c.in-Ok-is_more.goes_on last.held.items before all → Decides old new o (records all) =
+    limit-records old mid new o last.reader last.held.items last.left before c.pieces.invariant.so_far c.in-Ok-is_more.goes_on all full c.in-Ok-is_more.ensures.ok in
+    OnOk-map c.finish-in-Ok-is_more.result done c.finish-in-Ok-is_more.ensures.ok
+
+pub returns-in-Ok-is_more-clause-decided : goal.returns-in-Ok-is_more-clause-decided
+returns-in-Ok-is_more-clause-decided g c =
+    let old = g.R.Read.remaining c.args.source.now.device in
+    let mid = g.R.Read.remaining c.pieces.source.device in
+    let new = g.R.Read.remaining c.is_more.new.source.device in
+    let o = c.args.origin.now in
+    let before = g.G.Gathers.gathered c.pieces.found in
+    let last = c.pieces.begun in
+    let full : last.left ≡ 0 = search rules in
+    let done : (f : ReadFault) → OfEntry (λ fault line. ReaderMeans last.reader c.in-Ok-is_more.goes_on last.held.items (fault_at fault line)) f
+    → f.code ≢ SourceFailed → f.code ≢ NoMemory → Decides old new o (fault_at (fault_of f.code) f.line) =
+    λ f h source memory.
+    limit-given old mid new o last.reader last.held.items last.left before c.pieces.invariant.so_far c.in-Ok-is_more.goes_on (fault_at (fault_of f.code) f.line)
+    full c.in-Ok-is_more.ensures.ok (h.told memory) in
+    IfErr-map c.finish-in-Ok-is_more.result done c.finish-in-Ok-is_more.ensures.err
+
+-- what is decided is what the source gives
+faults_given : {A : Type 0} (old new : Option Octets) (o : DomainName) (result : Result A ReadFault)
+    → IfErr result (λ f. f.code ≢ SourceFailed → f.code ≢ NoMemory → Decides old new o (fault_at (fault_of f.code) f.line))
+    → IfErr result (λ f. f.code ≢ SourceFailed → f.code ≢ NoMemory → GivesMeaning old o (fault_at (fault_of f.code) f.line))
+faults_given old new o result = IfErr-map result (λ f h source memory. decided-gives old new o (fault_at (fault_of f.code) f.line) (h source memory))
+
+pub returns-in_err-take_piece-clause-fault : goal.returns-in_err-take_piece-clause-fault
+returns-in_err-take_piece-clause-fault g c =
+    faults_given (g.R.Read.remaining c.args.source.now.device) _ c.args.origin.now c.from_residual.result (returns-in_err-take_piece-clause-decided g c)
+
+pub returns-then-not-branch-clause-ok : goal.returns-then-not-branch-clause-ok
+returns-then-not-branch-clause-ok g c =
+    OnOk-map c.finish.result (decided-gives (g.R.Read.remaining c.args.source.now.device) _ c.args.origin.now (records (g.G.Gathers.gathered c.finish.new.found)))
+    (returns-then-not-branch-clause-whole g c)
+
+pub returns-then-not-branch-clause-fault : goal.returns-then-not-branch-clause-fault
+returns-then-not-branch-clause-fault g c =
+    faults_given (g.R.Read.remaining c.args.source.now.device) _ c.args.origin.now c.finish.result (returns-then-not-branch-clause-decided g c)
+
+pub returns-in-Ok-is_more-clause-ok : goal.returns-in-Ok-is_more-clause-ok
+returns-in-Ok-is_more-clause-ok g c =
+    OnOk-map c.finish-in-Ok-is_more.result
+    (decided-gives (g.R.Read.remaining c.args.source.now.device) _ c.args.origin.now (records (g.G.Gathers.gathered c.finish-in-Ok-is_more.new.found)))
+    (returns-in-Ok-is_more-clause-whole g c)
+
+pub returns-in-Ok-is_more-clause-fault : goal.returns-in-Ok-is_more-clause-fault
+returns-in-Ok-is_more-clause-fault g c =
+    faults_given (g.R.Read.remaining c.args.source.now.device) _ c.args.origin.now c.finish-in-Ok-is_more.result (returns-in-Ok-is_more-clause-decided g c)

@@ -1,17 +1,16 @@
-use Rattle.std.proofs.Common.{refl, ◌≡◌, ◌≢◌, true, List}
+use Rattle.std.proofs.Common.{refl, ◌≡◌, true, List}
 use Rattle.dns_spec.specs.Names.{DomainName}
 use Rattle.dns_spec.specs.ZoneText.{Entry}
-use Rattle.dns_spec.specs.FileFaults.{bad_owner, no_owner}
+use Rattle.dns_spec.specs.FileFaults.{FileFault, bad_owner, no_owner}
 use Rattle.dns_spec.specs.Meaning.{RecordGives, faulty, NameIs, owned, kind_of, fields}
 use Rattle.dns_spec.proofs.DataWords.LoweredData.{folded-folded}
-use Rattle.dns_master.specs.Codes.{fault_of}
-use Rattle.dns_master.specs.declared.fault.ReadCode.{ReadCode}
-use Rattle.dns_master.specs.declared.fault.ReadCode.TheVariants.{NoMemory}
 use Rattle.dns_master.specs.declared.state.Reader.{Reader}
 use Rattle.dns_master.specs.RecordForm.{SpelledName}
 use Rattle.dns_master.specs.ReaderForm.{Knows, RecordTaken, EntryTaken, handed}
 use Rattle.dns_name.proofs.Results.{OnOk-map, IfErr-map}
 use Rattle.dns_master.proofs.KnowsSteps.{owner-read, owned-taken, given-owner}
+use Rattle.dns_master.specs.WordsLeft.{words_left}
+use Rattle.dns_master.proofs.Refusals.{ForFault-map}
 use Rattle.dns_master.proofs.state.Reader.take_owned.Goals as goal
 use Rattle.dns_master.proofs.state.Reader.take_owned.Goals.{After-take_record}
 
@@ -39,21 +38,21 @@ take_record-requires c = rw c.fold_in_place.ensures (folded-folded c.spell_name.
 pub returns-clause-ok : goal.returns-clause-ok
 returns-clause-ok c =
     let all : ((o : DomainName) (earlier : List Entry) → Knows o earlier (read c)
-    → RecordTaken o earlier c.fold_in_place.new.self (fields c.args.words.now) (read c) c.take_record.new.self)
-    → (o : DomainName) (earlier : List Entry) (e : Entry) → Knows o earlier c.args.self.now → kind_of e ≡ owned c.args.owner.now c.args.words.now
+    → RecordTaken o earlier c.fold_in_place.new.self (fields (words_left c.args.words)) (read c) c.take_record.new.self)
+    → (o : DomainName) (earlier : List Entry) (e : Entry) → Knows o earlier c.args.self.now → kind_of e ≡ owned c.args.owner.now (words_left c.args.words)
     → EntryTaken o earlier e (handed true c.take_record.new.self.last) c.args.self.now c.take_record.new.self =
     λ taken o earlier e known is.
-    owned-taken o earlier e _ _ known c.args.owner.now c.args.words.now c.spell_name.new.name c.fold_in_place.new.self is
+    owned-taken o earlier e _ _ known c.args.owner.now (words_left c.args.words) c.spell_name.new.name c.fold_in_place.new.self is
     ((named c).0, (c.args.self.now.origin, known.origin_is, (named c).1)) c.fold_in_place.ensures (rw c.fold_in_place.ensures (folded-folded c.spell_name.new.name)) (owner-read o earlier _ _ _ (read c) _ (taken o earlier known) refl refl refl refl) in
     OnOk-map _ all c.take_record.ensures.ok
 
 pub returns-clause-err : goal.returns-clause-err
 returns-clause-err c =
-    let all : (code : ReadCode) → (code ≢ NoMemory → (o : DomainName) (earlier : List Entry) → Knows o earlier c.args.self.now
-    → RecordGives o earlier no_owner (λ n. n ≡ c.fold_in_place.new.self) (fields c.args.words.now) (faulty (fault_of code)))
-    → code ≢ NoMemory → (o : DomainName) (earlier : List Entry) → Knows o earlier c.args.self.now
-    → RecordGives o earlier bad_owner (NameIs o earlier c.args.owner.now) (fields c.args.words.now) (faulty (fault_of code)) =
-    λ code reported other o earlier known.
-    given-owner o earlier (NameIs o earlier c.args.owner.now) (fields c.args.words.now) c.spell_name.new.name c.fold_in_place.new.self
-    ((named c).0, (c.args.self.now.origin, known.origin_is, (named c).1)) c.fold_in_place.ensures (rw c.fold_in_place.ensures (folded-folded c.spell_name.new.name)) bad_owner _ (reported other o earlier known) in
-    IfErr-map _ all c.take_record.ensures.err
+    let all : (fault : FileFault) → ((o : DomainName) (earlier : List Entry) → Knows o earlier c.args.self.now
+    → RecordGives o earlier no_owner (λ n. n ≡ c.fold_in_place.new.self) (fields (words_left c.args.words)) (faulty fault))
+    → (o : DomainName) (earlier : List Entry) → Knows o earlier c.args.self.now
+    → RecordGives o earlier bad_owner (NameIs o earlier c.args.owner.now) (fields (words_left c.args.words)) (faulty fault) =
+    λ fault reported o earlier known.
+    given-owner o earlier (NameIs o earlier c.args.owner.now) (fields (words_left c.args.words)) c.spell_name.new.name c.fold_in_place.new.self
+    ((named c).0, (c.args.self.now.origin, known.origin_is, (named c).1)) c.fold_in_place.ensures (rw c.fold_in_place.ensures (folded-folded c.spell_name.new.name)) bad_owner _ (reported o earlier known) in
+    IfErr-map _ (λ refusal. ForFault-map refusal all) c.take_record.ensures.err

@@ -1,25 +1,26 @@
-use Rattle.std.proofs.Common.{◌≡◌, [], ◌∷◌, subst, sym, ap, ◌∙◌, refl, Some, if◌then◌else◌, IfSome}
+use Rattle.std.proofs.Common.{◌≡◌, [], ◌∷◌, subst, ap, ◌∙◌, refl, Some, if◌then◌else◌, IfSome}
 use Rattle.std.specs.Option.{is_some}
 use Rattle.dns_spec.specs.FileFaults.{no_owner}
 use Rattle.dns_spec.specs.Meaning.{Fields, RecordGives, TtlSays, fields, faulty, gives}
-use Rattle.dns_master.specs.Codes.{fault_of}
 use Rattle.dns_master.specs.OwnedBody.{with_owner}
 use Rattle.dns_name.proofs.Results.{fault_handed_on}
-use Rattle.dns_master.proofs.RecordSteps.{last-stated, copied-some}
+use Rattle.dns_master.proofs.RecordSteps.{last-stated}
+use Rattle.dns_master.specs.WordsLeft.{words_left}
+use Rattle.dns_master.proofs.Refusals.{ForFault-map}
 use Rattle.dns_master.proofs.state.Reader.take_record.Goals as goal
 
 pub returns-in_err-body-clause-err : goal.returns-in_err-body-clause-err
-returns-in_err-body-clause-err c = fault_handed_on c.from_residual.result c.in_err-body.field-0.0 _ c.from_residual.ensures.1 (λ other o earlier known.
-    subst (λ (f : Fields). RecordGives o earlier no_owner (λ n. n ≡ c.args.self.now.owner) f (faulty (fault_of c.in_err-body.field-0.0))) c.of-fields.ensures
-    (c.in_err-body.ensures.err other o earlier known))
+returns-in_err-body-clause-err c = fault_handed_on c.from_residual.result c.in_err-body.field-0.0 _ c.from_residual.ensures.1 (ForFault-map c.in_err-body.field-0.0 (λ fault given o earlier known.
+    subst (λ (f : Fields). RecordGives o earlier no_owner (λ n. n ≡ c.args.self.now.owner) f (faulty fault)) c.of-fields.ensures
+    (given o earlier known)) c.in_err-body.ensures.err)
 
 pub returns-clause-ok : goal.returns-clause-ok
 returns-clause-ok c = λ o earlier known.
     let body = c.in_ok-body.body in
     let owner = c.args.self.now.owner in
-    let now : c.last_stated-self.result ≡ (if is_some (fields c.args.words.now).ttl then Some body.ttl else c.args.self.now.stated_ttl) =
-    let some : c.is_some.result ≡ is_some (fields c.args.words.now).ttl =
-    c.is_some.ensures ∙ sym (copied-some c.fields.inside.ttl) ∙ ap (λ (f : Fields). is_some f.ttl) (c.fields.view_is ∙ c.of-fields.ensures) in
+    let now : c.last_stated-self.result ≡ (if is_some (fields (words_left c.args.words)).ttl then Some body.ttl else c.args.self.now.stated_ttl) =
+    let some : c.is_some.result ≡ is_some (fields (words_left c.args.words)).ttl =
+    c.is_some.ensures ∙ ap (λ (f : Fields). is_some f.ttl) (c.fields.view_is ∙ c.of-fields.ensures) in
     c.last_stated-self.ensures
     ∙ ap (λ b. if b then Some body.ttl else c.args.self.now.stated_ttl) some in
     record {
@@ -31,8 +32,8 @@ returns-clause-ok c = λ o earlier known.
       origin_is = refl;
       default_is = refl;
       stated_is = λ w h.
-          let reported : IfSome (fields c.args.words.now).ttl (λ x. TtlSays x body.ttl) =
+          let reported : IfSome (fields (words_left c.args.words)).ttl (λ x. TtlSays x body.ttl) =
           subst (λ (f : Fields). IfSome f.ttl (λ x. TtlSays x body.ttl)) c.of-fields.ensures c.in_ok-body.ensures.ttl in
-          rw now (last-stated (fields c.args.words.now).ttl w body.ttl c.args.self.now.stated_ttl reported h);
+          rw now (last-stated (fields (words_left c.args.words)).ttl w body.ttl c.args.self.now.stated_ttl reported h);
       count_is = refl;
     }

@@ -1,0 +1,122 @@
+-- The words of a text, by its tokens: each token's word, and those of the text after it.
+use Rattle.std.proofs.Common.{◌≡◌, ℕ, zero, suc, ◌+◌, ◌≤◌, ◌<◌, List, [], ◌∷◌, ◌++◌, length, take, refl, sym, ap, ◌∙◌, arith, append_assoc, append-nil, Option, Some, None}
+use Rattle.std.specs.List.{cons_option}
+use Rattle.dns_spec.specs.Names.{Octets}
+use Rattle.dns_spec.specs.DataText.{Word}
+use Rattle.dns_spec.specs.ZoneText.{Token, token_front, TokensThen, word_of}
+use Rattle.dns_spec.proofs.ZoneTexts.TextTokens.{front-shorter}
+use Rattle.dns_master.specs.EntryForm.{token_words}
+use Rattle.dns_master.specs.WordsForm.{words_from, words_of_first, words_in, KeptAndCounted, WordTaken}
+use Rattle.dns_master.proofs.EntryLoop.{cons_option-append, tokens-append, words-append}
+
+same_later : (f g : Octets → List Word) (front : Option (Token × Octets)) → ((p : Token) (others : Octets) → front ≡ Some (p, others) → f others ≡ g others)
+    → words_from f front ≡ words_from g front
+same_later f g None h = refl
+same_later f g (Some (p, others)) h = ap (cons_option (word_of p)) (h p others refl)
+
+-- more tokens than the text has octets make no difference
+same_words : (n m : ℕ) (text : Octets) → length text ≤ n → length text ≤ m → words_of_first n text ≡ words_of_first m text
+same_words zero zero text h k = refl
+same_words zero (suc m) [] h k = refl
+same_words zero (suc m) (o ∷ text) h k = absurd (omega (arith, h))
+same_words (suc n) zero [] h k = refl
+same_words (suc n) zero (o ∷ text) h k = absurd (omega (arith, k))
+same_words (suc n) (suc m) text h k =
+    same_later (words_of_first n) (words_of_first m) (token_front text) (λ p others e.
+    let less : length others < length text = front-shorter text p others e in
+    same_words n m others (omega (arith, less, h)) (omega (arith, less, k)))
+
+pub words-front : (text others : Octets) (p : Token) → token_front text ≡ Some (p, others) → words_in text ≡ cons_option (word_of p) (words_in others)
+words-front text others p e =
+    let less : length others < length text = front-shorter text p others e in
+    same_words (length text) (suc (length text)) text (omega arith) (omega arith)
+    ∙ ap (words_from (words_of_first (length text))) e
+    ∙ ap (cons_option (word_of p)) (same_words (length text) (length others) others (omega (arith, less)) (omega arith))
+
+pub words-none : (text : Octets) → token_front text ≡ None → words_in text ≡ []
+words-none text e =
+    same_words (length text) (suc (length text)) text (omega arith) (omega arith) ∙ ap (words_from (words_of_first (length text))) e
+
+-- a token that is a word, and one that is none
+pub words-word : (text others : Octets) (p : Token) (w : Word) → token_front text ≡ Some (p, others) → word_of p ≡ Some w → words_in text ≡ w ∷ words_in others
+words-word text others p w e is = words-front text others p e ∙ ap (λ x. cons_option x (words_in others)) is
+
+pub words-other : (text others : Octets) (p : Token) → token_front text ≡ Some (p, others) → word_of p ≡ None → words_in text ≡ words_in others
+words-other text others p e is = words-front text others p e ∙ ap (λ x. cons_option x (words_in others)) is
+
+words-then : (text rest : Octets) (ps : List Token) → TokensThen text ps rest → words_in text ≡ token_words ps ++ words_in rest
+words-then text rest [] h = ap words_in h
+words-then text rest (p ∷ ps) h =
+    words-front text h.0 p h.1 ∙ ap (cons_option (word_of p)) (words-then h.0 rest ps h.2)
+    ∙ cons_option-append (word_of p) (token_words ps) (words_in rest)
+
+take-length : {X : Type 0} (xs ys : List X) → take (length xs) (xs ++ ys) ≡ xs
+take-length [] ys = refl
+take-length (x ∷ xs) ys = ap (λ zs. x ∷ zs) (take-length xs ys)
+
+length-more : {X : Type 0} (xs ys : List X) → length xs ≤ length (xs ++ ys)
+length-more [] ys = omega arith
+length-more (x ∷ xs) ys = let more : length xs ≤ length (xs ++ ys) = length-more xs ys in omega (arith, more)
+
+-- the words that were counted stand in the text after those that are kept
+module _ (kept : List Word) (later rest : Octets) (count : ℕ) (all : List Word) (h : KeptAndCounted kept later rest count all) where
+  pub counted-enough : count ≤ length (words_in later)
+  counted-enough =
+      let more : length (token_words h.passed) ≤ length (token_words h.passed ++ words_in rest) = length-more (token_words h.passed) (words_in rest) in
+      let same : length (words_in later) ≡ length (token_words h.passed ++ words_in rest) = ap length (words-then later rest h.passed h.spelled) in
+      omega (arith, more, same, h.counted)
+
+  pub counted-words : kept ++ take count (words_in later) ≡ all
+  counted-words =
+      ap (λ n. kept ++ take n (words_in later)) h.counted
+      ∙ ap (λ ws. kept ++ take (length (token_words h.passed)) ws) (words-then later rest h.passed h.spelled)
+      ∙ ap (λ ws. kept ++ ws) (take-length (token_words h.passed) (words_in rest))
+      ∙ sym h.all_are
+
+pub nothing-counted : (text : Octets) → KeptAndCounted [] text text 0 []
+nothing-counted text = record { passed = []; spelled = refl; counted = refl; all_are = refl }
+
+module _ (p : Token) (others : Octets) (kept : List Word) (later : Octets) (count : ℕ) where
+  one-more : (rest : Octets) → token_front rest ≡ Some (p, others) → (ps : List Token) → TokensThen later ps rest → TokensThen later (ps ++ p ∷ []) others
+  one-more rest e ps h = tokens-append later rest others ps (p ∷ []) h (others, e, refl)
+
+  all-more : (ps : List Token) (all : List Word) → all ≡ kept ++ token_words ps → all ++ token_words (p ∷ []) ≡ kept ++ token_words (ps ++ p ∷ [])
+  all-more ps all is =
+      ap (λ x. x ++ token_words (p ∷ [])) is ∙ append_assoc kept (token_words ps) (token_words (p ∷ [])) ∙ ap (λ x. kept ++ x) (sym (words-append ps (p ∷ [])))
+
+  -- a token that is no word
+  pub passed-over : word_of p ≡ None → WordTaken p others kept later count kept later count
+  passed-over is rest all e h = record {
+    passed = h.passed ++ p ∷ [];
+    spelled = one-more rest e h.passed h.spelled;
+    counted = h.counted ∙ ap length (sym (words-append h.passed (p ∷ []) ∙ ap (λ x. token_words h.passed ++ cons_option x []) is ∙ append-nil (token_words h.passed)));
+    all_are = all-more h.passed all h.all_are;
+  }
+
+  -- a word that is counted
+  pub word-counted : (w : Word) → word_of p ≡ Some w → WordTaken p others kept later count kept later (count + 1)
+  word-counted w is rest all e h = record {
+    passed = h.passed ++ p ∷ [];
+    spelled = one-more rest e h.passed h.spelled;
+    counted = ap (λ n. n + 1) h.counted ∙ sym (length-one (token_words h.passed))
+        ∙ ap length (sym (words-append h.passed (p ∷ []) ∙ ap (λ x. token_words h.passed ++ cons_option x []) is));
+    all_are = all-more h.passed all h.all_are;
+  }
+    where
+      length-one : (ws : List Word) → length (ws ++ w ∷ []) ≡ length ws + 1
+      length-one [] = refl
+      length-one (v ∷ ws) = let more : length (ws ++ w ∷ []) ≡ length ws + 1 = length-one ws in omega (arith, more)
+
+  -- a word that is kept, where none was counted so far
+  pub word-kept : (w : Word) → word_of p ≡ Some w → count ≡ 0 → WordTaken p others kept later count (kept ++ w ∷ []) others 0
+  word-kept w is none rest all e h = record {
+    passed = [];
+    spelled = refl;
+    counted = refl;
+    all_are = ap (λ x. x ++ token_words (p ∷ [])) (h.all_are ∙ ap (λ x. kept ++ x) (no_words (token_words h.passed) (sym h.counted ∙ none)) ∙ append-nil kept)
+        ∙ ap (λ x. kept ++ cons_option x []) is ∙ sym (append-nil (kept ++ w ∷ []));
+  }
+    where
+      no_words : (ws : List Word) → length ws ≡ 0 → ws ≡ []
+      no_words [] e = refl
+      no_words (v ∷ ws) e = absurd (omega (arith, e))

@@ -1,0 +1,10 @@
+use Rattle.std.proofs.Common.{◌≡◌, take}
+use Rattle.std.specs.List.{list_all}
+use Rattle.dns_spec.specs.ZoneText.{is_string_octet}
+use Rattle.dns_master.proofs.run.are_plain.Given as goal
+
+-- the octets so far are plain or not
+abbrev pub invariant-octets : goal.invariant-octets
+invariant-octets l = record {
+  so_far : l.all ≡ list_all is_string_octet (take l.octet-index l.group);
+}

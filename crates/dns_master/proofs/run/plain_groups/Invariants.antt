@@ -1,0 +1,15 @@
+use Rattle.std.proofs.Common.{◌≡◌, ◌≤◌, true, take, drop, length}
+use Rattle.std.specs.List.{list_all}
+use Rattle.dns_spec.specs.ZoneText.{is_string_octet}
+use Rattle.dns_master.proofs.run.plain_groups.Given as goal
+
+-- the groups in front are plain, and the rest is left
+abbrev pub invariant-groups : goal.invariant-groups
+invariant-groups l = record {
+  bound : l.front ≤ length l.text;
+  left : l.rest ≡ drop l.front l.text;
+  plain : list_all is_string_octet (take l.front l.text) ≡ true;
+}
+
+abbrev pub decreases-groups : goal.decreases-groups
+decreases-groups l = length l.rest

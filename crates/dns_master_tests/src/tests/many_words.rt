@@ -1,0 +1,135 @@
+//! Entries of many words, of which the reader keeps only the first ones.
+
+use super::reading::{ONE, by, fault, judge, read, repeated};
+use std::alloc::{AllocError, Global};
+use std::process::Abort;
+use std::test::Fail;
+
+const PIECE: usize = 4_096;
+
+// What stands between words, inside parentheses.
+const BETWEEN: [&[u8]; 4] = [b" ", b"\t \n", b" ; c ( \" \\\n ", b"\r\n"];
+
+// What is between the words of this number and the next one.
+fn between(number: usize) -> &'static [u8] {
+    BETWEEN[number % 4]
+}
+
+// A TXT record of so many strings, all of three octets and each another, and its data.
+fn strings(alloc: Global, count: usize) -> Result<(Vec<u8>, Vec<u8>), AllocError> {
+    let mut text = repeated(alloc, b"a 1 TXT (", 1)?;
+    let mut data = Vec::new(alloc);
+    for number in 0..count {
+        let digits = [100, 10, 1].map(|place| b'0' + (number / place % 10) as u8);
+        let mark: &[u8] = if number % 3 == 0 { b"\"" } else { b"" };
+        text.extend_from_slice(between(number))?;
+        text.extend_from_slice(mark)?;
+        text.extend_from_slice(&digits)?;
+        text.extend_from_slice(mark)?;
+        data.push(3)?;
+        data.extend_from_slice(&digits)?;
+    }
+    text.extend_from_slice(b" )\n")?;
+    Ok((text, data))
+}
+
+// A record of an unknown type of 300 octets, a word each, and its data.
+fn hex_words(alloc: Global) -> Result<(Vec<u8>, Vec<u8>), AllocError> {
+    let mut text = repeated(alloc, b"a 1 TYPE65280 ( \\# 300", 1)?;
+    let mut data = Vec::new(alloc);
+    for number in 0..300_usize {
+        let digits = [16, 1].map(|place| hex_digit((number / place % 16) as u8));
+        text.extend_from_slice(between(number))?;
+        text.extend_from_slice(&digits)?;
+        data.push((number % 256) as u8)?;
+    }
+    text.extend_from_slice(b" )\n")?;
+    Ok((text, data))
+}
+
+fn hex_digit(value: u8) -> u8 {
+    if value < 10 {
+        b'0'.saturating_add(value)
+    } else {
+        b'a'.saturating_add(value - 10)
+    }
+}
+
+// A file that is one record has these data.
+fn compare<R: Abort + AllocGlobal>(rt: &R, text: &[u8], data: &[u8]) -> Result<(), Fail> {
+    for lengths in [&[usize::MAX], ONE] {
+        let listed = read(rt.alloc(), by(text, lengths))??;
+        assert_eq!(rt; listed.len(), 1, "of {text:?}");
+        for record in &listed {
+            assert_eq!(rt; record.rdata.octets(), data, "of {text:?}");
+        }
+    }
+    Ok(())
+}
+
+#[test]
+fn strings_about_as_many_as_are_kept(rt: HostRuntime) -> Result<(), Fail> {
+    for count in 10..=20 {
+        let (text, data) = strings(rt.alloc(), count)?;
+        compare(&rt, &text, &data)?;
+    }
+    Ok(())
+}
+
+#[test]
+fn a_record_of_300_strings(rt: HostRuntime) -> Result<(), Fail> {
+    let (text, data) = strings(rt.alloc(), 300)?;
+    compare(&rt, &text, &data)
+}
+
+#[test]
+fn a_record_of_300_words_of_hex_digits(rt: HostRuntime) -> Result<(), Fail> {
+    let (text, data) = hex_words(rt.alloc())?;
+    compare(&rt, &text, &data)
+}
+
+#[test]
+fn a_record_of_300_strings_across_the_end_of_a_piece(rt: HostRuntime) -> Result<(), Fail> {
+    let (text, data) = strings(rt.alloc(), 300)?;
+    for within in [1, 9, 10, 150, 151, 152, 153, 1_000, 2_000] {
+        let mut all = repeated(rt.alloc(), b"\n", PIECE - within)?;
+        all.extend_from_slice(&text)?;
+        compare(&rt, &all, &data)?;
+    }
+    Ok(())
+}
+
+// RFC 1035 3.3: a string has at most 255 octets.
+#[test]
+fn a_string_that_is_too_long_after_those_that_are_kept(rt: HostRuntime) -> Result<(), Fail> {
+    for (length, wanted) in [(255, (0, 0)), (256, (13, 1))] {
+        let mut text = repeated(rt.alloc(), b"a 1 TXT (", 1)?;
+        text.extend_from_slice(repeated(rt.alloc(), b" b\n", 40)?.as_slice())?;
+        text.extend_from_slice(repeated(rt.alloc(), b"c", length)?.as_slice())?;
+        text.extend_from_slice(b" d )\n")?;
+        let found = fault(rt.alloc(), text.as_slice())?;
+        assert_eq!(rt; found, wanted, "for {length} octets");
+    }
+    Ok(())
+}
+
+const FAULTY: [(&[u8], &[u8], (u8, u32)); 6] = [
+    (b"$TTL 1", b"", (6, 1)),
+    (b"$ORIGIN a", b"", (6, 1)),
+    (b"a 1 TXT", b" \\256", (2, 1)),
+    (b"a 1 TXT", b" )", (4, 1)),
+    (b"a 1 TXT", b" \"b", (3, 1)),
+    (b"a 1 A 192.0.2.1", b"", (13, 1)),
+];
+
+#[test]
+fn faults_of_entries_of_40_words_more(rt: HostRuntime) -> Result<(), Fail> {
+    for (begin, end, wanted) in FAULTY {
+        let mut text = repeated(rt.alloc(), begin, 1)?;
+        text.extend_from_slice(repeated(rt.alloc(), b" 1", 40)?.as_slice())?;
+        text.extend_from_slice(end)?;
+        text.push(b'\n')?;
+        judge(&rt, &[(text.as_slice(), wanted)])?;
+    }
+    Ok(())
+}

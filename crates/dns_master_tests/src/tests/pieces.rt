@@ -1,0 +1,112 @@
+//! Files that are read in pieces of 4,096 octets: an entry that crosses the end of a piece, and no
+//! more taken of a source than decides its fault.
+
+use super::reading::{Pieces, Row, by, example, fault, read, repeated};
+use super::records::{MIXED, MIXED_MEANS, judge_all};
+use dns_master::read_zone;
+use dns_name::Tally;
+use std::alloc::{AllocError, Global};
+use std::test::Fail;
+
+const PIECE: usize = 4_096;
+
+// Beginnings of files that have a fault, whatever comes after them.
+const DECIDED: [Row<'static>; 9] = [
+    (b"$INCLUDE x\n", (5, 1)),
+    (b"a 1 A 192.0.2.1\n\x00", (1, 2)),
+    (b"\n\n\\256", (2, 3)),
+    (b"a 1 TXT \"a\n", (3, 1)),
+    (b"()\n)", (4, 2)),
+    (b"( ; ( \n (", (4, 1)),
+    (b"a A 192.0.2.1\n", (12, 1)),
+    (b"a..b 1 A 192.0.2.1\r\n", (7, 1)),
+    (b"a 1 A (\n192.0.2.256 )\n", (13, 1)),
+];
+
+// A comment line of so many octets, and a text after it.
+fn after_comment(alloc: Global, length: usize, text: &[u8]) -> Result<Vec<u8>, AllocError> {
+    let mut all = repeated(alloc, b";", length.saturating_sub(1))?;
+    all.push(b'\n')?;
+    all.extend_from_slice(text)?;
+    Ok(all)
+}
+
+// The fault of a text whose source fails at its end, and how many octets were taken.
+fn taken(alloc: Global, text: &[u8]) -> Result<((u8, u32), usize), Fail> {
+    let origin = example()?;
+    let mut source = Tally::new(Pieces {
+        fails_at: text.len().div_ceil(PIECE),
+        ..by(text, &[usize::MAX])
+    });
+    let fault = match read_zone(alloc, &origin, &mut source) {
+        Ok(_) => (0, 0),
+        Err(fault) => (fault.code.number(), fault.line),
+    };
+    let rest = source.into_inner().text;
+    Ok((fault, text.len().saturating_sub(rest.len())))
+}
+
+#[test]
+fn a_fault_is_reported_in_the_piece_that_decides_it(rt: HostRuntime) -> Result<(), Fail> {
+    for (begin, wanted) in DECIDED {
+        let mut text = repeated(rt.alloc(), begin, 1)?;
+        text.extend_from_slice(repeated(rt.alloc(), b"\n", 8_192)?.as_slice())?;
+        assert_eq!(rt; taken(rt.alloc(), &text)?, (wanted, PIECE), "at {begin:?}");
+    }
+    Ok(())
+}
+
+// The line end of the faulty entry is the last octet of a piece, or the first of the next one.
+#[test]
+fn a_fault_at_the_end_of_a_piece(rt: HostRuntime) -> Result<(), Fail> {
+    for (length, wanted) in [
+        (4_093, 4_096),
+        (4_094, 8_192),
+        (8_189, 8_192),
+        (8_190, 12_288),
+    ] {
+        let mut text = after_comment(rt.alloc(), length, b"$X\n")?;
+        text.extend_from_slice(repeated(rt.alloc(), b"\n", 12_288)?.as_slice())?;
+        let found = taken(rt.alloc(), &text)?;
+        assert_eq!(rt; found, ((5, 2), wanted), "after {length} octets");
+    }
+    Ok(())
+}
+
+#[test]
+fn a_file_from_sources_of_few_octets(rt: HostRuntime) -> Result<(), Fail> {
+    let text = after_comment(rt.alloc(), 9_000, MIXED)?;
+    for most in [1, 2, 4_095, 4_096, 4_097] {
+        let listed = read(rt.alloc(), by(&text, &[most]))??;
+        judge_all(&rt, &listed, MIXED, &MIXED_MEANS)?;
+    }
+    Ok(())
+}
+
+#[test]
+fn entries_that_cross_the_end_of_a_piece_at_each_octet(rt: HostRuntime) -> Result<(), Fail> {
+    for within in 0..=MIXED.len() {
+        let length = PIECE.saturating_sub(within);
+        let text = after_comment(rt.alloc(), length, MIXED)?;
+        let listed = read(rt.alloc(), text.as_slice())??;
+        judge_all(&rt, &listed, MIXED, &MIXED_MEANS)?;
+    }
+    Ok(())
+}
+
+#[test]
+fn faults_that_cross_the_end_of_a_piece_at_each_octet(rt: HostRuntime) -> Result<(), Fail> {
+    for (begin, (code, line)) in DECIDED {
+        for within in 0..=begin.len() {
+            let length = PIECE.saturating_sub(within);
+            let text = after_comment(rt.alloc(), length, begin)?;
+            let found = fault(rt.alloc(), text.as_slice())?;
+            assert_eq!(rt;
+                found,
+                (code, line.saturating_add(1)),
+                "{within} octets of {begin:?}"
+            );
+        }
+    }
+    Ok(())
+}
