@@ -37,7 +37,7 @@ fn checked(
     let mut source = Tally::new(Pieces {
         text: text.as_bytes(),
         most: 100_000,
-        calls_left: 1000,
+        calls_left: 10_000,
     });
     let mut sink = Tally::new(Kept {
         text: Vec::new(alloc),
