@@ -20,7 +20,7 @@ fn strings(alloc: Global, count: usize) -> Result<(Vec<u8>, Vec<u8>), AllocError
     let mut text = repeated(alloc, b"a 1 TXT (", 1)?;
     let mut data = Vec::new(alloc);
     for number in 0..count {
-        let digits = [100, 10, 1].map(|place| b'0' + (number / place % 10) as u8);
+        let digits = [number / 100, number / 10, number].map(last_digit);
         let mark: &[u8] = if number % 3 == 0 { b"\"" } else { b"" };
         text.extend_from_slice(between(number))?;
         text.extend_from_slice(mark)?;
@@ -38,7 +38,7 @@ fn hex_words(alloc: Global) -> Result<(Vec<u8>, Vec<u8>), AllocError> {
     let mut text = repeated(alloc, b"a 1 TYPE65280 ( \\# 300", 1)?;
     let mut data = Vec::new(alloc);
     for number in 0..300_usize {
-        let digits = [16, 1].map(|place| hex_digit((number / place % 16) as u8));
+        let digits = [number / 16, number].map(last_hex_digit);
         text.extend_from_slice(between(number))?;
         text.extend_from_slice(&digits)?;
         data.push((number % 256) as u8)?;
@@ -47,12 +47,12 @@ fn hex_words(alloc: Global) -> Result<(Vec<u8>, Vec<u8>), AllocError> {
     Ok((text, data))
 }
 
-fn hex_digit(value: u8) -> u8 {
-    if value < 10 {
-        b'0'.saturating_add(value)
-    } else {
-        b'a'.saturating_add(value - 10)
-    }
+fn last_digit(number: usize) -> u8 {
+    b"0123456789"[number % 10]
+}
+
+fn last_hex_digit(number: usize) -> u8 {
+    b"0123456789abcdef"[number % 16]
 }
 
 // A file that is one record has these data.
