@@ -14,6 +14,7 @@ pub mod PartLemmas
 pub mod SpacedWords
 pub mod BigNumbers
 pub mod PartsLoop
+pub mod NamedData
 pub mod SoaData
 pub mod WrittenPieces
 pub mod LoweredInPlace

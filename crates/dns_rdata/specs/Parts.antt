@@ -1,9 +1,9 @@
 -- What a reader learns here: how a borrowed part of data stands for a part of the definitions.
-use Rattle.std.specs.Prelude.{◌≡◌, ⊤, ℕ, List, [], ◌++◌, length, Option, Some, None, IsTrue}
+use Rattle.std.specs.Prelude.{◌≡◌, ⊤, ℕ, ◌⊎◌, List, [], ◌∷◌, ◌++◌, length, Option, Some, None, IsTrue}
 use Rattle.std.specs.Borrow.{Bor}
 use Rattle.std.specs.Option.{unwrap_or, is_some}
 use Rattle.dns_spec.specs.Names.{Octets, is_name}
-use Rattle.dns_spec.specs.Data.{octets, name, part_octets, part_folded, cut}
+use Rattle.dns_spec.specs.Data.{Fixed, width, fixed, domain, octets, name, part_octets, part_folded, cut}
 use Rattle.dns_spec.specs.Data as Data
 use Rattle.dns_name.specs.WireForm.{labels_of, IsWireForm}
 use Rattle.dns_rdata.specs.declared.table.Piece.{Piece}
@@ -59,3 +59,9 @@ LowersFront (Some x) after n =
 abbrev pub HasName : Data.Part → Type 0
 HasName (octets o) = ⊤
 HasName (name n) = IsTrue (is_name n)
+
+-- these pieces are numbers or an address, k octets in all, and a name
+abbrev pub NameStandsAfter : ℕ → List Data.Piece → Type 0
+NameStandsAfter k ps =
+    ((k ≡ 0) × (ps ≡ domain ∷ []))
+    ⊎ ((f : Fixed) × (width f ≡ k) × (ps ≡ fixed f ∷ domain ∷ []))

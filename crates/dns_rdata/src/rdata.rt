@@ -1,9 +1,9 @@
 //! Data of records (RFC 1035 3.2.1): octets without compression, names in lower case.
-ghost use Rattle.std.specs.Prelude.{◌≡◌, ◌≤◌, All, false, length, map, IsTrue, IfOk, MatchResult, if◌then◌else◌};
+ghost use Rattle.std.specs.Prelude.{◌≡◌, ◌≤◌, All, false, length, map, IsTrue, IfOk, MatchResult, IfSome, if◌then◌else◌};
 ghost use Rattle.std.specs.Option.{is_some};
-ghost use Rattle.dns_spec.specs.Data.{valid, Valid, parts, target, lower_case, part_folded, joined, piece_front};
+ghost use Rattle.dns_spec.specs.Data.{valid, Valid, parts, pieces_of, target, lower_case, part_folded, joined, piece_front};
 ghost use Rattle.dns_rdata.specs.TypeRows.{piece_of};
-ghost use Rattle.dns_rdata.specs.Parts.{AreCut, HasName, LowersFront, parts_left};
+ghost use Rattle.dns_rdata.specs.Parts.{AreCut, HasName, LowersFront, NameStandsAfter, parts_left};
 
 use crate::fault::RdataFault;
 use crate::parts::{Part, Parts, are_cut, first_part};
@@ -120,14 +120,44 @@ impl Rdata {
         requires { Valid rtype.0 octets.now }
         ensures { result ≡ target rtype.0 octets.now }
     {
-        let mut parts = Rdata::parts(rtype, octets);
-        'parts: while let Some(part) = parts.next() {
-            if let Part::Name(octets) = part {
-                return Some(NameRef::new(octets));
+        match octets_before_name(rtype) {
+            Some(count) => {
+                let (_, name) = octets.split_at(count);
+                Some(NameRef::new(name))
             }
+            None => name_among_parts(rtype, octets),
         }
+    }
+}
+
+// How many octets of numbers stand before the name that is the rest of the data, where data of the
+// type is made so (RFC 1035 3.3.1, 3.3.9, 3.3.11 and 3.3.12, RFC 2782).
+fn octets_before_name(rtype: RType) -> Option<usize>
+    ensures { IfSome result (λ k. NameStandsAfter k (pieces_of rtype.0)) }
+{
+    if rtype == RType::NS || rtype == RType::CNAME || rtype == RType::PTR {
+        Some(0)
+    } else if rtype == RType::MX {
+        Some(2)
+    } else if rtype == RType::SRV {
+        Some(6)
+    } else {
         None
     }
+}
+
+// The first name among the parts of data.
+fn name_among_parts(rtype: RType, octets: &[u8]) -> Option<NameRef<'_>>
+    requires { Valid rtype.0 octets.now }
+    ensures { result ≡ target rtype.0 octets.now }
+{
+    let mut parts = Rdata::parts(rtype, octets);
+    'parts: while let Some(part) = parts.next() {
+        if let Part::Name(octets) = part {
+            return Some(NameRef::new(octets));
+        }
+    }
+    None
 }
 
 // Whether octets are data of the type, names in either case.
