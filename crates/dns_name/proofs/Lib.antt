@@ -1,3 +1,4 @@
+pub mod OctetRuns
 pub mod OrderLemmas
 pub mod Results
 pub mod TextLemmas

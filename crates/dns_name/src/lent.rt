@@ -13,6 +13,7 @@ ghost use Rattle.dns_name.specs.WireForm.{labels_of, IsWireForm};
 
 use crate::label::Label;
 use crate::name::Name;
+use crate::octets::are_equal;
 use std::cmp::Ordering;
 use std::marker::Model;
 
@@ -175,7 +176,7 @@ impl PartialEq for NameRef<'_> {
     ghost laws = { lists_per (lists_per (partial_equiv_from_equiv nat_eq_equiv)) };
 
     fn eq(&self, other: &Self) -> bool {
-        self.octets() == other.octets()
+        are_equal(self.octets(), other.octets())
     }
 }
 
@@ -277,5 +278,5 @@ fn order_of_labels(left: Labels<'_>, right: Labels<'_>, longer: Ordering) -> Ord
 fn same_octets(left: &[u8], right: &[u8]) -> bool
     ensures { IsTrue result ↔ (map to_ascii_lowercase left.now ≡ map to_ascii_lowercase right.now) }
 {
-    left == right || left.eq_ignore_ascii_case(right)
+    are_equal(left, right) || left.eq_ignore_ascii_case(right)
 }

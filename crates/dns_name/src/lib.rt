@@ -5,6 +5,7 @@
 mod label;
 mod lent;
 mod name;
+mod octets;
 mod tally;
 mod text;
 mod written;
@@ -12,6 +13,7 @@ mod written;
 pub use label::Label;
 pub use lent::{Labels, NameRef, first_label};
 pub use name::Name;
+pub use octets::are_equal;
 pub use tally::{SinkFailed, SourceFailed, Tally};
 pub use text::{NameFault, first_octet};
 
