@@ -4,6 +4,7 @@ ghost use Rattle.dns_spec.specs.Names.{Octets};
 ghost use Rattle.dns_wire.specs.Kept.{SpelledAt, SpellsName, HasAt};
 
 use crate::name::{Step, step_at};
+use dns_name::are_equal;
 
 /// Whether the name that a message spells at a place has these octets as its wire form.
 pub(crate) fn is_spelled(message: &[u8], at: usize, suffix: &[u8]) -> bool
@@ -42,7 +43,10 @@ pub(crate) fn has_at(message: &[u8], at: usize, octets: &[u8]) -> bool
     ensures { IsTrue result → HasAt message.now at octets.now }
 {
     match message.split_at_checked(at) {
-        Some((_, rest)) => rest.starts_with(octets),
+        Some((_, rest)) => match rest.split_at_checked(octets.len()) {
+            Some((front, _)) => are_equal(front, octets),
+            None => false,
+        },
         None => false,
     }
 }
