@@ -1,5 +1,5 @@
 //! Keys of labels: their first octets as one number, by which most labels are told apart.
-ghost use Rattle.std.specs.Prelude.{◌≡◌, [], ◌∷◌, map};
+ghost use Rattle.std.specs.Prelude.{◌≡◌, ◌≤◌, [], ◌∷◌, map, length};
 ghost use Rattle.std.specs.Char.{to_ascii_lowercase};
 ghost use Rattle.dns_spec.specs.Names.{label_order};
 ghost use Rattle.dns_zone.specs.LabelKey.{IsKey};
@@ -33,13 +33,14 @@ fn key_of(a: u8, b: u8, c: u8, d: u8) -> u32
     u32::from_be_bytes([lower_case(a), lower_case(b), lower_case(c), lower_case(d)])
 }
 
-/// The key of the first label of a name. The root has none, and its key is 0.
-pub(crate) fn first_key(name: &NameRef<'_>) -> u32
-    ensures { IsKey result (map to_ascii_lowercase (first_of name.now)) }
+/// The octets of a name's first label. The root has none.
+pub(crate) fn first_octets<'a>(name: &NameRef<'a>) -> &'a [u8]
+    ensures value { result.now ≡ first_of name.now }
+    ensures bound { length result.now ≤ 63 }
 {
     match name.labels().next() {
-        Some(label) => label_key(label.octets()),
-        None => 0,
+        Some(label) => label.octets(),
+        None => &[],
     }
 }
 

@@ -69,10 +69,11 @@ fn order(records: &[Entry], row: &Row, key: u32, label: &[u8]) -> Ordering
     if row.key != key {
         return row.key.cmp(&key);
     }
-    let own = label_of(records, row);
-    if own.len() <= KEY_OCTETS || label.len() <= KEY_OCTETS {
-        return own.len().cmp(&label.len());
+    let count = usize::from(row.label_octets);
+    if count <= KEY_OCTETS || label.len() <= KEY_OCTETS {
+        return count.cmp(&label.len());
     }
+    let own = label_of(records, row);
     order_to(own.split_at(KEY_OCTETS).1, label.split_at(KEY_OCTETS).1)
 }
 

@@ -7,7 +7,7 @@ use Rattle.dns_zone.specs.TreeForm.{row_label, row_name}
 use Rattle.dns_zone.proofs.LabelKeys.{first_lower, key_order}
 use Rattle.dns_zone.proofs.AlikeKeys.{by_length, after_key}
 use Rattle.dns_zone.proofs.search.order.Goals as goal
-use Rattle.dns_zone.proofs.search.order.Goals.{then-own-le-KEY_OCTETS-via-then-own-le-KEY_OCTETS, then-own-le-KEY_OCTETS-via-else-own-le-KEY_OCTETS+then-label-le-KEY_OCTETS}
+use Rattle.dns_zone.proofs.search.order.Goals.{then-count-le-KEY_OCTETS-via-then-count-le-KEY_OCTETS, then-count-le-KEY_OCTETS-via-else-count-le-KEY_OCTETS+then-label-le-KEY_OCTETS}
 
 pub returns-then-row-key : goal.returns-then-row-key
 returns-then-row-key c =
@@ -18,8 +18,8 @@ returns-then-row-key c =
     subst (IsKey row.key) lower c.requires.row.key in
     c.cmp.ensures ∙ key_order row_key c.requires.key c.if-row-key.true
 
-pub returns-then-own-le-KEY_OCTETS : goal.returns-then-own-le-KEY_OCTETS
-returns-then-own-le-KEY_OCTETS c =
+pub returns-then-count-le-KEY_OCTETS : goal.returns-then-count-le-KEY_OCTETS
+returns-then-count-le-KEY_OCTETS c =
     let row = c.args.row.now in
     let own = row_label c.args.records.now row in
     let label = map to_ascii_lowercase c.args.label.now in
@@ -28,15 +28,16 @@ returns-then-own-le-KEY_OCTETS c =
     first_lower (row_name c.args.records.now row) c.requires.row.lower in
     let row_key : IsKey c.args.key own =
     subst (λ k. IsKey k own) c.if-row-key.false (subst (IsKey row.key) lower c.requires.row.key) in
-    let own_count = ap length c.label_of-own.ensures in
+    let own_count = c.requires.row.label_octets in
     let short : (length own ≤ 4) ⊎ (length label ≤ 4) =
-    elim c.then-own-le-KEY_OCTETS.branch [
-      | then-own-le-KEY_OCTETS-via-then-own-le-KEY_OCTETS w ↦
-          inl (let h = w.if-own-le-KEY_OCTETS.true in omega arith)
-      | then-own-le-KEY_OCTETS-via-else-own-le-KEY_OCTETS+then-label-le-KEY_OCTETS w ↦
+    elim c.then-count-le-KEY_OCTETS.branch [
+      | then-count-le-KEY_OCTETS-via-then-count-le-KEY_OCTETS w ↦
+          inl (let h = w.if-count-le-KEY_OCTETS.true in omega arith)
+      | then-count-le-KEY_OCTETS-via-else-count-le-KEY_OCTETS+then-label-le-KEY_OCTETS w ↦
           inr (let h = w.if-label-le-KEY_OCTETS.true in omega arith)
     ] in
-    c.cmp-then-own-le-KEY_OCTETS.ensures ∙ ap₂ nat_cmp own_count (sym count)
+    c.cmp-then-count-le-KEY_OCTETS.ensures
+    ∙ ap₂ nat_cmp (c.from-count.ensures ∙ own_count) (sym count)
     ∙ by_length row_key c.requires.key short
 
 pub returns : goal.returns
@@ -49,8 +50,8 @@ returns c =
     first_lower (row_name c.args.records.now row) c.requires.row.lower in
     let row_key : IsKey c.args.key own =
     subst (λ k. IsKey k own) c.if-row-key.false (subst (IsKey row.key) lower c.requires.row.key) in
-    let own_count = ap length c.label_of-own.ensures in
-    let long = c.if-own-le-KEY_OCTETS.false in
+    let own_count = c.requires.row.label_octets in
+    let long = c.if-count-le-KEY_OCTETS.false in
     let asked = c.if-label-le-KEY_OCTETS.false in
     c.order_to.ensures
     ∙ ap₂ label_order (c.split_at.ensures.back ∙ ap (drop 4) c.label_of-own.ensures)
