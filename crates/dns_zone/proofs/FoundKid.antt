@@ -1,5 +1,5 @@
 -- A label among those of children, which rise.
-use Rattle.std.proofs.Common.{◌≡◌, ℕ, zero, suc, ◌+◌, ◌/◌, ◌<◌, ◌≤◌, ◌⊎◌, inl, inr, List, [], ◌∷◌, map, length, get_or, sym, ap, ◌∙◌, add-one, arith, subst, is_lt, is_gt, Less, Equal, Greater}
+use Rattle.std.proofs.Common.{◌≡◌, ℕ, zero, suc, ◌+◌, ◌-◌, ◌/◌, ◌<◌, ◌≤◌, ◌⊎◌, inl, inr, List, [], ◌∷◌, map, length, get_or, sym, ap, ◌∙◌, add-one, arith, subst, is_lt, is_gt, Less, Equal, Greater}
 use Rattle.std.proofs.lemmas.Bool.{cases_lt, false≢true}
 use Rattle.std.proofs.lemmas.Cmp.{nat_list_cmp_total, tied_itself}
 use Rattle.std.proofs.lemmas.List.{get_or-map, length-map}
@@ -48,11 +48,22 @@ module _ (rs : List ResourceRecord) (kids : List Row) (label : Octets) where
     after = λ k l m. absurd (omega arith);
   }
 
-  pub moved : {low high low' high' turn : ℕ} → low' ≡ low → high' ≡ high
-      → Searching rs kids label low high turn → Searching rs kids label low' high' turn
-  moved {low} {high} {low'} {high'} {turn} l h s =
-      subst (λ (k : ℕ). Searching rs kids label k high' turn) (sym l)
-      (subst (λ (k : ℕ). Searching rs kids label low k turn) (sym h) s)
+  pub left : (low high turn : ℕ) → Searching rs kids label low high turn
+      → high - low ≤ room_after turn
+  left low high turn s = let r = s.room in omega arith
+
+  -- where a child is left to look at, fewer than 17 comparisons were made
+  pub one_more : (low high turn : ℕ) → Searching rs kids label low high turn → turn ≤ 17
+      → low < high → turn + 1 ≤ 17
+  one_more low high turn s h some = go (cases_lt turn 17)
+    where
+      go : (turn < 17) ⊎ (17 ≤ turn) → turn + 1 ≤ 17
+      go (inl l) = omega arith
+      go (inr l) =
+          let last : turn ≡ 17 = omega arith in
+          let none : high ≤ low + room_after 17 =
+          subst (λ (t : ℕ). high ≤ low + room_after t) last s.room in
+          absurd (omega arith)
 
   module _ (rising : Rises label_order (map (row_label rs) kids)) where
     label_at : (k : ℕ) → k < length kids
@@ -69,7 +80,8 @@ module _ (rs : List ResourceRecord) (kids : List Row) (label : Octets) where
         (rises_at (map (row_label rs) kids) i j rising h
         (omega (arith, length-map kids (row_label rs)))))
 
-    -- A child between the two places is looked at. The room that is left after it is half of what there was.
+    -- A child between the two places is looked at. The room that is left after it is half of what
+    -- there was.
     module _ (low high turn : ℕ) (s : Searching rs kids label low high turn) (middle : ℕ) where
       pub go_right : label_order (row_label rs (row_at kids middle)) label ≡ Less → middle < high
           → high ≤ middle + 1 + room_after (turn + 1)

@@ -81,7 +81,14 @@ module _ (o : DomainName) (rs : List ResourceRecord) (rows : List Row) (bounds :
             → IsRow rs (row_at rows' k) (row_name rs (row_at rows' k))
         go (inl m) = subst (λ (r : Row). IsRow rs r (row_name rs r)) (sym (keep k m)) (g.each k m)
         go (inr m) =
-            let d : Row = record { first = 0; own_end = 0; end = 0; place = 0; key = 0 } in
+            let d : Row = record {
+              first = 0;
+              own_end = 0;
+              end = 0;
+              place = 0;
+              label_octets = 0;
+              key = 0;
+            } in
             let n = row_name rs (row_at rows i) in
             let fits : k - length rows < length (drop (length rows) rows') =
             omega (arith, length-drop (length rows) rows') in

@@ -220,20 +220,22 @@ module _ (rs : List ResourceRecord) (canonical : IsCanonical rs) (n : DomainName
         let size = ap length first in
         omega arith
 
-    pub made : (own count place key : ℕ) → own ≤ length (drop next rs) → count ≤ length (drop next rs)
+    pub made : (own count place label key : ℕ) → own ≤ length (drop next rs) → count ≤ length (drop next rs)
         → take own (drop next rs) ≡ filter (is_at (labels_of octets)) (drop next rs)
         → take count (drop next rs) ≡ under (labels_of octets) (drop next rs)
         → place ≡ length (wire r.owner) - length octets
+        → label ≡ length (first_of (labels_of octets))
         → IsKey key (map to_ascii_lowercase (first_of (labels_of octets)))
         → IsKidAt rs n next (record {
           first = next;
           own_end = next + own;
           end = next + count;
           place = place;
+          label_octets = label;
           key = key;
         })
     unfolding m row_octets
-    made own count place key own_fits fits o u p is_key =
+    made own count place label key own_fits fits o u p long is_key =
         let own_is : take own (drop next rs) ≡ filter (is_at m) (drop next rs) =
         o ∙ ap (λ (k : DomainName). filter (is_at k) (drop next rs)) child.labels in
         let under_is : take count (drop next rs) ≡ under m (drop next rs) =
@@ -269,6 +271,7 @@ module _ (rs : List ResourceRecord) (canonical : IsCanonical rs) (n : DomainName
               own_end = omega arith;
               end_fits = omega arith;
               below = ap (λ i. take i (drop next rs)) at_count ∙ under_is ∙ sym all_from;
+              label_octets = long ∙ ap (λ (k : DomainName). length (first_of k)) child.labels;
               key =
                   subst (λ (k : DomainName). IsKey key (map to_ascii_lowercase (first_of k)))
                   child.labels is_key;

@@ -30,3 +30,5 @@ pub mod NodeRows
 pub mod KeyOrder
 pub mod LabelKeys
 pub mod KeysLeft
+pub mod AlikeKeys
+pub mod LowerCase

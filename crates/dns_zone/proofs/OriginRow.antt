@@ -69,10 +69,17 @@ module _ (o : DomainName) (rs : List ResourceRecord)
       (kept.each 0 d some).owner
 
   pub origin_is_row : (own : ℕ) → own ≤ length rs → take own rs ≡ filter (is_at o) rs
-      → (key : ℕ) → IsKey key (map to_ascii_lowercase (first_of o))
-      → IsRow rs (record { first = 0; own_end = own; end = length rs; place = 0; key = key }) o
+      → (count key : ℕ) → count ≡ length (first_of o) → IsKey key (map to_ascii_lowercase (first_of o))
+      → IsRow rs (record {
+        first = 0;
+        own_end = own;
+        end = length rs;
+        place = 0;
+        label_octets = count;
+        key = key;
+      }) o
   unfolding row_octets
-  origin_is_row own fits e key is_key =
+  origin_is_row own fits e count key long is_key =
       let whole : length rs - 0 ≡ length rs = omega arith in
       let part : own - 0 ≡ own = omega arith in
       record {
@@ -89,6 +96,7 @@ module _ (o : DomainName) (rs : List ResourceRecord)
             ap (λ i. take i rs) whole ∙ take_all (length rs) rs (omega arith)
             ∙ sym (filter_all (is_under o) rs
             (all-inside (record { origin = o; records = rs }) kept));
+        label_octets = long;
         key = is_key;
         own = ap (λ i. take i rs) part ∙ e;
       }

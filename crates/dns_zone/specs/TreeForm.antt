@@ -49,6 +49,7 @@ pub record IsRow (rs : List ResourceRecord) (row : Row) (n : DomainName) : Type 
   pub own_end : row.own_end ≤ row.end
   pub end_fits : row.end ≤ length rs
   pub below : span rs row.first row.end ≡ under n rs
+  pub label_octets : row.label_octets ≡ length (first_of n)
   pub key : IsKey row.key (map to_ascii_lowercase (first_of n))
   pub own : span rs row.first row.own_end ≡ filter (λ (r : ResourceRecord). same r.owner n) rs
 
@@ -66,7 +67,14 @@ pub record AreKids (rs : List ResourceRecord) (n : DomainName) (kids : List Row)
   pub few : length kids ≤ length rs
 
 abbrev pub row_at : List Row → ℕ → Row
-row_at rows k = get_or rows k (record { first = 0; own_end = 0; end = 0; place = 0; key = 0 })
+row_at rows k = get_or rows k (record {
+  first = 0;
+  own_end = 0;
+  end = 0;
+  place = 0;
+  label_octets = 0;
+  key = 0;
+})
 
 -- the children of row k are the rows from bound k up to the next bound
 abbrev pub kids_at : List Row → List ℕ → ℕ → List Row

@@ -12,6 +12,7 @@ mod key;
 mod keyed;
 mod label_key;
 mod lookup;
+mod lower_case;
 mod node;
 mod order;
 mod ordered;

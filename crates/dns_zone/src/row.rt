@@ -11,7 +11,9 @@ pub(crate) struct Row {
     /// The record after those at or below the name.
     pub(crate) end: u32,
     /// Where the name begins in the wire form of the first record's owner, which ends in it.
-    pub(crate) place: u32,
+    pub(crate) place: u8,
+    /// How many octets the name's first label has.
+    pub(crate) label_octets: u8,
     /// The key of the name's first label.
     pub(crate) key: u32,
 }

@@ -8,7 +8,7 @@ ghost use Rattle.dns_zone.specs.LabelKey.{IsKey};
 ghost use Rattle.dns_zone.specs.TreeForm.{row_label, row_name, row_at, IsRow};
 
 use crate::entry::Entry;
-use crate::label_key::{label_key, order_to};
+use crate::label_key::{KEY_OCTETS, label_key, order_to};
 use crate::row::Row;
 use crate::steps::Steps;
 use crate::tree::octets_of;
@@ -39,27 +39,27 @@ pub(crate) fn find(
     ensures visits { steps.new.visits ≡ steps.old.visits }
     ensures zone { steps.new.zone ≡ steps.old.zone }
 {
-    if kids.is_empty() {
-        return None;
-    }
     let key = label_key(label);
     let (mut low, mut high) = (0, kids.len());
-    'turns: for turn in 0..17_u32 {
-        if low == high {
-            return None;
-        }
-        let middle = low + (high - low) / 2;
-        steps.count_comparison();
+    let mut count = 0;
+    'halves: while low < high {
+        let middle = (low + high) / 2;
+        count += 1;
         match order(records, &kids[middle], key, label) {
             Ordering::Less => low = middle + 1,
-            Ordering::Equal => return Some(middle),
+            Ordering::Equal => {
+                steps.count_comparisons(count);
+                return Some(middle);
+            }
             Ordering::Greater => high = middle,
         }
     }
+    steps.count_comparisons(count);
     None
 }
 
-// The order of a row's label and of another, whose key this is. Mostly their keys differ.
+// The order of a row's label and of another, whose key this is. Mostly their keys differ. Where
+// these are the same, a label that has no octets beyond its key begins the other.
 fn order(records: &[Entry], row: &Row, key: u32, label: &[u8]) -> Ordering
     requires row { IsRow records.now row.now (row_name records.now row.now) }
     requires key { IsKey key (map to_ascii_lowercase label.now) }
@@ -69,7 +69,12 @@ fn order(records: &[Entry], row: &Row, key: u32, label: &[u8]) -> Ordering
     if row.key != key {
         return row.key.cmp(&key);
     }
-    order_to(label_of(records, row), label)
+    let count = usize::from(row.label_octets);
+    if count <= KEY_OCTETS || label.len() <= KEY_OCTETS {
+        return count.cmp(&label.len());
+    }
+    let own = label_of(records, row);
+    order_to(own.split_at(KEY_OCTETS).1, label.split_at(KEY_OCTETS).1)
 }
 
 // The first label of a row's name. The root has none.

@@ -1,5 +1,5 @@
 //! A walk over the names of a zone, and the counts of what it took.
-ghost use Rattle.std.specs.Prelude.{◌≡◌, ◌+◌, ◌<◌};
+ghost use Rattle.std.specs.Prelude.{◌≡◌, ◌+◌, ◌<◌, ◌≤◌};
 ghost use Rattle.dns_spec.specs.Names.{folded};
 ghost use Rattle.dns_zone.specs.Nodes.{IsNode};
 ghost use Rattle.dns_zone.specs.ZoneForm.{IsBuilt};
@@ -92,11 +92,11 @@ impl<'z> Steps<'z> {
         self.visits += 1;
     }
 
-    // Counts a comparison of labels.
-    pub(crate) fn count_comparison(&mut self)
-        requires { self.old.comparisons < 4294967295 }
-        ensures { self.new ≡ record self.old { comparisons = self.old.comparisons + 1 } }
+    // Counts comparisons of labels.
+    pub(crate) fn count_comparisons(&mut self, count: u32)
+        requires { self.old.comparisons + count ≤ 4294967295 }
+        ensures { self.new ≡ record self.old { comparisons = self.old.comparisons + count } }
     {
-        self.comparisons += 1;
+        self.comparisons += count;
     }
 }

@@ -10,7 +10,7 @@ ghost use Rattle.dns_zone.specs.TreeForm.{owners, row_octets, row_name, row_at, 
 ghost use Rattle.dns_zone.specs.TreeSteps.{IsChildOf, IsNext, IsKidAt, AddsKids};
 
 use crate::entry::Entry;
-use crate::label_key::first_key;
+use crate::label_key::{first_octets, label_key};
 use crate::lookup::{count_at, count_under};
 use crate::row::Row;
 use dns_name::{Name, NameRef, first_label};
@@ -60,12 +60,14 @@ fn origin_row(origin: &NameRef<'_>, records: &[Entry]) -> Row
     requires { IsBuilt (record { origin = origin.now; records = records.now }) }
     ensures { IsRow records.now result origin.now }
 {
+    let label = first_octets(origin);
     Row {
         first: 0,
         own_end: count_at(records, origin) as u32,
         end: records.len() as u32,
         place: 0,
-        key: first_key(origin),
+        label_octets: label.len() as u8,
+        key: label_key(label),
     }
 }
 
@@ -119,12 +121,14 @@ fn kid_at(records: &[Entry], parent: &[u8], next: usize, end: usize) -> Row
     let others = &records[next..end];
     let own = count_at(others, &name);
     let (_, after) = others.split_at(own);
+    let label = first_octets(&name);
     Row {
         first: next as u32,
         own_end: (next + own) as u32,
         end: (next + (own + count_under(after, &name))) as u32,
-        place: (owner.len() - octets.len()) as u32,
-        key: first_key(&name),
+        place: (owner.len() - octets.len()) as u8,
+        label_octets: label.len() as u8,
+        key: label_key(label),
     }
 }
 

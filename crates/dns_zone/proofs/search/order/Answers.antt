@@ -1,8 +1,13 @@
-use Rattle.std.proofs.Common.{subst, ◌∙◌}
+use Rattle.std.proofs.Common.{◌≤◌, ◌⊎◌, inl, inr, map, length, drop, subst, sym, ap, ap₂, ◌∙◌, nat_cmp, arith}
+use Rattle.std.proofs.lemmas.List.{length-map, drop-map}
+use Rattle.std.specs.Char.{to_ascii_lowercase}
+use Rattle.dns_spec.specs.Names.{label_order}
 use Rattle.dns_zone.specs.LabelKey.{IsKey}
 use Rattle.dns_zone.specs.TreeForm.{row_label, row_name}
 use Rattle.dns_zone.proofs.LabelKeys.{first_lower, key_order}
+use Rattle.dns_zone.proofs.AlikeKeys.{by_length, after_key}
 use Rattle.dns_zone.proofs.search.order.Goals as goal
+use Rattle.dns_zone.proofs.search.order.Goals.{then-count-le-KEY_OCTETS-via-then-count-le-KEY_OCTETS, then-count-le-KEY_OCTETS-via-else-count-le-KEY_OCTETS+then-label-le-KEY_OCTETS}
 
 pub returns-then-row-key : goal.returns-then-row-key
 returns-then-row-key c =
@@ -12,3 +17,44 @@ returns-then-row-key c =
     let row_key : IsKey row.key (row_label c.args.records.now row) =
     subst (IsKey row.key) lower c.requires.row.key in
     c.cmp.ensures ∙ key_order row_key c.requires.key c.if-row-key.true
+
+pub returns-then-count-le-KEY_OCTETS : goal.returns-then-count-le-KEY_OCTETS
+returns-then-count-le-KEY_OCTETS c =
+    let row = c.args.row.now in
+    let own = row_label c.args.records.now row in
+    let label = map to_ascii_lowercase c.args.label.now in
+    let count = length-map c.args.label.now to_ascii_lowercase in
+    let lower =
+    first_lower (row_name c.args.records.now row) c.requires.row.lower in
+    let row_key : IsKey c.args.key own =
+    subst (λ k. IsKey k own) c.if-row-key.false (subst (IsKey row.key) lower c.requires.row.key) in
+    let own_count = c.requires.row.label_octets in
+    let short : (length own ≤ 4) ⊎ (length label ≤ 4) =
+    elim c.then-count-le-KEY_OCTETS.branch [
+      | then-count-le-KEY_OCTETS-via-then-count-le-KEY_OCTETS w ↦
+          inl (let h = w.if-count-le-KEY_OCTETS.true in omega arith)
+      | then-count-le-KEY_OCTETS-via-else-count-le-KEY_OCTETS+then-label-le-KEY_OCTETS w ↦
+          inr (let h = w.if-label-le-KEY_OCTETS.true in omega arith)
+    ] in
+    c.cmp-then-count-le-KEY_OCTETS.ensures
+    ∙ ap₂ nat_cmp (c.from-count.ensures ∙ own_count) (sym count)
+    ∙ by_length row_key c.requires.key short
+
+pub returns : goal.returns
+returns c =
+    let row = c.args.row.now in
+    let own = row_label c.args.records.now row in
+    let label = map to_ascii_lowercase c.args.label.now in
+    let count = length-map c.args.label.now to_ascii_lowercase in
+    let lower =
+    first_lower (row_name c.args.records.now row) c.requires.row.lower in
+    let row_key : IsKey c.args.key own =
+    subst (λ k. IsKey k own) c.if-row-key.false (subst (IsKey row.key) lower c.requires.row.key) in
+    let own_count = c.requires.row.label_octets in
+    let long = c.if-count-le-KEY_OCTETS.false in
+    let asked = c.if-label-le-KEY_OCTETS.false in
+    c.order_to.ensures
+    ∙ ap₂ label_order (c.split_at.ensures.back ∙ ap (drop 4) c.label_of-own.ensures)
+    (ap (map to_ascii_lowercase) c.split_at-2.ensures.back
+    ∙ sym (drop-map to_ascii_lowercase 4 c.args.label.now))
+    ∙ after_key row_key c.requires.key (omega arith) (omega arith)

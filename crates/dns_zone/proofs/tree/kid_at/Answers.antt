@@ -120,12 +120,15 @@ returns c =
     let below_is : take count (drop own others) ≡ under m (drop own others) =
     rw (← after, ← named) c.count_under.ensures.own in
     let own_fits : own ≤ length others = c.count_at-own.ensures.bound in
+    let first : c.first_octets-label.result.now ≡ first_of m =
+    c.first_octets-label.ensures.value ∙ ap first_of named in
     made rs c.requires.canonical n next c.requires.next r c.index-records-next.is octets
-    child own (own + count) _ _
+    child own (own + count) _ _ _
     (omega (arith, own_fits, shorter)) (omega (arith, fits, shorter))
     (widened (is_at m) rs next end c.requires.before none_own own own_fits own_is)
     (widened (is_under m) rs next end c.requires.before none (own + count) fits
     (own_then_below m others own count own_is below_is))
     (ap (λ (o : Octets). length o - length octets) spelled)
-    (subst (λ (k : DomainName). IsKey c.first_key.result (map to_ascii_lowercase (first_of k)))
-    named c.first_key.ensures)
+    (ap length first)
+    (subst (λ (l : Octets). IsKey c.label_key.result (map to_ascii_lowercase l)) first
+    c.label_key.ensures)
