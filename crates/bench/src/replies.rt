@@ -1,4 +1,4 @@
-//! The zone that is asked, and the questions.
+//! The zones that are asked, and the questions.
 
 use crate::fault::Fault;
 use dns_master::read_zone;
@@ -47,33 +47,85 @@ pub(crate) const SERVERS: &[u8] =
 pub(crate) const EXCHANGE: &[u8] =
     b"\x12\x34\x00\x00\x00\x01\x00\x00\x00\x00\x00\x00\x01m\x07example\x00\x00\x0f\x00\x01";
 
-/// The zone of the small file, chains of aliases, and names with 64 addresses.
-pub(crate) fn asked_zone(alloc: Global) -> Result<Zone, Fault> {
-    let Ok(origin) = Name::read_text(b"example.", &Name::root()) else {
-        return Err(Fault::Unbuilt);
-    };
-    let text = asked_text(alloc)?;
-    let records = read_zone(alloc, &origin, &mut Tally::new(text.as_slice()))?;
-    match Zone::build(alloc, &origin, records) {
-        Ok(zone) => Ok(zone),
-        Err(_) => Err(Fault::Unbuilt),
+pub(crate) const ADDRESSES: &[u8] =
+    b"\x12\x34\x00\x00\x00\x01\x00\x00\x00\x00\x00\x00\x03big\x07example\x00\x00\x01\x00\x01";
+
+pub(crate) const GLUE: &[u8] =
+    b"\x12\x34\x00\x00\x00\x01\x00\x00\x00\x00\x00\x00\x01h\x03cut\x07example\x00\x00\x01\x00\x01";
+
+pub(crate) const SERVICES: &[u8] =
+    b"\x12\x34\x00\x00\x00\x01\x00\x00\x00\x00\x00\x00\x01y\x07example\x00\x00\x21\x00\x01";
+
+/// The zones that are asked.
+#[derive(Clone, Copy)]
+pub(crate) enum Asked {
+    /// The small file, a chain of aliases, and two names with 64 addresses.
+    Small,
+    /// The same, and so many other names that there are nearly 100,000 records.
+    Large,
+    /// The small file, and 17 services with 64 addresses each.
+    Services,
+}
+
+impl Asked {
+    /// The zone, built.
+    pub(crate) fn zone(self, alloc: Global) -> Result<Zone, Fault> {
+        let Ok(origin) = Name::read_text(b"example.", &Name::root()) else {
+            return Err(Fault::Unbuilt);
+        };
+        let text = self.text(alloc)?;
+        let records = read_zone(alloc, &origin, &mut Tally::new(text.as_slice()))?;
+        match Zone::build(alloc, &origin, records) {
+            Ok(zone) => Ok(zone),
+            Err(_) => Err(Fault::Unbuilt),
+        }
+    }
+
+    fn text(self, alloc: Global) -> Result<Vec<u8>, AllocError> {
+        let mut text = Vec::new(alloc);
+        text.extend_from_slice(SMALL)?;
+        add_aliases(alloc, &mut text)?;
+        add_addresses(alloc, &mut text, "big")?;
+        add_addresses(alloc, &mut text, "big.cut")?;
+        match self {
+            Asked::Small => {}
+            Asked::Large => add_others(alloc, &mut text)?,
+            Asked::Services => add_services(alloc, &mut text)?,
+        }
+        Ok(text)
     }
 }
 
-fn asked_text(alloc: Global) -> Result<Vec<u8>, AllocError> {
-    let mut text = Vec::new(alloc);
-    text.extend_from_slice(SMALL)?;
+fn add_aliases(alloc: Global, text: &mut Vec<u8>) -> Result<(), AllocError> {
     for number in 1..18_u32 {
-        let alias = format!(in alloc; "c{number} CNAME c{}\n", number + 1)?;
-        text.extend_from_slice(alias.as_bytes())?;
+        let line = format!(in alloc; "c{number} CNAME c{}\n", number + 1)?;
+        text.extend_from_slice(line.as_bytes())?;
     }
+    Ok(())
+}
+
+fn add_addresses(alloc: Global, text: &mut Vec<u8>, owner: &str) -> Result<(), AllocError> {
     for number in 1..65_u32 {
-        let address = format!(in alloc; "big A 198.51.100.{number}\n")?;
-        text.extend_from_slice(address.as_bytes())?;
+        let line = format!(in alloc; "{owner} A 198.51.100.{number}\n")?;
+        text.extend_from_slice(line.as_bytes())?;
     }
-    for number in 1..65_u32 {
-        let glue = format!(in alloc; "big.cut A 198.51.100.{number}\n")?;
-        text.extend_from_slice(glue.as_bytes())?;
+    Ok(())
+}
+
+fn add_others(alloc: Global, text: &mut Vec<u8>) -> Result<(), AllocError> {
+    for number in 0..99_800_u32 {
+        let line = format!(in alloc; "n{number} A 192.0.2.2\n")?;
+        text.extend_from_slice(line.as_bytes())?;
     }
-    Ok(text)
+    Ok(())
+}
+
+fn add_services(alloc: Global, text: &mut Vec<u8>) -> Result<(), AllocError> {
+    for number in 10..27_u32 {
+        let line = format!(in alloc; "y SRV 1 2 53 t{number}\n")?;
+        text.extend_from_slice(line.as_bytes())?;
+        let owner = format!(in alloc; "t{number}")?;
+        add_addresses(alloc, text, owner.as_str())?;
+    }
+    Ok(())
 }

@@ -1,23 +1,28 @@
 //! What is measured: how often, and of which data.
-ghost use Rattle.std.specs.Prelude.{IfOk};
+ghost use Rattle.std.specs.Prelude.{◌≡◌, IfOk, length};
+ghost use Rattle.dns_answer.specs.Limits.{limit_of};
 ghost use Rattle.dns_spec.specs.Data.{Valid};
 
 use crate::fault::Fault;
 use crate::inputs::{IPV4, IPV6, repeated, words};
 use crate::replies::{
-    ADDRESS, ALIAS, EXCHANGE, NAME_ERROR, REFERRAL, SERVERS, WILDCARD, asked_zone,
+    ADDRESS, ADDRESSES, ALIAS, Asked, EXCHANGE, GLUE, NAME_ERROR, REFERRAL, SERVERS, SERVICES,
+    WILDCARD,
 };
 use crate::zone::zone_text;
-use dns_answer::{UdpDraft, respond_in};
+use dns_answer::{Limit, TcpDraft, respond, respond_in};
 use dns_master::read_zone;
 use dns_name::{Name, Tally};
 use dns_rdata::{RType, Rdata, RdataFault, Word};
 use dns_zone::Steps;
-use std::alloc::Global;
+use std::alloc::{AllocError, Global};
 use std::io::{self, Write};
 
 // How many octets of a text are kept.
 const SCRATCH: usize = 2_048;
+
+// The octets that replies over UDP have at most (RFC 1035 4.2.1).
+const UDP_OCTETS: usize = 512;
 
 /// A work that is measured.
 pub(crate) struct Work {
@@ -48,13 +53,15 @@ enum Kind {
     WriteName(&'static [u8]),
     // A zone file with so many records.
     ReadZone(u32),
-    // A question, over UDP.
-    Respond(&'static [u8]),
+    // A question to a zone, over UDP.
+    Respond(Asked, &'static [u8]),
+    // The same over TCP, in room that is kept from one reply to the next.
+    RespondOverTcp(Asked, &'static [u8]),
 }
 
 /// The works, in the order of the table. Those over text of different lengths have the same octets
 /// in all.
-pub(crate) const WORKS: [Work; 29] = [
+pub(crate) const WORKS: [Work; 39] = [
     Work {
         name: "read-txt-8191",
         kind: Kind::ReadText(31, b"a"),
@@ -167,38 +174,88 @@ pub(crate) const WORKS: [Work; 29] = [
     },
     Work {
         name: "respond-address",
-        kind: Kind::Respond(ADDRESS),
+        kind: Kind::Respond(Asked::Small, ADDRESS),
         rounds: 100_000,
     },
     Work {
         name: "respond-name-error",
-        kind: Kind::Respond(NAME_ERROR),
+        kind: Kind::Respond(Asked::Small, NAME_ERROR),
         rounds: 100_000,
     },
     Work {
         name: "respond-wildcard",
-        kind: Kind::Respond(WILDCARD),
+        kind: Kind::Respond(Asked::Small, WILDCARD),
         rounds: 100_000,
     },
     Work {
         name: "respond-referral",
-        kind: Kind::Respond(REFERRAL),
+        kind: Kind::Respond(Asked::Small, REFERRAL),
         rounds: 100_000,
     },
     Work {
         name: "respond-alias",
-        kind: Kind::Respond(ALIAS),
+        kind: Kind::Respond(Asked::Small, ALIAS),
         rounds: 100_000,
     },
     Work {
         name: "respond-servers",
-        kind: Kind::Respond(SERVERS),
+        kind: Kind::Respond(Asked::Small, SERVERS),
         rounds: 100_000,
     },
     Work {
         name: "respond-exchange",
-        kind: Kind::Respond(EXCHANGE),
+        kind: Kind::Respond(Asked::Small, EXCHANGE),
         rounds: 100_000,
+    },
+    Work {
+        name: "large-address",
+        kind: Kind::Respond(Asked::Large, ADDRESS),
+        rounds: 100_000,
+    },
+    Work {
+        name: "large-name-error",
+        kind: Kind::Respond(Asked::Large, NAME_ERROR),
+        rounds: 100_000,
+    },
+    Work {
+        name: "large-wildcard",
+        kind: Kind::Respond(Asked::Large, WILDCARD),
+        rounds: 100_000,
+    },
+    Work {
+        name: "large-referral",
+        kind: Kind::Respond(Asked::Large, REFERRAL),
+        rounds: 100_000,
+    },
+    Work {
+        name: "large-alias",
+        kind: Kind::Respond(Asked::Large, ALIAS),
+        rounds: 100_000,
+    },
+    Work {
+        name: "large-servers",
+        kind: Kind::Respond(Asked::Large, SERVERS),
+        rounds: 100_000,
+    },
+    Work {
+        name: "large-exchange",
+        kind: Kind::Respond(Asked::Large, EXCHANGE),
+        rounds: 100_000,
+    },
+    Work {
+        name: "tcp-addresses",
+        kind: Kind::RespondOverTcp(Asked::Small, ADDRESSES),
+        rounds: 5_000,
+    },
+    Work {
+        name: "tcp-glue",
+        kind: Kind::RespondOverTcp(Asked::Small, GLUE),
+        rounds: 5_000,
+    },
+    Work {
+        name: "tcp-services",
+        kind: Kind::RespondOverTcp(Asked::Services, SERVICES),
+        rounds: 500,
     },
 ];
 
@@ -216,7 +273,10 @@ impl Work {
             }
             Kind::WriteName(spelled) => write_name(spelled, rounds),
             Kind::ReadZone(records) => read_file(alloc, records, rounds),
-            Kind::Respond(datagram) => answer(alloc, datagram, rounds),
+            Kind::Respond(asked, datagram) => answer(alloc, asked, datagram, rounds),
+            Kind::RespondOverTcp(asked, datagram) => {
+                answer_over_tcp(alloc, asked, datagram, rounds)
+            }
         }
     }
 }
@@ -342,17 +402,52 @@ fn read_file(alloc: Global, records: u32, rounds: u32) -> Result<Done, Fault> {
 }
 
 // Answers a question, so often: a datum is a reply.
-fn answer(alloc: Global, datagram: &[u8], rounds: u32) -> Result<Done, Fault> {
-    let zone = asked_zone(alloc)?;
-    let mut draft = UdpDraft::new();
-    let mut out = [0; 512];
+fn answer(alloc: Global, asked: Asked, datagram: &[u8], rounds: u32) -> Result<Done, Fault> {
+    let zone = asked.zone(alloc)?;
+    let mut out = [0; UDP_OCTETS];
     let mut done = Done::NOTHING;
     for _ in 0..rounds {
         let mut steps = Steps::new(&zone);
-        let Some(octets) = respond_in(&mut steps, datagram, &mut draft, &mut out) else {
+        let Some(octets) = respond(&mut steps, datagram, Limit::Udp, &mut out) else {
             return Err(Fault::Unanswered);
         };
         done.count(octets);
+    }
+    answered(&out, done)
+}
+
+fn answer_over_tcp(
+    alloc: Global,
+    asked: Asked,
+    datagram: &[u8],
+    rounds: u32,
+) -> Result<Done, Fault> {
+    let zone = asked.zone(alloc)?;
+    let mut draft = Box::new(alloc, TcpDraft::new())?;
+    let mut out = reply_room(alloc, Limit::Tcp)?;
+    let mut done = Done::NOTHING;
+    for _ in 0..rounds {
+        let mut steps = Steps::new(&zone);
+        let Some(octets) = respond_in(&mut steps, datagram, &mut draft, out.as_mut_slice()) else {
+            return Err(Fault::Unanswered);
+        };
+        done.count(octets);
+    }
+    answered(out.as_slice(), done)
+}
+
+// Room for a reply.
+fn reply_room(alloc: Global, limit: Limit) -> Result<Vec<u8>, AllocError>
+    ensures { IfOk result (λ room. length room.items ≡ limit_of limit) }
+{
+    Ok(vec![in alloc; 0; limit.octets()]?)
+}
+
+// Looks at the reply that was made last, so that none is left out as useless. A header is not all
+// octets 0.
+fn answered(reply: &[u8], done: Done) -> Result<Done, Fault> {
+    if reply.iter().all(|octet| *octet == 0) {
+        return Err(Fault::Unanswered);
     }
     Ok(done)
 }
