@@ -1,6 +1,6 @@
 -- What a reader learns here: when a reply has the sets of a draft, and what offering sets makes of
 -- it.
-use Rattle.std.specs.Prelude.{◌≡◌, Bool, List}
+use Rattle.std.specs.Prelude.{◌≡◌, ℕ, Bool, false, List}
 use Rattle.std.specs.Prelude.{Some}
 use Rattle.dns_spec.specs.Layout.{Item}
 use Rattle.dns_wire.specs.Draft as wire
@@ -13,6 +13,10 @@ use Rattle.dns_answer.specs.Draft.{offered}
 pub record State : Type 0 where
   pub page : wire.Draft
   pub full : Bool
+
+-- a reply of at most so many octets that has nothing yet
+abbrev pub blank : ℕ → State
+blank limit = record { page = wire.no_draft limit; full = false }
 
 -- the reply is that of the draft
 pub record Holds (w : State) (d : spec.Draft) : Type 0 where

@@ -6,7 +6,7 @@ ghost use Rattle.dns_spec.specs.Reading.{MessageQuestion};
 ghost use Rattle.dns_spec.specs.Layout.{Item, layout, size};
 ghost use Rattle.dns_wire.specs.Draft.{IsDraft, item_of};
 ghost use Rattle.dns_wire.specs.QuickNumbers.{quick_number};
-ghost use Rattle.dns_answer.specs.DraftForm.{Offers};
+ghost use Rattle.dns_answer.specs.DraftForm.{Offers, blank};
 
 use dns_name::NameRef;
 use dns_rdata::SetView;
@@ -42,6 +42,7 @@ impl<const N: usize, const SIZE: usize> Draft<N, SIZE> {
         requires upto { SIZE ≤ 65535 }
         requires places { min SIZE 16384 ≤ 2 * N }
         requires most { N ≤ 8192 }
+        ensures { result ≡ blank SIZE }
     {
         Draft {
             page: Page::empty(SIZE),
@@ -50,15 +51,24 @@ impl<const N: usize, const SIZE: usize> Draft<N, SIZE> {
         }
     }
 
-    /// Begins a reply, with the question that it repeats, if any. Nothing is left of the reply
-    /// before.
+    /// Makes the draft that of a reply that has nothing yet. Only what was written before is written
+    /// over.
+    pub(crate) fn clear(&mut self)
+        ensures { self.new ≡ blank SIZE }
+    {
+        self.page.clear(SIZE);
+        self.is_full = false;
+    }
+
+    /// Begins a reply, with the question that it repeats, if any.
+    ///
+    /// Condition: it has nothing yet.
     pub(crate) fn begin(&mut self, question: Option<&QuestionRef<'_>>)
+        requires { self.old ≡ blank SIZE }
         ensures draft { IsDraft quick_number (option_copied question.entry) [] self.new.page }
         ensures limit { self.new.page.limit ≡ SIZE }
         ensures empty { self.new.full ≡ false }
     {
-        self.page.clear(SIZE);
-        self.is_full = false;
         self.page.put_question(&mut self.hash, question);
     }
 

@@ -7,6 +7,7 @@ ghost use Rattle.dns_spec.specs.Reading.{Spells};
 ghost use Rattle.dns_spec.specs.Query.{is_ignored};
 ghost use Rattle.dns_spec.specs.Layout.{layout};
 ghost use Rattle.dns_spec.specs.Reply.{answered, decide, decide_question, is_meta_type, refusal, reply, reply_message, octets_of};
+ghost use Rattle.dns_answer.specs.DraftForm.{blank};
 ghost use Rattle.dns_answer.specs.Limits.{limit_of};
 ghost use Rattle.dns_answer.specs.Replies.{JudgedAs, IsReply, Answers, Costs, Responds, visits_for, names_for, comparisons_for};
 
@@ -85,8 +86,8 @@ pub fn respond(
         ≤ comparisons_for steps.old.zone (decide steps.old.zone datagram.now) steps.new.visits }
 {
     match limit {
-        Limit::Udp => respond_in(steps, datagram, &mut UdpDraft::new(), out),
-        Limit::Tcp => respond_in(steps, datagram, &mut TcpDraft::new(), out),
+        Limit::Udp => respond_with(steps, datagram, &mut UdpDraft::new(), out),
+        Limit::Tcp => respond_with(steps, datagram, &mut TcpDraft::new(), out),
     }
 }
 
@@ -104,6 +105,25 @@ pub fn respond_in<const N: usize, const SIZE: usize>(
     draft: &mut Draft<N, SIZE>,
     out: &mut [u8],
 ) -> Option<usize>
+    requires visits { steps.old.visits ≡ 0 }
+    requires comparisons { steps.old.comparisons ≡ 0 }
+    requires from { 512 ≤ SIZE }
+    requires upto { SIZE ≤ 65535 }
+    requires out { length out.old ≡ SIZE }
+    ensures { Responds steps.old steps.new datagram.now SIZE result out.new }
+{
+    draft.clear();
+    respond_with(steps, datagram, draft, out)
+}
+
+// Writes the reply to a datagram, made in a draft that has nothing yet.
+fn respond_with<const N: usize, const SIZE: usize>(
+    steps: &mut Steps<'_>,
+    datagram: &[u8],
+    draft: &mut Draft<N, SIZE>,
+    out: &mut [u8],
+) -> Option<usize>
+    requires blank { draft.old ≡ blank SIZE }
     requires visits { steps.old.visits ≡ 0 }
     requires comparisons { steps.old.comparisons ≡ 0 }
     requires from { 512 ≤ SIZE }
@@ -130,6 +150,7 @@ fn put_reply<'z, const N: usize, const SIZE: usize>(
     draft: &mut Draft<N, SIZE>,
     out: &mut [u8],
 ) -> usize
+    requires blank { draft.old ≡ blank SIZE }
     requires origin { origin.now ≡ steps.old.zone.origin }
     requires visits { steps.old.visits ≡ 0 }
     requires comparisons { steps.old.comparisons ≡ 0 }
@@ -189,7 +210,8 @@ fn put_refusal<const N: usize, const SIZE: usize>(
     draft: &mut Draft<N, SIZE>,
     out: &mut [u8],
 ) -> usize
-    requires { length out.old ≡ SIZE }
+    requires blank { draft.old ≡ blank SIZE }
+    requires out { length out.old ≡ SIZE }
     ensures octets { take result out.new ≡ layout head (option_copied question.entry) [] }
     ensures within { result ≤ length out.new }
 {
@@ -206,6 +228,7 @@ fn put_answer<'z, const N: usize, const SIZE: usize>(
     draft: &mut Draft<N, SIZE>,
     out: &mut [u8],
 ) -> usize
+    requires blank { draft.old ≡ blank SIZE }
     requires visits { steps.old.visits ≡ 0 }
     requires comparisons { steps.old.comparisons ≡ 0 }
     requires below { IsTrue (at_or_below question.now.qname steps.old.zone.origin) }

@@ -2,7 +2,7 @@ use Rattle.std.proofs.Common.{◌<◌, All, Some, refl, sym, ap, ◌∙◌, subs
 use Rattle.std.proofs.lemmas.Grind.{get_or_default_zero}
 use Rattle.dns_spec.specs.Query.{absent, refused_with, query}
 use Rattle.dns_answer.proofs.SentReplies.{nothing-taken, unanswered, responded}
-use Rattle.dns_answer.proofs.reply.respond_in.Goals as goal
+use Rattle.dns_answer.proofs.reply.respond_with.Goals as goal
 
 pub returns-in-Absent : goal.returns-in-Absent
 returns-in-Absent g c =
