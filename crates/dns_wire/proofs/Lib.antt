@@ -9,6 +9,7 @@ mod ChainLemmas
 mod SpelledLemmas
 mod Suffixes
 mod NameWritten
+mod AskedLemmas
 mod DataWritten
 mod DataPatched
 mod DataNames

@@ -92,7 +92,7 @@ run_more {b} x (jumps i o o' p n e at high at' is from before rest) =
     jumps i o o' p n e (get_more b x i o at) high (get_more b x (i + 1) o' at') is from before (run_more x rest)
 
 -- places kept among more
-kept_left : (ks more : List Kept) (p h : ℕ) → IsKept ks p h → IsKept (ks ++ more) p h
+pub kept_left : (ks more : List Kept) (p h : ℕ) → IsKept ks p h → IsKept (ks ++ more) p h
 kept_left ks more p h kept = (kept.0, go ks kept.0 kept.1)
   where
     go : (ks : List Kept) (k : ℕ) → slice_get ks k ≡ Some (record { place = p; head = h }) → slice_get (ks ++ more) k ≡ Some (record { place = p; head = h })
@@ -100,11 +100,11 @@ kept_left ks more p h kept = (kept.0, go ks kept.0 kept.1)
     go (y ∷ ks) zero at = at
     go (y ∷ ks) (suc k) at = go ks k at
 
-kept_right : (ks more : List Kept) (p h : ℕ) → IsKept more p h → IsKept (ks ++ more) p h
+pub kept_right : (ks more : List Kept) (p h : ℕ) → IsKept more p h → IsKept (ks ++ more) p h
 kept_right [] more p h kept = kept
 kept_right (y ∷ ks) more p h kept = let r = kept_right ks more p h kept in (suc r.0, r.1)
 
-kept_split : (ks more : List Kept) (p h : ℕ) → IsKept (ks ++ more) p h → IsKept ks p h ⊎ IsKept more p h
+pub kept_split : (ks more : List Kept) (p h : ℕ) → IsKept (ks ++ more) p h → IsKept ks p h ⊎ IsKept more p h
 kept_split [] more p h kept = inr kept
 kept_split (y ∷ ks) more p h (zero, at) = inl (zero, at)
 kept_split (y ∷ ks) more p h (suc k, at) = go (kept_split ks more p h (k, at))
@@ -114,7 +114,7 @@ kept_split (y ∷ ks) more p h (suc k, at) = go (kept_split ks more p h (k, at))
     go (inr b) = inr b
 
 -- each suffix that no earlier name has is kept, where a pointer reaches it
-kept_complete : (head : Octets → ℕ) (ms : List Placed) (n front : DomainName) (l : Octets) (t : DomainName) (i p : ℕ) → n ≡ front ++ l ∷ t → place_of ms (l ∷ t) ≡ None
+pub kept_complete : (head : Octets → ℕ) (ms : List Placed) (n front : DomainName) (l : Octets) (t : DomainName) (i p : ℕ) → n ≡ front ++ l ∷ t → place_of ms (l ∷ t) ≡ None
     → length (wire (l ∷ t)) ≤ length (wire n) → i + (length (wire n) - length (wire (l ∷ t))) ≡ p → p < 16384 → IsKept (new_places head ms n i) p (head (wire (l ∷ t)))
 kept_complete head ms n [] l t i p e none short at low =
     let same : i ≡ p = omega (arith, at, ap (λ x. length (wire x)) e) in
@@ -132,17 +132,17 @@ kept_complete head ms (k ∷ n) (x ∷ front) l t i p e none short at low =
 
 -- and what is kept are suffixes that are not shared
 pub record NewSuffix (ms : List Placed) (n : DomainName) (i p : ℕ) : Type 0 where
-  label : Octets
-  labels : DomainName
-  front : DomainName
-  whole : n ≡ front ++ label ∷ labels
-  unshared : shared_place ms (label ∷ labels) ≡ None
-  offset : ℕ
-  place : p ≡ i + offset
-  wire_length : length (wire n) ≡ offset + length (wire (label ∷ labels))
-  low : p < 16384
+  pub label : Octets
+  pub labels : DomainName
+  pub front : DomainName
+  pub whole : n ≡ front ++ label ∷ labels
+  pub unshared : shared_place ms (label ∷ labels) ≡ None
+  pub offset : ℕ
+  pub place : p ≡ i + offset
+  pub wire_length : length (wire n) ≡ offset + length (wire (label ∷ labels))
+  pub low : p < 16384
 
-kept_sound : (head : Octets → ℕ) (ms : List Placed) (n : DomainName) (i p h : ℕ) → IsKept (new_places head ms n i) p h → NewSuffix ms n i p
+pub kept_sound : (head : Octets → ℕ) (ms : List Placed) (n : DomainName) (i p h : ℕ) → IsKept (new_places head ms n i) p h → NewSuffix ms n i p
 kept_sound head ms [] i p h (k, at) = absurd (none-some _ (ap (λ x. slice_get x k) (sym (kept-root head ms i)) ∙ at))
 kept_sound head ms (l ∷ n) i p h (k, at) = go (shared_place ms (l ∷ n)) refl (nat_le i last_place) refl k at (λ j kept. kept_sound head ms n j p h kept)
   where
@@ -193,7 +193,7 @@ place_new (k ∷ ms) m s e is = go (has_suffix k.0 s) e (λ f. place_new ms m s 
     go true f again = absurd (none-some (suffix_place k s) (sym f))
     go false f again = again f
 
-is_name-suffix : (front s : DomainName) → is_name (front ++ s) ≡ true → is_name s ≡ true
+pub is_name-suffix : (front s : DomainName) → is_name (front ++ s) ≡ true → is_name s ≡ true
 is_name-suffix [] s h = h
 is_name-suffix (k ∷ front) s h = is_name-suffix front s (is_name-tail k (front ++ s) h)
 

@@ -111,10 +111,10 @@ records_at_hand {head} {b₀} {b} {ks₀} {ks} owner ttl set i inside =
     subst (λ x. RecordsGo head (records_at owner ttl set) b₀ ks₀ x b ks) (record_at owner ttl set.rtype set.rdata i inside)
 
 -- What the call for the record at hand has done, in the words of the loop.
-pub record_done : {head called : Octets → ℕ} {limit at : ℕ} {r given : ResourceRecord} {t u : Bool} {b b' : Octets} {ks ks' : List Kept}
+pub record_done : {head called : Octets → ℕ} {limit at : ℕ} {r given : ResourceRecord} {t u : Bool} {b b' : Octets} (ks ks' : (Octets → ℕ) → List Kept)
     → called ≡ head → at ≡ limit → given ≡ r → t ≡ u
-    → ((ms : List Placed) → Holds called ms b ks → IsWritten called at ms b (record_laid ms (length b) given) t b' ks')
-    → (ms : List Placed) → Holds head ms b ks → IsWritten head limit ms b (record_laid ms (length b) r) u b' ks'
-record_done {head} {called} {limit} {at} {r} {given} {t} {u} {b} {b'} {ks} {ks'} same limit_is record_is result_is done ms holds =
-    subst₂ (λ h x. IsWritten h limit ms b (record_laid ms (length b) x) u b' ks') same record_is
-    (subst₂ (λ l v. IsWritten called l ms b (record_laid ms (length b) given) v b' ks') limit_is result_is (done ms (subst (λ h. Holds h ms b ks) (sym same) holds)))
+    → ((ms : List Placed) → Holds called ms b (ks called) → IsWritten called at ms b (record_laid ms (length b) given) t b' (ks' called))
+    → (ms : List Placed) → Holds head ms b (ks head) → IsWritten head limit ms b (record_laid ms (length b) r) u b' (ks' head)
+record_done {head} {called} {limit} {at} {r} {given} {t} {u} {b} {b'} ks ks' same limit_is record_is result_is done ms holds =
+    subst₂ (λ h x. IsWritten h limit ms b (record_laid ms (length b) x) u b' (ks' h)) same record_is
+    (subst₂ (λ l v. IsWritten called l ms b (record_laid ms (length b) given) v b' (ks' called)) limit_is result_is (done ms (subst (λ h. Holds h ms b (ks h)) (sym same) holds)))

@@ -59,7 +59,7 @@ one_from {b} {m = m} (jumps i o o' p n e at high at' is from before rest) (at_po
     let same : q ≡ p = there.place ∙ ap₂ pointer_place one two ∙ sym is in
     one_from rest (goes_on_at (subst (λ j. RunAt b j j m d) same run))
 
-one_run : {b : Octets} {s i e f : ℕ} {n m : DomainName} → RunAt b s i n e → RunAt b s i m f → n ≡ m
+pub one_run : {b : Octets} {s i e f : ℕ} {n m : DomainName} → RunAt b s i n e → RunAt b s i m f → n ≡ m
 one_run h g = one_from h (goes_on_at g)
 
 -- a name that is spelled at a place that is kept is not the root, and shared there

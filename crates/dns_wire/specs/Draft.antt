@@ -8,7 +8,7 @@ use Rattle.dns_spec.specs.Layout as Layout
 use Rattle.dns_spec.specs.Layout.{Item, Placed, records_of, in_section, asked_octets, asked_placed, answer, authority, additional}
 use Rattle.dns_spec.specs.Laws.{IsAskable}
 use Rattle.dns_wire.specs.Kept.{Kept}
-use Rattle.dns_wire.specs.Writing.{Holds, IsSound, records_laid}
+use Rattle.dns_wire.specs.Writing.{asked_places, Holds, IsSound, records_laid}
 use Rattle.dns_wire.specs.declared.page.Section.{Section}
 use Rattle.dns_wire.specs.declared.page.Section.TheVariants.{Answer, Authority, Additional}
 
@@ -26,11 +26,12 @@ item_of section owner ttl set =
 abbrev pub with_set : List Item → Section → DomainName → ℕ → RecordSet → List Item
 with_set items section owner ttl set = items ++ item_of section owner ttl set ∷ []
 
--- a message that is being written: its limit, its octets after room for a header, the places kept,
--- and how many questions and records it has
+-- a message that is being written: its limit, its octets after room for a header, where the name of
+-- its question ends, the places kept of the names after it, and how many questions and records it has
 pub record Draft : Type 0 where
   pub limit : ℕ
   pub octets : Octets
+  pub asked_end : ℕ
   pub kept : List Kept
   pub questions : ℕ
   pub answers : ℕ
@@ -42,12 +43,17 @@ abbrev pub no_draft : ℕ → Draft
 no_draft limit = record {
   limit = limit;
   octets = replicate 12 0;
+  asked_end = 0;
   kept = [];
   questions = 0;
   answers = 0;
   authorities = 0;
   additionals = 0;
 }
+
+-- the places of the name of the question, and those kept of the names after it
+abbrev pub all_kept : (Octets → ℕ) → Draft → List Kept
+all_kept head d = asked_places head d.octets d.asked_end ++ d.kept
 
 -- the names of the records so far, with their places
 abbrev pub names_so_far : Option MessageQuestion → List Item → List Placed
@@ -61,7 +67,7 @@ pub record IsDraft (head : Octets → ℕ) (q : Option MessageQuestion) (items :
   pub written : d.octets
       ≡ replicate 12 0 ++ asked_octets q
       ++ (records_laid (asked_placed q) (12 + length (asked_octets q)) (records_of items)).written
-  pub holds : Holds head (names_so_far q items) d.octets d.kept
+  pub holds : Holds head (names_so_far q items) d.octets (all_kept head d)
   pub questions : d.questions ≡ length (option_to_list q)
   pub answers : d.answers ≡ length (in_section answer items)
   pub authorities : d.authorities ≡ length (in_section authority items)
@@ -70,6 +76,6 @@ pub record IsDraft (head : Octets → ℕ) (q : Option MessageQuestion) (items :
 
 -- there are no more records than octets
 pub record IsWellKept (N size : ℕ) (d : Draft) : Type 0 where
-  pub sound : IsSound N size d.limit d.octets d.kept
+  pub sound : IsSound N size d.limit d.octets d.asked_end d.kept
   pub header : 12 ≤ length d.octets
   pub few : d.answers + d.authorities + d.additionals ≤ length d.octets

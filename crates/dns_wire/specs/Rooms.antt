@@ -1,18 +1,23 @@
 -- What a reader learns here: what is said of a room before and after a call.
-use Rattle.std.specs.Prelude.{ℕ, List, Bool}
+use Rattle.std.specs.Prelude.{ℕ, List, ◌++◌, Bool}
 use Rattle.dns_spec.specs.Names.{Octets}
 use Rattle.dns_spec.specs.Layout.{Placed, Laid}
-use Rattle.dns_wire.specs.Writing.{Extends, Holds, IsSound, IsWritten}
+use Rattle.dns_wire.specs.Kept.{Kept}
+use Rattle.dns_wire.specs.Writing.{asked_places, Extends, Holds, IsSound, IsWritten}
 use Rattle.dns_wire.specs.declared.room.Room.{Room}
 
 module _ {N size : ℕ} where
   -- its octets fit its limit, and its places are few
   abbrev pub IsSoundRoom : Room N size → Type 0
-  IsSoundRoom r = IsSound N size r.limit r.octets.items r.places
+  IsSoundRoom r = IsSound N size r.limit r.octets.items r.asked_end r.places
+
+  -- the places of the name of the question, and those kept of the names after it
+  abbrev pub kept_by : (Octets → ℕ) → Room N size → List Kept
+  kept_by head r = asked_places head r.octets.items r.asked_end ++ r.places
 
   -- these are its earlier names
   abbrev pub HasNames : Room N size → (Octets → ℕ) → List Placed → Type 0
-  HasNames r head ms = Holds head ms r.octets.items r.places
+  HasNames r head ms = Holds head ms r.octets.items (kept_by head r)
 
   -- octets and places came after those that were there
   abbrev pub HasGrown : Room N size → Room N size → Type 0
@@ -22,4 +27,5 @@ module _ {N size : ℕ} where
   abbrev pub HasWritten : Room N size → Room N size → (Octets → ℕ) → List Placed → Laid
       → Bool → Type 0
   HasWritten old new head ms laid fits =
-      IsWritten head old.limit ms old.octets.items laid fits new.octets.items new.places
+      IsWritten head old.limit ms old.octets.items laid fits new.octets.items
+      (kept_by head new)

@@ -1,7 +1,7 @@
 -- What a reader learns here: how a writer lays a name out, which places it keeps for later names,
 -- and what must hold of the places kept, and of the octets written so far, that later names share
 -- rightly.
-use Rattle.std.specs.Prelude.{◌≡◌, ◌↔◌, ℕ, ◌+◌, ◌*◌, ◌<◌, ◌≤◌, ◌^◌, Bool, List, [], ◌∷◌, ◌++◌, length, drop, min, nat_le, IsTrue, if◌then◌else◌}
+use Rattle.std.specs.Prelude.{◌≡◌, ◌↔◌, ℕ, ◌+◌, ◌*◌, ◌<◌, ◌≤◌, ◌^◌, Bool, List, [], ◌∷◌, ◌++◌, ◌-◌, length, take, drop, min, nat_le, IsTrue, if◌then◌else◌}
 use Rattle.std.specs.Prelude.{Option, None, Some}
 use Rattle.std.specs.Bool.{OnTrue}
 use Rattle.dns_spec.specs.Names.{Octets, DomainName, wire, is_name}
@@ -9,7 +9,8 @@ use Rattle.dns_spec.specs.Data.{laid_parts}
 use Rattle.dns_spec.specs.Records.{ResourceRecord}
 use Rattle.dns_spec.specs.Reading.{RunAt}
 use Rattle.dns_spec.specs.Layout.{Placed, Laid, laid_front, data_laid, record_laid, record_tail, pointer, place_of, last_place, shared_place}
-use Rattle.dns_wire.specs.Kept.{Kept, IsKept}
+use Rattle.dns_name.specs.WireForm.{labels_of, IsWireForm}
+use Rattle.dns_wire.specs.Kept.{Kept, IsKept, SpelledAt}
 
 -- octets begin with a length k that is not 0, and after so many octets come these
 pub record AfterLabel (octets : Octets) (k : ℕ) (after : Octets) : Type 0 where
@@ -48,6 +49,30 @@ new_places head ms (l ∷ n) p = elim (shared_place ms (l ∷ n)) [
   | Some q ↦ []
 ]
 
+-- the octets of the name of the question, which ends at place a; none before it is written
+abbrev pub name_before : Octets → ℕ → Octets
+name_before b a = take (a - 12) (drop 12 b)
+
+-- The name of the question ends at this place, or it is not written yet.
+pub record IsAsked (b : Octets) (a : ℕ) : Type 0 where
+  pub inside : a ≤ length b
+  pub near : a ≤ 267
+  pub name : 12 < a → IsWireForm (name_before b a)
+
+-- the places of its suffixes, each with the number of the suffix
+unfoldable pub asked_places : (Octets → ℕ) → Octets → ℕ → List Kept
+asked_places head b a = new_places head [] (labels_of (name_before b a)) 12
+
+-- at none of them the message spells these octets
+abbrev pub NotAsked : Octets → ℕ → Octets → Type 0
+NotAsked b a o =
+    (head : Octets → ℕ) (p h : ℕ) → IsKept (asked_places head b a) p h → SpelledAt b p o → ⊥
+
+-- octets are the end of a name from one of its labels on
+abbrev pub IsLastOf : Octets → Octets → Type 0
+IsLastOf o last = (n : DomainName) → o ≡ wire n → IsTrue (is_name n)
+    → (front : DomainName) × (n' : DomainName) × (n ≡ front ++ n') × (last ≡ wire n')
+
 -- The places kept are just those of the suffixes that are shared, each with its number.
 pub record Answers (head : Octets → ℕ) (ms : List Placed) (ks : List Kept) : Type 0 where
   pub complete : (l : Octets) (n : DomainName) (p : ℕ) → shared_place ms (l ∷ n) ≡ Some p
@@ -68,14 +93,16 @@ pub record Holds (head : Octets → ℕ) (ms : List Placed) (b : Octets) (ks : L
 abbrev pub StandsIn : (Octets → ℕ) → List Placed → Octets → Laid → List Kept → Type 0
 StandsIn head ms b laid ks = Holds head (ms ++ laid.names) (b ++ laid.written) ks
 
--- a writer's room: N places and so many octets, of which a limit may be used
-pub record IsSound (N size limit : ℕ) (b : Octets) (ks : List Kept) : Type 0 where
+-- A writer's room: N places and so many octets, of which a limit may be used. The name of the
+-- question ends at place a.
+pub record IsSound (N size limit : ℕ) (b : Octets) (a : ℕ) (ks : List Kept) : Type 0 where
   pub within : length b ≤ limit
   pub fits : limit ≤ size
   pub short : limit < 2 ^ 16
   pub few : 2 * length ks ≤ length b
   pub enough : min size 16384 ≤ 2 * N
   pub most : N ≤ 8192
+  pub asked : IsAsked b a
 
 -- octets and places come after those that were there
 pub record Extends (b : Octets) (ks : List Kept) (b' : Octets) (ks' : List Kept) : Type 0 where

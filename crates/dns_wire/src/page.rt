@@ -47,6 +47,7 @@ impl<const N: usize, const SIZE: usize> Model for Page<N, SIZE> {
     ghost view = { λ p. record {
       limit = p.room.limit;
       octets = p.room.octets.items;
+      asked_end = p.room.asked_end;
       kept = p.room.places;
       questions = p.questions;
       answers = p.answers;
@@ -57,6 +58,7 @@ impl<const N: usize, const SIZE: usize> Model for Page<N, SIZE> {
     ghost invariant = { λ p. IsWellKept N SIZE (record {
       limit = p.room.limit;
       octets = p.room.octets.items;
+      asked_end = p.room.asked_end;
       kept = p.room.places;
       questions = p.questions;
       answers = p.answers;
@@ -145,7 +147,7 @@ impl<const N: usize, const SIZE: usize> Page<N, SIZE> {
         ensures same { H.numbers hash.new ≡ H.numbers hash.old }
     {
         if let Some(question) = question {
-            self.room.put_question(hash, question);
+            self.room.put_question(question);
             self.questions = 1;
         }
     }

@@ -144,27 +144,6 @@ impl<const N: usize> Places<N> {
         }
         None
     }
-
-    /// This place, where it is kept: looked for among those that came first, while they are lower.
-    pub(crate) fn kept_at(&self, place: usize) -> Option<u16>
-        ensures kept { IfSome result (λ own. HasPlace self.now own) }
-        ensures reached { IfSome result (λ own. own < 16384) }
-    {
-        let entries = self.entries.as_slice();
-        let mut i = 0;
-        'entries: while i < entries.len() {
-            let own = entries[i].place;
-            if usize::from(own) >= place {
-                return if usize::from(own) == place {
-                    Some(own)
-                } else {
-                    None
-                };
-            }
-            i += 1;
-        }
-        None
-    }
 }
 
 fn no_heads() -> [u16; HEADS]

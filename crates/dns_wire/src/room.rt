@@ -1,23 +1,22 @@
 //! The room of a writer: octets up to a limit, and the places of suffixes in them. Names are laid
 //! out here (RFC 1035 4.1.4).
-ghost use Rattle.std.specs.Prelude.{◌≡◌, ◌↔◌, List, ◌+◌, ◌-◌, ◌*◌, ◌≤◌, ◌<◌, ◌^◌, [], ◌∷◌, ◌++◌, length, take, drop, replicate, min, All, IsTrue, IfSome, IsNone};
+ghost use Rattle.std.specs.Prelude.{◌≡◌, ◌↔◌, List, ◌+◌, ◌-◌, ◌*◌, ◌≤◌, ◌<◌, ◌^◌, [], ◌∷◌, ◌++◌, length, take, drop, replicate, min, All, IsTrue, IfSome, IsNone, MatchOption, ℕ};
 ghost use Rattle.std.specs.Bool.{OnTrue, OnFalse};
 ghost use Rattle.dns_spec.specs.Names.{Octets, DomainName, wire, is_name};
 ghost use Rattle.dns_spec.specs.Data.{Valid, class_in, compresses, laid_parts, pieces_of, domain, type_mx};
 ghost use Rattle.dns_spec.specs.Layout.{Placed, question_octets, octets16, octets32, pointer, shared_octets, cost, data_laid, record_laid};
-ghost use Rattle.dns_wire.specs.Writing.{front_size, pointed_place, new_places, end_octets, Grows, AfterLabel, Holds, StandsIn, shown, tail_laid, records_laid};
+ghost use Rattle.dns_wire.specs.Writing.{name_before, IsAsked, asked_places, NotAsked, IsLastOf, front_size, pointed_place, new_places, end_octets, Grows, AfterLabel, Holds, StandsIn, shown, tail_laid, records_laid};
 ghost use Rattle.dns_wire.specs.Kept.{HasPlace, SpellsName, NoneSpelled};
-ghost use Rattle.dns_wire.specs.Rooms.{IsSoundRoom, HasNames, HasGrown, HasWritten};
+ghost use Rattle.dns_wire.specs.Rooms.{IsSoundRoom, kept_by, HasNames, HasGrown, HasWritten};
 ghost use Rattle.dns_spec.specs.Sets.{records_at};
 ghost use Rattle.dns_spec.specs.Laws.{IsAskable};
 ghost use Rattle.dns_rdata.specs.Parts.{HasName};
 
 use crate::message::{CLASS_IN, HEADER_OCTETS, QuestionRef};
 use crate::places::{Places, SuffixHash};
-use crate::spelled::has_at;
 use arrayvec::ArrayVec;
 use byteorder::{BigEndian, ByteOrder};
-use dns_name::NameRef;
+use dns_name::{NameRef, are_equal};
 use dns_rdata::{Part, Parts, RType, Rdata, SetView};
 
 // The last place that the 14 bits of a pointer reach.
@@ -30,8 +29,9 @@ pub(crate) struct Room<const N: usize, const SIZE: usize> {
     pub(crate) octets: ArrayVec<u8, SIZE>,
     pub(crate) places: Places<N>,
     pub(crate) limit: usize,
-    // Where the name of the question ends; 0 before it is written.
-    asked_end: usize,
+    // Where the name of the question ends; 0 before it is written. No places of its suffixes are
+    // kept, since this tells where each of them may stand.
+    pub(crate) asked_end: usize,
 }
 
 impl<const N: usize, const SIZE: usize> Room<N, SIZE> {
@@ -40,6 +40,7 @@ impl<const N: usize, const SIZE: usize> Room<N, SIZE> {
         requires room { 12 ≤ SIZE }
         ensures octets { result.octets.items ≡ replicate 12 0 }
         ensures places { result.places ≡ [] }
+        ensures asked { result.asked_end ≡ 0 }
         ensures limit { result.limit ≡ limit }
     {
         let mut octets = ArrayVec::new();
@@ -60,6 +61,7 @@ impl<const N: usize, const SIZE: usize> Room<N, SIZE> {
         requires room { 12 ≤ SIZE }
         ensures octets { self.new.octets.items ≡ replicate 12 0 }
         ensures places { self.new.places ≡ [] }
+        ensures asked { self.new.asked_end ≡ 0 }
         ensures limit { self.new.limit ≡ limit }
     {
         self.octets.clear();
@@ -72,21 +74,19 @@ impl<const N: usize, const SIZE: usize> Room<N, SIZE> {
     }
 
     /// Writes the question, which nothing stands before but the room for a header.
-    pub(crate) fn put_question<H: SuffixHash>(&mut self, hash: &mut H, question: &QuestionRef<'_>)
+    pub(crate) fn put_question(&mut self, question: &QuestionRef<'_>)
         requires sound { IsSoundRoom self.old }
         requires room { 512 ≤ self.old.limit }
         requires blank { self.old.octets.items ≡ replicate 12 0 }
         requires first { self.old.places ≡ [] }
         ensures askable { IsAskable question.now }
         ensures octets { self.new.octets.items ≡ replicate 12 0 ++ question_octets question.now }
-        ensures holds { HasNames self.new (H.numbers hash.old) ((question.now.qname, 12) ∷ []) }
+        ensures holds { (head : Octets → ℕ)
+            → HasNames self.new head ((question.now.qname, 12) ∷ []) }
         ensures limit { self.new.limit ≡ self.old.limit }
-        ensures same { H.numbers hash.new ≡ H.numbers hash.old }
         ensures sound { IsSoundRoom self.new }
     {
-        let name = question.name.octets();
-        self.extend(name);
-        keep_suffixes(&mut self.places, hash, name, name.len() - 1, HEADER_OCTETS);
+        self.extend(question.name.octets());
         self.asked_end = self.octets.len();
         let _ = self.append(
             &number_octets(question.qtype),
@@ -103,6 +103,7 @@ impl<const N: usize, const SIZE: usize> Room<N, SIZE> {
             ≡ self.old.octets.items ++ (front.now ++ end.now)) }
         ensures unchanged { OnFalse result (self.new.octets.items ≡ self.old.octets.items) }
         ensures places { self.new.places ≡ self.old.places }
+        ensures asked { self.new.asked_end ≡ self.old.asked_end }
         ensures limit { self.new.limit ≡ self.old.limit }
         ensures sound { IsSoundRoom self.new }
     {
@@ -122,6 +123,7 @@ impl<const N: usize, const SIZE: usize> Room<N, SIZE> {
         requires room { length self.old.octets.items + length octets.now ≤ self.old.limit }
         ensures octets { self.new.octets.items ≡ self.old.octets.items ++ octets.now }
         ensures places { self.new.places ≡ self.old.places }
+        ensures asked { self.new.asked_end ≡ self.old.asked_end }
         ensures limit { self.new.limit ≡ self.old.limit }
         ensures sound { IsSoundRoom self.new }
     {
@@ -148,12 +150,13 @@ impl<const N: usize, const SIZE: usize> Room<N, SIZE> {
         ensures extends { HasGrown self.old self.new }
         ensures unchanged { OnFalse result ((self.new.octets.items ≡ self.old.octets.items)
             × (self.new.places ≡ self.old.places)) }
+        ensures asked { self.new.asked_end ≡ self.old.asked_end }
         ensures limit { self.new.limit ≡ self.old.limit }
         ensures same { H.numbers hash.new ≡ H.numbers hash.old }
         ensures sound { IsSoundRoom self.new }
     {
         let message = self.octets.as_slice();
-        if let Some(place) = place_before(&self.places, message, self.asked_end, name) {
+        if let Some(place) = place_before(message, self.asked_end, name) {
             return self.append(&pointer_octets(place), &[]);
         }
         let shared = shared_suffix(&self.places, message, hash, name, self.asked_end);
@@ -175,6 +178,7 @@ impl<const N: usize, const SIZE: usize> Room<N, SIZE> {
             → HasWritten self.old self.new (H.numbers hash.old) ms
             (data_laid ms (length self.old.octets.items) parts.entry) result }
         ensures extends { HasGrown self.old self.new }
+        ensures asked { self.new.asked_end ≡ self.old.asked_end }
         ensures limit { self.new.limit ≡ self.old.limit }
         ensures same { H.numbers hash.new ≡ H.numbers hash.old }
         ensures sound { IsSoundRoom self.new }
@@ -203,11 +207,13 @@ impl<const N: usize, const SIZE: usize> Room<N, SIZE> {
             (data_laid ms (length self.old.octets.items) (laid_parts rtype.0 rdata.now)) result }
         ensures elsewhere { (ms : List Placed) (b : Octets)
             → HasNames self.old (H.numbers hash.old) ms
-            → Holds (H.numbers hash.old) ms b self.old.places
+            → Holds (H.numbers hash.old) ms b (kept_by (H.numbers hash.old) self.old)
             → length b ≡ length self.old.octets.items
             → OnTrue result (StandsIn (H.numbers hash.old) ms b
-            (data_laid ms (length b) (laid_parts rtype.0 rdata.now)) self.new.places) }
+            (data_laid ms (length b) (laid_parts rtype.0 rdata.now))
+            (kept_by (H.numbers hash.old) self.new)) }
         ensures extends { HasGrown self.old self.new }
+        ensures asked { self.new.asked_end ≡ self.old.asked_end }
         ensures limit { self.new.limit ≡ self.old.limit }
         ensures same { H.numbers hash.new ≡ H.numbers hash.old }
         ensures sound { IsSoundRoom self.new }
@@ -229,6 +235,7 @@ impl<const N: usize, const SIZE: usize> Room<N, SIZE> {
             → HasWritten self.old self.new (H.numbers hash.old) ms
             (data_laid ms (length self.old.octets.items) (laid_parts type_mx rdata.now)) result }
         ensures extends { HasGrown self.old self.new }
+        ensures asked { self.new.asked_end ≡ self.old.asked_end }
         ensures limit { self.new.limit ≡ self.old.limit }
         ensures same { H.numbers hash.new ≡ H.numbers hash.old }
         ensures sound { IsSoundRoom self.new }
@@ -243,6 +250,7 @@ impl<const N: usize, const SIZE: usize> Room<N, SIZE> {
         requires sound { IsSoundRoom self.old }
         ensures octets { self.new.octets.items ≡ take octets self.old.octets.items }
         ensures places { self.new.places ≡ take places self.old.places }
+        ensures asked { self.new.asked_end ≡ self.old.asked_end }
         ensures limit { self.new.limit ≡ self.old.limit }
     {
         self.octets.truncate(octets);
@@ -267,6 +275,7 @@ impl<const N: usize, const SIZE: usize> Room<N, SIZE> {
             × (self.new.places ≡ self.old.places)) }
         ensures longer { OnTrue result (length self.old.octets.items + length (S.set set.now).rdata
             ≤ length self.new.octets.items) }
+        ensures asked { self.new.asked_end ≡ self.old.asked_end }
         ensures limit { self.new.limit ≡ self.old.limit }
         ensures same { H.numbers hash.new ≡ H.numbers hash.old }
         ensures sound { IsSoundRoom self.new }
@@ -303,6 +312,7 @@ impl<const N: usize, const SIZE: usize> Room<N, SIZE> {
             × (self.new.places ≡ self.old.places)) }
         ensures longer { OnTrue result (length self.old.octets.items + length (S.set set.now).rdata
             ≤ length self.new.octets.items) }
+        ensures asked { self.new.asked_end ≡ self.old.asked_end }
         ensures limit { self.new.limit ≡ self.old.limit }
         ensures same { H.numbers hash.new ≡ H.numbers hash.old }
         ensures sound { IsSoundRoom self.new }
@@ -336,6 +346,7 @@ impl<const N: usize, const SIZE: usize> Room<N, SIZE> {
         ensures longer { OnTrue result (length self.old.octets.items + 10
             ≤ length self.new.octets.items) }
         ensures extends { HasGrown self.old self.new }
+        ensures asked { self.new.asked_end ≡ self.old.asked_end }
         ensures limit { self.new.limit ≡ self.old.limit }
         ensures same { H.numbers hash.new ≡ H.numbers hash.old }
         ensures sound { IsSoundRoom self.new }
@@ -359,6 +370,7 @@ impl<const N: usize, const SIZE: usize> Room<N, SIZE> {
         ensures longer { OnTrue result (length self.old.octets.items + 10
             ≤ length self.new.octets.items) }
         ensures extends { HasGrown self.old self.new }
+        ensures asked { self.new.asked_end ≡ self.old.asked_end }
         ensures limit { self.new.limit ≡ self.old.limit }
         ensures same { H.numbers hash.new ≡ H.numbers hash.old }
         ensures sound { IsSoundRoom self.new }
@@ -387,6 +399,7 @@ impl<const N: usize, const SIZE: usize> Room<N, SIZE> {
         ensures longer { OnTrue result (length self.old.octets.items + 10
             ≤ length self.new.octets.items) }
         ensures extends { HasGrown self.old self.new }
+        ensures asked { self.new.asked_end ≡ self.old.asked_end }
         ensures limit { self.new.limit ≡ self.old.limit }
         ensures same { H.numbers hash.new ≡ H.numbers hash.old }
         ensures sound { IsSoundRoom self.new }
@@ -407,10 +420,12 @@ impl<const N: usize, const SIZE: usize> Room<N, SIZE> {
     fn put_length(&mut self, at: usize)
         requires sound { IsSoundRoom self.old }
         requires numbers { at + 10 ≤ length self.old.octets.items }
+        requires after_name { self.old.asked_end ≤ at }
         ensures octets { self.new.octets.items ≡ take (at + 8) self.old.octets.items
             ++ (octets16 (length self.old.octets.items - at - 10)
             ++ drop (at + 10) self.old.octets.items) }
         ensures places { self.new.places ≡ self.old.places }
+        ensures asked { self.new.asked_end ≡ self.old.asked_end }
         ensures limit { self.new.limit ≡ self.old.limit }
         ensures sound { IsSoundRoom self.new }
     {
@@ -428,6 +443,7 @@ impl<const N: usize, const SIZE: usize> Room<N, SIZE> {
             ≡ self.old.octets.items ++ (front.now ++ end_octets place)) }
         ensures unchanged { OnFalse result (self.new.octets.items ≡ self.old.octets.items) }
         ensures places { self.new.places ≡ self.old.places }
+        ensures asked { self.new.asked_end ≡ self.old.asked_end }
         ensures limit { self.new.limit ≡ self.old.limit }
         ensures sound { IsSoundRoom self.new }
     {
@@ -463,7 +479,8 @@ struct Shared {
     place: Option<u16>,
 }
 
-// The longest suffix of a name, in its wire form, that a pointer may stand for.
+// The longest suffix of a name, in its wire form, that a pointer may stand for. The name itself is
+// no suffix of the question's.
 fn shared_suffix<H: SuffixHash, const N: usize>(
     places: &Places<N>,
     message: &[u8],
@@ -471,12 +488,14 @@ fn shared_suffix<H: SuffixHash, const N: usize>(
     name: &[u8],
     asked_end: usize,
 ) -> Shared
-    ensures front { (ms : List Placed) (n : DomainName)
-        → Holds (H.numbers hash.old) ms message.now places.now → name.now ≡ wire n
-        → IsTrue (is_name n) → result.front ≡ front_size ms n }
-    ensures place { (ms : List Placed) (n : DomainName)
-        → Holds (H.numbers hash.old) ms message.now places.now → name.now ≡ wire n
-        → IsTrue (is_name n) → result.place ≡ pointed_place ms n }
+    requires asked { IsAsked message.now asked_end }
+    requires unasked { NotAsked message.now asked_end name.now }
+    ensures front { (ms : List Placed) (n : DomainName) → Holds (H.numbers hash.old) ms message.now
+        (asked_places (H.numbers hash.old) message.now asked_end ++ places.now)
+        → name.now ≡ wire n → IsTrue (is_name n) → result.front ≡ front_size ms n }
+    ensures place { (ms : List Placed) (n : DomainName) → Holds (H.numbers hash.old) ms message.now
+        (asked_places (H.numbers hash.old) message.now asked_end ++ places.now)
+        → name.now ≡ wire n → IsTrue (is_name n) → result.place ≡ pointed_place ms n }
     ensures inside { result.front ≤ length name.now }
     ensures reached { IfSome result.place (λ place. place < 16384) }
     ensures same { H.numbers hash.new ≡ H.numbers hash.old }
@@ -490,7 +509,7 @@ fn shared_suffix<H: SuffixHash, const N: usize>(
             };
         }
         rest = after;
-        if let Some(place) = place_before(places, message, asked_end, rest) {
+        if let Some(place) = place_before(message, asked_end, rest) {
             return Shared {
                 front: name.len() - rest.len(),
                 place: Some(place),
@@ -525,22 +544,58 @@ fn find_suffix<H: SuffixHash, const N: usize>(
     places.find(head, message, suffix)
 }
 
-// The place that is kept and from which on a message has a suffix octet by octet, up to an end.
-fn place_before<const N: usize>(
-    places: &Places<N>,
-    message: &[u8],
-    end: usize,
-    suffix: &[u8],
-) -> Option<u16>
-    ensures kept { IfSome result (λ place. HasPlace places.now place) }
+// The place at which the name of the question, which ends at a place, has a suffix. It is not kept:
+// only one place is so far before that end.
+fn place_before(message: &[u8], end: usize, suffix: &[u8]) -> Option<u16>
+    requires { IsAsked message.now end }
+    ensures kept { (head : Octets → ℕ)
+        → IfSome result (λ place. HasPlace (asked_places head message.now end) place) }
     ensures spelled { IfSome result (λ place. SpellsName message.now place suffix.now) }
     ensures reached { IfSome result (λ place. place < 16384) }
+    ensures none { IsNone result → NotAsked message.now end suffix.now }
 {
-    let place = places.kept_at(end.checked_sub(suffix.len())?)?;
-    if !has_at(message, usize::from(place), suffix) {
+    if suffix.len() < 2 {
         return None;
     }
-    Some(place)
+    let last = last_labels(name_before(message, end), suffix.len())?;
+    if !are_equal(last, suffix) {
+        return None;
+    }
+    Some((end - suffix.len()) as u16)
+}
+
+// The octets between the header and a place; none where it is not after the header.
+fn name_before(message: &[u8], end: usize) -> &[u8]
+    ensures { end ≤ length message.now → result.now ≡ name_before message.now end }
+{
+    let Some((front, _)) = message.split_at_checked(end) else {
+        return &[];
+    };
+    match front.split_at_checked(HEADER_OCTETS) {
+        Some((_, name)) => name,
+        None => &[],
+    }
+}
+
+// So many octets at the end of a name, where they begin with one of its labels: the octets of a
+// suffix may stand inside a label as well.
+fn last_labels(name: &[u8], count: usize) -> Option<&[u8]>
+    ensures some { IfSome result (λ last. IsLastOf name.now last.now) }
+    ensures long { IfSome result (λ last. length last.now ≡ count) }
+    ensures inside { IfSome result (λ _. count ≤ length name.now) }
+    ensures all { (n front t : DomainName) (l : Octets) → name.now ≡ wire n → IsTrue (is_name n)
+        → n ≡ front ++ l ∷ t → length (wire (l ∷ t)) ≡ count
+        → MatchOption result ⊥ (λ last. last.now ≡ wire (l ∷ t)) }
+{
+    let mut rest = name;
+    'labels: while rest.len() > count {
+        let (_, after) = after_first_label(rest)?;
+        rest = after;
+    }
+    if rest.len() != count {
+        return None;
+    }
+    Some(rest)
 }
 
 // Keeps the places of the suffixes that begin in the first `front` octets of a name laid out at a

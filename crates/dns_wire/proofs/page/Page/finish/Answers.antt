@@ -9,13 +9,13 @@ use Rattle.dns_wire.proofs.page.Page.finish.Goals as goal
 pub returns-clause-length : goal.returns-clause-length
 returns-clause-length g c = λ h q items draft.
     let r = c.self.inside in
-    let d : Draft = record { limit = r.room.limit; octets = r.room.octets.items; kept = r.room.places; questions = r.questions; answers = r.answers; authorities = r.authorities; additionals = r.additionals } in
+    let d : Draft = record { limit = r.room.limit; octets = r.room.octets.items; asked_end = r.room.asked_end; kept = r.room.places; questions = r.questions; answers = r.answers; authorities = r.authorities; additionals = r.additionals } in
     ap length c.as_slice-octets.ensures.value ∙ draft_length q items d (subst (IsDraft h q items) (sym c.self.view_is) draft)
 
 pub returns-clause-layout : goal.returns-clause-layout
 returns-clause-layout g c = λ h q items draft.
     let r = c.self.inside in
-    let d : Draft = record { limit = r.room.limit; octets = r.room.octets.items; kept = r.room.places; questions = r.questions; answers = r.answers; authorities = r.authorities; additionals = r.additionals } in
+    let d : Draft = record { limit = r.room.limit; octets = r.room.octets.items; asked_end = r.room.asked_end; kept = r.room.places; questions = r.questions; answers = r.answers; authorities = r.authorities; additionals = r.additionals } in
     let here = subst (IsDraft h q items) (sym c.self.view_is) draft in
     let body = c.split_at.result.1.now in
     let cut : body ≡ drop 12 d.octets = c.split_at.ensures.back ∙ ap (drop 12) c.as_slice-octets.ensures.value in
@@ -29,7 +29,7 @@ returns-clause-layout g c = λ h q items draft.
 pub returns-clause-spelled : goal.returns-clause-spelled
 returns-clause-spelled g c = λ h q items draft order writable.
     let r = c.self.inside in
-    let d : Draft = record { limit = r.room.limit; octets = r.room.octets.items; kept = r.room.places; questions = r.questions; answers = r.answers; authorities = r.authorities; additionals = r.additionals } in
+    let d : Draft = record { limit = r.room.limit; octets = r.room.octets.items; asked_end = r.room.asked_end; kept = r.room.places; questions = r.questions; answers = r.answers; authorities = r.authorities; additionals = r.additionals } in
     let here = subst (IsDraft h q items) (sym c.self.view_is) draft in
     let within = c.self.invariant.sound.within in
     let short = c.self.invariant.sound.short in

@@ -1,4 +1,6 @@
-use Rattle.std.proofs.Common.{◌∙◌, refl, sym, ap, subst, subst₂, [], Option, None, Some}
+use Rattle.std.proofs.Common.{◌∙◌, refl, sym, ap, subst, subst₂, [], replicate, append-nil, Option, None, Some}
+use Rattle.dns_wire.specs.Writing.{Holds, asked_places}
+use Rattle.dns_wire.proofs.AskedLemmas.{asked_nothing}
 use Rattle.std.specs.Borrow.{Bor}
 use Rattle.std.specs.Option.{option_copied}
 use Rattle.dns_spec.specs.Reading.{MessageQuestion}
@@ -11,13 +13,13 @@ pub returns-in-Some-clause-draft : goal.returns-in-Some-clause-draft
 returns-in-Some-clause-draft g c =
     let head = g.H.SuffixHash.numbers c.args.hash.now in
     let r = c.put_question.new.self in
-    let d : Draft = record { limit = r.limit; octets = r.octets.items; kept = r.places; questions = 1; answers = c.self.inside.answers; authorities = c.self.inside.authorities; additionals = c.self.inside.additionals } in
-    let begun = draft_begins head (Some c.in-Some.question.now) d c.put_question.ensures.octets c.put_question.ensures.holds refl
+    let d : Draft = record { limit = r.limit; octets = r.octets.items; asked_end = r.asked_end; kept = r.places; questions = 1; answers = c.self.inside.answers; authorities = c.self.inside.authorities; additionals = c.self.inside.additionals } in
+    let begun = draft_begins head (Some c.in-Some.question.now) d c.put_question.ensures.octets (c.put_question.ensures.holds head) refl
     (ap (λ (k : Draft). k.answers) (c.self.view_is ∙ c.requires.nothing)) (ap (λ (k : Draft). k.authorities) (c.self.view_is ∙ c.requires.nothing)) (ap (λ (k : Draft). k.additionals) (c.self.view_is ∙ c.requires.nothing)) c.put_question.ensures.askable in
     subst (λ (o : Option (Bor MessageQuestion)). IsDraft head (option_copied o) [] d) (sym c.in-Some.is) begun
 
 pub returns-in_default-clause-draft : goal.returns-in_default-clause-draft
 returns-in_default-clause-draft g c =
     let head = g.H.SuffixHash.numbers c.args.hash.now in
-    let begun = draft_begins head None (no_draft c.args.self.now.limit) refl (holds_nothing head) refl refl refl refl tt in
+    let begun = draft_begins head None (no_draft c.args.self.now.limit) refl (subst (Holds head [] (replicate 12 0)) (sym (append-nil (asked_places head (replicate 12 0) 0) ∙ asked_nothing head (replicate 12 0))) (holds_nothing head)) refl refl refl refl tt in
     subst₂ (λ (o : Option (Bor MessageQuestion)) (d : Draft). IsDraft head (option_copied o) [] d) (sym c.in_default.is) (sym c.requires.nothing) begun

@@ -5,6 +5,7 @@ use Rattle.std.specs.Bool.{OnTrue}
 use Rattle.dns_spec.specs.Data.{octets, name, parts, laid_parts, type_mx, Valid}
 use Rattle.dns_spec.specs.Layout.{data_laid}
 use Rattle.dns_rdata.specs.Parts.{HasName}
+use Rattle.dns_wire.specs.Rooms.{kept_by}
 use Rattle.dns_wire.specs.Writing.{StandsIn, IsWritten}
 use Rattle.dns_wire.proofs.DataPatched.{stands_elsewhere}
 use Rattle.dns_wire.proofs.DataNames.{one_name_laid, exchange_laid, one_written}
@@ -19,7 +20,7 @@ returns-then-is_one_name-clause-written g c = λ ms holds.
     let n = one.own in
     let put = c.put_name.ensures in
     let done = one_written {head = head} n (put.fits ms n holds one.whole one.is_name) (put.octets ms n holds one.whole one.is_name) (put.holds ms n holds one.whole one.is_name) in
-    subst (λ ps. IsWritten head c.args.self.now.limit ms b (data_laid ms (length b) ps) c.put_name.result c.put_name.new.self.octets.items c.put_name.new.self.places) (sym one.parts) done
+    subst (λ ps. IsWritten head c.args.self.now.limit ms b (data_laid ms (length b) ps) c.put_name.result c.put_name.new.self.octets.items (kept_by head c.put_name.new.self)) (sym one.parts) done
 
 pub returns-then-is_one_name-clause-elsewhere : goal.returns-then-is_one_name-clause-elsewhere
 returns-then-is_one_name-clause-elsewhere g c = λ ms b holds there same.
@@ -36,7 +37,7 @@ returns-then-eq-clause-elsewhere g c = λ ms b holds there same.
     let laid = exchange_laid d (subst (λ t. Valid t d) own c.requires.valid) in
     let exchange = All-cons HasName (name laid.own) [] laid.is_name (All-nil HasName) in
     let names : All HasName (laid_parts type_mx d) = subst (All HasName) (sym laid.parts) (All-cons HasName (octets (take 2 d)) (name laid.own ∷ []) tt exchange) in
-    subst (λ t. OnTrue c.put_exchange.result (StandsIn head ms b (data_laid ms (length b) (laid_parts t d)) c.put_exchange.new.self.places)) (sym own)
+    subst (λ t. OnTrue c.put_exchange.result (StandsIn head ms b (data_laid ms (length b) (laid_parts t d)) (kept_by head c.put_exchange.new.self))) (sym own)
     (stands_elsewhere (laid_parts type_mx d) names (c.put_exchange.ensures.written ms holds) there same)
 
 pub returns-clause-elsewhere : goal.returns-clause-elsewhere
@@ -45,5 +46,5 @@ returns-clause-elsewhere g c = λ ms b holds there same.
     let o = c.args.rdata.now in
     let whole : laid_parts c.args.rtype.0 o ≡ c.parts.result =
     ap (λ t. cond t (parts c.args.rtype.0 o) (octets o ∷ [])) c.requires.shared ∙ sym c.parts.ensures.parts in
-    subst (λ ps. OnTrue c.put_parts.result (StandsIn head ms b (data_laid ms (length b) ps) c.put_parts.new.self.places)) (sym whole)
+    subst (λ ps. OnTrue c.put_parts.result (StandsIn head ms b (data_laid ms (length b) ps) (kept_by head c.put_parts.new.self))) (sym whole)
     (stands_elsewhere c.parts.result c.parts.ensures.names (c.put_parts.ensures.written ms holds) there same)

@@ -2,8 +2,10 @@ use Rattle.std.proofs.Common.{◌≡◌, ◌+◌, ◌<◌, ◌∙◌, sym, ap, s
 use Rattle.std.proofs.lemmas.Bool.{false≢true}
 use Rattle.dns_spec.specs.Data.{octets, name, type_mx, laid_parts}
 use Rattle.dns_spec.specs.Layout.{data_laid}
+use Rattle.dns_wire.specs.Rooms.{kept_by}
 use Rattle.dns_wire.specs.Writing.{Holds, IsWritten}
 use Rattle.dns_wire.proofs.NameWritten.{holds_octets}
+use Rattle.dns_wire.proofs.AskedLemmas.{kept_more}
 use Rattle.dns_wire.proofs.DataWritten.{past_octets, octets_extend, not_written}
 use Rattle.dns_wire.proofs.DataNames.{exchange_laid, one_written, name_after}
 use Rattle.dns_wire.proofs.room.Room.put_exchange.Goals as goal
@@ -17,12 +19,13 @@ returns-then-append-clause-written g c = λ ms holds.
     let b = c.args.self.now.octets.items in
     let b' = c.append.new.self.octets.items in
     let b'' = c.put_name.new.self.octets.items in
-    let ks'' = c.put_name.new.self.places in
+    let ks'' = kept_by head c.put_name.new.self in
     let o = c.split_at.result.0.now in
     let laid = exchange_laid c.args.rdata.now c.requires.valid in
     let n = laid.own in
     let own : b' ≡ b ++ (o ++ []) = c.if-append.ensures.octets in
-    let there = subst₂ (Holds head ms) (sym own) (sym c.append.ensures.places) (holds_octets (o ++ []) holds) in
+    let same = kept_more head _ _ _ _ _ _ (o ++ []) c.requires.sound.asked own c.append.ensures.asked c.append.ensures.places in
+    let there = subst₂ (Holds head ms) (sym own) (sym same) (holds_octets (o ++ []) holds) in
     let whole = c.split_at.ensures.back ∙ laid.whole in
     let put = c.put_name.ensures in
     let one = one_written {head = head} n (put.fits ms n there whole laid.is_name) (put.octets ms n there whole laid.is_name) (put.holds ms n there whole laid.is_name) in
@@ -39,10 +42,10 @@ returns-else-append-clause-written g c = λ ms holds.
     let o = c.split_at.result.0.now in
     let laid = exchange_laid c.args.rdata.now c.requires.valid in
     let over : limit < length b + (length o + 0) = lt_of_not-le (λ fits. false≢true (sym c.if-append.false ∙ c.append.ensures.fits.1 fits)) in
-    let none = not_written {head = head} {b' = b'} {ks = c.append.new.self.places} (past_octets limit ms b o (name laid.own ∷ []) over) in
-    let all = subst (λ ps. IsWritten head limit ms b (data_laid ms (length b) ps) false b' c.append.new.self.places)
+    let none = not_written {head = head} {b' = b'} {ks = kept_by head c.append.new.self} (past_octets limit ms b o (name laid.own ∷ []) over) in
+    let all = subst (λ ps. IsWritten head limit ms b (data_laid ms (length b) ps) false b' (kept_by head c.append.new.self))
     (sym (laid.parts ∙ ap (λ x. octets x ∷ name laid.own ∷ []) (sym c.split_at.ensures.front))) none in
-    subst (λ f. IsWritten head limit ms b (data_laid ms (length b) (laid_parts type_mx c.args.rdata.now)) f b' c.append.new.self.places) (sym c.if-append.false) all
+    subst (λ f. IsWritten head limit ms b (data_laid ms (length b) (laid_parts type_mx c.args.rdata.now)) f b' (kept_by head c.append.new.self)) (sym c.if-append.false) all
 
 pub returns-else-append-clause-extends : goal.returns-else-append-clause-extends
 returns-else-append-clause-extends g c =

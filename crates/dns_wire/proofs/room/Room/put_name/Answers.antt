@@ -1,9 +1,12 @@
-use Rattle.std.proofs.Common.{◌≡◌, true, List, append-nil, ◌∙◌, refl, sym, ap, ap₂, subst, subst₂, arith, length, take, ◌++◌, ◌∷◌, []}
+use Rattle.std.proofs.Common.{rules, ◌≡◌, true, List, append-nil, append_assoc, length-append, ◌∙◌, refl, sym, ap, ap₂, subst, subst₂, arith, length, take, ◌++◌, ◌∷◌, []}
 use Rattle.std.proofs.lemmas.Bool.{false≢true}
 use Rattle.std.specs.Bool.{OnTrue}
 use Rattle.dns_spec.specs.Names.{DomainName, wire, is_name}
 use Rattle.dns_spec.specs.Layout.{Placed, shared_octets, cost}
-use Rattle.dns_wire.specs.Writing.{end_octets, new_places, Holds, Extends}
+use Rattle.dns_wire.specs.Kept.{HasPlace, SpellsName}
+use Rattle.dns_wire.specs.Rooms.{kept_by}
+use Rattle.dns_wire.proofs.AskedLemmas.{kept_stays, kept_more, place_asked}
+use Rattle.dns_wire.specs.Writing.{IsAsked, asked_places, end_octets, new_places, Holds, Extends}
 use Rattle.dns_wire.proofs.Suffixes.{extends_none}
 use Rattle.dns_wire.proofs.DataWritten.{octets_extend}
 use Rattle.dns_wire.proofs.NameWritten.{name_laid, cost_is, holds_name, LaidAt, laid_at, holds_pointed}
@@ -11,14 +14,17 @@ use Rattle.dns_wire.proofs.room.Room.put_name.Goals as goal
 use Rattle.dns_wire.proofs.room.Room.put_name.Given as given
 
 -- the whole name is a suffix of the question's
-module _ (g : given.Over) (c : goal.After-append g) (ms : List Placed) (n : DomainName) (holds : Holds (g.H.SuffixHash.numbers c.args.hash.now) ms c.args.self.now.octets.items c.args.self.now.places)
+module _ (g : given.Over) (c : goal.After-append g) (ms : List Placed) (n : DomainName) (holds : Holds (g.H.SuffixHash.numbers c.args.hash.now) ms c.args.self.now.octets.items (kept_by (g.H.SuffixHash.numbers c.args.hash.now) c.args.self.now))
     (e : c.args.name.now ≡ wire n) (ok : is_name n ≡ true) where
   laid : LaidAt (g.H.SuffixHash.numbers c.args.hash.now) ms n c.in-Some.place (length c.args.self.now.octets.items)
   laid =
       let head = g.H.SuffixHash.numbers c.args.hash.now in
       let found = c.in-Some.ensures in
-      let there = subst (λ b. Holds head ms b c.args.self.now.places) (sym c.as_slice-message.ensures.value) holds in
-      laid_at n c.in-Some.place (length c.args.self.now.octets.items) there found.kept found.spelled e ok
+      let b = c.args.self.now.octets.items in
+      let a = c.args.self.now.asked_end in
+      let kept = subst (λ x. HasPlace (asked_places head x a) c.in-Some.place) c.as_slice-message.ensures.value (found.kept head) in
+      let spelled = subst (λ x. SpellsName x c.in-Some.place c.args.name.now) c.as_slice-message.ensures.value found.spelled in
+      laid_at n c.in-Some.place (length b) holds (place_asked (asked_places head b a) c.args.self.now.places kept) spelled e ok
 
   pointed : OnTrue c.append.result (c.append.new.self.octets.items ≡ c.args.self.now.octets.items ++ shared_octets ms n)
   pointed =
@@ -37,7 +43,8 @@ returns-in-Some-clause-octets g c = λ ms n holds e ok. pointed g c ms n holds e
 
 pub returns-in-Some-clause-holds : goal.returns-in-Some-clause-holds
 returns-in-Some-clause-holds g c = λ ms n holds e ok.
-    holds_pointed c.args.self.now.octets.items c.append.new.self.octets.items n c.in-Some.place c.append.result holds ok (laid g c ms n holds e ok) (pointed g c ms n holds e ok) c.append.ensures.places
+    holds_pointed c.args.self.now.octets.items c.append.new.self.octets.items n c.in-Some.place c.append.result holds ok (laid g c ms n holds e ok) (pointed g c ms n holds e ok)
+    (kept_stays (g.H.SuffixHash.numbers c.args.hash.now) _ _ _ _ _ _ (c.pointer_octets.result ++ []) c.append.result c.requires.asked c.append.ensures.octets c.append.ensures.unchanged c.append.ensures.asked c.append.ensures.places)
 
 pub returns-in-Some-clause-extends : goal.returns-in-Some-clause-extends
 returns-in-Some-clause-extends g c = octets_extend (c.pointer_octets.result ++ []) c.append.result c.append.ensures.octets c.append.ensures.unchanged c.append.ensures.places
@@ -45,7 +52,7 @@ returns-in-Some-clause-extends g c = octets_extend (c.pointer_octets.result ++ [
 pub returns-then-not-append_end-clause-fits : goal.returns-then-not-append_end-clause-fits
 returns-then-not-append_end-clause-fits g c = λ ms n holds e ok.
     let head = g.H.SuffixHash.numbers c.args.hash.now in
-    let there = subst (λ b. Holds head ms b c.args.self.now.places) (sym c.as_slice-message.ensures.value) holds in
+    let there = subst (λ b. Holds head ms b (asked_places head b c.args.self.now.asked_end ++ c.args.self.now.places)) (sym c.as_slice-message.ensures.value) holds in
     let front = c.shared_suffix-shared.ensures.front ms n there e ok in
     let end = ap (λ p. length (end_octets p)) (c.shared_suffix-shared.ensures.place ms n there e ok) in
     let cost = cost_is ms n in (
@@ -56,7 +63,7 @@ returns-then-not-append_end-clause-fits g c = λ ms n holds e ok.
 pub returns-clause-fits : goal.returns-clause-fits
 returns-clause-fits g c = λ ms n holds e ok.
     let head = g.H.SuffixHash.numbers c.args.hash.now in
-    let there = subst (λ b. Holds head ms b c.args.self.now.places) (sym c.as_slice-message.ensures.value) holds in
+    let there = subst (λ b. Holds head ms b (asked_places head b c.args.self.now.asked_end ++ c.args.self.now.places)) (sym c.as_slice-message.ensures.value) holds in
     let front = c.shared_suffix-shared.ensures.front ms n there e ok in
     let end = ap (λ p. length (end_octets p)) (c.shared_suffix-shared.ensures.place ms n there e ok) in
     let cost = cost_is ms n in
@@ -66,7 +73,7 @@ returns-clause-fits g c = λ ms n holds e ok.
 pub returns-clause-octets : goal.returns-clause-octets
 returns-clause-octets g c = λ ms n holds e ok.
     let head = g.H.SuffixHash.numbers c.args.hash.now in
-    let there = subst (λ b. Holds head ms b c.args.self.now.places) (sym c.as_slice-message.ensures.value) holds in
+    let there = subst (λ b. Holds head ms b (asked_places head b c.args.self.now.asked_end ++ c.args.self.now.places)) (sym c.as_slice-message.ensures.value) holds in
     let front = c.shared_suffix-shared.ensures.front ms n there e ok in
     let place = c.shared_suffix-shared.ensures.place ms n there e ok in
     c.if-not-append_end.ensures.octets
@@ -77,15 +84,19 @@ pub returns-clause-holds : goal.returns-clause-holds
 returns-clause-holds g c = λ ms n holds e ok.
     let head = g.H.SuffixHash.numbers c.args.hash.now in
     let b = c.args.self.now.octets.items in
-    let there = subst (λ x. Holds head ms x c.args.self.now.places) (sym c.as_slice-message.ensures.value) holds in
+    let there = subst (λ x. Holds head ms x (asked_places head x c.args.self.now.asked_end ++ c.args.self.now.places)) (sym c.as_slice-message.ensures.value) holds in
     let front = c.shared_suffix-shared.ensures.front ms n there e ok in
     let octets = returns-clause-octets g c ms n holds e ok in
     let numbers = c.shared_suffix-shared.ensures.same in
-    let kept =
+    let new = new_places head ms n (length b) in
+    let places : c.keep_suffixes.new.places ≡ c.args.self.now.places ++ new =
     c.keep_suffixes.ensures.kept ms n e ok front
     ∙ ap₂ (λ ks h. ks ++ new_places h ms n c.len-at.result) c.append_end.ensures.places numbers
     ∙ ap (λ i. c.args.self.now.places ++ new_places head ms n i) c.len-at.ensures.value in
-    subst₂ (λ x ks. Holds head (ms ++ (n, length b) ∷ []) x ks) (sym octets) (sym kept) (holds_name head ms b c.args.self.now.places holds n ok)
+    let o = c.split_at.result.0.now ++ end_octets c.shared_suffix-shared.result.place in
+    let asked = asked_places head b c.args.self.now.asked_end in
+    let kept = kept_more head _ _ _ _ _ _ o c.requires.asked c.if-not-append_end.ensures.octets c.append_end.ensures.asked places ∙ sym (append_assoc asked c.args.self.now.places new) in
+    subst₂ (λ x ks. Holds head (ms ++ (n, length b) ∷ []) x ks) (sym octets) (sym kept) (holds_name head ms b (kept_by head c.args.self.now) holds n ok)
 
 pub returns-clause-extends : goal.returns-clause-extends
 returns-clause-extends g c = record {
@@ -99,3 +110,33 @@ pub returns-then-not-append_end-clause-extends : goal.returns-then-not-append_en
 returns-then-not-append_end-clause-extends g c =
     subst₂ (Extends c.args.self.now.octets.items c.args.self.now.places) (sym (c.if-not-append_end.ensures.unchanged)) (sym c.append_end.ensures.places)
     (extends_none c.args.self.now.octets.items c.args.self.now.places)
+
+pub shared_suffix-shared-requires : goal.shared_suffix-shared-requires
+shared_suffix-shared-requires g c = (
+  search rules,
+  (subst (λ b. IsAsked b c.args.self.now.asked_end) (sym c.as_slice-message.ensures.value) c.requires.asked, c.in_default.ensures.none refl),
+)
+
+pub returns-clause-sound : goal.returns-clause-sound
+returns-clause-sound g c =
+    let s = c.append_end.ensures.sound in
+    let few = c.keep_suffixes.ensures.few in
+    let front = c.split_at.result.0.now in
+    let end = end_octets c.shared_suffix-shared.result.place in
+    record {
+      within = s.within;
+      fits = s.fits;
+      short = s.short;
+      few = omega (
+        arith,
+        few,
+        ap length c.if-not-append_end.ensures.octets,
+        length-append c.args.self.now.octets.items (front ++ end),
+        length-append front end,
+        c.split_at.ensures.front_len,
+        c.len-at.ensures.value,
+      );
+      enough = s.enough;
+      most = s.most;
+      asked = s.asked;
+    }

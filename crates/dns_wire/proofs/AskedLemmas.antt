@@ -1,0 +1,295 @@
+-- The name of the question has the places of its suffixes, whatever comes after it; each of them stands so far before its end.
+use Rattle.std.proofs.Common.{◌≡◌, ℕ, zero, suc, ◌+◌, ◌-◌, ◌<◌, ◌≤◌, Bool, true, false, ◌⊎◌, inl, inr, List, [], ◌∷◌, ◌++◌, length, take, drop, refl, sym, ap, ◌∙◌, subst, arith, append_assoc, length-append, take-append-drop, take_at, drop_at, replicate, ap₂}
+use Rattle.std.proofs.lemmas.Bool.{and_parts}
+use Rattle.std.proofs.lemmas.List.{drop-take, take-append-le, length-take, length-drop}
+use Rattle.std.specs.Bool.{OnTrue, OnFalse}
+use Rattle.std.specs.List.{list_all}
+use Rattle.dns_spec.specs.Names.{Octets, DomainName, wire, is_name, is_label}
+use Rattle.dns_spec.proofs.DomainNames.NameLaws.{is_name-tail}
+use Rattle.dns_spec.proofs.Messages.Places.{Stands, run_written}
+use Rattle.std.proofs.Math.Seq.{take-add}
+use Rattle.dns_name.proofs.WireLemmas.{labels_of_spelled, IsWireForm-wire}
+use Rattle.dns_name.specs.WireForm.{labels_of, IsWireForm}
+use Rattle.dns_wire.specs.Kept.{Kept, IsKept, HasPlace, SpellsName, NoneSpelled}
+use Rattle.dns_wire.specs.Writing.{name_before, IsAsked, asked_places, NotAsked, IsLastOf, new_places}
+use Rattle.dns_wire.proofs.Suffixes.{one_run, first_label, kept-root, Left, left_label}
+use Rattle.dns_wire.proofs.NameWritten.{kept_left, kept_right, kept_split, kept_sound, kept_complete, NewSuffix, is_name-suffix}
+
+-- what stands before the end of the name decides it
+pub name_same : (b b' : Octets) (a : ℕ) → take a b' ≡ take a b → name_before b' a ≡ name_before b a
+name_same b b' a e = go (a - 12) refl
+  where
+    go : (m : ℕ) → a - 12 ≡ m → name_before b' a ≡ name_before b a
+    go zero none = ap (λ k. take k (drop 12 b')) none ∙ sym (ap (λ k. take k (drop 12 b)) none)
+    go (suc m) some =
+        let at : 12 + (a - 12) ≡ a = omega (arith, some) in
+        sym (drop-take 12 (a - 12) b') ∙ ap (λ k. drop 12 (take k b')) at ∙ ap (drop 12) e ∙ sym (ap (λ k. drop 12 (take k b)) at) ∙ drop-take 12 (a - 12) b
+
+pub asked_same : (head : Octets → ℕ) (b b' : Octets) (a a' : ℕ) → take a b' ≡ take a b → a' ≡ a → asked_places head b' a' ≡ asked_places head b a
+unfolding asked_places
+asked_same head b b' a a' e same =
+    ap (λ k. new_places head [] (labels_of (name_before b' k)) 12) same ∙ ap (λ o. new_places head [] (labels_of o) 12) (name_same b b' a e)
+
+pub is_asked_same : {b b' : Octets} {a a' : ℕ} → IsAsked b a → take a b' ≡ take a b → a' ≡ a → a ≤ length b' → IsAsked b' a'
+is_asked_same {b} {b'} {a} asked e same inside = subst (IsAsked b') (sym same) (record {
+  inside = inside;
+  near = asked.near;
+  name = λ h. subst IsWireForm (sym (name_same b b' a e)) (asked.name h);
+})
+
+pub is_asked_more : {b b' : Octets} {a a' : ℕ} (o : Octets) → IsAsked b a → b' ≡ b ++ o → a' ≡ a → IsAsked b' a'
+is_asked_more {b} {b'} {a} o asked e same =
+    let inside = asked.inside in
+    is_asked_same asked (ap (take a) e ∙ take-append-le a b o inside) same (omega (arith, inside, ap length e, length-append b o))
+
+pub kept_same : (head : Octets → ℕ) (b b' : Octets) (a a' : ℕ) (ks ks' : List Kept) → take a b' ≡ take a b → a' ≡ a → ks' ≡ ks → asked_places head b' a' ++ ks' ≡ asked_places head b a ++ ks
+kept_same head b b' a a' ks ks' e same places =
+    ap (λ x. x ++ ks') (asked_same head b b' a a' e same) ∙ ap (λ x. asked_places head b a ++ x) places
+
+-- octets after the others leave all places
+pub kept_more : (head : Octets → ℕ) (b b' : Octets) (a a' : ℕ) (ks ks' : List Kept) (o : Octets) → IsAsked b a → b' ≡ b ++ o → a' ≡ a → ks' ≡ ks
+    → asked_places head b' a' ++ ks' ≡ asked_places head b a ++ ks
+kept_more head b b' a a' ks ks' o asked e same places = kept_same head b b' a a' ks ks' (ap (take a) e ∙ take-append-le a b o asked.inside) same places
+
+pub kept_stays : (head : Octets → ℕ) (b b' : Octets) (a a' : ℕ) (ks ks' : List Kept) (o : Octets) (fits : Bool) → IsAsked b a → OnTrue fits (b' ≡ b ++ o) → OnFalse fits (b' ≡ b) → a' ≡ a → ks' ≡ ks
+    → asked_places head b' a' ++ ks' ≡ asked_places head b a ++ ks
+kept_stays head b b' a a' ks ks' o true asked e f same places = kept_more head b b' a a' ks ks' o asked e same places
+kept_stays head b b' a a' ks ks' o false asked e f same places = kept_same head b b' a a' ks ks' (ap (take a) f) same places
+
+-- before the question there is none
+no_labels : labels_of [] ≡ []
+unfolding labels_of
+no_labels = refl
+
+pub asked_nothing : (head : Octets → ℕ) (b : Octets) → asked_places head b 0 ≡ []
+unfolding asked_places
+asked_nothing head b = ap (λ n. new_places head [] n 12) no_labels ∙ kept-root head [] 12
+
+pub is_asked_nothing : (b : Octets) → IsAsked b 0
+is_asked_nothing b = record { inside = omega arith; near = omega arith; name = λ h. absurd (omega (arith, h)) }
+
+-- where it stands after room for a header, all its suffixes have their places
+pub name_whole : (n : DomainName) (b o : Octets) (a : ℕ) → b ≡ (replicate 12 0 ++ wire n) ++ o → a ≡ 12 + length (wire n) → name_before b a ≡ wire n
+name_whole n b o a e end =
+    let long : a - 12 ≡ length (wire n) = omega (arith, end) in
+    ap₂ (λ k x. take k x) long (ap (drop 12) e) ∙ take_at (wire n) o (length (wire n)) refl
+
+pub asked_whole : (head : Octets → ℕ) {b : Octets} {a : ℕ} (n : DomainName) (o : Octets) → b ≡ (replicate 12 0 ++ wire n) ++ o → is_name n ≡ true → a ≡ 12 + length (wire n)
+    → asked_places head b a ≡ new_places head [] n 12
+unfolding asked_places
+asked_whole head {b} {a} n o e ok end = ap (λ m. new_places head [] m 12) (labels_of_spelled (name_before b a) n (name_whole n b o a e end) ok)
+
+pub is_asked_whole : {b : Octets} {a : ℕ} (n : DomainName) (o : Octets) → b ≡ (replicate 12 0 ++ wire n) ++ o → is_name n ≡ true → length (wire n) ≤ 255 → a ≡ 12 + length (wire n) → IsAsked b a
+is_asked_whole {b} {a} n o e ok short end = record {
+  inside = omega (arith, end, ap length e, length-append (replicate 12 0 ++ wire n) o, length-append (replicate 12 0) (wire n));
+  near = omega (arith, short, end);
+  name = λ h. IsWireForm-wire (name_before b a) n (name_whole n b o a e end) ok;
+}
+
+-- octets written over after it leave it
+pub take_patched : (a k : ℕ) (b x b' : Octets) → b' ≡ take k b ++ x → a ≤ k → k ≤ length b → take a b' ≡ take a b
+take_patched a k b x b' e low inside =
+    let long = length-take k b in
+    let front = length-take a b in
+    let more : a + (k - a) ≡ k = omega (arith, low) in
+    let split : take k b ≡ take a b ++ take (k - a) (drop a b) = ap (λ j. take j b) (sym more) ∙ take-add a (k - a) b in
+    ap (take a) e ∙ take-append-le a (take k b) x (omega (arith, low, long, inside)) ∙ ap (take a) split ∙ take_at (take a b) (take (k - a) (drop a b)) a (omega (arith, front, low, inside))
+
+-- a suffix of the name stands so far before its end
+wire_split : (front s : DomainName) → (x : Octets) × (wire (front ++ s) ≡ x ++ wire s)
+wire_split [] s = ([], refl)
+wire_split (l ∷ front) s =
+    let r = wire_split front s in
+    (length l ∷ (l ++ r.0), ap (λ z. length l ∷ (l ++ z)) r.1 ∙ ap (λ z. length l ∷ z) (sym (append_assoc l r.0 (wire s))))
+
+record StandsBefore (b : Octets) (a : ℕ) (n s : DomainName) : Type 0 where
+  stands : Stands b (a - length (wire s)) (wire s)
+  whole : length (wire n) ≡ a - 12
+  short : length (wire s) ≤ length (wire n)
+
+suffix_stands : {b : Octets} {a : ℕ} (n front s : DomainName) → IsAsked b a → 12 < a → name_before b a ≡ wire n → n ≡ front ++ s → StandsBefore b a n s
+suffix_stands {b} {a} n front s asked some e is =
+    let split = wire_split front s in
+    let x = split.0 in
+    let own : name_before b a ≡ x ++ wire s = e ∙ ap wire is ∙ split.1 in
+    let after = drop (a - 12) (drop 12 b) in
+    let inside = asked.inside in
+    let long = length-take (a - 12) (drop 12 b) in
+    let dropped = length-drop 12 b in
+    let front_long = length-take 12 b in
+    let whole : length (wire n) ≡ a - 12 = omega (arith, ap length e, long, dropped, inside) in
+    let both : length (wire n) ≡ length x + length (wire s) = sym (ap length e) ∙ ap length own ∙ length-append x (wire s) in
+    record {
+      stands = record {
+        before = take 12 b ++ x;
+        after = after;
+        whole = sym (take-append-drop 12 b) ∙ ap (λ z. take 12 b ++ z) (sym (take-append-drop (a - 12) (drop 12 b)) ∙ ap (λ z. z ++ after) own ∙ append_assoc x (wire s) after)
+            ∙ sym (append_assoc (take 12 b) x (wire s ++ after));
+        place = omega (arith, whole, both, length-append (take 12 b) x, front_long, inside, some);
+      };
+      whole = whole;
+      short = omega (arith, both);
+    }
+
+asked_kept : (head : Octets → ℕ) (b : Octets) (a : ℕ) (front t : DomainName) (l : Octets) (p : ℕ) → labels_of (name_before b a) ≡ front ++ l ∷ t
+    → length (wire (l ∷ t)) ≤ length (wire (labels_of (name_before b a))) → 12 + (length (wire (labels_of (name_before b a))) - length (wire (l ∷ t))) ≡ p → p < 16384
+    → IsKept (asked_places head b a) p (head (wire (l ∷ t)))
+unfolding asked_places
+asked_kept head b a front t l p whole short at low = kept_complete head [] (labels_of (name_before b a)) front l t 12 p whole refl short at low
+
+-- octets that end the name from a label on are one of its suffixes, and kept
+pub record IsFound (b : Octets) (a : ℕ) (o : Octets) : Type 0 where
+  pub kept : (head : Octets → ℕ) → HasPlace (asked_places head b a) (a - length o)
+  pub spelled : SpellsName b (a - length o) o
+
+pub asked_found : {b : Octets} {a : ℕ} (o : Octets) → IsAsked b a → 2 ≤ length o → length o ≤ length (name_before b a) → IsLastOf (name_before b a) o → IsFound b a o
+asked_found {b} {a} o asked two inside last =
+    let some : 12 < a = omega (arith, two, inside, length-take (a - 12) (drop 12 b)) in
+    let form = asked.name some in
+    let l = last (labels_of (name_before b a)) (sym form.wire_is) form.is_name in
+    go some form l.0 l.1 l.2 l.3
+  where
+    go : 12 < a → IsWireForm (name_before b a) → (front s : DomainName) → labels_of (name_before b a) ≡ front ++ s → o ≡ wire s → IsFound b a o
+    go some form front [] whole is = absurd (omega (arith, two, ap length is))
+    go some form front (l ∷ t) whole is =
+        let there = suffix_stands (labels_of (name_before b a)) front (l ∷ t) asked some (sym form.wire_is) whole in
+        let long = ap length is in
+        let near = asked.near in
+        let all = there.whole in
+        let short = there.short in
+        record {
+          kept = λ head. (head (wire (l ∷ t)), asked_kept head b a front t l (a - length o) whole short (omega (arith, all, short, long, some)) (omega (arith, near)));
+          spelled = λ n e ok. (
+            n,
+            (a - length o) + length (wire n),
+            run_written n (and_parts (list_all is_label n) _ ok).0 (subst (Stands b (a - length o)) e (subst (λ x. Stands b (a - length x) x) (sym is) there.stands)),
+            sym e,
+          );
+        }
+
+-- and where no suffix is like them, none of their places spells them
+pub asked_none : {b : Octets} {a : ℕ} (o : Octets) → IsAsked b a
+    → ((n front t : DomainName) (l : Octets) → name_before b a ≡ wire n → is_name n ≡ true → n ≡ front ++ l ∷ t → wire (l ∷ t) ≡ o → ⊥) → NotAsked b a o
+unfolding asked_places
+asked_none {b} {a} o asked never head p h kept there = go (a - 12) refl (kept_sound head [] (labels_of (name_before b a)) 12 p h kept)
+  where
+    go : (m : ℕ) → a - 12 ≡ m → NewSuffix [] (labels_of (name_before b a)) 12 p → ⊥
+    go zero none s =
+        let empty : labels_of (name_before b a) ≡ [] = ap (λ k. labels_of (take k (drop 12 b))) none ∙ no_labels in
+        omega (arith, ap length (sym empty ∙ s.whole), length-append s.front (s.label ∷ s.labels))
+    go (suc m) more s =
+        let some : 12 < a = omega (arith, more) in
+        let form = asked.name some in
+        let n = labels_of (name_before b a) in
+        let suffix : DomainName = s.label ∷ s.labels in
+        let stands = suffix_stands n s.front suffix asked some (sym form.wire_is) s.whole in
+        let place = s.place in
+        let long = s.wire_length in
+        let all = stands.whole in
+        let at : a - length (wire suffix) ≡ p = omega (arith, place, long, all, some) in
+        let ok = is_name-suffix s.front suffix (subst (λ x. is_name x ≡ true) s.whole form.is_name) in
+        let run = run_written suffix (and_parts (list_all is_label suffix) _ ok).0 (subst (λ k. Stands b k (wire suffix)) at stands.stands) in
+        never n s.front s.labels s.label (sym form.wire_is) form.is_name s.whole (ap wire (one_run run there.2) ∙ there.3)
+
+-- places of the question's name, and of others
+pub none_of_both : (head : Octets → ℕ) (b : Octets) (a h : ℕ) (ks : List Kept) (o : Octets) → NotAsked b a o → NoneSpelled ks h b o → NoneSpelled (asked_places head b a ++ ks) h b o
+none_of_both head b a h ks o unasked none p kept there = go (kept_split (asked_places head b a) ks p h kept)
+  where
+    go : IsKept (asked_places head b a) p h ⊎ IsKept ks p h → ⊥
+    go (inl k) = unasked head p h k there
+    go (inr k) = none p k there
+
+pub place_asked : (asked ks : List Kept) {p : ℕ} → HasPlace asked p → HasPlace (asked ++ ks) p
+place_asked asked ks {p} kept = (kept.0, kept_left asked ks p kept.0 kept.1)
+
+pub place_kept : (asked ks : List Kept) {p : ℕ} → HasPlace ks p → HasPlace (asked ++ ks) p
+place_kept asked ks {p} kept = (kept.0, kept_right asked ks p kept.0 kept.1)
+
+-- What is left of a name from a label on: what ends it so many octets before its end is in it.
+pub record LastNow (n : DomainName) (rest : Octets) (count : ℕ) : Type 0 where
+  pub front : DomainName
+  pub left : DomainName
+  pub whole : n ≡ front ++ left
+  pub spelled : rest ≡ wire left
+  pub is_name : is_name left ≡ true
+  pub ahead : (f t : DomainName) (l : Octets) → n ≡ f ++ l ∷ t → length (wire (l ∷ t)) ≡ count → (g : DomainName) × (left ≡ g ++ l ∷ t)
+
+pub record Last (name rest : Octets) (count : ℕ) : Type 0 where
+  pub shorter : length rest ≤ length name
+  pub all : (n : DomainName) → name ≡ wire n → is_name n ≡ true → LastNow n rest count
+
+pub last_begins : (name : Octets) (count : ℕ) → Last name name count
+last_begins name count = record {
+  shorter = omega arith;
+  all = λ n e ok. record { front = []; left = n; whole = refl; spelled = e; is_name = ok; ahead = λ f t l is long. (f, is) };
+}
+
+pub last_label : {name rest others after : Octets} {count : ℕ} (k : ℕ) → Last name rest count → rest ≡ k ∷ others → (k ≡ 0 → ⊥) → k ≤ length others → after ≡ drop k others
+    → count < length rest → Last name after count
+last_label {name} {rest} {others} {after} {count} k last first some fits cut longer = record {
+  shorter = let s = last.shorter in omega (arith, s, ap length first, ap length cut, length-drop k others);
+  all = all;
+}
+  where
+    all : (n : DomainName) → name ≡ wire n → is_name n ≡ true → LastNow n after count
+    all n e ok =
+        let a = last.all n e ok in
+        let f = first_label rest others k a.left a.spelled first some in
+        record {
+          front = a.front ++ f.label ∷ [];
+          left = f.labels;
+          whole = a.whole ∙ ap (λ z. a.front ++ z) f.whole ∙ sym (append_assoc a.front (f.label ∷ []) f.labels);
+          spelled = cut ∙ ap (drop k) f.others_are ∙ drop_at f.label (wire f.labels) k (sym f.long);
+          is_name = is_name-tail f.label f.labels (subst (λ x. is_name x ≡ true) f.whole a.is_name);
+          ahead = λ g t l is long. let h = a.ahead g t l is long in next a.left f.label f.labels h.0 t l a.spelled f.whole h.1 long;
+        }
+      where
+        next : (left : DomainName) (k : Octets) (m g t : DomainName) (l : Octets) → rest ≡ wire left → left ≡ k ∷ m → left ≡ g ++ l ∷ t → length (wire (l ∷ t)) ≡ count → (g' : DomainName) × (m ≡ g' ++ l ∷ t)
+        next left k m [] t l spelled is here long = absurd (omega (arith, longer, long, ap length spelled, ap (λ x. length (wire x)) here))
+        next left k m (x ∷ g) t l spelled is here long = (g, ap (λ (y : DomainName). drop 1 y) (sym is ∙ here))
+
+pub last_of : {name rest : Octets} {count : ℕ} → Last name rest count → IsLastOf name rest
+last_of last n e ok = let a = last.all n e ok in (a.front, a.left, a.whole, a.spelled)
+
+longer_wire : (g s : DomainName) → length (wire s) ≤ length (wire (g ++ s))
+longer_wire [] s = omega arith
+longer_wire (l ∷ g) s = let h = longer_wire g s in omega (arith, h, length-append l (wire (g ++ s)))
+
+pub last_here : {name rest : Octets} {count : ℕ} → Last name rest count → length rest ≡ count → (n front t : DomainName) (l : Octets) → name ≡ wire n → is_name n ≡ true → n ≡ front ++ l ∷ t
+    → length (wire (l ∷ t)) ≡ count → rest ≡ wire (l ∷ t)
+last_here {name} {rest} {count} last here n front t l e ok whole long =
+    let a = last.all n e ok in
+    let h = a.ahead front t l whole long in
+    go a.left h.0 a.spelled h.1
+  where
+    go : (left g : DomainName) → rest ≡ wire left → left ≡ g ++ l ∷ t → rest ≡ wire (l ∷ t)
+    go left [] spelled is = spelled ∙ ap wire is
+    go left (x ∷ g) spelled is =
+        let more = longer_wire g (l ∷ t) in
+        absurd (omega (arith, here, long, more, ap length spelled, ap (λ y. length (wire y)) is, length-append x (wire (g ++ l ∷ t))))
+
+pub last_short : {name rest : Octets} {count : ℕ} → Last name rest count → length rest < count → (n front t : DomainName) (l : Octets) → name ≡ wire n → is_name n ≡ true → n ≡ front ++ l ∷ t
+    → length (wire (l ∷ t)) ≡ count → ⊥
+last_short {count = count} last short n front t l e ok whole long =
+    let a = last.all n e ok in
+    let h = a.ahead front t l whole long in
+    let more = longer_wire h.0 (l ∷ t) in
+    omega (arith, short, long, more, ap length a.spelled, ap (λ y. length (wire y)) h.1)
+
+pub last_root : {name rest : Octets} {count : ℕ} → Last name rest count → ((m : DomainName) → rest ≡ wire m → is_name m ≡ true → m ≡ []) → (n front t : DomainName) (l : Octets) → name ≡ wire n
+    → is_name n ≡ true → n ≡ front ++ l ∷ t → length (wire (l ∷ t)) ≡ count → ⊥
+last_root last root n front t l e ok whole long =
+    let a = last.all n e ok in
+    let h = a.ahead front t l whole long in
+    let none = root a.left a.spelled a.is_name in
+    omega (arith, ap length (sym none ∙ h.1), length-append h.0 (l ∷ t))
+
+pub two_octets : (l : Octets) (t : DomainName) → 2 ≤ length (wire (l ∷ t))
+two_octets l [] = omega (arith, length-append l (wire []))
+two_octets l (k ∷ t) = omega (arith, length-append l (wire (k ∷ t)))
+
+-- what is left of a name after a label whose suffix has no place, of the question's or of another
+pub left_after : {head : Octets → ℕ} {b name rest others after : Octets} {h : ℕ} (a : ℕ) (ks : List Kept) (k : ℕ) → Left head b (asked_places head b a ++ ks) name rest → NotAsked b a rest
+    → NoneSpelled ks h b rest → h ≡ head rest → rest ≡ k ∷ others → (k ≡ 0 → ⊥) → k ≤ length others → after ≡ drop k others → Left head b (asked_places head b a ++ ks) name after
+left_after {head} {b} {name} {rest} a ks k left unasked none number first some fits cut =
+    left_label k left first some fits cut (none_of_both head b a (head rest) ks rest unasked (subst (λ j. NoneSpelled ks j b rest) number none))

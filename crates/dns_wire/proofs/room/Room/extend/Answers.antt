@@ -1,0 +1,21 @@
+use Rattle.std.proofs.Common.{◌≡◌, ◌++◌, rules, refl, ap, arith, length, length-append}
+use Rattle.dns_wire.proofs.AskedLemmas.{is_asked_more}
+use Rattle.dns_wire.proofs.room.Room.extend.Goals as goal
+
+pub returns-clause-sound : goal.returns-clause-sound
+returns-clause-sound g c =
+    let b = c.args.self.now.octets.items in
+    let more : c.try_extend_from_slice.new.self.items ≡ b ++ c.args.octets.now = search rules in
+    let s = c.requires.sound in
+    let room = c.requires.room in
+    let few = s.few in
+    let long = length-append b c.args.octets.now in
+    record {
+      within = omega (arith, room, ap length more, long);
+      fits = s.fits;
+      short = s.short;
+      few = omega (arith, few, ap length more, long);
+      enough = s.enough;
+      most = s.most;
+      asked = is_asked_more c.args.octets.now s.asked more refl;
+    }
