@@ -1,6 +1,5 @@
 use Rattle.std.proofs.Common.{rules, ◌≡◌, [], ◌&&◌, ◌-◌, refl, sym, ap, ◌∙◌, subst, arith, Some, None}
 use Rattle.std.proofs.lemmas.Bool.{false≢true}
-use Rattle.dns_name.specs.WireForm.{labels_of}
 use Rattle.dns_spec.specs.Layout.{answer}
 use Rattle.dns_spec.specs.Records.{ZoneContents, at, with_owner}
 use Rattle.dns_spec.specs.Answer.{item, has_any, alias_set, positive, negative, referral_to, outcome_by}
