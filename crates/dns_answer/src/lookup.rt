@@ -1,5 +1,5 @@
 //! What a zone has for a name (RFC 1034 4.3.2 step 3).
-ghost use Rattle.std.specs.Prelude.{◌≡◌, ℕ, ◌+◌, ◌*◌, ◌-◌, ◌≤◌, ◌<◌, ◌∷◌, length, IsTrue, IsSome, IfSome, IsNone, MatchOption, true, false, is_some, []};
+ghost use Rattle.std.specs.Prelude.{◌≡◌, ℕ, ◌+◌, ◌*◌, ◌-◌, ◌≤◌, ◌<◌, ◌∷◌, length, drop, IsTrue, IsSome, IfSome, IsNone, MatchOption, true, false, is_some, []};
 ghost use Rattle.dns_spec.specs.Names.{Octets, DomainName, at_or_below, folded};
 ghost use Rattle.dns_spec.specs.Tree.{exists, asterisk};
 ghost use Rattle.dns_name.specs.WireForm.{labels_of, IsWireForm};
@@ -105,21 +105,43 @@ fn walk<'z>(octets: &[u8], depth: usize, apex: &Node<'z>, steps: &mut Steps<'z>)
     if depth == 0 {
         return Way::Name(None);
     }
-    let Some((label, rest)) = first_label(octets) else {
+    let mut before = depth - 1;
+    let Some(mut node) = apex.down(label_after(octets, before), steps) else {
+        return Way::Encloser(None);
+    };
+    'labels: loop {
+        if node.set(RType::NS).is_some() {
+            return Way::Cut(node);
+        }
+        if before == 0 {
+            return Way::Name(Some(node));
+        }
+        before -= 1;
+        let Some(child) = node.down(label_after(octets, before), steps) else {
+            return Way::Encloser(Some(node));
+        };
+        node = child;
+    }
+}
+
+// The label of a name after the first `count` ones. These are passed anew for each label, since few
+// names have many labels below an origin.
+fn label_after<'a>(octets: &'a [u8], count: usize) -> Label<'a>
+    requires form { IsWireForm octets.now }
+    requires inside { count < length (labels_of octets.now) }
+    ensures { drop count (labels_of octets.now) ≡ result ∷ drop (count + 1) (labels_of octets.now) }
+{
+    let mut suffix = octets;
+    'labels: for _ in 0..count {
+        let Some((_, rest)) = first_label(suffix) else {
+            unreachable!();
+        };
+        suffix = rest;
+    }
+    let Some((label, _)) = first_label(suffix) else {
         unreachable!();
     };
-    let above = match walk(rest, depth - 1, &*apex, steps) {
-        Way::Cut(node) => return Way::Cut(node),
-        Way::Encloser(node) => return Way::Encloser(node),
-        Way::Name(node) => node,
-    };
-    let Some(node) = or_apex(&above, &*apex).down(label, steps) else {
-        return Way::Encloser(above);
-    };
-    if node.set(RType::NS).is_some() {
-        return Way::Cut(node);
-    }
-    Way::Name(Some(node))
+    label
 }
 
 /// The node of a name at or below that of another node, `depth` labels below it, below a cut too.
@@ -140,15 +162,16 @@ pub(crate) fn reach<'z>(
     if depth == 0 {
         return Reached::Name(None);
     }
-    let Some((label, rest)) = first_label(octets) else {
-        unreachable!();
+    let mut before = depth - 1;
+    let Some(mut node) = start.down(label_after(octets, before), steps) else {
+        return Reached::Missing;
     };
-    let above = match reach(rest, depth - 1, &*start, steps) {
-        Reached::Name(node) => node,
-        Reached::Missing => return Reached::Missing,
-    };
-    match or_apex(&above, &*start).down(label, steps) {
-        Some(node) => Reached::Name(Some(node)),
-        None => Reached::Missing,
+    'labels: while 0 < before {
+        before -= 1;
+        let Some(child) = node.down(label_after(octets, before), steps) else {
+            return Reached::Missing;
+        };
+        node = child;
     }
+    Reached::Name(Some(node))
 }
