@@ -12,5 +12,6 @@ mod NameWritten
 mod DataWritten
 mod DataPatched
 mod DataNames
+mod AuthorityLaid
 mod RecordsWritten
 mod DraftLemmas
