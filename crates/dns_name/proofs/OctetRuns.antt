@@ -1,23 +1,44 @@
--- Runs of octets are told by their first and their last eight octets, and these by numbers.
-use Rattle.std.proofs.Common.{◌≡◌, ℕ, zero, suc, ◌-◌, ◌<◌, ◌≤◌, List, [], ◌∷◌, length, take, drop, get_or, refl, sym, ap, ap₂, ◌∙◌, subst, arith}
-use Rattle.std.proofs.lemmas.Nat.{le_bytes_8}
+-- Runs of octets are told by their first and their last octets, and these by numbers.
+use Rattle.std.proofs.Common.{◌≡◌, ◌↔◌, ℕ, zero, suc, ◌+◌, ◌-◌, ◌<◌, ◌≤◌, List, [], ◌∷◌, length, take, drop, get_or, refl, sym, ap, ap₂, ◌∙◌, subst, arith}
+use Rattle.std.proofs.lemmas.Nat.{le_bytes_2, le_bytes_4, le_bytes_8}
 use Rattle.std.proofs.lemmas.List.{length-take-le, length-drop}
 use Rattle.std.proofs.Math.Seq.{take-length}
-use Rattle.std.specs.Int.{from_le_bytes, w64}
+use Rattle.std.specs.Int.{from_le_bytes, w16, w32, w64}
 
-low_front : (k : ℕ) (xs : List ℕ) → ((i : ℕ) → get_or xs i 0 < 256) → (i : ℕ) → get_or (take k xs) i 0 < 256
+abbrev pub AreLow : List ℕ → Type 0
+AreLow xs = (i : ℕ) → get_or xs i 0 < 256
+
+low_front : (k : ℕ) (xs : List ℕ) → AreLow xs → AreLow (take k xs)
 low_front zero xs low i = omega arith
 low_front (suc k) [] low i = omega arith
 low_front (suc k) (x ∷ xs) low zero = low zero
 low_front (suc k) (x ∷ xs) low (suc i) = low_front k xs (λ j. low (suc j)) i
 
-pub same_fronts : (a b : List ℕ) → 8 ≤ length a → 8 ≤ length b → ((i : ℕ) → get_or a i 0 < 256) → ((i : ℕ) → get_or b i 0 < 256)
-    → from_le_bytes w64 (take 8 a) ≡ from_le_bytes w64 (take 8 b) → take 8 a ≡ take 8 b
-same_fronts a b long-a long-b low-a low-b e =
+pub low_end : (k : ℕ) (xs : List ℕ) → AreLow xs → AreLow (drop k xs)
+low_end zero xs low i = low i
+low_end (suc k) [] low i = omega arith
+low_end (suc k) (x ∷ xs) low i = low_end k xs (λ j. low (suc j)) i
+
+-- the number of the first k octets tells them
+abbrev pub Tells : ℕ → (List ℕ → ℕ) → Type 0
+Tells k f = (a b : List ℕ) → k ≤ length a → k ≤ length b → AreLow a → AreLow b → f (take k a) ≡ f (take k b) → take k a ≡ take k b
+
+pub eight_tell : Tells 8 (from_le_bytes w64)
+eight_tell a b long-a long-b low-a low-b e =
     sym (le_bytes_8 (take 8 a) (from_le_bytes w64 (take 8 a)) (length-take-le 8 a long-a) (low_front 8 a low-a) refl)
     ∙ le_bytes_8 (take 8 b) (from_le_bytes w64 (take 8 a)) (length-take-le 8 b long-b) (low_front 8 b low-b) e
 
-joined : (k j : ℕ) (a b : List ℕ) → k ≤ j → take j a ≡ take j b → drop k a ≡ drop k b → a ≡ b
+pub four_tell : Tells 4 (from_le_bytes w32)
+four_tell a b long-a long-b low-a low-b e =
+    sym (le_bytes_4 (take 4 a) (from_le_bytes w32 (take 4 a)) (length-take-le 4 a long-a) (low_front 4 a low-a) refl)
+    ∙ le_bytes_4 (take 4 b) (from_le_bytes w32 (take 4 a)) (length-take-le 4 b long-b) (low_front 4 b low-b) e
+
+pub two_tell : Tells 2 (from_le_bytes w16)
+two_tell a b long-a long-b low-a low-b e =
+    sym (le_bytes_2 (take 2 a) (from_le_bytes w16 (take 2 a)) (length-take-le 2 a long-a) (low_front 2 a low-a) refl)
+    ∙ le_bytes_2 (take 2 b) (from_le_bytes w16 (take 2 a)) (length-take-le 2 b long-b) (low_front 2 b low-b) e
+
+pub joined : (k j : ℕ) (a b : List ℕ) → k ≤ j → take j a ≡ take j b → drop k a ≡ drop k b → a ≡ b
 joined zero j a b h e d = d
 joined (suc k) zero a b h e d = absurd (omega arith)
 joined (suc k) (suc j) [] [] h e d = refl
@@ -25,13 +46,22 @@ joined (suc k) (suc j) [] (y ∷ b) h e d = absurd (omega (arith, ap length e))
 joined (suc k) (suc j) (x ∷ a) [] h e d = absurd (omega (arith, ap length e))
 joined (suc k) (suc j) (x ∷ a) (y ∷ b) h e d = ap₂ (λ z zs. z ∷ zs) (ap (λ l. get_or l 0 0) e) (joined k j a b (omega (arith, h)) (ap (drop 1) e) d)
 
-last_eight : (xs : List ℕ) (n : ℕ) → length xs ≡ n → 8 ≤ n → take 8 (drop (n - 8) xs) ≡ drop (n - 8) xs
-last_eight xs n long h =
-    let eight : length (drop (n - 8) xs) ≡ 8 = omega (arith, length-drop (n - 8) xs, long) in
-    subst (λ k. take k (drop (n - 8) xs) ≡ drop (n - 8) xs) eight (take-length (drop (n - 8) xs))
+last_of : (k : ℕ) (xs : List ℕ) → k ≤ length xs → take k (drop (length xs - k) xs) ≡ drop (length xs - k) xs
+last_of k xs long =
+    let all : length (drop (length xs - k) xs) ≡ k = omega (arith, length-drop (length xs - k) xs, long) in
+    subst (λ j. take j (drop (length xs - k) xs) ≡ drop (length xs - k) xs) all (take-length (drop (length xs - k) xs))
 
--- the first eight and the last eight octets of 8 to 16 are all of them
-pub same_ends : (a b : List ℕ) (n : ℕ) → length a ≡ n → length b ≡ n → 8 ≤ n → n ≤ 16
-    → take 8 a ≡ take 8 b → take 8 (drop (n - 8) a) ≡ take 8 (drop (n - 8) b) → a ≡ b
-same_ends a b n long-a long-b from upto front end =
-    joined (n - 8) 8 a b (omega arith) front (sym (last_eight a n long-a from) ∙ end ∙ last_eight b n long-b from)
+-- the first k and the last k octets of k to 2k are all of them
+pub ends_tell : (k : ℕ) (f : List ℕ → ℕ) → Tells k f → (a b a' b' : List ℕ) → length b ≡ length a → k ≤ length a → length a ≤ k + k → AreLow a → AreLow b
+    → a' ≡ drop (length a - k) a → b' ≡ drop (length b - k) b → f (take k a) ≡ f (take k b) → (f (take k a') ≡ f (take k b')) ↔ (a ≡ b)
+ends_tell k f tell a b a' b' same least most low-a low-b own-a own-b front = (
+  λ e.
+      let m = length a - k in
+      let n = length b - k in
+      let ends : f (take k (drop m a)) ≡ f (take k (drop n b)) = ap (λ z. f (take k z)) (sym own-a) ∙ e ∙ ap (λ z. f (take k z)) own-b in
+      let tail : take k (drop m a) ≡ take k (drop n b) =
+      tell (drop m a) (drop n b) (omega (arith, length-drop m a, least)) (omega (arith, length-drop n b, least, same)) (low_end m a low-a) (low_end n b low-b) ends in
+      let rest : drop m a ≡ drop n b = sym (last_of k a least) ∙ tail ∙ last_of k b (omega (arith, least, same)) in
+      joined m k a b (omega (arith, most)) (tell a b least (omega (arith, least, same)) low-a low-b front) (rest ∙ ap (λ j. drop (j - k) b) same),
+  λ e. ap (λ z. f (take k z)) (own-a ∙ ap (λ z. drop (length z - k) z) e ∙ sym own-b),
+)

@@ -1,11 +1,11 @@
 //! Runs of octets, compared.
-ghost use Rattle.std.specs.Prelude.{◌≡◌, ◌↔◌, ◌≤◌, length, take, IsTrue};
-ghost use Rattle.std.specs.Int.{from_le_bytes, w64};
+ghost use Rattle.std.specs.Prelude.{◌≡◌, ◌↔◌, ◌<◌, ◌≤◌, length, take, IsTrue};
+ghost use Rattle.std.specs.Int.{from_le_bytes, w16, w32, w64};
 
 /// Whether two runs of octets are equal, octet by octet.
 ///
-/// Names mostly have 8 to 16 octets, which are compared as two numbers: the first eight octets, and
-/// the last eight.
+/// Names mostly have 8 to 16 octets and labels 2 to 7. Such runs are compared as two numbers: of
+/// the first octets and of the last ones, as many as a number holds.
 pub fn are_equal(left: &[u8], right: &[u8]) -> bool
     ensures { IsTrue result ↔ (left.now ≡ right.now) }
 {
@@ -14,24 +14,84 @@ pub fn are_equal(left: &[u8], right: &[u8]) -> bool
         return false;
     }
     if count < 8 || count > 16 {
-        return left == right;
+        return are_others_equal(left, right);
     }
-    let (_, left_end) = left.split_at(count - 8);
-    let (_, right_end) = right.split_at(count - 8);
-    have_same_front(left, right) && have_same_front(left_end, right_end)
+    have_same_eights(left, right)
 }
 
-// Whether the first eight octets are equal.
-fn have_same_front(left: &[u8], right: &[u8]) -> bool
-    requires left { 8 ≤ length left.now }
-    requires right { 8 ≤ length right.now }
-    ensures { IsTrue result ↔ (take 8 left.now ≡ take 8 right.now) }
+// Whether runs of less than 8 octets, or of more than 16, are equal.
+fn are_others_equal(left: &[u8], right: &[u8]) -> bool
+    requires same { length right.now ≡ length left.now }
+    requires others { 8 ≤ length left.now → 16 < length left.now }
+    ensures { IsTrue result ↔ (left.now ≡ right.now) }
 {
-    front_number(left) == front_number(right)
+    let count = left.len();
+    if count > 7 {
+        return are_many_equal(left, right);
+    }
+    if count > 3 {
+        return have_same_fours(left, right);
+    }
+    if count > 1 {
+        return have_same_twos(left, right);
+    }
+    left.is_empty() || left[0] == right[0]
+}
+
+// Whether runs of more than 16 octets are equal, eight octets at a time.
+fn are_many_equal(left: &[u8], right: &[u8]) -> bool
+    requires many { 16 < length left.now }
+    requires same { length right.now ≡ length left.now }
+    ensures { IsTrue result ↔ (left.now ≡ right.now) }
+{
+    let mut left_rest = left;
+    let mut right_rest = right;
+    'eights: while left_rest.len() > 16 {
+        if first_eight(left_rest) != first_eight(right_rest) {
+            return false;
+        }
+        left_rest = left_rest.split_at(8).1;
+        right_rest = right_rest.split_at(8).1;
+    }
+    have_same_eights(left_rest, right_rest)
+}
+
+// Whether the first eight octets are equal, and the last eight.
+fn have_same_eights(left: &[u8], right: &[u8]) -> bool
+    requires least { 8 ≤ length left.now }
+    requires most { length left.now ≤ 16 }
+    requires same { length right.now ≡ length left.now }
+    ensures { IsTrue result ↔ (left.now ≡ right.now) }
+{
+    let (_, left_end) = left.split_at(left.len() - 8);
+    let (_, right_end) = right.split_at(right.len() - 8);
+    first_eight(left) == first_eight(right) && first_eight(left_end) == first_eight(right_end)
+}
+
+fn have_same_fours(left: &[u8], right: &[u8]) -> bool
+    requires least { 4 ≤ length left.now }
+    requires most { length left.now ≤ 8 }
+    requires same { length right.now ≡ length left.now }
+    ensures { IsTrue result ↔ (left.now ≡ right.now) }
+{
+    let (_, left_end) = left.split_at(left.len() - 4);
+    let (_, right_end) = right.split_at(right.len() - 4);
+    first_four(left) == first_four(right) && first_four(left_end) == first_four(right_end)
+}
+
+fn have_same_twos(left: &[u8], right: &[u8]) -> bool
+    requires least { 2 ≤ length left.now }
+    requires most { length left.now ≤ 4 }
+    requires same { length right.now ≡ length left.now }
+    ensures { IsTrue result ↔ (left.now ≡ right.now) }
+{
+    let (_, left_end) = left.split_at(left.len() - 2);
+    let (_, right_end) = right.split_at(right.len() - 2);
+    first_two(left) == first_two(right) && first_two(left_end) == first_two(right_end)
 }
 
 // The first eight octets as a number, which tells them.
-fn front_number(octets: &[u8]) -> u64
+fn first_eight(octets: &[u8]) -> u64
     requires { 8 ≤ length octets.now }
     ensures { result ≡ from_le_bytes w64 (take 8 octets.now) }
 {
@@ -39,4 +99,24 @@ fn front_number(octets: &[u8]) -> u64
         unreachable!();
     };
     u64::from_le_bytes(*front)
+}
+
+fn first_four(octets: &[u8]) -> u32
+    requires { 4 ≤ length octets.now }
+    ensures { result ≡ from_le_bytes w32 (take 4 octets.now) }
+{
+    let Some(front) = octets.first_chunk::<4>() else {
+        unreachable!();
+    };
+    u32::from_le_bytes(*front)
+}
+
+fn first_two(octets: &[u8]) -> u16
+    requires { 2 ≤ length octets.now }
+    ensures { result ≡ from_le_bytes w16 (take 2 octets.now) }
+{
+    let Some(front) = octets.first_chunk::<2>() else {
+        unreachable!();
+    };
+    u16::from_le_bytes(*front)
 }

@@ -13,24 +13,24 @@ use Rattle.dns_wire.proofs.DataWritten.{data-octets, data-name, data-none, writt
 
 -- octets are cut piece by piece
 module _ (p : Piece) (ps : List Piece) (os : Octets) where
-  cut-some : (r : Part × Octets) → piece_front p os ≡ Some r → cut (p ∷ ps) os ≡ option_map (λ xs. r.0 ∷ xs) (cut ps r.1)
+  pub cut-some : (r : Part × Octets) → piece_front p os ≡ Some r → cut (p ∷ ps) os ≡ option_map (λ xs. r.0 ∷ xs) (cut ps r.1)
   unfolding cut
   cut-some r e = ap (λ (x : Option (Part × Octets)). elim x as (λ _. Option (List Part)) [ None ↦ None | Some y ↦ option_map (λ xs. y.0 ∷ xs) (cut ps y.1) ]) e
 
-  cut-none : piece_front p os ≡ None → cut (p ∷ ps) os ≡ None
+  pub cut-none : piece_front p os ≡ None → cut (p ∷ ps) os ≡ None
   unfolding cut
   cut-none e = ap (λ (x : Option (Part × Octets)). elim x as (λ _. Option (List Part)) [ None ↦ None | Some y ↦ option_map (λ xs. y.0 ∷ xs) (cut ps y.1) ]) e
 
-cut-end : (os : Octets) → is_some (cut [] os) ≡ true → os ≡ []
+pub cut-end : (os : Octets) → is_some (cut [] os) ≡ true → os ≡ []
 unfolding cut
 cut-end [] h = refl
 cut-end (o ∷ os) h = absurd (false≢true h)
 
-cut-nothing : cut [] [] ≡ Some []
+pub cut-nothing : cut [] [] ≡ Some []
 unfolding cut
 cut-nothing = refl
 
-was_some : (p : Part) (x : Option (List Part)) → is_some (option_map (λ xs. p ∷ xs) x) ≡ true → is_some x ≡ true
+pub was_some : (p : Part) (x : Option (List Part)) → is_some (option_map (λ xs. p ∷ xs) x) ≡ true → is_some x ≡ true
 was_some p None h = h
 was_some p (Some xs) h = refl
 

@@ -13,5 +13,6 @@ mod AskedLemmas
 mod DataWritten
 mod DataPatched
 mod DataNames
+mod AuthorityLaid
 mod RecordsWritten
 mod DraftLemmas

@@ -1,38 +1,18 @@
 -- What is spelled from a place on is decided by what stands there and by what comes after it.
-use Rattle.std.proofs.Common.{◌≡◌, ℕ, ◌+◌, ◌<◌, true, false, IfSome, IsNone, MatchOption, [], ◌∷◌, ◌++◌, length, take, drop, slice_get, Option, None, Some, refl, sym, ap, ap₂, ◌∙◌, subst, arith, eqb, take_at, drop_at, take-append-drop}
-use Rattle.std.proofs.lemmas.Bool.{false≢true, true≢false, and_parts}
+use Rattle.std.proofs.Common.{◌≡◌, ℕ, ◌+◌, ◌<◌, true, [], ◌∷◌, ◌++◌, length, take, drop, slice_get, Some, refl, sym, ap, ap₂, ◌∙◌, subst, arith, drop_at, take-append-drop}
+use Rattle.std.proofs.lemmas.Bool.{and_parts}
 use Rattle.std.proofs.lemmas.List.{length-take-le}
 use Rattle.std.proofs.lemmas.Option.{same_Some}
-use Rattle.std.specs.Borrow.{Bor}
-use Rattle.std.specs.Cmp.Lexicographic.{pointwise}
 use Rattle.std.specs.List.{list_all}
 use Rattle.dns_spec.specs.Names.{Octets, DomainName, wire, is_name, is_label}
 use Rattle.dns_spec.specs.Reading.{pointer_place, RunAt}
 use Rattle.dns_spec.specs.Reading.RunAt.{ends, goes_on, jumps}
-use Rattle.dns_spec.proofs.DomainNames.NameLaws.{octets_equal-decides, is_name-tail}
+use Rattle.dns_spec.proofs.DomainNames.NameLaws.{is_name-tail}
 use Rattle.dns_spec.proofs.Messages.Places.{Stands, run_written}
 use Rattle.dns_wire.specs.Labels.{LabelAt, PointerAt}
 use Rattle.dns_wire.specs.Kept.{SpelledFrom, SpellsName, HasAt}
 use Rattle.dns_wire.proofs.Runs.{GoesOn, at_end, at_label, at_pointer, goes_on_at}
 use Rattle.dns_wire.proofs.Suffixes.{first_label}
-
--- the label is compared with the octets
-pub after_some : (w label rest : Octets) (o : Option (Bor Octets)) → w ≡ length label ∷ rest
-    → MatchOption o (pointwise eqb (take (length label) rest) label ≡ false) (λ x. (pointwise eqb (take (length label) rest) label ≡ true) × (x.now ≡ drop (length label) rest) × (length x.now + length label ≡ length rest))
-    → IfSome o (λ x. w ≡ length label ∷ (label ++ x.now))
-after_some w label rest None e m = tt
-after_some w label rest (Some x) e m =
-    let front = (octets_equal-decides (take (length label) rest) label).0 m.0 in
-    e ∙ ap (λ z. length label ∷ z) (sym (take-append-drop (length label) rest) ∙ ap₂ ◌++◌ front (sym m.1))
-
-pub after_none : (w label rest : Octets) (o : Option (Bor Octets)) → w ≡ length label ∷ rest
-    → MatchOption o (pointwise eqb (take (length label) rest) label ≡ false) (λ x. (pointwise eqb (take (length label) rest) label ≡ true) × (x.now ≡ drop (length label) rest) × (length x.now + length label ≡ length rest))
-    → IsNone o → (more : Octets) → w ≡ length label ∷ (label ++ more) → ⊥
-after_none w label rest None e m none more f =
-    let same : rest ≡ label ++ more = ap (drop 1) (sym e ∙ f) in
-    let front : take (length label) rest ≡ label = ap (take (length label)) same ∙ take_at label more (length label) refl in
-    false≢true (sym m ∙ (octets_equal-decides (take (length label) rest) label).1 front)
-after_none w label rest (Some x) e m none more f = true≢false none
 
 -- the root's length ends a name
 pub spelled_end : {b : Octets} {s i : ℕ} {o : Octets} → slice_get b i ≡ Some 0 → (o ≡ 0 ∷ [] → SpelledFrom b s i o) × (SpelledFrom b s i o → o ≡ 0 ∷ [])

@@ -3,21 +3,20 @@
 ghost use Rattle.std.specs.Prelude.{◌≡◌, ◌↔◌, List, ◌+◌, ◌-◌, ◌*◌, ◌≤◌, ◌<◌, ◌^◌, [], ◌∷◌, ◌++◌, length, take, drop, replicate, min, All, IsTrue, IfSome, IsNone, MatchOption, ℕ};
 ghost use Rattle.std.specs.Bool.{OnTrue, OnFalse};
 ghost use Rattle.dns_spec.specs.Names.{Octets, DomainName, wire, is_name};
-ghost use Rattle.dns_spec.specs.Data.{Valid, class_in, compresses, laid_parts, pieces_of, domain, type_mx};
+ghost use Rattle.dns_spec.specs.Data.{Valid, class_in, compresses, laid_parts, type_mx, type_soa};
 ghost use Rattle.dns_spec.specs.Layout.{Placed, question_octets, octets16, octets32, pointer, shared_octets, cost, data_laid, record_laid};
 ghost use Rattle.dns_wire.specs.Writing.{name_before, IsAsked, asked_places, NotAsked, IsLastOf, front_size, pointed_place, new_places, end_octets, Grows, AfterLabel, Holds, StandsIn, shown, tail_laid, records_laid};
 ghost use Rattle.dns_wire.specs.Kept.{HasPlace, SpellsName, NoneSpelled};
 ghost use Rattle.dns_wire.specs.Rooms.{IsSoundRoom, kept_by, HasNames, HasGrown, HasWritten};
 ghost use Rattle.dns_spec.specs.Sets.{records_at};
 ghost use Rattle.dns_spec.specs.Laws.{IsAskable};
-ghost use Rattle.dns_rdata.specs.Parts.{HasName};
 
 use crate::message::{CLASS_IN, HEADER_OCTETS, QuestionRef};
 use crate::places::{Places, SuffixHash};
 use arrayvec::ArrayVec;
 use byteorder::{BigEndian, ByteOrder};
 use dns_name::{NameRef, are_equal};
-use dns_rdata::{Part, Parts, RType, Rdata, SetView};
+use dns_rdata::{Part, Piece, RType, SetView, first_part};
 
 // The last place that the 14 bits of a pointer reach.
 const LAST_PLACE: usize = 16383;
@@ -169,33 +168,6 @@ impl<const N: usize, const SIZE: usize> Room<N, SIZE> {
         true
     }
 
-    // Writes parts of data one after the other. False where they do not fit; then some of them may
-    // be written.
-    fn put_parts<H: SuffixHash>(&mut self, hash: &mut H, parts: Parts<'_>) -> bool
-        requires sound { IsSoundRoom self.old }
-        requires names { All HasName parts }
-        ensures written { (ms : List Placed) → HasNames self.old (H.numbers hash.old) ms
-            → HasWritten self.old self.new (H.numbers hash.old) ms
-            (data_laid ms (length self.old.octets.items) parts.entry) result }
-        ensures extends { HasGrown self.old self.new }
-        ensures asked { self.new.asked_end ≡ self.old.asked_end }
-        ensures limit { self.new.limit ≡ self.old.limit }
-        ensures same { H.numbers hash.new ≡ H.numbers hash.old }
-        ensures sound { IsSoundRoom self.new }
-    {
-        let mut parts = parts;
-        'parts: while let Some(part) = parts.next() {
-            let fits = match part {
-                Part::Octets(octets) => self.append(octets, &[]),
-                Part::Name(name) => self.put_name(hash, name),
-            };
-            if !fits {
-                return false;
-            }
-        }
-        true
-    }
-
     // Writes data whose names may be shared as it is laid out, all of it or, where it does not fit,
     // a part of it.
     fn put_data<H: SuffixHash>(&mut self, hash: &mut H, rtype: RType, rdata: &[u8]) -> bool
@@ -218,13 +190,13 @@ impl<const N: usize, const SIZE: usize> Room<N, SIZE> {
         ensures same { H.numbers hash.new ≡ H.numbers hash.old }
         ensures sound { IsSoundRoom self.new }
     {
-        if is_one_name(rtype) {
-            return self.put_name(hash, rdata);
+        if rtype == RType::SOA {
+            return self.put_authority(hash, rdata);
         }
         if rtype == RType::MX {
             return self.put_exchange(hash, rdata);
         }
-        self.put_parts(hash, Rdata::parts(rtype, rdata))
+        self.put_name(hash, rdata)
     }
 
     // Writes data of type MX: a preference, and the name of an exchange (RFC 1035 3.3.9).
@@ -242,6 +214,36 @@ impl<const N: usize, const SIZE: usize> Room<N, SIZE> {
     {
         let (preference, exchange) = rdata.split_at(2);
         self.append(preference, &[]) && self.put_name(hash, exchange)
+    }
+
+    // Writes data of type SOA: the names of a server and of a mailbox, and five numbers of 32 bits
+    // (RFC 1035 3.3.13).
+    fn put_authority<H: SuffixHash>(&mut self, hash: &mut H, rdata: &[u8]) -> bool
+        requires sound { IsSoundRoom self.old }
+        requires valid { Valid type_soa rdata.now }
+        ensures written { (ms : List Placed) → HasNames self.old (H.numbers hash.old) ms
+            → HasWritten self.old self.new (H.numbers hash.old) ms
+            (data_laid ms (length self.old.octets.items) (laid_parts type_soa rdata.now)) result }
+        ensures extends { HasGrown self.old self.new }
+        ensures asked { self.new.asked_end ≡ self.old.asked_end }
+        ensures limit { self.new.limit ≡ self.old.limit }
+        ensures same { H.numbers hash.new ≡ H.numbers hash.old }
+        ensures sound { IsSoundRoom self.new }
+    {
+        let Some((part, rest)) = first_part(Piece::Domain, rdata) else {
+            unreachable!();
+        };
+        let Part::Name(server) = part else {
+            unreachable!();
+        };
+        let (mailbox, numbers) = rest.split_at(rest.len() - 20);
+        if !self.put_name(hash, server) {
+            return false;
+        }
+        if !self.put_name(hash, mailbox) {
+            return false;
+        }
+        self.append(numbers, &[])
     }
 
     // Takes octets and places back, but for those that came first.
@@ -452,13 +454,6 @@ impl<const N: usize, const SIZE: usize> Room<N, SIZE> {
             None => self.append(front, &[0]),
         }
     }
-}
-
-// Whether data of the type is one name (RFC 1035 3.3.1, 3.3.11 and 3.3.12).
-fn is_one_name(rtype: RType) -> bool
-    ensures { IsTrue result → pieces_of rtype.0 ≡ domain ∷ [] }
-{
-    rtype == RType::NS || rtype == RType::CNAME || rtype == RType::PTR
 }
 
 // A pointer to a place (RFC 1035 4.1.4).

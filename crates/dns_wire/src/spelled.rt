@@ -70,5 +70,9 @@ fn after_label<'a>(wire: &'a [u8], label: &[u8]) -> Option<&'a [u8]>
     if usize::from(*length) != label.len() {
         return None;
     }
-    rest.strip_prefix(label)
+    let (front, after) = rest.split_at_checked(label.len())?;
+    if !are_equal(front, label) {
+        return None;
+    }
+    Some(after)
 }
