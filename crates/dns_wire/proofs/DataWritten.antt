@@ -1,12 +1,11 @@
 -- Data and records are written part by part: what is written and what is to come are the whole.
-use Rattle.std.proofs.Common.{◌≡◌, ◌↔◌, ℕ, ◌+◌, ◌<◌, ◌≤◌, Bool, true, false, List, [], ◌∷◌, ◌++◌, map, length, refl, sym, ap, ap₂, ◌∙◌, subst, arith, append_assoc, append-nil, length-append, lt_of_not-le}
+use Rattle.std.proofs.Common.{◌≡◌, ◌↔◌, ℕ, ◌+◌, ◌<◌, ◌≤◌, Bool, true, false, List, [], ◌∷◌, ◌++◌, length, refl, sym, ap, ap₂, ◌∙◌, subst, arith, append_assoc, append-nil, length-append, lt_of_not-le}
 use Rattle.std.proofs.lemmas.Bool.{false≢true}
 use Rattle.std.specs.Bool.{OnTrue, OnFalse}
 use Rattle.dns_spec.specs.Names.{Octets, DomainName}
 use Rattle.dns_spec.specs.Data.{class_in, Part, octets, name, laid_parts}
 use Rattle.dns_spec.specs.Layout.{Placed, Laid, laid_front, octets16, octets32, shared_octets, cost, data_laid, record_laid, record_tail}
 use Rattle.dns_spec.proofs.Layouts.LayoutSize.{length-shared_octets, length-record_tail}
-use Rattle.dns_rdata.specs.Parts.{with_octets}
 use Rattle.dns_wire.specs.Kept.{Kept}
 use Rattle.dns_wire.specs.Writing.{Holds, IsWritten, Extends, shown, tail_laid}
 use Rattle.dns_wire.proofs.NameWritten.{holds_octets}
@@ -32,46 +31,6 @@ pub record Goes (head : Octets → ℕ) (whole : Laid) (ms₀ : List Placed) (b�
   pub written : b₀ ++ whole.written ≡ b ++ (rest ms (length b)).written
   pub names : ms₀ ++ whole.names ≡ ms ++ (rest ms (length b)).names
 
-abbrev pub PartsGo : (Octets → ℕ) → List Part → Octets → List Kept → List Part → Octets → List Kept → Type 0
-PartsGo head ps₀ b₀ ks₀ ps b ks =
-    (ms₀ : List Placed) → Holds head ms₀ b₀ ks₀ → Goes head (data_laid ms₀ (length b₀) ps₀) ms₀ b₀ (λ ms p. data_laid ms p ps) b ks
-
-pub parts_begin : (head : Octets → ℕ) (ps : List Part) (b : Octets) (ks : List Kept) → PartsGo head ps b ks ps b ks
-parts_begin head ps b ks ms holds = record { ms = ms; holds = holds; written = refl; names = refl }
-
-pub parts_octets : (head : Octets → ℕ) (ps₀ ps : List Part) (b₀ b b' : Octets) (ks₀ ks : List Kept) (o : Octets) → PartsGo head ps₀ b₀ ks₀ (octets o ∷ ps) b ks
-    → b' ≡ b ++ (o ++ []) → PartsGo head ps₀ b₀ ks₀ ps b' ks
-parts_octets head ps₀ ps b₀ b b' ks₀ ks o go e ms₀ holds₀ =
-    let g = go ms₀ holds₀ in
-    let own : b' ≡ b ++ o = e ∙ ap (λ z. b ++ z) (append-nil o) in
-    let place : length b + length o ≡ length b' = sym (ap length own ∙ length-append b o) in
-    let laid = data-octets g.ms (length b) o ps ∙ ap (λ p. laid_front o [] (data_laid g.ms p ps)) place in
-    record {
-      ms = g.ms;
-      holds = subst (λ x. Holds head g.ms x ks) (sym own) (holds_octets o g.holds);
-      written = g.written ∙ ap (λ (l : Laid). b ++ l.written) laid ∙ sym (append_assoc b o (data_laid g.ms (length b') ps).written)
-          ∙ ap (λ z. z ++ (data_laid g.ms (length b') ps).written) (sym own);
-      names = g.names ∙ ap (λ (l : Laid). g.ms ++ l.names) laid;
-    }
-
-pub parts_name : (head : Octets → ℕ) (ps₀ ps : List Part) (b₀ b b' : Octets) (ks₀ ks ks' : List Kept) (n : DomainName) → PartsGo head ps₀ b₀ ks₀ (name n ∷ ps) b ks
-    → ((ms : List Placed) → Holds head ms b ks → b' ≡ b ++ shared_octets ms n)
-    → ((ms : List Placed) → Holds head ms b ks → Holds head (ms ++ (n, length b) ∷ []) b' ks') → PartsGo head ps₀ b₀ ks₀ ps b' ks'
-parts_name head ps₀ ps b₀ b b' ks₀ ks ks' n go octets_of holds_of ms₀ holds₀ =
-    let g = go ms₀ holds₀ in
-    let w = shared_octets g.ms n in
-    let own = octets_of g.ms g.holds in
-    let more = g.ms ++ (n, length b) ∷ [] in
-    let place : length b + length w ≡ length b' = sym (ap length own ∙ length-append b w) in
-    let laid = data-name g.ms (length b) n ps ∙ ap (λ p. laid_front w ((n, length b) ∷ []) (data_laid more p ps)) place in
-    record {
-      ms = more;
-      holds = holds_of g.ms g.holds;
-      written = g.written ∙ ap (λ (l : Laid). b ++ l.written) laid ∙ sym (append_assoc b w (data_laid more (length b') ps).written)
-          ∙ ap (λ z. z ++ (data_laid more (length b') ps).written) (sym own);
-      names = g.names ∙ ap (λ (l : Laid). g.ms ++ l.names) laid ∙ sym (append_assoc g.ms ((n, length b) ∷ []) (data_laid more (length b') ps).names);
-    }
-
 -- nothing is to come
 pub all_written : {head : Octets → ℕ} {limit : ℕ} {ms₀ : List Placed} {b₀ b : Octets} {ks : List Kept} {all : Laid}
     {rest : List Placed → ℕ → Laid} → length b ≤ limit → ((ms : List Placed) → rest ms (length b) ≡ record { written = []; names = [] })
@@ -86,24 +45,6 @@ all_written {head} {limit} {ms₀} {b₀} {b} {ks} within empty g =
       holds = subst (λ x. Holds head x b ks) (sym names) g.holds;
     }
 
--- all parts are written
-pub parts_written : (head : Octets → ℕ) (limit : ℕ) (ps₀ : List Part) (b₀ b : Octets) (ks₀ ks : List Kept) → length b ≤ limit → PartsGo head ps₀ b₀ ks₀ [] b ks
-    → (ms : List Placed) → Holds head ms b₀ ks₀ → IsWritten head limit ms b₀ (data_laid ms (length b₀) ps₀) true b ks
-parts_written head limit ps₀ b₀ b ks₀ ks within go ms₀ holds₀ = all_written within (λ ms. data-none ms (length b)) (go ms₀ holds₀)
-
--- a part does not fit, and so the whole
-pub parts_past : (head : Octets → ℕ) (limit : ℕ) (ps₀ ps : List Part) (b₀ b b' : Octets) (ks₀ ks ks' : List Kept) → PartsGo head ps₀ b₀ ks₀ ps b ks
-    → ((ms : List Placed) → Holds head ms b ks → limit < length (b ++ (data_laid ms (length b) ps).written))
-    → (ms : List Placed) → Holds head ms b₀ ks₀ → IsWritten head limit ms b₀ (data_laid ms (length b₀) ps₀) false b' ks'
-parts_past head limit ps₀ ps b₀ b b' ks₀ ks ks' go past ms₀ holds₀ =
-    let g = go ms₀ holds₀ in
-    let over = past g.ms g.holds in
-    record {
-      exactly = (λ no. absurd (false≢true no), λ fits. absurd (omega (arith, fits, over, ap length g.written)));
-      written = tt;
-      holds = tt;
-    }
-
 pub past_octets : (limit : ℕ) (ms : List Placed) (b o : Octets) (ps : List Part) → limit < length b + (length o + 0) → limit < length (b ++ (data_laid ms (length b) (octets o ∷ ps)).written)
 past_octets limit ms b o ps past =
     let rest = (data_laid ms (length b + length o) ps).written in
@@ -114,10 +55,6 @@ past_name limit ms b n ps past =
     let w = shared_octets ms n in
     let rest = (data_laid (ms ++ (n, length b) ∷ []) (length b + length w) ps).written in
     omega (arith, past, length-shared_octets ms n, ap (λ (l : Laid). length (b ++ l.written)) (data-name ms (length b) n ps), length-append b (w ++ rest), length-append w rest)
-
-pub parts_none : (ps : List Part) → map with_octets ps ≡ [] → ps ≡ []
-parts_none [] e = refl
-parts_none (p ∷ ps) e = absurd (let z = ap length e in omega (arith, z))
 
 -- octets that are no name to a writer
 pub octets_written : {head : Octets → ℕ} {limit : ℕ} {ms : List Placed} {b b' : Octets} {ks ks' : List Kept} (o : Octets) (fits : Bool) → Holds head ms b ks

@@ -1,5 +1,6 @@
 -- What a reader learns here: the number by which the quick hash chooses the chain of a suffix.
-use Rattle.std.specs.Prelude.{ℕ, ◌+◌, ◌*◌, ◌%◌, nat_lt, length, get_or, if◌then◌else◌}
+use Rattle.std.specs.Prelude.{ℕ, ◌+◌, ◌*◌, ◌/◌, ◌%◌, ◌^◌, nat_lt, length, take, get_or, if◌then◌else◌}
+use Rattle.std.specs.Int.{from_le_bytes, w32}
 use Rattle.std.specs.List.{fold}
 use Rattle.dns_spec.specs.Names.{Octets}
 
@@ -11,10 +12,13 @@ number_with n o = (n * 61 + o) % 1024
 abbrev pub long_number : Octets → ℕ
 long_number = fold number_with 0
 
--- of the length of its wire form and of the first octets of its first label
+-- of its first four octets, multiplied so that each of them counts in the highest ten bits of 32,
+-- and of the length of its wire form
 abbrev pub short_number : Octets → ℕ
 short_number s =
-    (get_or s 1 0 * 101 + get_or s 2 0 * 29 + get_or s 3 0 * 7 + length s) % 1024
+    if nat_lt (length s) 4
+    then get_or s 1 0
+    else (from_le_bytes w32 (take 4 s) * 2654435769 % 2 ^ 32 / 4194304 + length s) % 1024
 
 -- long suffixes may be alike in their first octets, and differ in the last
 abbrev pub quick_number : Octets → ℕ

@@ -1,14 +1,17 @@
 //! A hash of suffixes that looks at few of their octets.
-ghost use Rattle.std.specs.Prelude.{◌≡◌, ◌<◌, get_or};
-ghost use Rattle.dns_wire.specs.QuickNumbers.{long_number};
+ghost use Rattle.std.specs.Prelude.{◌≡◌, ◌≤◌, ◌<◌, length, get_or};
+ghost use Rattle.dns_wire.specs.QuickNumbers.{long_number, short_number};
 
 use crate::places::SuffixHash;
 
 // Suffixes of more octets are rare, and then often alike in their first ones.
 const SHORT: usize = 32;
 
-/// Chooses chains by the length of a suffix and the first octets of its first label, a few
-/// instructions for each; and by all octets of a suffix that has more than 32.
+// 2^32 divided by the golden ratio.
+const SPREAD: u32 = 2_654_435_769;
+
+/// Chooses chains by the length of a suffix and its first four octets, by one multiplication; and by
+/// all octets of a suffix that has more than 32.
 #[derive(Clone, Copy, Default, Debug)]
 pub struct QuickHash;
 
@@ -21,10 +24,22 @@ impl SuffixHash for QuickHash {
         if suffix.len() > SHORT {
             return long_number(suffix);
         }
-        let length = suffix.len() as u16;
-        (octet_at(suffix, 1) * 101 + octet_at(suffix, 2) * 29 + octet_at(suffix, 3) * 7 + length)
-            % 1024
+        short_number(suffix)
     }
+}
+
+// The number of a short suffix: its first four octets, multiplied by an odd number that carries
+// each of them into the highest bits, and its length.
+fn short_number(suffix: &[u8]) -> u16
+    requires { length suffix.now ≤ 32 }
+    ensures value { result ≡ short_number suffix.now }
+    ensures low { result < 1024 }
+{
+    let Some(front) = suffix.first_chunk::<4>() else {
+        return octet_at(suffix, 1);
+    };
+    let number = u32::from_le_bytes(*front).wrapping_mul(SPREAD) / 4_194_304;
+    (number as u16 + suffix.len() as u16) % 1024
 }
 
 // The number of octets that all of them count for.
