@@ -1,7 +1,7 @@
 -- The name of the question has the places of its suffixes, whatever comes after it; each of them stands so far before its end.
 use Rattle.std.proofs.Common.{◌≡◌, ℕ, zero, suc, ◌+◌, ◌-◌, ◌<◌, ◌≤◌, Bool, true, false, ◌⊎◌, inl, inr, List, [], ◌∷◌, ◌++◌, length, take, drop, refl, sym, ap, ◌∙◌, subst, arith, append_assoc, length-append, take-append-drop, take_at, drop_at, replicate, ap₂}
 use Rattle.std.proofs.lemmas.Bool.{and_parts}
-use Rattle.std.proofs.lemmas.List.{drop-take, take-append-le, length-take, length-drop}
+use Rattle.std.proofs.lemmas.List.{drop-drop, drop-take, take-append-le, length-take, length-drop}
 use Rattle.std.specs.Bool.{OnTrue, OnFalse}
 use Rattle.std.specs.List.{list_all}
 use Rattle.dns_spec.specs.Names.{Octets, DomainName, wire, is_name, is_label}
@@ -96,7 +96,7 @@ take_patched a k b x b' e low inside =
     ap (take a) e ∙ take-append-le a (take k b) x (omega (arith, low, long, inside)) ∙ ap (take a) split ∙ take_at (take a b) (take (k - a) (drop a b)) a (omega (arith, front, low, inside))
 
 -- a suffix of the name stands so far before its end
-wire_split : (front s : DomainName) → (x : Octets) × (wire (front ++ s) ≡ x ++ wire s)
+pub wire_split : (front s : DomainName) → (x : Octets) × (wire (front ++ s) ≡ x ++ wire s)
 wire_split [] s = ([], refl)
 wire_split (l ∷ front) s =
     let r = wire_split front s in
@@ -216,11 +216,13 @@ pub record LastNow (n : DomainName) (rest : Octets) (count : ℕ) : Type 0 where
 
 pub record Last (name rest : Octets) (count : ℕ) : Type 0 where
   pub shorter : length rest ≤ length name
+  pub end : rest ≡ drop (length name - length rest) name
   pub all : (n : DomainName) → name ≡ wire n → is_name n ≡ true → LastNow n rest count
 
 pub last_begins : (name : Octets) (count : ℕ) → Last name name count
 last_begins name count = record {
   shorter = omega arith;
+  end = ap (λ k. drop k name) {x = 0} {y = length name - length name} (omega arith);
   all = λ n e ok. record { front = []; left = n; whole = refl; spelled = e; is_name = ok; ahead = λ f t l is long. (f, is) };
 }
 
@@ -228,9 +230,13 @@ pub last_label : {name rest others after : Octets} {count : ℕ} (k : ℕ) → L
     → count < length rest → Last name after count
 last_label {name} {rest} {others} {after} {count} k last first some fits cut longer = record {
   shorter = let s = last.shorter in omega (arith, s, ap length first, ap length cut, length-drop k others);
+  end = cut ∙ sym (ap (λ (o : Octets). drop (suc k) o) first) ∙ ap (drop (suc k)) last.end ∙ drop-drop (suc k) (length name - length rest) name ∙ ap (λ m. drop m name) count_of;
   all = all;
 }
   where
+    count_of : length name - length rest + suc k ≡ length name - length after
+    count_of = let s = last.shorter in omega (arith, s, fits, ap length first, ap length cut, length-drop k others)
+
     all : (n : DomainName) → name ≡ wire n → is_name n ≡ true → LastNow n after count
     all n e ok =
         let a = last.all n e ok in

@@ -1,6 +1,6 @@
 //! The room of a writer: octets up to a limit, and the places of suffixes in them. Names are laid
 //! out here (RFC 1035 4.1.4).
-ghost use Rattle.std.specs.Prelude.{◌≡◌, ◌↔◌, List, ◌+◌, ◌-◌, ◌*◌, ◌≤◌, ◌<◌, ◌^◌, [], ◌∷◌, ◌++◌, length, take, drop, replicate, min, All, IsTrue, IfSome, IsNone, MatchOption, ℕ};
+ghost use Rattle.std.specs.Prelude.{◌≡◌, ◌↔◌, List, ◌+◌, ◌-◌, ◌*◌, ◌≤◌, ◌<◌, ◌^◌, [], ◌∷◌, ◌++◌, length, take, drop, replicate, min, All, IsTrue, IfSome, IsNone, MatchOption, ℕ, false};
 ghost use Rattle.std.specs.Bool.{OnTrue, OnFalse};
 ghost use Rattle.dns_spec.specs.Names.{Octets, DomainName, wire, is_name};
 ghost use Rattle.dns_spec.specs.Data.{Valid, class_in, compresses, laid_parts, type_mx, type_soa};
@@ -552,24 +552,35 @@ fn place_before(message: &[u8], end: usize, suffix: &[u8]) -> Option<u16>
     if suffix.len() < 2 {
         return None;
     }
-    let last = last_labels(name_before(message, end), suffix.len())?;
-    if !are_equal(last, suffix) {
+    let name = name_before(message, end)?;
+    if !has_end(name, suffix) {
         return None;
     }
+    last_labels(name, suffix.len())?;
     Some((end - suffix.len()) as u16)
 }
 
-// The octets between the header and a place; none where it is not after the header.
-fn name_before(message: &[u8], end: usize) -> &[u8]
-    ensures { end ≤ length message.now → result.now ≡ name_before message.now end }
+// The octets between the header and a place.
+fn name_before(message: &[u8], end: usize) -> Option<&[u8]>
+    ensures some { IfSome result (λ name. name.now ≡ name_before message.now end) }
+    ensures none { IsNone result → end ≤ length message.now → name_before message.now end ≡ [] }
 {
-    let Some((front, _)) = message.split_at_checked(end) else {
-        return &[];
+    let (front, _) = message.split_at_checked(end)?;
+    let (_, name) = front.split_at_checked(HEADER_OCTETS)?;
+    Some(name)
+}
+
+// Whether octets end with others.
+fn has_end(octets: &[u8], end: &[u8]) -> bool
+    ensures yes { IsTrue result → (length end.now ≤ length octets.now)
+        × (drop (length octets.now - length end.now) octets.now ≡ end.now) }
+    ensures no { result ≡ false → (front : Octets) → octets.now ≡ front ++ end.now → ⊥ }
+{
+    let Some(start) = octets.len().checked_sub(end.len()) else {
+        return false;
     };
-    match front.split_at_checked(HEADER_OCTETS) {
-        Some((_, name)) => name,
-        None => &[],
-    }
+    let (_, last) = octets.split_at(start);
+    are_equal(last, end)
 }
 
 // So many octets at the end of a name, where they begin with one of its labels: the octets of a
@@ -577,7 +588,7 @@ fn name_before(message: &[u8], end: usize) -> &[u8]
 fn last_labels(name: &[u8], count: usize) -> Option<&[u8]>
     ensures some { IfSome result (λ last. IsLastOf name.now last.now) }
     ensures long { IfSome result (λ last. length last.now ≡ count) }
-    ensures inside { IfSome result (λ _. count ≤ length name.now) }
+    ensures end { IfSome result (λ last. last.now ≡ drop (length name.now - count) name.now) }
     ensures all { (n front t : DomainName) (l : Octets) → name.now ≡ wire n → IsTrue (is_name n)
         → n ≡ front ++ l ∷ t → length (wire (l ∷ t)) ≡ count
         → MatchOption result ⊥ (λ last. last.now ≡ wire (l ∷ t)) }

@@ -1,4 +1,4 @@
-use Rattle.std.proofs.Common.{refl, arith}
+use Rattle.std.proofs.Common.{◌-◌, ◌∙◌, ap, length, drop, refl, arith}
 use Rattle.dns_wire.proofs.AskedLemmas.{last_begins, last_label, last_of, last_here, last_short, last_root}
 use Rattle.dns_wire.proofs.room.last_labels.Goals as goal
 
@@ -24,3 +24,6 @@ returns-clause-some c = last_of c.labels.invariant
 
 pub returns-clause-all : goal.returns-clause-all
 returns-clause-all c = λ n front t l e ok whole long. last_here c.labels.invariant c.if-rest-count.false n front t l e ok whole long
+
+pub returns-clause-end : goal.returns-clause-end
+returns-clause-end c = c.labels.invariant.end ∙ ap (λ k. drop (length c.args.name.now - k) c.args.name.now) c.if-rest-count.false

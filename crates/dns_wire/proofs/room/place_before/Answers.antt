@@ -1,17 +1,18 @@
-use Rattle.std.proofs.Common.{◌≡◌, ◌∙◌, sym, ap, subst₂, arith, length}
-use Rattle.std.proofs.lemmas.Bool.{false≢true}
+use Rattle.std.proofs.Common.{◌≡◌, ◌∷◌, ◌++◌, ◌∙◌, sym, ap, subst₂, arith, length, length-append, refl}
+use Rattle.dns_spec.specs.Names.{wire}
 use Rattle.dns_wire.specs.Writing.{name_before, IsLastOf}
-use Rattle.dns_wire.proofs.AskedLemmas.{IsFound, asked_found, asked_none, two_octets}
+use Rattle.dns_wire.proofs.AskedLemmas.{IsFound, asked_found, asked_none, two_octets, wire_split}
 use Rattle.dns_wire.proofs.room.place_before.Goals as goal
 
-module _ (c : goal.Else-not-are_equal) where
+module _ (c : goal.In_ok-last_labels) where
   found : IsFound c.args.message.now c.args.end c.args.suffix.now
   found =
-      let name : c.name_before.result.now ≡ name_before c.args.message.now c.args.end = c.name_before.ensures c.requires.inside in
-      let same : c.in_ok-last.last.now ≡ c.args.suffix.now = c.are_equal.ensures.0 c.if-not-are_equal.false in
-      let inside = c.in_ok-last.ensures.inside in
+      let name : c.in_ok-name.name.now ≡ name_before c.args.message.now c.args.end = c.in_ok-name.ensures.some in
+      let ended = c.has_end.ensures.yes c.if-not-has_end.false in
+      let inside = ended.0 in
+      let same : c.in_ok-last_labels.field-0.now ≡ c.args.suffix.now = c.in_ok-last_labels.ensures.end ∙ ended.1 in
       let two = c.if-suffix-lt2.false in
-      asked_found c.args.suffix.now c.requires (omega (arith, two)) (omega (arith, inside, ap length name)) (subst₂ IsLastOf name same c.in_ok-last.ensures.some)
+      asked_found c.args.suffix.now c.requires (omega (arith, two)) (omega (arith, inside, ap length name)) (subst₂ IsLastOf name same c.in_ok-last_labels.ensures.some)
 
 pub returns-clause-kept : goal.returns-clause-kept
 returns-clause-kept c = (found c).kept
@@ -23,12 +24,20 @@ pub returns-then-suffix-lt2-clause-none : goal.returns-then-suffix-lt2-clause-no
 returns-then-suffix-lt2-clause-none c = λ _. asked_none c.args.suffix.now c.requires
     (λ n front t l e ok whole is. let two = two_octets l t in let short = c.if-suffix-lt2.true in omega (arith, two, short, ap length is))
 
-pub returns-in_err-last-clause-none : goal.returns-in_err-last-clause-none
-returns-in_err-last-clause-none c = λ _. asked_none c.args.suffix.now c.requires
-    (λ n front t l e ok whole is. c.in_err-last.ensures.all n front t l (c.name_before.ensures c.requires.inside ∙ e) ok whole (ap length is))
-
-pub returns-then-not-are_equal-clause-none : goal.returns-then-not-are_equal-clause-none
-returns-then-not-are_equal-clause-none c = λ _. asked_none c.args.suffix.now c.requires
+pub returns-then-not-has_end-clause-none : goal.returns-then-not-has_end-clause-none
+returns-then-not-has_end-clause-none c = λ _. asked_none c.args.suffix.now c.requires
     (λ n front t l e ok whole is.
-    let last = c.in_ok-last.ensures.all n front t l (c.name_before.ensures c.requires.inside ∙ e) ok whole (ap length is) in
-    false≢true (sym c.if-not-are_equal.true ∙ c.are_equal.ensures.1 (last ∙ is)))
+    let x = wire_split front (l ∷ t) in
+    c.has_end.ensures.no c.if-not-has_end.true x.0 (c.in_ok-name.ensures.some ∙ e ∙ ap wire whole ∙ x.1 ∙ ap (λ z. x.0 ++ z) is))
+
+pub returns-in_err-name-clause-none : goal.returns-in_err-name-clause-none
+returns-in_err-name-clause-none c = λ _. asked_none c.args.suffix.now c.requires
+    (λ n front t l e ok whole is.
+    let none = c.in_err-name.ensures.none refl c.requires.inside in
+    let x = wire_split front (l ∷ t) in
+    let two = two_octets l t in
+    omega (arith, two, ap length (sym none ∙ e ∙ ap wire whole ∙ x.1), length-append x.0 (wire (l ∷ t))))
+
+pub returns-in_err-last_labels-clause-none : goal.returns-in_err-last_labels-clause-none
+returns-in_err-last_labels-clause-none c = λ _. asked_none c.args.suffix.now c.requires
+    (λ n front t l e ok whole is. c.in_err-last_labels.ensures.all n front t l (c.in_ok-name.ensures.some ∙ e) ok whole (ap length is))
