@@ -1,13 +1,14 @@
 -- What a reader learns here: which sets end an answer, after the aliases, and what the header says
 -- of it.
-use Rattle.std.specs.Prelude.{◌≡◌, ℕ, ◌+◌, Bool, true, not, List, [], ◌++◌, length}
+use Rattle.std.specs.Prelude.{◌≡◌, ℕ, ◌+◌, Bool, true, not, List, [], ◌∷◌, ◌++◌, length}
 use Rattle.std.specs.Prelude.{Option, None, Some}
 use Rattle.std.specs.Option.{is_some}
 use Rattle.std.specs.List.{filter}
 use Rattle.dns_spec.specs.Names.{DomainName, at_or_below}
 use Rattle.dns_spec.specs.Records.{ZoneContents}
-use Rattle.dns_spec.specs.Layout.{Item}
-use Rattle.dns_spec.specs.Answer.{Outcome, main_items, targets_of}
+use Rattle.dns_spec.specs.Layout.{Item, answer}
+use Rattle.dns_spec.specs.Sets.{RecordSet, records_at}
+use Rattle.dns_spec.specs.Answer.{Outcome, positive, main_items, targets_of}
 use Rattle.dns_zone.specs.Nodes.{Walk}
 use Rattle.dns_wire.specs.QueryForm.{code_of}
 use Rattle.dns_answer.specs.Draft as spec
@@ -66,3 +67,16 @@ pub record Ends (w w' : State) (z : ZoneContents) (o : Outcome) (v : Verdict) : 
 abbrev pub TookTargets : Walk → Walk → Outcome → Type 0
 TookTargets s s' o = Took s s' (nodes_by s.zone o.referral (ending_targets o))
     (misses_by o.referral (ending_targets o))
+
+-- a set that was asked for, as it is shown
+abbrev pub asked_item : DomainName → RecordSet → List Item
+asked_item n set = record { section = answer; records = records_at n set.ttl set } ∷ []
+
+-- Where a set was offered last, what is offered now ends an answer that shows it.
+abbrev pub EndsWith : State → State → ZoneContents → RecordSet → Verdict → Type 0
+EndsWith w w' z set v =
+    (n : DomainName) → (begun : State) → Offers begun w (asked_item n set)
+    → Ends begun w' z (positive (asked_item n set)) v
+
+abbrev pub TookWith : Walk → Walk → RecordSet → Type 0
+TookWith s s' set = (n : DomainName) → TookTargets s s' (positive (asked_item n set))

@@ -4,10 +4,10 @@ use Rattle.std.specs.Prelude.{Option, None, Some}
 use Rattle.std.specs.Option.{is_some, option_and_then}
 use Rattle.std.specs.List.{list_any}
 use Rattle.dns_spec.specs.Names.{DomainName, same, at_or_below}
-use Rattle.dns_spec.specs.Data.{target}
-use Rattle.dns_spec.specs.Sets.{RecordSet}
-use Rattle.dns_spec.specs.Records.{ZoneContents}
-use Rattle.dns_spec.specs.Answer.{follows_alias, alias_set, has_any}
+use Rattle.dns_spec.specs.Data.{target, type_cname}
+use Rattle.dns_spec.specs.Sets.{RecordSet, set_of}
+use Rattle.dns_spec.specs.Records.{ZoneContents, ResourceRecord, of_type}
+use Rattle.dns_spec.specs.Answer.{follows_alias, alias_set, has_any, asked_records}
 use Rattle.dns_zone.specs.Nodes.{Walk}
 use Rattle.dns_wire.specs.QueryForm.{code_of}
 use Rattle.dns_answer.specs.Draft as spec
@@ -97,6 +97,20 @@ abbrev pub SoughtAs : State → State → Walk → Walk → ℕ → ℕ → List
     → Type 0
 SoughtAs w w' s s' t k kept n (soughts.Last v) = IsLast w w' s s' t k kept n v
 SoughtAs w w' s s' t k kept n (soughts.Alias m depth) = LeadsTo w w' s s' t k kept n m depth
+
+-- no alias among the records is followed
+abbrev pub HasNoAlias : ℕ → List ResourceRecord → Type 0
+HasNoAlias t rs = (follows_alias t ≡ false) ⊎ (None ≡ set_of (of_type type_cname rs))
+
+-- The set that an answer shows of records, and whether it is an alias that is followed: no other
+-- set is shown where there is one.
+abbrev pub IsShown : ℕ → List ResourceRecord → Option (RecordSet × Bool) → Type 0
+IsShown t rs None = HasNoAlias t rs × (None ≡ set_of (asked_records t rs))
+IsShown t rs (Some (set, true)) =
+    (follows_alias t ≡ true) × (Some set ≡ set_of (of_type type_cname rs))
+    × (set.rtype ≡ type_cname)
+IsShown t rs (Some (set, false)) =
+    HasNoAlias t rs × (Some set ≡ set_of (asked_records t rs))
 
 -- the target of the first record of an alias
 abbrev pub alias_target : RecordSet → Option DomainName

@@ -8,10 +8,10 @@ ghost use Rattle.dns_spec.specs.Sets.{set_of};
 ghost use Rattle.dns_spec.specs.Answer.{follows_alias};
 ghost use Rattle.dns_zone.specs.Nodes.{IsSetOf};
 ghost use Rattle.dns_answer.specs.Walks.{IsApex, HasRoom};
-ghost use Rattle.dns_answer.specs.Seeking.{Seeks, TookFrom, Followed, SoughtAs, NextIs, names_of};
+ghost use Rattle.dns_answer.specs.Seeking.{Seeks, TookFrom, Followed, SoughtAs, IsShown, NextIs, names_of};
 
 use crate::draft::Draft;
-use crate::ending::{QTYPE_ANY, Verdict, deny, offer_asked, refer};
+use crate::ending::{QTYPE_ANY, Verdict, asked_set, deny, end_with, refer};
 use crate::lookup::{Found, look_up, or_apex};
 use crate::names::depth_below;
 use arrayvec::ArrayVec;
@@ -224,13 +224,17 @@ fn seek_one<'z, const N: usize, const SIZE: usize>(
         }
         Found::Records(node) => node,
     };
-    let node = or_apex(&node, apex);
-    let Some(alias) = alias_at(node, qtype) else {
-        return Sought::Last(offer_asked(node, name, qtype, apex, steps, draft));
+    let node = or_apex(&node, &*apex);
+    let Some((set, is_alias)) = shown_set(node, qtype) else {
+        let origin = steps.origin();
+        return Sought::Last(deny(Rcode::NoError, apex, &origin.lent(), draft));
     };
-    draft.offer(Section::Answer, name, alias.ttl(), &alias);
+    draft.offer(Section::Answer, name, set.ttl(), &set);
+    if !is_alias {
+        return Sought::Last(end_with(&set, apex, steps, draft));
+    }
     let origin = steps.origin();
-    let Some((target, depth)) = next_sought(&alias, more, sought, &origin.lent()) else {
+    let Some((target, depth)) = next_sought(&set, more, sought, &origin.lent()) else {
         return Sought::Last(Verdict {
             rcode: Rcode::NoError,
             is_referral: false,
@@ -238,6 +242,19 @@ fn seek_one<'z, const N: usize, const SIZE: usize>(
         });
     };
     Sought::Alias(target, depth)
+}
+
+// The set that an answer shows of the records at a node, and whether it is an alias, which leads
+// on: the alias is shown in place of what is asked for.
+fn shown_set<'z>(node: &Node<'z>, qtype: u16) -> Option<(RecordSet<'z>, bool)>
+    ensures shown { IsShown qtype (at node.now.zone node.now.name) result }
+    ensures kept { IfSome result (λ (set, _). IsSetOf node.now set) }
+{
+    if let Some(alias) = alias_at(node, qtype) {
+        return Some((alias, true));
+    }
+    let asked = asked_set(node, qtype)?;
+    Some((asked, false))
 }
 
 // The alias at a node, unless it is itself what is asked for.

@@ -1,15 +1,14 @@
 //! How the answer for the last name sought ends (RFC 1034 4.3.2 step 3, RFC 2308).
-ghost use Rattle.std.specs.Prelude.{◌≡◌, ◌+◌, ◌*◌, ◌≤◌, ◌&&◌, ◌||◌, ◌==◌, length, true, false, IfSome};
-ghost use Rattle.std.specs.Option.{is_some};
+ghost use Rattle.std.specs.Prelude.{◌≡◌, ◌+◌, ◌*◌, ◌≤◌, ◌||◌, ◌==◌, length, IfSome};
 ghost use Rattle.dns_spec.specs.Names.{DomainName};
-ghost use Rattle.dns_spec.specs.Data.{type_ns, type_mx, type_srv, qtype_any, type_cname};
-ghost use Rattle.dns_spec.specs.Records.{at, rrset, with_owner, of_type};
-ghost use Rattle.dns_spec.specs.Sets.{set_of, of_lowest_type};
-ghost use Rattle.dns_spec.specs.Answer.{referral_to, negative, outcome_by, follows_alias, has_any, asked_records};
+ghost use Rattle.dns_spec.specs.Data.{type_ns, type_mx, type_srv};
+ghost use Rattle.dns_spec.specs.Records.{at};
+ghost use Rattle.dns_spec.specs.Sets.{HasValidData, set_of};
+ghost use Rattle.dns_spec.specs.Answer.{referral_to, negative, asked_records};
 ghost use Rattle.dns_zone.specs.Nodes.{IsSetOf};
 ghost use Rattle.dns_wire.specs.QueryForm.{code_of};
 ghost use Rattle.dns_answer.specs.Walks.{IsApex, IsBelowCut, HasRoom};
-ghost use Rattle.dns_answer.specs.Ending.{Ends, TookTargets};
+ghost use Rattle.dns_answer.specs.Ending.{Ends, TookTargets, EndsWith, TookWith};
 
 use crate::addresses::{Side, offer_addresses};
 use crate::draft::Draft;
@@ -94,36 +93,24 @@ pub(crate) fn deny<const N: usize, const SIZE: usize>(
     }
 }
 
-/// Offers the set asked for of the records at a node, shown at a name, and the addresses of its
-/// targets; or says that there is none.
-pub(crate) fn offer_asked<'z, const N: usize, const SIZE: usize>(
-    node: &Node<'z>,
-    name: &NameRef<'_>,
-    qtype: u16,
+/// Ends an answer with a set that was asked for and is offered: offers the addresses of its
+/// targets.
+pub(crate) fn end_with<'z, const N: usize, const SIZE: usize>(
+    set: &RecordSet<'z>,
     apex: &Node<'z>,
     steps: &mut Steps<'z>,
     draft: &mut Draft<N, SIZE>,
 ) -> Verdict
+    requires valid { HasValidData set.now }
+    requires few { length set.now.rdata ≤ 64 }
     requires apex { IsApex steps.old.zone apex.now }
-    requires zone { node.now.zone ≡ steps.old.zone }
-    requires no_alias { (follows_alias qtype
-        && has_any (of_type type_cname (with_owner name.now (at node.now.zone node.now.name))))
-        ≡ false }
     requires room { HasRoom steps.old (64 * 128) }
-    ensures ends { Ends draft.old draft.new steps.old.zone
-        (outcome_by steps.old.zone qtype None
-        (Some (with_owner name.now (at node.now.zone node.now.name)))) result }
-    ensures took { TookTargets steps.old steps.new
-        (outcome_by steps.old.zone qtype None
-        (Some (with_owner name.now (at node.now.zone node.now.name)))) }
+    ensures ends { EndsWith draft.old draft.new steps.old.zone set.now result }
+    ensures took { TookWith steps.old steps.new set.now }
 {
-    let Some(set) = asked_set(node, qtype) else {
-        return deny(Rcode::NoError, apex, &steps.origin().lent(), draft);
-    };
-    draft.offer(Section::Answer, name, set.ttl(), &set);
     let is_truncated = draft.is_full();
     if has_targets(set.rtype()) {
-        offer_addresses(&set, Side::All, apex, steps, draft);
+        offer_addresses(set, Side::All, apex, steps, draft);
     }
     Verdict {
         rcode: Rcode::NoError,
@@ -132,8 +119,8 @@ pub(crate) fn offer_asked<'z, const N: usize, const SIZE: usize>(
     }
 }
 
-// The set asked for; of all types that of the lowest number (RFC 8482 4.1).
-fn asked_set<'z>(node: &Node<'z>, qtype: u16) -> Option<RecordSet<'z>>
+/// The set asked for; of all types that of the lowest number (RFC 8482 4.1).
+pub(crate) fn asked_set<'z>(node: &Node<'z>, qtype: u16) -> Option<RecordSet<'z>>
     ensures set { result ≡ set_of (asked_records qtype (at node.now.zone node.now.name)) }
     ensures kept { IfSome result (IsSetOf node.now) }
 {

@@ -1,15 +1,18 @@
-use Rattle.std.proofs.Common.{rules, ◌≡◌, [], ◌&&◌, ◌-◌, refl, sym, ap, ◌∙◌, subst, arith, Some, None}
+use Rattle.std.proofs.Common.{rules, ◌≡◌, [], ◌∷◌, true, false, ◌&&◌, ◌-◌, refl, sym, ap, ◌∙◌, subst, arith, Some, None}
 use Rattle.std.proofs.lemmas.Bool.{false≢true}
 use Rattle.dns_spec.specs.Layout.{answer}
 use Rattle.dns_spec.specs.Records.{ZoneContents, at, with_owner}
 use Rattle.dns_spec.specs.Answer.{item, has_any, alias_set, positive, negative, referral_to, outcome_by}
-use Rattle.dns_spec.specs.Reading.{name_error}
+use Rattle.dns_spec.specs.Reading.{no_error, name_error}
 use Rattle.dns_zone.specs.Nodes.{ZoneNode}
-use Rattle.dns_answer.specs.Ending.{Ends, TookTargets}
+use Rattle.dns_answer.specs.Ending.{Ends, TookTargets, asked_item}
 use Rattle.dns_answer.specs.Walks.{IsApex, IsBelowCut}
-use Rattle.dns_answer.specs.Seeking.{NextIs, names_of}
-use Rattle.dns_answer.proofs.ChainSteps.{ends-cut, ends-nothing, ends-records}
+use Rattle.dns_answer.specs.Seeking.{IsShown, NextIs, names_of}
+use Rattle.dns_answer.proofs.ChainSteps.{ChainEnds, ends-cut, ends-nothing, ends-records}
 use Rattle.dns_answer.proofs.SeekSteps.{seeks-ended, took-ended, took-less, own-cut, found-at, none-followed, none-own, seeks-alias, alias-ends, alias-item, alias-goes_on, has-alias, completes-on}
+use Rattle.dns_answer.specs.DraftForm.{Offers}
+use Rattle.dns_spec.specs.Sets.{records_at}
+use Rattle.dns_answer.proofs.AskedSets.{asked-none, asked-some}
 use Rattle.dns_answer.proofs.chain.seek_one.Goals as goal
 
 pub look_up-requires-clause-room : goal.look_up-requires-clause-room
@@ -62,19 +65,17 @@ returns-in-Nothing g c =
       own = λ r. absurd (false≢true (sym denied.referral ∙ r));
     }
 
-pub offer_asked-requires : goal.offer_asked-requires
-offer_asked-requires g c =
-    let z = c.args.steps.now.zone in
+pub end_with-requires : goal.end_with-requires
+end_with-requires g c =
     let same_zone = c.look_up.ensures.took.zone in
-    let at_node = c.or_apex-node.result.now in
-    let here = found-at z c.args.name.now c.in-Records.node c.args.apex.now at_node c.in-Records.ensures.found c.requires.apex.node c.or_apex-node.ensures in (
+    let kept = c.in-Some.ensures.kept in (
       search rules,
       (
-        subst (λ z. IsApex z c.args.apex.now) (sym same_zone) c.requires.apex,
+        kept.valid,
         (
-          here.0 ∙ sym same_zone,
+          kept.few,
           (
-            none-followed z c.args.name.now at_node c.in-Records.ensures.found.no_cut here.1 c.args.qtype c.in_default.ensures.alias,
+            subst (λ z. IsApex z c.args.apex.now) (sym same_zone) c.requires.apex,
             record {
               visits = omega (arith, c.in-Records.ensures.took.visits, c.requires.room.visits, c.requires.few);
               comparisons = omega (arith, c.in-Records.ensures.took.visits, c.in-Records.ensures.took.comparisons, c.requires.room.comparisons, c.requires.few);
@@ -87,21 +88,50 @@ offer_asked-requires g c =
 pub returns-in_default : goal.returns-in_default
 returns-in_default g c =
     let z = c.args.steps.now.zone in
+    let s = c.args.name.now in
     let at_node = c.or_apex-node.result.now in
-    let rs = with_owner c.args.name.now (at at_node.zone at_node.name) in
-    let here = found-at z c.args.name.now c.in-Records.node c.args.apex.now at_node c.in-Records.ensures.found c.requires.apex.node c.or_apex-node.ensures in
+    let rs = with_owner s (at at_node.zone at_node.name) in
+    let here = found-at z s c.in-Records.node c.args.apex.now at_node c.in-Records.ensures.found c.requires.apex.node c.or_apex-node.ensures in
     let no_cut = c.in-Records.ensures.found.no_cut in
-    let none = none-followed z c.args.name.now at_node no_cut here.1 c.args.qtype c.in_default.ensures.alias in
-    let o = outcome_by z c.args.qtype None (Some rs) in
+    let shown = c.in_default.ensures.shown in
+    let none = none-followed z s at_node no_cut here.1 c.args.qtype shown.0 in
+    let o = negative z no_error in
+    let denied = subst (λ y. Ends c.args.draft.now c.deny-in_default.new.draft y (negative y no_error) c.deny-in_default.result) (ap (λ (v : ZoneNode). v.zone) c.requires.apex.node) c.deny-in_default.ensures in
+    let is = asked-none z c.args.qtype s (at at_node.zone at_node.name) none shown.1 in
     record {
-      seeks = λ before were. seeks-ended z c.args.qtype c.args.more before c.args.name.now _ _ _ o
-          (ends-records z c.args.qtype c.args.more before c.args.name.now rs no_cut here.1 none)
-          (subst (λ y. Ends c.args.draft.now c.offer_asked.new.draft y (outcome_by y c.args.qtype None (Some rs)) c.offer_asked.result) c.look_up.ensures.took.zone c.offer_asked.ensures.ends);
-      took = λ before were. took-ended z c.args.qtype c.args.more before c.args.name.now _ c.look_up.new.steps _ c.args.depth [] o
-          (ends-records z c.args.qtype c.args.more before c.args.name.now rs no_cut here.1 none)
+      seeks = λ before were. seeks-ended z c.args.qtype c.args.more before s _ _ _ o
+          (subst (ChainEnds z c.args.qtype c.args.more before s []) is (ends-records z c.args.qtype c.args.more before s rs no_cut here.1 none)) denied;
+      took = λ before were. took-less z c.args.qtype c.args.more before s _ _ c.args.depth [] o
+          (subst (ChainEnds z c.args.qtype c.args.more before s []) is (ends-records z c.args.qtype c.args.more before s rs no_cut here.1 none)) c.requires.depth c.in-Records.ensures.took;
+      own = λ r. none-own z s at_node no_cut here.1 c.args.qtype none;
+    }
+
+pub returns-then-not-is_alias : goal.returns-then-not-is_alias
+returns-then-not-is_alias g c =
+    let z = c.args.steps.now.zone in
+    let s = c.args.name.now in
+    let at_node = c.or_apex-node.result.now in
+    let at_name = at at_node.zone at_node.name in
+    let rs = with_owner s at_name in
+    let set = c.in-Some.set in
+    let here = found-at z s c.in-Records.node c.args.apex.now at_node c.in-Records.ensures.found c.requires.apex.node c.or_apex-node.ensures in
+    let no_cut = c.in-Records.ensures.found.no_cut in
+    let shown : IsShown c.args.qtype at_name (Some (set, false)) = subst (λ b. IsShown c.args.qtype at_name (Some (set, b))) c.if-not-is_alias.true c.in-Some.ensures.shown in
+    let none = none-followed z s at_node no_cut here.1 c.args.qtype shown.0 in
+    let o = outcome_by z c.args.qtype None (Some rs) in
+    let is = asked-some z c.args.qtype s at_name none at_node set.ttl set refl c.in-Some.ensures.kept refl shown.1 in
+    let offered = subst (λ u. Offers c.args.draft.now c.offer.new.self (record { section = answer; records = records_at s u set } ∷ [])) c.ttl.ensures c.offer.ensures in
+    record {
+      seeks = λ before were. seeks-ended z c.args.qtype c.args.more before s _ _ _ o
+          (ends-records z c.args.qtype c.args.more before s rs no_cut here.1 none)
+          (subst (λ x. Ends c.args.draft.now c.end_with.new.draft z x c.end_with.result) (sym is)
+          (subst (λ y. Ends c.args.draft.now c.end_with.new.draft y (positive (asked_item s set)) c.end_with.result) c.look_up.ensures.took.zone
+          (c.end_with.ensures.ends s c.args.draft.now offered)));
+      took = λ before were. took-ended z c.args.qtype c.args.more before s _ c.look_up.new.steps _ c.args.depth [] o
+          (ends-records z c.args.qtype c.args.more before s rs no_cut here.1 none)
           c.requires.depth c.look_up.ensures.took.zone c.in-Records.ensures.took
-          (subst (λ y. TookTargets c.look_up.new.steps c.offer_asked.new.steps (outcome_by y c.args.qtype None (Some rs))) c.look_up.ensures.took.zone c.offer_asked.ensures.took);
-      own = λ r. none-own z c.args.name.now at_node no_cut here.1 c.args.qtype none;
+          (subst (λ x. TookTargets c.look_up.new.steps c.end_with.new.steps x) (sym is) (c.end_with.ensures.took s));
+      own = λ r. none-own z s at_node no_cut here.1 c.args.qtype none;
     }
 
 pub returns-in_default-next_sought : goal.returns-in_default-next_sought
@@ -109,19 +139,21 @@ returns-in_default-next_sought g c =
     let z = c.args.steps.now.zone in
     let s = c.args.name.now in
     let at_node = c.or_apex-node.result.now in
-    let set = c.in-Some.alias in
+    let set = c.in-Some.set in
     let here = found-at z s c.in-Records.node c.args.apex.now at_node c.in-Records.ensures.found c.requires.apex.node c.or_apex-node.ensures in
     let no_cut = c.in-Records.ensures.found.no_cut in
-    let is = c.in-Some.ensures.alias in
+    let is : IsShown c.args.qtype (at at_node.zone at_node.name) (Some (set, true)) =
+    subst (λ b. IsShown c.args.qtype (at at_node.zone at_node.name) (Some (set, b))) c.if-not-is_alias.false c.in-Some.ensures.shown
+    in
     let origin_is : c.lent-2.result ≡ z.origin = c.lent-2.ensures.value ∙ c.origin-origin-2.ensures.value ∙ ap (λ (y : ZoneContents). y.origin) c.look_up.ensures.took.zone in
     let next = subst (λ o. NextIs set c.args.more (names_of c.args.sought) o None) origin_is c.in_default-next_sought.ensures.next in
     record {
       seeks = λ before were. seeks-alias z c.args.qtype c.args.more before s _ _ _ _
-          (alias-ends z s at_node no_cut here.1 set is.1 c.in-Some.ensures.rtype c.in-Some.ensures.kept c.args.qtype c.args.more (names_of c.args.sought) before is.0 were next)
-          (alias-item z s at_node no_cut here.1 set is.1 c.in-Some.ensures.rtype c.in-Some.ensures.kept c.ttl.result c.ttl.ensures)
+          (alias-ends z s at_node no_cut here.1 set is.1 is.2 c.in-Some.ensures.kept c.args.qtype c.args.more (names_of c.args.sought) before is.0 were next)
+          (alias-item z s at_node no_cut here.1 set is.1 is.2 c.in-Some.ensures.kept c.ttl.result c.ttl.ensures)
           c.offer.ensures refl refl c.is_full.ensures;
       took = λ before were. took-less z c.args.qtype c.args.more before s _ _ c.args.depth (item answer (alias_set z s)) (positive [])
-          (alias-ends z s at_node no_cut here.1 set is.1 c.in-Some.ensures.rtype c.in-Some.ensures.kept c.args.qtype c.args.more (names_of c.args.sought) before is.0 were next)
+          (alias-ends z s at_node no_cut here.1 set is.1 is.2 c.in-Some.ensures.kept c.args.qtype c.args.more (names_of c.args.sought) before is.0 were next)
           c.requires.depth c.in-Records.ensures.took;
       own = λ r. absurd (false≢true r);
     }
@@ -131,11 +163,13 @@ returns g c =
     let z = c.args.steps.now.zone in
     let s = c.args.name.now in
     let at_node = c.or_apex-node.result.now in
-    let set = c.in-Some.alias in
+    let set = c.in-Some.set in
     let m = c.in-Some-next_sought.target in
     let here = found-at z s c.in-Records.node c.args.apex.now at_node c.in-Records.ensures.found c.requires.apex.node c.or_apex-node.ensures in
     let no_cut = c.in-Records.ensures.found.no_cut in
-    let is = c.in-Some.ensures.alias in
+    let is : IsShown c.args.qtype (at at_node.zone at_node.name) (Some (set, true)) =
+    subst (λ b. IsShown c.args.qtype (at at_node.zone at_node.name) (Some (set, b))) c.if-not-is_alias.false c.in-Some.ensures.shown
+    in
     let origin_is : c.lent-2.result ≡ z.origin = c.lent-2.ensures.value ∙ c.origin-origin-2.ensures.value ∙ ap (λ (y : ZoneContents). y.origin) c.look_up.ensures.took.zone in
     let next = subst (λ o. NextIs set c.args.more (names_of c.args.sought) o (Some (m, c.in-Some-next_sought.depth))) origin_is c.in-Some-next_sought.ensures.next in
     let first = c.in-Records.ensures.took in
@@ -152,7 +186,7 @@ returns g c =
         comparisons = first.comparisons;
       };
       completes = λ before were. completes-on z c.args.qtype c.args.more before s _ _ _ _ _ c.args.depth (c.args.more - 1) m
-          (alias-goes_on z s at_node no_cut here.1 set is.1 c.in-Some.ensures.rtype c.in-Some.ensures.kept c.args.qtype c.args.more (names_of c.args.sought) before m c.in-Some-next_sought.depth is.0 were next)
-          (alias-item z s at_node no_cut here.1 set is.1 c.in-Some.ensures.rtype c.in-Some.ensures.kept c.ttl.result c.ttl.ensures)
+          (alias-goes_on z s at_node no_cut here.1 set is.1 is.2 c.in-Some.ensures.kept c.args.qtype c.args.more (names_of c.args.sought) before m c.in-Some-next_sought.depth is.0 were next)
+          (alias-item z s at_node no_cut here.1 set is.1 is.2 c.in-Some.ensures.kept c.ttl.result c.ttl.ensures)
           c.offer.ensures c.requires.depth first;
     }
