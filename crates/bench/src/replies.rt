@@ -47,15 +47,6 @@ pub(crate) const SERVERS: &[u8] =
 pub(crate) const EXCHANGE: &[u8] =
     b"\x12\x34\x00\x00\x00\x01\x00\x00\x00\x00\x00\x00\x01m\x07example\x00\x00\x0f\x00\x01";
 
-pub(crate) const ADDRESSES: &[u8] =
-    b"\x12\x34\x00\x00\x00\x01\x00\x00\x00\x00\x00\x00\x03big\x07example\x00\x00\x01\x00\x01";
-
-pub(crate) const GLUE: &[u8] =
-    b"\x12\x34\x00\x00\x00\x01\x00\x00\x00\x00\x00\x00\x01h\x03cut\x07example\x00\x00\x01\x00\x01";
-
-pub(crate) const SERVICES: &[u8] =
-    b"\x12\x34\x00\x00\x00\x01\x00\x00\x00\x00\x00\x00\x01y\x07example\x00\x00\x21\x00\x01";
-
 /// The zones that are asked.
 #[derive(Clone, Copy)]
 pub(crate) enum Asked {
@@ -63,8 +54,6 @@ pub(crate) enum Asked {
     Small,
     /// The same, and so many other names that there are nearly 100,000 records.
     Large,
-    /// The small file, and 17 services with 64 addresses each.
-    Services,
 }
 
 impl Asked {
@@ -90,7 +79,6 @@ impl Asked {
         match self {
             Asked::Small => {}
             Asked::Large => add_others(alloc, &mut text)?,
-            Asked::Services => add_services(alloc, &mut text)?,
         }
         Ok(text)
     }
@@ -116,16 +104,6 @@ fn add_others(alloc: Global, text: &mut Vec<u8>) -> Result<(), AllocError> {
     for number in 0..99_800_u32 {
         let line = format!(in alloc; "n{number} A 192.0.2.2\n")?;
         text.extend_from_slice(line.as_bytes())?;
-    }
-    Ok(())
-}
-
-fn add_services(alloc: Global, text: &mut Vec<u8>) -> Result<(), AllocError> {
-    for number in 10..27_u32 {
-        let line = format!(in alloc; "y SRV 1 2 53 t{number}\n")?;
-        text.extend_from_slice(line.as_bytes())?;
-        let owner = format!(in alloc; "t{number}")?;
-        add_addresses(alloc, text, owner.as_str())?;
     }
     Ok(())
 }

@@ -1,16 +1,12 @@
 //! What is measured: how often, and of which data.
-ghost use Rattle.std.specs.Prelude.{◌≡◌, IfOk, length};
-ghost use Rattle.dns_answer.specs.Limits.{limit_of};
+ghost use Rattle.std.specs.Prelude.{IfOk};
 ghost use Rattle.dns_spec.specs.Data.{Valid};
 
 use crate::fault::Fault;
 use crate::inputs::{IPV4, IPV6, repeated, words};
-use crate::replies::{
-    ADDRESS, ADDRESSES, ALIAS, Asked, EXCHANGE, GLUE, NAME_ERROR, REFERRAL, SERVERS, SERVICES,
-    WILDCARD,
-};
+use crate::replies::{ADDRESS, ALIAS, Asked, EXCHANGE, NAME_ERROR, REFERRAL, SERVERS, WILDCARD};
 use crate::zone::zone_text;
-use dns_answer::{Limit, TcpDraft, respond, respond_in};
+use dns_answer::{Limit, respond};
 use dns_master::read_zone;
 use dns_name::{Name, Tally};
 use dns_rdata::{RType, Rdata, RdataFault, Word};
@@ -55,13 +51,11 @@ enum Kind {
     ReadZone(u32),
     // A question to a zone, over UDP.
     Respond(Asked, &'static [u8]),
-    // The same over TCP, in room that is kept from one reply to the next.
-    RespondOverTcp(Asked, &'static [u8]),
 }
 
 /// The works, in the order of the table. Those over text of different lengths have the same octets
 /// in all.
-pub(crate) const WORKS: [Work; 39] = [
+pub(crate) const WORKS: [Work; 36] = [
     Work {
         name: "read-txt-8191",
         kind: Kind::ReadText(31, b"a"),
@@ -242,21 +236,6 @@ pub(crate) const WORKS: [Work; 39] = [
         kind: Kind::Respond(Asked::Large, EXCHANGE),
         rounds: 100_000,
     },
-    Work {
-        name: "tcp-addresses",
-        kind: Kind::RespondOverTcp(Asked::Small, ADDRESSES),
-        rounds: 5_000,
-    },
-    Work {
-        name: "tcp-glue",
-        kind: Kind::RespondOverTcp(Asked::Small, GLUE),
-        rounds: 5_000,
-    },
-    Work {
-        name: "tcp-services",
-        kind: Kind::RespondOverTcp(Asked::Services, SERVICES),
-        rounds: 500,
-    },
 ];
 
 impl Work {
@@ -274,9 +253,6 @@ impl Work {
             Kind::WriteName(spelled) => write_name(spelled, rounds),
             Kind::ReadZone(records) => read_file(alloc, records, rounds),
             Kind::Respond(asked, datagram) => answer(alloc, asked, datagram, rounds),
-            Kind::RespondOverTcp(asked, datagram) => {
-                answer_over_tcp(alloc, asked, datagram, rounds)
-            }
         }
     }
 }
@@ -414,33 +390,6 @@ fn answer(alloc: Global, asked: Asked, datagram: &[u8], rounds: u32) -> Result<D
         done.count(octets);
     }
     answered(&out, done)
-}
-
-fn answer_over_tcp(
-    alloc: Global,
-    asked: Asked,
-    datagram: &[u8],
-    rounds: u32,
-) -> Result<Done, Fault> {
-    let zone = asked.zone(alloc)?;
-    let mut draft = Box::new(alloc, TcpDraft::new())?;
-    let mut out = reply_room(alloc, Limit::Tcp)?;
-    let mut done = Done::NOTHING;
-    for _ in 0..rounds {
-        let mut steps = Steps::new(&zone);
-        let Some(octets) = respond_in(&mut steps, datagram, &mut draft, out.as_mut_slice()) else {
-            return Err(Fault::Unanswered);
-        };
-        done.count(octets);
-    }
-    answered(out.as_slice(), done)
-}
-
-// Room for a reply.
-fn reply_room(alloc: Global, limit: Limit) -> Result<Vec<u8>, AllocError>
-    ensures { IfOk result (λ room. length room.items ≡ limit_of limit) }
-{
-    Ok(vec![in alloc; 0; limit.octets()]?)
 }
 
 // Looks at the reply that was made last, so that none is left out as useless. A header is not all
