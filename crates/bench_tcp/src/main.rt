@@ -18,7 +18,7 @@ use std::alloc::{AllocError, AllocFailed, Global};
 use std::rt::{Env, Files};
 use std::{env, fs, io};
 
-// Why it ends before its end.
+// Why no reply is printed.
 #[derive(Debug, Drop)]
 enum Fault {
     // The words are none that it takes.

@@ -1,4 +1,4 @@
-//! The places of the suffixes that a message has so far, found by a hash of the suffix (RFC 1035
+//! The places of the suffixes of names after the question, found by a hash of the suffix (RFC 1035
 //! 4.1.4).
 ghost use Rattle.std.specs.Prelude.{◌≡◌, ◌↔◌, ◌-◌, ◌<◌, ◌≤◌, [], ◌∷◌, ◌++◌, length, take, replicate, get_or, IsTrue, IfSome, IsNone};
 ghost use Rattle.dns_wire.specs.Chains.{chain_of};

@@ -29,7 +29,7 @@ impl SuffixHash for QuickHash {
 }
 
 // The number of a short suffix: its first four octets, multiplied by an odd number that carries
-// each of them into the highest bits, and its length.
+// each of them into the highest bits, and its length. One of three octets is told by its letter.
 fn short_number(suffix: &[u8]) -> u16
     requires { length suffix.now ≤ 32 }
     ensures value { result ≡ short_number suffix.now }

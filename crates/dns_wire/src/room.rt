@@ -21,8 +21,8 @@ use dns_rdata::{Part, Piece, RType, SetView, first_part};
 // The last place that the 14 bits of a pointer reach.
 const LAST_PLACE: usize = 16383;
 
-/// A message that is being written: its octets so far, and the places in them that later names may
-/// point to.
+/// A message that is being written: its octets so far, and the places in them of names after the
+/// question's that later names may point to.
 #[derive(Drop)]
 pub(crate) struct Room<const N: usize, const SIZE: usize> {
     pub(crate) octets: ArrayVec<u8, SIZE>,
