@@ -52,8 +52,8 @@ no_draft limit = record {
 }
 
 -- the places of the name of the question, and those kept of the names after it
-abbrev pub all_kept : (Octets → ℕ) → Draft → List Kept
-all_kept head d = asked_places head d.octets d.asked_end ++ d.kept
+abbrev pub known_places : (Octets → ℕ) → Draft → List Kept
+known_places head d = asked_places head d.octets d.asked_end ++ d.kept
 
 -- the names of the records so far, with their places
 abbrev pub names_so_far : Option MessageQuestion → List Item → List Placed
@@ -67,7 +67,7 @@ pub record IsDraft (head : Octets → ℕ) (q : Option MessageQuestion) (items :
   pub written : d.octets
       ≡ replicate 12 0 ++ asked_octets q
       ++ (records_laid (asked_placed q) (12 + length (asked_octets q)) (records_of items)).written
-  pub holds : Holds head (names_so_far q items) d.octets (all_kept head d)
+  pub holds : Holds head (names_so_far q items) d.octets (known_places head d)
   pub questions : d.questions ≡ length (option_to_list q)
   pub answers : d.answers ≡ length (in_section answer items)
   pub authorities : d.authorities ≡ length (in_section authority items)

@@ -12,12 +12,12 @@ module _ {N size : ℕ} where
   IsSoundRoom r = IsSound N size r.limit r.octets.items r.asked_end r.places
 
   -- the places of the name of the question, and those kept of the names after it
-  abbrev pub kept_by : (Octets → ℕ) → Room N size → List Kept
-  kept_by head r = asked_places head r.octets.items r.asked_end ++ r.places
+  abbrev pub known_in : (Octets → ℕ) → Room N size → List Kept
+  known_in head r = asked_places head r.octets.items r.asked_end ++ r.places
 
   -- these are its earlier names
   abbrev pub HasNames : Room N size → (Octets → ℕ) → List Placed → Type 0
-  HasNames r head ms = Holds head ms r.octets.items (kept_by head r)
+  HasNames r head ms = Holds head ms r.octets.items (known_in head r)
 
   -- octets and places came after those that were there
   abbrev pub HasGrown : Room N size → Room N size → Type 0
@@ -28,4 +28,4 @@ module _ {N size : ℕ} where
       → Bool → Type 0
   HasWritten old new head ms laid fits =
       IsWritten head old.limit ms old.octets.items laid fits new.octets.items
-      (kept_by head new)
+      (known_in head new)

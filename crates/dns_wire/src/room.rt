@@ -7,7 +7,7 @@ ghost use Rattle.dns_spec.specs.Data.{Valid, class_in, compresses, laid_parts, t
 ghost use Rattle.dns_spec.specs.Layout.{Placed, question_octets, octets16, octets32, pointer, shared_octets, cost, data_laid, record_laid};
 ghost use Rattle.dns_wire.specs.Writing.{name_before, IsAsked, asked_places, NotAsked, IsLastOf, front_size, pointed_place, new_places, end_octets, Grows, AfterLabel, Holds, StandsIn, shown, tail_laid, records_laid};
 ghost use Rattle.dns_wire.specs.Kept.{HasPlace, SpellsName, NoneSpelled};
-ghost use Rattle.dns_wire.specs.Rooms.{IsSoundRoom, kept_by, HasNames, HasGrown, HasWritten};
+ghost use Rattle.dns_wire.specs.Rooms.{IsSoundRoom, known_in, HasNames, HasGrown, HasWritten};
 ghost use Rattle.dns_spec.specs.Sets.{records_at};
 ghost use Rattle.dns_spec.specs.Laws.{IsAskable};
 
@@ -179,11 +179,11 @@ impl<const N: usize, const SIZE: usize> Room<N, SIZE> {
             (data_laid ms (length self.old.octets.items) (laid_parts rtype.0 rdata.now)) result }
         ensures elsewhere { (ms : List Placed) (b : Octets)
             → HasNames self.old (H.numbers hash.old) ms
-            → Holds (H.numbers hash.old) ms b (kept_by (H.numbers hash.old) self.old)
+            → Holds (H.numbers hash.old) ms b (known_in (H.numbers hash.old) self.old)
             → length b ≡ length self.old.octets.items
             → OnTrue result (StandsIn (H.numbers hash.old) ms b
             (data_laid ms (length b) (laid_parts rtype.0 rdata.now))
-            (kept_by (H.numbers hash.old) self.new)) }
+            (known_in (H.numbers hash.old) self.new)) }
         ensures extends { HasGrown self.old self.new }
         ensures asked { self.new.asked_end ≡ self.old.asked_end }
         ensures limit { self.new.limit ≡ self.old.limit }

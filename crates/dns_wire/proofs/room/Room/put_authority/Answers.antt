@@ -3,7 +3,7 @@ use Rattle.std.proofs.lemmas.Bool.{false≢true}
 use Rattle.dns_spec.specs.Data.{octets, name}
 use Rattle.dns_spec.specs.Layout.{cost, data_laid}
 use Rattle.dns_name.specs.WireForm.{labels_of}
-use Rattle.dns_wire.specs.Rooms.{kept_by}
+use Rattle.dns_wire.specs.Rooms.{known_in}
 use Rattle.dns_wire.specs.Writing.{Holds, IsWritten}
 use Rattle.dns_wire.proofs.Suffixes.{extends_again}
 use Rattle.dns_wire.proofs.DataWritten.{past_name, octets_extend, octets_written, not_written}
@@ -24,7 +24,7 @@ returns-then-not-put_name-clause-written g c = λ ms holds.
     let limit = c.args.self.now.limit in
     let b = c.args.self.now.octets.items in
     let b' = c.put_name.new.self.octets.items in
-    let ks' = kept_by head c.put_name.new.self in
+    let ks' = known_in head c.put_name.new.self in
     let s = server_lent c.args.rdata.now c.first_part.result c.in-Some.part c.in-Some.rest c.in-Name.server c.requires.valid c.in-Some.is c.in-Name.is c.first_part.ensures in
     let n = labels_of c.in-Name.server.now in
     let exactly = c.put_name.ensures.fits ms n holds (sym s.lent.wire_is) s.lent.is_name in
@@ -40,9 +40,9 @@ returns-then-not-put_name-2-clause-written g c = λ ms holds.
     let limit = c.args.self.now.limit in
     let b = c.args.self.now.octets.items in
     let b' = c.put_name.new.self.octets.items in
-    let ks' = kept_by head c.put_name.new.self in
+    let ks' = known_in head c.put_name.new.self in
     let b'' = c.put_name-2.new.self.octets.items in
-    let ks'' = kept_by head c.put_name-2.new.self in
+    let ks'' = known_in head c.put_name-2.new.self in
     let s = server_lent c.args.rdata.now c.first_part.result c.in-Some.part c.in-Some.rest c.in-Name.server c.requires.valid c.in-Some.is c.in-Name.is c.first_part.ensures in
     let n = labels_of c.in-Name.server.now in
     let m = s.laid.mailbox in
@@ -50,7 +50,7 @@ returns-then-not-put_name-2-clause-written g c = λ ms holds.
     let o = octets c.split_at.result.1.now in
     let own = c.if-not-put_name.ensures.octets ms n holds (sym s.lent.wire_is) s.lent.is_name in
     let there = c.if-not-put_name.ensures.holds ms n holds (sym s.lent.wire_is) s.lent.is_name in
-    let there' = subst (λ h. Holds h more b' (kept_by h c.put_name.new.self)) (sym c.put_name.ensures.same) there in
+    let there' = subst (λ h. Holds h more b' (known_in h c.put_name.new.self)) (sym c.put_name.ensures.same) there in
     let exactly = c.put_name-2.ensures.fits more m there' (c.split_at.ensures.front ∙ s.laid.whole) s.laid.is_name in
     let over : c.put_name.new.self.limit < length b' + cost more m = lt_of_not-le (λ fits. false≢true (sym c.if-not-put_name-2.true ∙ exactly.1 fits)) in
     let over' : limit < length b' + cost more m = subst (λ k. k < length b' + cost more m) c.put_name.ensures.limit over in
@@ -64,11 +64,11 @@ returns-clause-written g c = λ ms holds.
     let limit = c.args.self.now.limit in
     let b = c.args.self.now.octets.items in
     let b' = c.put_name.new.self.octets.items in
-    let ks' = kept_by head c.put_name.new.self in
+    let ks' = known_in head c.put_name.new.self in
     let b'' = c.put_name-2.new.self.octets.items in
-    let ks'' = kept_by head c.put_name-2.new.self in
+    let ks'' = known_in head c.put_name-2.new.self in
     let end = c.append.new.self.octets.items in
-    let kept = kept_by head c.append.new.self in
+    let kept = known_in head c.append.new.self in
     let s = server_lent c.args.rdata.now c.first_part.result c.in-Some.part c.in-Some.rest c.in-Name.server c.requires.valid c.in-Some.is c.in-Name.is c.first_part.ensures in
     let n = labels_of c.in-Name.server.now in
     let m = s.laid.mailbox in
@@ -76,10 +76,10 @@ returns-clause-written g c = λ ms holds.
     let both = more ++ (m, length b') ∷ [] in
     let x = c.split_at.result.1.now in
     let own = c.if-not-put_name.ensures.octets ms n holds (sym s.lent.wire_is) s.lent.is_name in
-    let there = subst (λ h. Holds h more b' (kept_by h c.put_name.new.self)) (sym c.put_name.ensures.same) (c.if-not-put_name.ensures.holds ms n holds (sym s.lent.wire_is) s.lent.is_name) in
+    let there = subst (λ h. Holds h more b' (known_in h c.put_name.new.self)) (sym c.put_name.ensures.same) (c.if-not-put_name.ensures.holds ms n holds (sym s.lent.wire_is) s.lent.is_name) in
     let whole = c.split_at.ensures.front ∙ s.laid.whole in
     let own' = c.if-not-put_name-2.ensures.octets more m there whole s.laid.is_name in
-    let there' = subst (λ h. Holds h both b'' (kept_by h c.put_name-2.new.self)) c.put_name.ensures.same (c.if-not-put_name-2.ensures.holds more m there whole s.laid.is_name) in
+    let there' = subst (λ h. Holds h both b'' (known_in h c.put_name-2.new.self)) c.put_name.ensures.same (c.if-not-put_name-2.ensures.holds more m there whole s.laid.is_name) in
     let same = kept_stays head _ _ _ _ _ _ (x ++ []) c.append.result c.put_name-2.ensures.sound.asked c.append.ensures.octets c.append.ensures.unchanged c.append.ensures.asked c.append.ensures.places in
     let last = octets_written x c.append.result there' c.append.ensures.fits c.append.ensures.octets same in
     let last' = subst (λ k. IsWritten head k both b'' (data_laid both (length b'') (octets x ∷ [])) c.append.result end kept) (c.put_name-2.ensures.limit ∙ c.put_name.ensures.limit) last in

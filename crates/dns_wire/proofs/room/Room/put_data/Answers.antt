@@ -5,7 +5,7 @@ use Rattle.std.specs.Bool.{OnTrue}
 use Rattle.dns_spec.specs.Data.{octets, name, laid_parts, type_mx, type_soa, Valid}
 use Rattle.dns_spec.specs.Layout.{data_laid}
 use Rattle.dns_rdata.specs.Parts.{HasName}
-use Rattle.dns_wire.specs.Rooms.{kept_by}
+use Rattle.dns_wire.specs.Rooms.{known_in}
 use Rattle.dns_wire.specs.Writing.{StandsIn, IsWritten}
 use Rattle.dns_wire.proofs.DataPatched.{stands_elsewhere}
 use Rattle.dns_wire.proofs.DataNames.{one_name_laid, exchange_laid, one_written}
@@ -18,7 +18,7 @@ returns-then-eq-clause-elsewhere g c = λ ms b holds there same.
     let d = c.args.rdata.now in
     let own : c.args.rtype.0 ≡ type_soa = eqb-true c.args.rtype.0 type_soa (sym c.eq.ensures ∙ c.if-eq.true) in
     let names = authority_names d (subst (λ t. Valid t d) own c.requires.valid) in
-    subst (λ t. OnTrue c.put_authority.result (StandsIn head ms b (data_laid ms (length b) (laid_parts t d)) (kept_by head c.put_authority.new.self))) (sym own)
+    subst (λ t. OnTrue c.put_authority.result (StandsIn head ms b (data_laid ms (length b) (laid_parts t d)) (known_in head c.put_authority.new.self))) (sym own)
     (stands_elsewhere (laid_parts type_soa d) names (c.put_authority.ensures.written ms holds) there same)
 
 pub returns-then-eq-2-clause-elsewhere : goal.returns-then-eq-2-clause-elsewhere
@@ -29,7 +29,7 @@ returns-then-eq-2-clause-elsewhere g c = λ ms b holds there same.
     let laid = exchange_laid d (subst (λ t. Valid t d) own c.requires.valid) in
     let exchange = All-cons HasName (name laid.own) [] laid.is_name (All-nil HasName) in
     let names : All HasName (laid_parts type_mx d) = subst (All HasName) (sym laid.parts) (All-cons HasName (octets (take 2 d)) (name laid.own ∷ []) tt exchange) in
-    subst (λ t. OnTrue c.put_exchange.result (StandsIn head ms b (data_laid ms (length b) (laid_parts t d)) (kept_by head c.put_exchange.new.self))) (sym own)
+    subst (λ t. OnTrue c.put_exchange.result (StandsIn head ms b (data_laid ms (length b) (laid_parts t d)) (known_in head c.put_exchange.new.self))) (sym own)
     (stands_elsewhere (laid_parts type_mx d) names (c.put_exchange.ensures.written ms holds) there same)
 
 pub returns-clause-written : goal.returns-clause-written
@@ -43,7 +43,7 @@ returns-clause-written g c = λ ms holds.
     let n = one.own in
     let put = c.put_name.ensures in
     let done = one_written {head = head} n (put.fits ms n holds one.whole one.is_name) (put.octets ms n holds one.whole one.is_name) (put.holds ms n holds one.whole one.is_name) in
-    subst (λ ps. IsWritten head c.args.self.now.limit ms b (data_laid ms (length b) ps) c.put_name.result c.put_name.new.self.octets.items (kept_by head c.put_name.new.self)) (sym one.parts) done
+    subst (λ ps. IsWritten head c.args.self.now.limit ms b (data_laid ms (length b) ps) c.put_name.result c.put_name.new.self.octets.items (known_in head c.put_name.new.self)) (sym one.parts) done
 
 pub returns-clause-elsewhere : goal.returns-clause-elsewhere
 returns-clause-elsewhere g c = λ ms b holds there same.

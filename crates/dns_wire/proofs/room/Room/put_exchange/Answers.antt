@@ -2,7 +2,7 @@ use Rattle.std.proofs.Common.{◌≡◌, ◌+◌, ◌<◌, ◌∙◌, sym, ap, s
 use Rattle.std.proofs.lemmas.Bool.{false≢true}
 use Rattle.dns_spec.specs.Data.{octets, name, type_mx, laid_parts}
 use Rattle.dns_spec.specs.Layout.{data_laid}
-use Rattle.dns_wire.specs.Rooms.{kept_by}
+use Rattle.dns_wire.specs.Rooms.{known_in}
 use Rattle.dns_wire.specs.Writing.{Holds, IsWritten}
 use Rattle.dns_wire.proofs.NameWritten.{holds_octets}
 use Rattle.dns_wire.proofs.AskedLemmas.{kept_more}
@@ -19,7 +19,7 @@ returns-then-append-clause-written g c = λ ms holds.
     let b = c.args.self.now.octets.items in
     let b' = c.append.new.self.octets.items in
     let b'' = c.put_name.new.self.octets.items in
-    let ks'' = kept_by head c.put_name.new.self in
+    let ks'' = known_in head c.put_name.new.self in
     let o = c.split_at.result.0.now in
     let laid = exchange_laid c.args.rdata.now c.requires.valid in
     let n = laid.own in
@@ -42,10 +42,10 @@ returns-else-append-clause-written g c = λ ms holds.
     let o = c.split_at.result.0.now in
     let laid = exchange_laid c.args.rdata.now c.requires.valid in
     let over : limit < length b + (length o + 0) = lt_of_not-le (λ fits. false≢true (sym c.if-append.false ∙ c.append.ensures.fits.1 fits)) in
-    let none = not_written {head = head} {b' = b'} {ks = kept_by head c.append.new.self} (past_octets limit ms b o (name laid.own ∷ []) over) in
-    let all = subst (λ ps. IsWritten head limit ms b (data_laid ms (length b) ps) false b' (kept_by head c.append.new.self))
+    let none = not_written {head = head} {b' = b'} {ks = known_in head c.append.new.self} (past_octets limit ms b o (name laid.own ∷ []) over) in
+    let all = subst (λ ps. IsWritten head limit ms b (data_laid ms (length b) ps) false b' (known_in head c.append.new.self))
     (sym (laid.parts ∙ ap (λ x. octets x ∷ name laid.own ∷ []) (sym c.split_at.ensures.front))) none in
-    subst (λ f. IsWritten head limit ms b (data_laid ms (length b) (laid_parts type_mx c.args.rdata.now)) f b' (kept_by head c.append.new.self)) (sym c.if-append.false) all
+    subst (λ f. IsWritten head limit ms b (data_laid ms (length b) (laid_parts type_mx c.args.rdata.now)) f b' (known_in head c.append.new.self)) (sym c.if-append.false) all
 
 pub returns-else-append-clause-extends : goal.returns-else-append-clause-extends
 returns-else-append-clause-extends g c =

@@ -4,7 +4,7 @@ use Rattle.std.specs.Bool.{OnTrue}
 use Rattle.dns_spec.specs.Names.{DomainName, wire, is_name}
 use Rattle.dns_spec.specs.Layout.{Placed, shared_octets, cost}
 use Rattle.dns_wire.specs.Kept.{HasPlace, SpellsName}
-use Rattle.dns_wire.specs.Rooms.{kept_by}
+use Rattle.dns_wire.specs.Rooms.{known_in}
 use Rattle.dns_wire.proofs.AskedLemmas.{kept_stays, kept_more, place_asked}
 use Rattle.dns_wire.specs.Writing.{IsAsked, asked_places, end_octets, new_places, Holds, Extends}
 use Rattle.dns_wire.proofs.Suffixes.{extends_none}
@@ -14,7 +14,7 @@ use Rattle.dns_wire.proofs.room.Room.put_name.Goals as goal
 use Rattle.dns_wire.proofs.room.Room.put_name.Given as given
 
 -- the whole name is a suffix of the question's
-module _ (g : given.Over) (c : goal.After-append g) (ms : List Placed) (n : DomainName) (holds : Holds (g.H.SuffixHash.numbers c.args.hash.now) ms c.args.self.now.octets.items (kept_by (g.H.SuffixHash.numbers c.args.hash.now) c.args.self.now))
+module _ (g : given.Over) (c : goal.After-append g) (ms : List Placed) (n : DomainName) (holds : Holds (g.H.SuffixHash.numbers c.args.hash.now) ms c.args.self.now.octets.items (known_in (g.H.SuffixHash.numbers c.args.hash.now) c.args.self.now))
     (e : c.args.name.now ≡ wire n) (ok : is_name n ≡ true) where
   laid : LaidAt (g.H.SuffixHash.numbers c.args.hash.now) ms n c.in-Some.place (length c.args.self.now.octets.items)
   laid =
@@ -96,7 +96,7 @@ returns-clause-holds g c = λ ms n holds e ok.
     let o = c.split_at.result.0.now ++ end_octets c.shared_suffix-shared.result.place in
     let asked = asked_places head b c.args.self.now.asked_end in
     let kept = kept_more head _ _ _ _ _ _ o c.requires.asked c.if-not-append_end.ensures.octets c.append_end.ensures.asked places ∙ sym (append_assoc asked c.args.self.now.places new) in
-    subst₂ (λ x ks. Holds head (ms ++ (n, length b) ∷ []) x ks) (sym octets) (sym kept) (holds_name head ms b (kept_by head c.args.self.now) holds n ok)
+    subst₂ (λ x ks. Holds head (ms ++ (n, length b) ∷ []) x ks) (sym octets) (sym kept) (holds_name head ms b (known_in head c.args.self.now) holds n ok)
 
 pub returns-clause-extends : goal.returns-clause-extends
 returns-clause-extends g c = record {

@@ -2,7 +2,7 @@ use Rattle.std.proofs.Common.{◌+◌, ◌≤◌, ◌∙◌, Bool, true, false, 
 use Rattle.std.proofs.lemmas.Bool.{false≢true}
 use Rattle.std.specs.Bool.{OnTrue}
 use Rattle.dns_spec.specs.Layout.{record_laid}
-use Rattle.dns_wire.specs.Rooms.{kept_by}
+use Rattle.dns_wire.specs.Rooms.{known_in}
 use Rattle.dns_wire.specs.Writing.{Holds, IsWritten, tail_laid, shown}
 use Rattle.dns_wire.proofs.Suffixes.{extends_again}
 use Rattle.dns_wire.proofs.DataWritten.{record_written, record_past, not_written}
@@ -17,8 +17,8 @@ returns-then-put_name-clause-written g c = λ ms holds.
     let more = ms ++ (n, length b) ∷ [] in
     let e = c.if-put_name.ensures.octets ms n holds c.octets.ensures.value c.octets.ensures.is_name in
     let there = c.if-put_name.ensures.holds ms n holds c.octets.ensures.value c.octets.ensures.is_name in
-    let done = c.put_tail.ensures.written more (subst (λ h. Holds h more b' (kept_by h c.put_name.new.self)) (sym c.put_name.ensures.same) there) in
-    let same = subst₂ (λ h l. IsWritten h l more b' (tail_laid more (length b') c.args.rtype.0 c.args.ttl c.args.rdata.now) c.put_tail.result c.put_tail.new.self.octets.items (kept_by h c.put_tail.new.self))
+    let done = c.put_tail.ensures.written more (subst (λ h. Holds h more b' (known_in h c.put_name.new.self)) (sym c.put_name.ensures.same) there) in
+    let same = subst₂ (λ h l. IsWritten h l more b' (tail_laid more (length b') c.args.rtype.0 c.args.ttl c.args.rdata.now) c.put_tail.result c.put_tail.new.self.octets.items (known_in h c.put_tail.new.self))
     c.put_name.ensures.same c.put_name.ensures.limit done in
     record_written n c.args.rtype.0 c.args.ttl c.args.rdata.now e same
 
@@ -31,7 +31,7 @@ returns-else-put_name-clause-written g c = λ ms holds.
     let n = c.args.owner.now in
     let exactly = c.put_name.ensures.fits ms n holds c.octets.ensures.value c.octets.ensures.is_name in
     let over = lt_of_not-le (λ fits. false≢true (sym c.if-put_name.false ∙ exactly.1 fits)) in
-    subst (λ f. IsWritten (g.H.SuffixHash.numbers c.args.hash.now) c.args.self.now.limit ms b (record_laid ms (length b) (shown n c.args.rtype.0 c.args.ttl c.args.rdata.now)) f c.put_name.new.self.octets.items (kept_by (g.H.SuffixHash.numbers c.args.hash.now) c.put_name.new.self))
+    subst (λ f. IsWritten (g.H.SuffixHash.numbers c.args.hash.now) c.args.self.now.limit ms b (record_laid ms (length b) (shown n c.args.rtype.0 c.args.ttl c.args.rdata.now)) f c.put_name.new.self.octets.items (known_in (g.H.SuffixHash.numbers c.args.hash.now) c.put_name.new.self))
     (sym c.if-put_name.false) (not_written (record_past c.args.self.now.limit ms b n c.args.rtype.0 c.args.ttl c.args.rdata.now over))
 
 pub returns-then-put_name-clause-longer : goal.returns-then-put_name-clause-longer

@@ -3,7 +3,7 @@ use Rattle.std.proofs.lemmas.Bool.{false≢true}
 use Rattle.dns_spec.specs.Names.{Octets}
 use Rattle.dns_spec.specs.Data.{laid_parts}
 use Rattle.dns_spec.specs.Layout.{octets16, data_laid}
-use Rattle.dns_wire.specs.Rooms.{kept_by}
+use Rattle.dns_wire.specs.Rooms.{known_in}
 use Rattle.dns_wire.specs.Writing.{Holds, IsWritten, StandsIn, tail_laid}
 use Rattle.dns_wire.proofs.Suffixes.{extends_again}
 use Rattle.dns_wire.proofs.NameWritten.{holds_octets}
@@ -56,8 +56,8 @@ returns-clause-written g c = λ ms holds.
     let b = c.args.self.now.octets.items in
     let b' = c.append.new.self.octets.items in
     let b'' = c.put_data.new.self.octets.items in
-    let ks = kept_by head c.args.self.now in
-    let ks'' = kept_by head c.put_data.new.self in
+    let ks = known_in head c.args.self.now in
+    let ks'' = known_in head c.put_data.new.self in
     let t = c.args.rtype.0 in
     let o = c.args.rdata.now in
     let x = c.record_numbers.result in
@@ -75,7 +75,7 @@ returns-clause-written g c = λ ms holds.
     let low = c.requires.sound.asked.inside in
     let same_end = c.put_data.ensures.asked ∙ c.append.ensures.asked in
     let longer : length b + 10 ≤ length b'' = omega (arith, ap length c.put_data.ensures.extends.octets, length-append b' c.put_data.ensures.extends.more_octets, ap length own, length-append b (x ++ []), length-append x [], ap length c.record_numbers.ensures) in
-    let stay : kept_by head c.put_length.new.self ≡ ks'' = kept_same head _ _ _ _ _ _ (take_patched c.put_data.new.self.asked_end (length b + 8) b'' (octets16 (length b'' - length b - 10) ++ drop (length b + 10) b'') _ set (omega (arith, low, same_end)) (omega (arith, longer))) c.put_length.ensures.asked c.put_length.ensures.places in
+    let stay : known_in head c.put_length.new.self ≡ ks'' = kept_same head _ _ _ _ _ _ (take_patched c.put_data.new.self.asked_end (length b + 8) b'' (octets16 (length b'' - length b - 10) ++ drop (length b + 10) b'') _ set (omega (arith, low, same_end)) (omega (arith, longer))) c.put_length.ensures.asked c.put_length.ensures.places in
     subst (λ z. IsWritten head c.args.self.now.limit ms b (tail_laid ms (length b) t c.args.ttl o) true c.put_length.new.self.octets.items z) (sym stay)
     (tail_patched t c.args.ttl o e holds done elsewhere set)
 
