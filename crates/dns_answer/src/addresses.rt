@@ -44,6 +44,7 @@ enum Start<'c, 'z> {
 
 impl<'c, 'z> Side<'c, '_, 'z> {
     // From where the target is sought, if it is meant.
+    #[inline(always)]
     fn start(self, target: &NameRef<'_>, origin: &NameRef<'_>, apex: &'c Node<'z>) -> Start<'c, 'z>
         requires apex { IsApex apex.now.zone apex.now }
         requires origin { origin.now ≡ apex.now.zone.origin }
@@ -182,6 +183,7 @@ fn offer_address<'z, const N: usize, const SIZE: usize>(
 }
 
 // Offers the set of a type at a node, if there is one. A reply that is full needs none.
+#[inline(always)]
 fn offer_type<const N: usize, const SIZE: usize>(
     node: &Node<'_>,
     rtype: RType,

@@ -198,6 +198,7 @@ fn seek_rest<'z, const N: usize, const SIZE: usize>(
 }
 
 // Seeks one name: offers the set of its alias, or the sets that it ends an answer with.
+#[inline(always)]
 fn seek_one<'z, const N: usize, const SIZE: usize>(
     name: &NameRef<'_>,
     depth: usize,
@@ -275,6 +276,7 @@ fn alias_at<'z>(node: &Node<'z>, qtype: u16) -> Option<RecordSet<'z>>
 
 // The name that is sought after an alias, and how many labels it has below the origin: the target,
 // where more may be sought and it is at or below the origin and was not sought yet.
+#[inline(always)]
 fn next_sought<'z>(
     alias: &RecordSet<'z>,
     more: usize,

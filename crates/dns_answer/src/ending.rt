@@ -32,6 +32,7 @@ pub(crate) struct Verdict {
 
 /// Refers the asker to the servers of a cut: their set, the addresses of those at or below the
 /// cut, and those of the others (RFC 1034 4.3.2 step 3b).
+#[inline(always)]
 pub(crate) fn refer<'z, const N: usize, const SIZE: usize>(
     cut: &Node<'z>,
     apex: &Node<'z>,
@@ -66,6 +67,7 @@ pub(crate) fn refer<'z, const N: usize, const SIZE: usize>(
 
 /// Says that there is nothing: the SOA of the zone, with the lesser of its TTL and its MINIMUM
 /// (RFC 2308 3, 5).
+#[inline(always)]
 pub(crate) fn deny<const N: usize, const SIZE: usize>(
     rcode: Rcode,
     apex: &Node<'_>,

@@ -42,6 +42,7 @@ pub(crate) enum Reached<'z> {
 }
 
 /// What is found for a name at or below the origin, `depth` labels below it.
+#[inline(always)]
 pub(crate) fn look_up<'z>(
     name: &NameRef<'_>,
     depth: usize,
@@ -93,6 +94,7 @@ fn wildcard_below<'z>(encloser: &Node<'z>, steps: &mut Steps<'z>) -> Option<Node
 
 // The way from the apex down to a name, up to the first cut on it (RFC 1034 4.3.2 step 3b). The
 // labels are taken from the right.
+#[inline(always)]
 fn walk<'z>(octets: &[u8], depth: usize, apex: &Node<'z>, steps: &mut Steps<'z>) -> Way<'z>
     requires form { IsWireForm octets.now }
     requires apex { IsApex steps.old.zone apex.now }
@@ -145,6 +147,7 @@ fn label_after<'a>(octets: &'a [u8], count: usize) -> Label<'a>
 }
 
 /// The node of a name at or below that of another node, `depth` labels below it, below a cut too.
+#[inline(always)]
 pub(crate) fn reach<'z>(
     octets: &[u8],
     depth: usize,

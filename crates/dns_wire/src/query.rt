@@ -101,6 +101,7 @@ pub fn read_query(datagram: &[u8]) -> QueryRead
 /// Reads a datagram as a query, as `read_query` does. The question is lent out of the datagram, so
 /// that no name is copied.
 #[tactic(auto, unfolding(dns_spec::specs::Query::query_read))]
+#[inline(always)]
 pub fn lent_query(datagram: &[u8]) -> QueryRef<'_>
     ensures { as_lent result ≡ query_read datagram.now }
 {

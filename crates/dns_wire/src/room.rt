@@ -541,6 +541,7 @@ fn find_suffix<H: SuffixHash, const N: usize>(
 
 // The place at which the name of the question, which ends at a place, has a suffix. It is not kept:
 // only one place is so far before that end.
+#[inline(always)]
 fn place_before(message: &[u8], end: usize, suffix: &[u8]) -> Option<u16>
     requires { IsAsked message.now end }
     ensures kept { (head : Octets → ℕ)
