@@ -12,7 +12,7 @@ use Rattle.dns_spec.specs.Layout.{layout}
 use Rattle.dns_spec.specs.Laws.{IsWritable}
 use Rattle.dns_spec.specs.ZonePrinted.{IsReadRecord}
 use Rattle.dns_spec.specs.Reply.{Decision, decide_query, decide, Reply, reply_of, keep_longest, reply_with, reply, octets_by, reply_message, octets_of}
-use Rattle.dns_spec.proofs.Replies.ReplySpelled.{shared_reply_spells}
+use Rattle.dns_spec.proofs.Replies.ReplySpelled.{reply_spells}
 use Rattle.dns_zone.specs.Nodes.{Walk}
 use Rattle.dns_zone.specs.ZoneForm.{IsBuilt}
 use Rattle.dns_answer.specs.Replies.{IsReply, Costs, Responds}
@@ -70,7 +70,7 @@ spelled z d sent limit built low from upto e = go (reply z d limit) refl e
     go (Some r) is e =
         let same : sent ≡ octets_by layout r = cc in
         subst (λ b. Spells b (reply_message r)) (sym same)
-        (shared_reply_spells z d limit r (All-weaker IsReadRecord IsWritable writable z.records built.each) low from upto is)
+        (reply_spells z d limit r (All-weaker IsReadRecord IsWritable writable z.records built.each) low from upto is)
 
 -- a walk that is left as it was has taken nothing
 pub nothing-taken : (x : Decision) (s : Walk) → s.visits ≡ 0 → s.comparisons ≡ 0 → Costs x s s

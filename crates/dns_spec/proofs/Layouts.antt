@@ -1,5 +1,5 @@
 -- Layouts and sharing: what is laid out spells its message, and its size is the least.
-pub mod PlainLayout
+pub mod MessageParts
 pub mod SharedNames
 pub mod SharedLayout
 pub mod LayoutSize

@@ -13,12 +13,12 @@ pub mod MeaningRows
 pub mod MessageRows
 pub mod NameRows
 pub mod ParenthesisRows
-pub mod PlainRows
 pub mod PrintedRows
 pub mod QueryRows
 pub mod ReadingRows
 pub mod ReportRows
 pub mod Rows
+pub mod SizeRows
 pub mod StreamRows
 pub mod TakenOverRows
 pub mod TextRows

@@ -1,14 +1,13 @@
 -- What a reader learns here: on what terms the laws of layouts hold.
-use Rattle.std.specs.Prelude.{◌≡◌, ℕ, ◌<◌, ◌^◌, Bool, true, ◌&&◌, List, [], ◌∷◌, length, take, nat_le, IsTrue, IfSome}
-use Rattle.std.specs.Prelude.{Option, Some}
+use Rattle.std.specs.Prelude.{◌≡◌, ℕ, ◌<◌, ◌^◌, Bool, true, ◌&&◌, List, [], ◌∷◌, nat_le, IsTrue, IfSome}
+use Rattle.std.specs.Prelude.{Option}
 use Rattle.std.specs.List.{list_all}
 use Rattle.dns_spec.specs.Names.{DomainName, is_name}
 use Rattle.dns_spec.specs.Data.{Valid}
-use Rattle.dns_spec.specs.Records.{ResourceRecord, ZoneContents}
+use Rattle.dns_spec.specs.Records.{ResourceRecord}
 use Rattle.dns_spec.specs.Sets.{RecordSet, records_at}
 use Rattle.dns_spec.specs.Reading.{Header, MessageQuestion}
-use Rattle.dns_spec.specs.Layout.{Section, answer, authority, additional, Item, in_section, plain_size}
-use Rattle.dns_spec.specs.Answer.{items}
+use Rattle.dns_spec.specs.Layout.{Section, answer, authority, additional, Item}
 
 -- RFC 1035 4.1: the sections in the order of a message
 abbrev pub section_rank : Section → ℕ
@@ -50,18 +49,3 @@ pub record HasRoom (h : Header) (q : Option MessageQuestion) (items : List Item)
   pub flags : h.flags < 2 ^ 16
   pub question : IfSome q IsAskable
   pub in_order : IsTrue (sections_in_order items)
-
--- RFC 1035 4.1.1: so do the counts of the records. Those of a message of at most 65,535 octets
--- always do.
-pub record HasCounts (items : List Item) : Type 0 where
-  pub answers : length (in_section answer items) < 2 ^ 16
-  pub authorities : length (in_section authority items) < 2 ^ 16
-  pub additionals : length (in_section additional items) < 2 ^ 16
-
--- `keep` keeps a beginning of the sets of each question, of which a message has room for the plain
--- layout
-abbrev pub KeepsBeginning : ZoneContents → (MessageQuestion → List Item) → Type 0
-KeepsBeginning z keep =
-    (q : MessageQuestion) → IsTrue (is_name q.qname)
-    → (k : ℕ) × (keep q ≡ take k (items z q.qname q.qtype))
-    × (plain_size (Some q) (keep q) < 2 ^ 16)

@@ -199,37 +199,6 @@ size q items =
     let from = 12 + length (asked_octets q) in
     from + records_size (asked_placed q) from (records_of items)
 
--- The plain layout: an owner that is spelled as the question's name is a pointer to it, unless it
--- is the root. All other names are written whole.
-abbrev pub plain_owner : DomainName → DomainName → Octets
-plain_owner asked [] = wire []
-plain_owner asked (l ∷ n) = if names_equal (l ∷ n) asked then pointer 12 else wire (l ∷ n)
-
-abbrev pub plain_record : DomainName → ResourceRecord → Octets
-plain_record asked r = plain_owner asked r.owner ++ record_tail r r.rdata
-
--- the name that owners are pointers to. The root is never pointed to, so it stands for no question.
-abbrev pub asked_name : Option MessageQuestion → DomainName
-asked_name None = []
-asked_name (Some q) = q.qname
-
-unfoldable pub plain_layout : Header → Option MessageQuestion → List Item → Octets
-plain_layout h q items =
-    reply_header h q items ++ asked_octets q
-    ++ flat_map (plain_record (asked_name q)) (records_of items)
-
--- the length of the plain layout, added up
-abbrev pub plain_record_size : DomainName → ResourceRecord → ℕ
-plain_record_size asked r = length (plain_owner asked r.owner) + 10 + length r.rdata
-
-abbrev pub plain_records_size : DomainName → List ResourceRecord → ℕ
-plain_records_size asked [] = 0
-plain_records_size asked (r ∷ rs) = plain_record_size asked r + plain_records_size asked rs
-
-unfoldable pub plain_size : Option MessageQuestion → List Item → ℕ
-plain_size q items =
-    12 + length (asked_octets q) + plain_records_size (asked_name q) (records_of items)
-
 -- the greatest k up to n that passes the test, or 0
 abbrev pub greatest : (ℕ → Bool) → ℕ → ℕ
 greatest test zero = 0

@@ -8,8 +8,8 @@ use Rattle.dns_spec.specs.Data.{class_in}
 use Rattle.dns_spec.specs.Records.{ZoneContents}
 use Rattle.dns_spec.specs.Reading.{Header, MessageQuestion, DnsMessage, not_implemented, refused}
 use Rattle.dns_spec.specs.Query.{reply_head, refusal_head, QueryRead, absent, refused_with, query, query_read}
-use Rattle.dns_spec.specs.Layout.{Item, layout, size, plain_size, message_of, greatest}
-use Rattle.dns_spec.specs.Answer.{outcome, items, main_items, required_items, is_authoritative}
+use Rattle.dns_spec.specs.Layout.{Item, layout, size, message_of, greatest}
+use Rattle.dns_spec.specs.Answer.{outcome, items, required_items, is_authoritative}
 
 -- What is kept of a list of sets: the longest beginning whose size is at most the limit.
 abbrev pub kept : (List Item → ℕ) → ℕ → List Item → List Item
@@ -106,7 +106,3 @@ reply_message r = message_of r.header r.question r.sets
 -- The octets of the reply to a datagram, of at most so many octets, or none.
 unfoldable pub octets_of : ZoneContents → Octets → ℕ → Option Octets
 octets_of z d limit = option_map (octets_by layout) (reply z d limit)
-
--- What a server that lays names out plainly keeps of the answer and authority sets.
-abbrev pub keep_plain : ZoneContents → ℕ → MessageQuestion → List Item
-keep_plain z limit q = kept (plain_size (Some q)) limit (main_items (outcome z q.qname q.qtype))

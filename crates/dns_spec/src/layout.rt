@@ -2,24 +2,10 @@
 
 ghost use Rattle.std.specs.Prelude.{◌≡◌, ℕ, List, ◌<◌, ◌≤◌, ◌⊎◌, ◌↔◌, All, Option, length};
 ghost use Rattle.dns_spec.specs.Reading.{Header, MessageQuestion, Spells};
-ghost use Rattle.dns_spec.specs.Layout.{Item, records_of, layout, size, plain_layout, plain_size, message_of};
+ghost use Rattle.dns_spec.specs.Layout.{Item, records_of, layout, size, message_of};
 ghost use Rattle.dns_spec.specs.Sharing.{Sharing};
 ghost use Rattle.dns_spec.specs.UnboundedLayout.{unbounded_layout, unbounded_size};
-ghost use Rattle.dns_spec.specs.Laws.{IsWritable, HasRoom, HasCounts};
-
-/// The plain layout of sets, with a question or without, spells their message (RFC 1035 4.1).
-pub fn plain_layout_is_spelled()
-    ensures { (h : Header) (q : Option MessageQuestion) (items : List Item) → HasRoom h q items
-        → HasCounts items
-        → All IsWritable (records_of items)
-        → Spells (plain_layout h q items) (message_of h q items) }
-{}
-
-/// The plain layout is as long as its size, which is added up without writing it.
-pub fn plain_layout_has_its_size()
-    ensures { (h : Header) (q : Option MessageQuestion) (items : List Item)
-        → length (plain_layout h q items) ≡ plain_size q items }
-{}
+ghost use Rattle.dns_spec.specs.Laws.{IsWritable, HasRoom};
 
 /// The layout is as long as its size, which is added up without writing it.
 pub fn layout_has_its_size()

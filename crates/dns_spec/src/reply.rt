@@ -7,20 +7,10 @@ ghost use Rattle.dns_spec.specs.Records.{ResourceRecord, ZoneContents};
 ghost use Rattle.dns_spec.specs.Checks.{Passes};
 ghost use Rattle.dns_spec.specs.Reading.{MessageQuestion, Spells};
 ghost use Rattle.dns_spec.specs.Answer.{chain, outcome, targets, items, required_items, most_visits, names_looked_up};
-ghost use Rattle.dns_spec.specs.Layout.{Item, layout, size, plain_layout, plain_size};
+ghost use Rattle.dns_spec.specs.Layout.{Item, layout, size};
 ghost use Rattle.dns_spec.specs.Reply.{Reply, kept, fitting, reply, reply_with, octets_by, octets_of, reply_message};
 ghost use Rattle.dns_spec.specs.Query.{query_read};
-ghost use Rattle.dns_spec.specs.Laws.{IsWritable, IsSetAt, KeepsBeginning};
-
-/// The octets of a reply in the plain layout spell the message that the reply is, over every zone
-/// whose records fit a message, for every datagram, whatever beginning of the sets is kept (RFC
-/// 1035 4.1).
-pub fn plain_reply_is_spelled()
-    ensures { (z : ZoneContents) (d : Octets) (keep : MessageQuestion → List Item) (r : Reply)
-        → All IsWritable z.records
-        → All (λ o. o < 256) d → KeepsBeginning z keep
-        → reply_with keep z d ≡ Some r → Spells (octets_by plain_layout r) (reply_message r) }
-{}
+ghost use Rattle.dns_spec.specs.Laws.{IsWritable, IsSetAt};
 
 /// The octets of a reply spell the message that the reply is, over every zone whose records fit a
 /// message, for every datagram and every limit from 271 to 65,535 octets (RFC 1035 4.1).
@@ -99,23 +89,11 @@ pub fn size_grows_with_each_set()
         → size q front ≤ size q (front ++ more) }
 {}
 
-/// So does the size of the plain layout.
-pub fn plain_size_grows_with_each_set()
-    ensures { (q : Option MessageQuestion) (front more : List Item)
-        → plain_size q front ≤ plain_size q (front ++ more) }
-{}
-
 /// So the longest beginning of sets that fits is reached by stopping at the first set that does not
 /// fit.
 pub fn kept_sets_stop_at_the_first_that_does_not_fit()
     ensures { (q : Option MessageQuestion) (limit : ℕ) (sets : List Item)
         → kept (size q) limit sets ≡ fitting (size q) limit [] sets }
-{}
-
-/// And so in the plain layout.
-pub fn plain_kept_sets_stop_at_the_first_that_does_not_fit()
-    ensures { (q : Option MessageQuestion) (limit : ℕ) (sets : List Item)
-        → kept (plain_size q) limit sets ≡ fitting (plain_size q) limit [] sets }
 {}
 
 /// What a datagram is as a query depends on its first 512 octets alone: a question ends by octet

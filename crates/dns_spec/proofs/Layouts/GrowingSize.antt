@@ -2,20 +2,15 @@
 -- that does not.
 use Rattle.std.proofs.Common.{◌≡◌, ℕ, zero, suc, ◌+◌, ◌≤◌, Bool, true, false, cond, nat_le, List, [], ◌∷◌, ◌++◌, length, take, Option, refl, sym, ap, ◌∙◌, subst, arith, append_assoc, append-nil, le-leb, leb-true}
 use Rattle.std.proofs.lemmas.List.Concat.{flat_map-append}
-use Rattle.dns_spec.specs.Names.{DomainName}
 use Rattle.dns_spec.specs.Records.{ResourceRecord}
 use Rattle.dns_spec.specs.Reading.{MessageQuestion}
-use Rattle.dns_spec.specs.Layout.{Item, greatest, records_of, Placed, asked_octets, asked_placed, asked_name, record_size, record_names, records_size, size, plain_records_size, plain_size}
+use Rattle.dns_spec.specs.Layout.{Item, greatest, records_of, Placed, asked_octets, asked_placed, record_size, record_names, records_size, size}
 use Rattle.dns_spec.specs.Reply.{kept, fitting}
 
 records_grow : (ms : List Placed) (p : ℕ) (rs ss : List ResourceRecord) → records_size ms p rs ≤ records_size ms p (rs ++ ss)
 unfolding records_size
 records_grow ms p [] ss = omega arith
 records_grow ms p (r ∷ rs) ss = let h = records_grow (ms ++ record_names ms p r) (p + record_size ms p r) rs ss in omega (arith, h)
-
-plain_records_grow : (asked : DomainName) (rs ss : List ResourceRecord) → plain_records_size asked rs ≤ plain_records_size asked (rs ++ ss)
-plain_records_grow asked [] ss = omega arith
-plain_records_grow asked (r ∷ rs) ss = let h = plain_records_grow asked rs ss in omega (arith, h)
 
 both : (is js : List Item) → records_of (is ++ js) ≡ records_of is ++ records_of js
 both is js = flat_map-append (λ (i : Item). i.records) is js
@@ -26,12 +21,6 @@ size_grows q is js =
     let ms = asked_placed q in
     let p = 12 + length (asked_octets q) in
     let h = subst (λ rs. records_size ms p (records_of is) ≤ records_size ms p rs) (sym (both is js)) (records_grow ms p (records_of is) (records_of js)) in
-    omega (arith, h)
-
-pub plain_size_grows : (q : Option MessageQuestion) (is js : List Item) → plain_size q is ≤ plain_size q (is ++ js)
-unfolding plain_size
-plain_size_grows q is js =
-    let h = subst (λ rs. plain_records_size (asked_name q) (records_of is) ≤ plain_records_size (asked_name q) rs) (sym (both is js)) (plain_records_grow (asked_name q) (records_of is) (records_of js)) in
     omega (arith, h)
 
 -- where no later number passes a test that 1 fails, the greatest that passes is one more than that of the test after it

@@ -1,27 +1,13 @@
 -- The length of a layout is the size that is added up without writing it.
-use Rattle.std.proofs.Common.{◌≡◌, ℕ, ◌+◌, List, [], ◌∷◌, ◌++◌, length, Option, None, Some, flat_map, refl, ap, ap₂, ◌∙◌, arith, length-append}
+use Rattle.std.proofs.Common.{◌≡◌, ℕ, ◌+◌, List, [], ◌∷◌, ◌++◌, length, Option, None, Some, refl, ap, ap₂, ◌∙◌, arith, length-append}
 use Rattle.dns_spec.specs.Names.{Octets, DomainName}
 use Rattle.dns_spec.specs.Data.{class_in, Part, octets, name}
 use Rattle.dns_spec.specs.Records.{ResourceRecord}
 use Rattle.dns_spec.specs.Reading.{Header, MessageQuestion}
-use Rattle.dns_spec.specs.Layout.{octets16, octets32, Item, records_of, pointer, Placed, shared_place, shared_octets, cost, data_laid, record_laid, parts_of, record_tail, records_octets, asked_octets, asked_placed, asked_name, reply_header, layout, data_size, data_names, record_size, record_names, records_size, size, plain_owner, plain_record, plain_layout, plain_records_size, plain_size}
+use Rattle.dns_spec.specs.Layout.{octets16, octets32, Item, records_of, pointer, Placed, shared_place, shared_octets, cost, data_laid, record_laid, parts_of, record_tail, records_octets, asked_octets, asked_placed, reply_header, layout, data_size, data_names, record_size, record_names, records_size, size}
 
 pub length-record_tail : (r : ResourceRecord) (d : Octets) → length (record_tail r d) ≡ 10 + length d
 length-record_tail r d = length-append (octets16 r.rtype ++ octets16 class_in ++ octets32 r.ttl ++ octets16 (length d)) d
-
--- the plain layout
-plain_records : (asked : DomainName) (rs : List ResourceRecord) → length (flat_map (plain_record asked) rs) ≡ plain_records_size asked rs
-plain_records asked [] = refl
-plain_records asked (r ∷ rs) =
-    length-append (plain_record asked r) (flat_map (plain_record asked) rs)
-    ∙ omega (arith, length-append (plain_owner asked r.owner) (record_tail r r.rdata), length-record_tail r r.rdata, plain_records asked rs)
-
-pub length-plain_layout : (h : Header) (q : Option MessageQuestion) (items : List Item) → length (plain_layout h q items) ≡ plain_size q items
-unfolding plain_layout plain_size
-length-plain_layout h q items =
-    let w = flat_map (plain_record (asked_name q)) (records_of items) in
-    length-append (reply_header h q items ++ asked_octets q) w
-    ∙ ap₂ ◌+◌ (length-append (reply_header h q items) (asked_octets q)) (plain_records (asked_name q) (records_of items))
 
 -- the layout: a name costs as many octets as are laid out for it
 pub length-shared_octets : (ms : List Placed) (n : DomainName) → length (shared_octets ms n) ≡ cost ms n

@@ -10,7 +10,7 @@ use Rattle.dns_spec.specs.UnboundedLayout.{unbounded_octets, unbounded_data, unb
 use Rattle.dns_spec.proofs.Layouts.LayoutSize.{length-layout, length-record_tail}
 use Rattle.dns_spec.proofs.Layouts.UnboundedSize.{length-unbounded_layout}
 use Rattle.dns_spec.proofs.Layouts.SharedNames.{suffix_from, place_again, place_pushed, shared_to, shared_none, shared_whole, shared_some, shared_alone}
-use Rattle.dns_spec.proofs.Layouts.PlainLayout.{length-question_octets}
+use Rattle.dns_spec.proofs.Layouts.MessageParts.{length-question_octets}
 
 -- all places are in reach
 abbrev Low : List Placed → Type 0

@@ -10,11 +10,11 @@ use Rattle.dns_spec.specs.Data.{class_in, Fixed, width, Piece, fixed, domain, st
 use Rattle.dns_spec.specs.Records.{ResourceRecord}
 use Rattle.dns_spec.specs.Reading.{Header, MessageQuestion, MessageRecord, OctetsAt, NumberAt, PiecesAt, DataAt, RecordsAt, Spells}
 use Rattle.dns_spec.specs.Layout.{octets16, octets32, answer, authority, additional, Item, records_of, in_section, Placed, shared_octets, data_laid, parts_of, record_tail, records_octets, question_octets, asked_octets, asked_placed, reply_header, layout, record_size, record_names, records_size, size, is_section, Section, message_record, message_of}
-use Rattle.dns_spec.specs.Laws.{IsWritable, IsAskable, HasRoom, HasCounts}
+use Rattle.dns_spec.specs.Laws.{IsWritable, IsAskable, HasRoom}
 use Rattle.dns_spec.proofs.Records.SortedOnce.{Each}
 use Rattle.dns_spec.proofs.Messages.Places.{Stands, stands_front, stands_rest, stands_after, stands_all, stands_within, stands_get, number_at, octets_at}
 use Rattle.dns_spec.proofs.DataWords.WrittenData.{cut_into, name_part, octets_part, all_strings, front_taken, data_written}
-use Rattle.dns_spec.proofs.Layouts.PlainLayout.{records_by_section, section_with, header_at, one_question, asked_at_12, length-question_octets}
+use Rattle.dns_spec.proofs.Layouts.MessageParts.{records_by_section, section_with, header_at, one_question, asked_at_12, length-question_octets}
 use Rattle.dns_spec.proofs.Layouts.LayoutSize.{length-layout}
 use Rattle.dns_spec.proofs.Replies.WritableItems.{each_from_all}
 use Rattle.dns_spec.proofs.Layouts.SharedNames.{Known, known_later, known_more, name_shared, nothing_known, shared_alone}
@@ -307,6 +307,12 @@ asked_known b (Some q) ok at =
     known_more b 12 [] (nothing_known b 12) q.qname 12 (omega arith) (omega arith) labels alone in
     known_later b (12 + length (shared_octets [] q.qname)) from ((q.qname, 12) ∷ []) (omega (arith, ap length (shared_alone q.qname), length-question_octets q)) first
 
+-- The counts of the records fit their fields. Those of a message of at most 65,535 octets always do.
+record HasCounts (items : List Item) : Type 0 where
+  answers : length (in_section answer items) < 2 ^ 16
+  authorities : length (in_section authority items) < 2 ^ 16
+  additionals : length (in_section additional items) < 2 ^ 16
+
 spells_where : (b : Octets) (h : Header) (q : Option MessageQuestion) (items : List Item) → length b < 2 ^ 16 → HasRoom h q items → HasCounts items
     → Each IsWritable (records_of items)
     → b ≡ reply_header h q items ++ asked_octets q ++ records_octets (asked_placed q) (12 + length (asked_octets q)) (records_of items) → Spells b (message_of h q items)
@@ -358,7 +364,7 @@ section_bound s (i ∷ is) = go (is_section s i.section) refl (section_bound s i
     go true e h = let q = ap length (section_with s i is true e) in omega (arith, h, q, length-append i.records (in_section s is), length-append i.records (records_of is))
     go false e h = let q = ap length (section_with s i is false e) in omega (arith, h, q, length-append i.records (records_of is))
 
-pub counted : (is : List Item) → length (records_of is) < 2 ^ 16 → HasCounts is
+counted : (is : List Item) → length (records_of is) < 2 ^ 16 → HasCounts is
 counted is few = record {
   answers = omega (arith, section_bound answer is);
   authorities = omega (arith, section_bound authority is);

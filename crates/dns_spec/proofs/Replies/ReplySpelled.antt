@@ -1,36 +1,26 @@
--- The octets of a reply, laid out plainly, spell it.
-use Rattle.std.proofs.Common.{◌≡◌, ℕ, ◌+◌, ◌/◌, ◌^◌, ◌<◌, ◌≤◌, Bool, true, false, not, cond, nat_le, ◌==◌, List, [], ◌∷◌, ◌++◌, length, take, drop, Option, None, Some, IfSome, All, refl, sym, ap, ◌∙◌, subst, arith, length-take, mod-lt, append-nil}
+-- The octets of a reply spell it, and are no more than its limit.
+use Rattle.std.proofs.Common.{◌≡◌, ℕ, ◌+◌, ◌/◌, ◌^◌, ◌<◌, ◌≤◌, Bool, true, false, not, cond, nat_le, ◌==◌, List, [], ◌∷◌, length, take, drop, Option, None, Some, IfSome, All, refl, ap, subst, arith, length-take, mod-lt}
 use Rattle.std.proofs.lemmas.Bool.{cond_both, and_parts, leb-true}
 use Rattle.std.proofs.lemmas.Option.{none-some, same_Some, cond_some}
-use Rattle.std.proofs.lemmas.List.{take-append-le}
 use Rattle.std.proofs.lemmas.List.Elements.{All-nil, All-take, All-drop}
 use Rattle.std.specs.List.{list_all}
 use Rattle.dns_spec.specs.Names.{Octets, DomainName, wire, is_label, is_name, at_or_below}
 use Rattle.dns_spec.specs.Data.{class_in, number_of}
-use Rattle.dns_spec.specs.Records.{ResourceRecord, ZoneContents}
+use Rattle.dns_spec.specs.Records.{ZoneContents}
 use Rattle.dns_spec.specs.Reading.{Header, MessageQuestion, format_error, not_implemented, refused, Spells}
 use Rattle.dns_spec.specs.ComputedReading.{name_at}
 use Rattle.dns_spec.specs.Query.{field16, opcode, recursion_desired, bit, head_of, reply_head, refusal_head, question_of, question_at, counts_are_one_question, is_ignored, QueryRead, absent, refused_with, query, query_or_error, query_read}
-use Rattle.dns_spec.specs.Layout.{Item, greatest, records_of, asked_name, plain_records_size, plain_size, plain_layout, records_size, size, layout, message_of}
-use Rattle.dns_spec.specs.Answer.{outcome, main_items, extra, targets, items, is_authoritative}
-use Rattle.dns_spec.specs.Reply.{kept, truncated, Decision, silence, header_alone, question_alone, answered, is_meta_type, refusal, decide_question, decide_query, decide, Reply, answer_with, reply_of, reply_with, octets_by, reply_message, keep_plain, keep_longest, reply}
-use Rattle.dns_spec.specs.Laws.{sections_in_order, IsWritable, IsAskable, HasRoom, HasCounts, KeepsBeginning}
+use Rattle.dns_spec.specs.Layout.{Item, greatest, records_size, size, layout, message_of}
+use Rattle.dns_spec.specs.Answer.{outcome, items, is_authoritative}
+use Rattle.dns_spec.specs.Reply.{truncated, Decision, silence, header_alone, question_alone, answered, is_meta_type, refusal, decide_question, decide_query, decide, Reply, answer_with, reply_of, reply_with, octets_by, reply_message, keep_longest, reply}
+use Rattle.dns_spec.specs.Laws.{sections_in_order, IsWritable, IsAskable, HasRoom}
 use Rattle.dns_spec.proofs.Records.SortedOnce.{Each}
 use Rattle.dns_spec.proofs.Messages.NameReading.{name_at_computes}
-use Rattle.dns_spec.proofs.Layouts.PlainLayout.{length-question_octets, plain_spells}
-use Rattle.dns_spec.proofs.Layouts.LayoutSize.{length-layout, length-plain_layout}
-use Rattle.dns_spec.proofs.Layouts.SharedLayout.{counted, layout_spells}
+use Rattle.dns_spec.proofs.Layouts.MessageParts.{length-question_octets}
+use Rattle.dns_spec.proofs.Layouts.LayoutSize.{length-layout}
+use Rattle.dns_spec.proofs.Layouts.SharedLayout.{layout_spells}
 use Rattle.dns_spec.proofs.Replies.WritableItems.{each_from_all, items_in_order, items_writable, outcome_rcode}
-use Rattle.dns_spec.proofs.Replies.Kept.{greatest_bound, kept_fits}
-
--- there are no more records than octets
-records_bound : (asked : DomainName) (rs : List ResourceRecord) → length rs ≤ plain_records_size asked rs
-records_bound asked [] = omega arith
-records_bound asked (r ∷ rs) = omega (arith, records_bound asked rs)
-
-plain_counts : (q : Option MessageQuestion) (is : List Item) → plain_size q is < 2 ^ 16 → HasCounts is
-unfolding plain_size
-plain_counts q is short = let b = records_bound (asked_name q) (records_of is) in counted is (omega (arith, b))
+use Rattle.dns_spec.proofs.Replies.Kept.{kept_fits}
 
 -- a field of 16 bits of octets
 two_bound : (os : Octets) → length os ≤ 2 → Each (λ o. o < 256) os → number_of os < 2 ^ 16
@@ -136,19 +126,9 @@ bare_size : size None [] ≡ 12
 unfolding size records_size
 bare_size = refl
 
-bare_plain_size : plain_size None [] ≡ 12
-unfolding plain_size
-bare_plain_size = refl
-
-empty_size : (q : MessageQuestion) → is_name q.qname ≡ true → plain_size (Some q) [] ≤ 271
-unfolding plain_size
-empty_size q h =
-    let short = leb-true (length (wire q.qname)) 255 (and_parts (list_all is_label q.qname) (nat_le (length (wire q.qname)) 255) h).1 in
-    omega (arith, length-question_octets q, short)
-
-empty_shared_size : (q : MessageQuestion) → is_name q.qname ≡ true → size (Some q) [] ≤ 271
+empty_size : (q : MessageQuestion) → is_name q.qname ≡ true → size (Some q) [] ≤ 271
 unfolding size records_size
-empty_shared_size q h =
+empty_size q h =
     let short = leb-true (length (wire q.qname)) 255 (and_parts (list_all is_label q.qname) (nat_le (length (wire q.qname)) 255) h).1 in
     omega (arith, length-question_octets q, short)
 
@@ -186,26 +166,11 @@ reply_laid lay z d keep r writable low bare lays e = go (decide z d) (decided z 
         let flags = flags_bound h (is_authoritative o) (truncated z q (keep q)) o.rcode (outcome_rcode z writable q.qname q.qtype may.qname) in
         replied (answer_with z h q (keep q)) ((lays q may).1 head (subst (λ (x : Header). x.id < 2 ^ 16) ok.1 id) flags) e
 
--- The octets of a reply, laid out plainly, spell the message that it is.
-pub reply_spells : (z : ZoneContents) (d : Octets) (keep : MessageQuestion → List Item) (r : Reply) → All IsWritable z.records → All (λ o. o < 256) d → KeepsBeginning z keep
-    → reply_with keep z d ≡ Some r → Spells (octets_by plain_layout r) (reply_message r)
-reply_spells z d keep r writable low keeps = reply_laid plain_layout z d keep r writable low (alone None tt) (λ q ok. (alone (Some q) ok, sets q ok))
-  where
-    alone : (q : Option MessageQuestion) → IfSome q IsAskable → Laid plain_layout q []
-    alone q ok h id flags = plain_spells h q [] (roomy h q [] id flags ok refl) (counted [] (omega arith)) (All-nil IsWritable)
-
-    sets : (q : MessageQuestion) → IsAskable q → Laid plain_layout (Some q) (keep q)
-    sets q ok h id flags =
-        let k = keeps q ok.qname in
-        let ordered = subst (λ is. sections_in_order is ≡ true) (sym k.1) (items_in_order z writable q.qname q.qtype ok.qname k.0) in
-        let all = subst (λ is. All IsWritable (records_of is)) (sym k.1) (items_writable z writable q.qname q.qtype ok.qname k.0) in
-        plain_spells h (Some q) (keep q) (roomy h (Some q) (keep q) id flags ok ordered) (plain_counts (Some q) (keep q) k.2) all
-
--- The same of the layout in which names share suffixes, within a limit.
-pub shared_reply_spells : (z : ZoneContents) (d : Octets) (limit : ℕ) (r : Reply) → All IsWritable z.records → All (λ o. o < 256) d → 271 ≤ limit → limit ≤ 65535
+-- The octets of a reply spell the message that it is.
+pub reply_spells : (z : ZoneContents) (d : Octets) (limit : ℕ) (r : Reply) → All IsWritable z.records → All (λ o. o < 256) d → 271 ≤ limit → limit ≤ 65535
     → reply z d limit ≡ Some r → Spells (octets_by layout r) (reply_message r)
 unfolding reply
-shared_reply_spells z d limit r writable low from upto =
+reply_spells z d limit r writable low from upto =
     reply_laid layout z d (keep_longest z limit) r writable low bare (λ q ok. (alone q ok, sets q ok))
   where
     bare : Laid layout None []
@@ -213,39 +178,18 @@ shared_reply_spells z d limit r writable low from upto =
 
     alone : (q : MessageQuestion) → IsAskable q → Laid layout (Some q) []
     alone q ok h id flags =
-        let small = empty_shared_size q ok.qname in
+        let small = empty_size q ok.qname in
         layout_spells h (Some q) [] (roomy h (Some q) [] id flags ok refl) (All-nil IsWritable) (omega (arith, small))
 
     sets : (q : MessageQuestion) → IsAskable q → Laid layout (Some q) (keep_longest z limit q)
     sets q ok h id flags =
         let all = items z q.qname q.qtype in
         let k = greatest (λ n. nat_le (size (Some q) (take n all)) limit) (length all) in
-        let small = empty_shared_size q ok.qname in
+        let small = empty_size q ok.qname in
         let short = kept_fits (size (Some q)) limit all (omega (arith, small)) in
         layout_spells h (Some q) (take k all)
         (roomy h (Some q) (take k all) id flags ok (items_in_order z writable q.qname q.qtype ok.qname k))
         (items_writable z writable q.qname q.qtype ok.qname k) (omega (arith, short, upto))
-
--- What a server keeps by the size of the plain layout is such a beginning.
-front_kept : (q : MessageQuestion) (limit : ℕ) (front rest all : List Item) → all ≡ front ++ rest → is_name q.qname ≡ true → 271 ≤ limit → limit < 2 ^ 16
-    → (k : ℕ) × (kept (plain_size (Some q)) limit front ≡ take k all) × (plain_size (Some q) (kept (plain_size (Some q)) limit front) < 2 ^ 16)
-front_kept q limit front rest all split h from below =
-    let k = greatest (λ n. nat_le (plain_size (Some q) (take n front)) limit) (length front) in
-    let inside = greatest_bound (λ n. nat_le (plain_size (Some q) (take n front)) limit) (length front) in
-    let none = empty_size q h in
-    let short = kept_fits (plain_size (Some q)) limit front (omega (arith, none)) in
-    (k, sym (ap (take k) split ∙ take-append-le k front rest inside), omega (arith, short))
-
-pub keep_plain_begins : (z : ZoneContents) (limit : ℕ) → 271 ≤ limit → limit < 2 ^ 16 → KeepsBeginning z (keep_plain z limit)
-unfolding items
-keep_plain_begins z limit from below q h =
-    let o = outcome z q.qname q.qtype in
-    front_kept q limit (main_items o) (extra z (main_items o) (targets o)) (items z q.qname q.qtype) refl h from below
-
--- all sets, as far as they fit
-pub keep_all_begins : (z : ZoneContents) (limit : ℕ) → 271 ≤ limit → limit < 2 ^ 16 → KeepsBeginning z (λ q. kept (plain_size (Some q)) limit (items z q.qname q.qtype))
-keep_all_begins z limit from below q h =
-    front_kept q limit (items z q.qname q.qtype) [] (items z q.qname q.qtype) (sym (append-nil (items z q.qname q.qtype))) h from below
 
 -- The octets of a reply are no more than its sets were kept for.
 named_question : (d : Octets) (q : MessageQuestion) → question_at d ≡ Some q → is_name q.qname ≡ true
@@ -276,29 +220,16 @@ reply_sized lay z d keep limit r room fits e = go (decide z d) (decided z d) e
         let o = outcome z q.qname q.qtype in
         replied (answer_with z h q (keep q)) (fits (reply_head h (is_authoritative o) (truncated z q (keep q)) o.rcode) q (named_question d q ok.0)).1 e
 
-pub shared_reply_fits : (z : ZoneContents) (d : Octets) (limit : ℕ) (r : Reply) → 271 ≤ limit → reply z d limit ≡ Some r → length (octets_by layout r) ≤ limit
+pub reply_fits : (z : ZoneContents) (d : Octets) (limit : ℕ) (r : Reply) → 271 ≤ limit → reply z d limit ≡ Some r → length (octets_by layout r) ≤ limit
 unfolding reply
-shared_reply_fits z d limit r from = reply_sized layout z d (keep_longest z limit) limit r bare fits
+reply_fits z d limit r from = reply_sized layout z d (keep_longest z limit) limit r bare fits
   where
     bare : (h : Header) → length (layout h None []) ≤ limit
     bare h = let small = bare_size in omega (arith, length-layout h None [], small)
 
     fits : (h : Header) (q : MessageQuestion) → is_name q.qname ≡ true → (length (layout h (Some q) []) ≤ limit) × (length (layout h (Some q) (keep_longest z limit q)) ≤ limit)
     fits h q name =
-        let small = empty_shared_size q name in (
+        let small = empty_size q name in (
           omega (arith, length-layout h (Some q) [], small, from),
           omega (arith, length-layout h (Some q) (keep_longest z limit q), kept_fits (size (Some q)) limit (items z q.qname q.qtype) (omega (arith, small, from))),
         )
-
-pub plain_reply_fits : (z : ZoneContents) (d : Octets) (keep : MessageQuestion → List Item) (limit : ℕ) (r : Reply) → 271 ≤ limit
-    → ((q : MessageQuestion) → is_name q.qname ≡ true → plain_size (Some q) (keep q) ≤ limit) → reply_with keep z d ≡ Some r → length (octets_by plain_layout r) ≤ limit
-plain_reply_fits z d keep limit r from short = reply_sized plain_layout z d keep limit r bare fits
-  where
-    bare : (h : Header) → length (plain_layout h None []) ≤ limit
-    bare h = let small = bare_plain_size in omega (arith, length-plain_layout h None [], small)
-
-    fits : (h : Header) (q : MessageQuestion) → is_name q.qname ≡ true → (length (plain_layout h (Some q) []) ≤ limit) × (length (plain_layout h (Some q) (keep q)) ≤ limit)
-    fits h q name =
-        let small = empty_size q name in
-        let kept = short q name in
-        (omega (arith, length-plain_layout h (Some q) [], small, from), omega (arith, length-plain_layout h (Some q) (keep q), kept))

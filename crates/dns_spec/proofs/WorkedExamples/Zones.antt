@@ -135,17 +135,6 @@ deep_zone =
     ∷ entry [] type_ns (wire deep_name)
     ∷ [])
 
--- a list of SOA, NS and A records
-abbrev pub plain_zone : ZoneContents
-plain_zone =
-    zone_of example (
-    example_soa
-    ∷ server example (codes "ns")
-    ∷ address (codes "ns") (net_192 1)
-    ∷ address (codes "a.b.ent") (net_192 11)
-    ∷ address (codes "www") (net_192 10)
-    ∷ [])
-
 -- a query: its header and one question of class IN
 abbrev pub query_header : Octets
 query_header = hex (codes "123400000001000000000000")

@@ -1,5 +1,5 @@
-use Rattle.dns_spec.proofs.Replies.ReplySpelled.{shared_reply_fits}
+use Rattle.dns_spec.proofs.Replies.ReplySpelled.{reply_fits}
 use Rattle.dns_spec.proofs.reply.reply_is_within_its_limit.Goals as goal
 
 pub returns : goal.returns
-returns c = shared_reply_fits
+returns c = reply_fits
