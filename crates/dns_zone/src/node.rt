@@ -12,7 +12,7 @@ ghost use Rattle.dns_zone.specs.TreeForm.{kids_at};
 
 use crate::entry::Entry;
 use crate::lookup::of_type;
-use crate::row::Row;
+use crate::row::{Row, RowNumber};
 use crate::search::find;
 use crate::set::{RecordSet, lent_set};
 use crate::steps::Steps;
@@ -27,7 +27,7 @@ use std::marker::Model;
 #[derive(Drop)]
 pub struct Node<'z> {
     tree: &'z Tree,
-    row: usize,
+    row: RowNumber,
 }
 
 impl<'z> Model for Node<'z> {
@@ -37,9 +37,9 @@ impl<'z> Model for Node<'z> {
 
     ghost use Rattle.dns_zone.specs.NodeForm.{node_at, IsNodeAt};
 
-    ghost view = { λ n. node_at n.tree.now n.row };
+    ghost view = { λ n. node_at n.tree.now n.row.0 };
 
-    ghost invariant = { λ n. IsNodeAt n.tree.now n.row };
+    ghost invariant = { λ n. IsNodeAt n.tree.now n.row.0 };
 }
 
 impl<'z> Node<'z> {
@@ -49,7 +49,10 @@ impl<'z> Node<'z> {
         ensures node { result ≡ record { zone = zone_of_tree tree.now; name = tree.now.origin } }
         ensures exists { IsNode (zone_of_tree tree.now) tree.now.origin }
     {
-        Node { tree, row: 0 }
+        Node {
+            tree,
+            row: RowNumber(0),
+        }
     }
 
     /// The child of this label, if that name exists. Labels are compared without regard to the case
@@ -82,7 +85,7 @@ impl<'z> Node<'z> {
         steps.count_visit();
         Some(Node {
             tree: self.tree,
-            row: start + found,
+            row: RowNumber(start + found),
         })
     }
 
@@ -122,18 +125,18 @@ impl<'z> Node<'z> {
         ensures by_types { IsNonDecreasingBy (λ (r : ResourceRecord). r.rtype) result.now }
         ensures node { IsNode self.now.zone self.now.name }
     {
-        let row = &self.tree.rows[self.row];
+        let row = &self.tree.rows[self.row.0];
         &self.tree.records.as_slice()[row.first as usize..row.own_end as usize]
     }
 }
 
 // The number of the first child of a row, and its children.
-fn kids_of<'z>(tree: &'z Tree, row: usize) -> (usize, &'z [Row])
-    requires { IsNodeAt tree.now row }
-    ensures start { result.0 ≡ get_or tree.now.bounds.items row 0 }
-    ensures kids { result.1.now ≡ kids_at tree.now.rows.items tree.now.bounds.items row }
+fn kids_of<'z>(tree: &'z Tree, row: RowNumber) -> (usize, &'z [Row])
+    requires { IsNodeAt tree.now row.0 }
+    ensures start { result.0 ≡ get_or tree.now.bounds.items row.0 0 }
+    ensures kids { result.1.now ≡ kids_at tree.now.rows.items tree.now.bounds.items row.0 }
 {
-    let start = tree.bounds[row];
-    let end = tree.bounds[row + 1];
+    let start = tree.bounds[row.0];
+    let end = tree.bounds[row.0 + 1];
     (start, &tree.rows.as_slice()[start..end])
 }

@@ -1,5 +1,9 @@
 //! Rows of a tree of names.
 
+/// Which row of its tree a node is. That of the origin is 0.
+#[derive(Clone, Copy)]
+pub(crate) struct RowNumber(pub(crate) usize);
+
 /// A name of a zone: which of the zone's records, in canonical order, are at or below it, and which
 /// of these its own.
 #[derive(Drop)]

@@ -16,7 +16,7 @@ use Rattle.dns_zone.proofs.node.Node.down.Goals as goal
 pub find-requires-clause-rows : goal.find-requires-clause-rows
 find-requires-clause-rows c =
     let t = c.self.inside.tree.now in
-    let k = c.self.inside.row in
+    let k = c.self.inside.row.0 in
     subst (λ (rs : List ResourceRecord). Each (λ (r : Row). IsRow rs r (row_name rs r))
     c.kids_of-start.result.1.now) (sym c.as_slice.ensures.value)
     (subst (Each (λ (r : Row). IsRow t.records.items r (row_name t.records.items r)))
@@ -25,7 +25,7 @@ find-requires-clause-rows c =
 pub returns-in_err-found-clause-child : goal.returns-in_err-found-clause-child
 returns-in_err-found-clause-child c =
     let t = c.self.inside.tree.now in
-    let k = c.self.inside.row in
+    let k = c.self.inside.row.0 in
     let l = c.args.label in
     let labels : map (row_label c.as_slice.result.now) c.kids_of-start.result.1.now ≡ map
     (row_label t.records.items) (kids_at t.rows.items t.bounds.items k) =
@@ -48,7 +48,7 @@ returns-in_err-found-clause-child c =
 
 module _ (c : goal.After-count_visit) where
   abbrev kids : List Row
-  kids = kids_at c.self.inside.tree.now.rows.items c.self.inside.tree.now.bounds.items c.self.inside.row
+  kids = kids_at c.self.inside.tree.now.rows.items c.self.inside.tree.now.bounds.items c.self.inside.row.0
 
   fits : c.in_ok-found.found < length kids
   fits =
@@ -67,7 +67,7 @@ module _ (c : goal.After-count_visit) where
 pub returns-clause-child : goal.returns-clause-child
 returns-clause-child c =
     let t = c.self.inside.tree.now in
-    let k = c.self.inside.row in
+    let k = c.self.inside.row.0 in
     let l = c.args.label in
     let n = row_name t.records.items (row_at t.rows.items k) in
     let present : exists (zone_of_tree t) (l ∷ n) ≡ true =
@@ -82,7 +82,7 @@ returns-clause-child c =
 pub returns-clause-node : goal.returns-clause-node
 returns-clause-node c =
     let t = c.self.inside.tree.now in
-    let k = c.self.inside.row in
+    let k = c.self.inside.row.0 in
     let i = c.in_ok-found.found in
     ap (λ (j : ℕ). node_at t (j + i)) c.kids_of-start.ensures.start
     ∙ ap (λ (n : DomainName). record { zone = zone_of_tree t; name = n })

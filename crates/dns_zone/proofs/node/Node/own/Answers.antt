@@ -12,12 +12,12 @@ use Rattle.dns_zone.proofs.node.Node.own.Goals as goal
 pub returns-clause-node : goal.returns-clause-node
 returns-clause-node c =
     subst (λ (v : ZoneNode). IsNode v.zone v.name) c.self.view_is
-    (node_is c.self.inside.tree.now c.self.inside.row c.self.invariant)
+    (node_is c.self.inside.tree.now c.self.inside.row.0 c.self.invariant)
 
 pub returns-clause-own : goal.returns-clause-own
 returns-clause-own c =
     let t = c.self.inside.tree.now in
-    let k = c.self.inside.row in
+    let k = c.self.inside.row.0 in
     let same : c.index-row.result.now ≡ row_at t.rows.items k =
     c.index-row.ensures ∙ get_or_any t.rows.items k _ _ c.self.invariant.row in
     ap (λ (xs : List ResourceRecord). span xs c.index-row.result.now.first
