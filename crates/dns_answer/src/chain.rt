@@ -11,7 +11,7 @@ ghost use Rattle.dns_answer.specs.Walks.{IsApex, HasRoom};
 ghost use Rattle.dns_answer.specs.Seeking.{Seeks, TookFrom, Followed, SoughtAs, IsShown, NextIs, names_of};
 
 use crate::draft::Draft;
-use crate::ending::{QTYPE_ANY, Verdict, asked_set, deny, end_with, refer};
+use crate::ending::{QTYPE_ANY, Verdict, asked_set, deny, end_with, ended, refer};
 use crate::lookup::{Found, look_up, or_apex};
 use crate::names::depth_below;
 use arrayvec::ArrayVec;
@@ -176,16 +176,8 @@ fn seek_rest<'z, const N: usize, const SIZE: usize>(
     let mut depth = depth;
     let mut more = MOST_SOUGHT - 3;
     'names: loop {
-        match seek_one(
-            &name,
-            depth,
-            qtype,
-            more,
-            Earlier::Others(sought.as_slice()),
-            apex,
-            steps,
-            draft,
-        ) {
+        let earlier = Earlier::Others(sought.as_slice());
+        match seek_one(&name, depth, qtype, more, earlier, apex, steps, draft) {
             Sought::Last(verdict) => return verdict,
             Sought::Alias(target, below) => {
                 sought.push(target.to_name());
@@ -219,28 +211,19 @@ fn seek_one<'z, const N: usize, const SIZE: usize>(
 {
     let node = match look_up(name, depth, apex, steps) {
         Found::Cut(cut) => return Sought::Last(refer(&cut, apex, steps, draft)),
-        Found::Nothing => {
-            let origin = steps.origin();
-            return Sought::Last(deny(Rcode::NameError, apex, &origin.lent(), draft));
-        }
+        Found::Nothing => return Sought::Last(deny(Rcode::NameError, apex, steps, draft)),
         Found::Records(node) => node,
     };
     let node = or_apex(&node, &*apex);
     let Some((set, is_alias)) = shown_set(node, qtype) else {
-        let origin = steps.origin();
-        return Sought::Last(deny(Rcode::NoError, apex, &origin.lent(), draft));
+        return Sought::Last(deny(Rcode::NoError, apex, steps, draft));
     };
     draft.offer(Section::Answer, name, set.ttl(), &set);
     if !is_alias {
         return Sought::Last(end_with(&set, apex, steps, draft));
     }
-    let origin = steps.origin();
-    let Some((target, depth)) = next_sought(&set, more, sought, &origin.lent()) else {
-        return Sought::Last(Verdict {
-            rcode: Rcode::NoError,
-            is_referral: false,
-            is_truncated: draft.is_full(),
-        });
+    let Some((target, depth)) = next_sought(&set, more, sought, &steps.origin().lent()) else {
+        return Sought::Last(ended(Rcode::NoError, draft));
     };
     Sought::Alias(target, depth)
 }

@@ -1,5 +1,5 @@
 //! How the answer for the last name sought ends (RFC 1034 4.3.2 step 3, RFC 2308).
-ghost use Rattle.std.specs.Prelude.{◌≡◌, ◌+◌, ◌*◌, ◌≤◌, ◌||◌, ◌==◌, length, IfSome};
+ghost use Rattle.std.specs.Prelude.{◌≡◌, ◌+◌, ◌*◌, ◌≤◌, ◌||◌, ◌==◌, length, IfSome, false};
 ghost use Rattle.dns_spec.specs.Names.{DomainName};
 ghost use Rattle.dns_spec.specs.Data.{type_ns, type_mx, type_srv};
 ghost use Rattle.dns_spec.specs.Records.{at};
@@ -71,23 +71,31 @@ pub(crate) fn refer<'z, const N: usize, const SIZE: usize>(
 pub(crate) fn deny<const N: usize, const SIZE: usize>(
     rcode: Rcode,
     apex: &Node<'_>,
-    origin: &NameRef<'_>,
+    steps: &Steps<'_>,
     draft: &mut Draft<N, SIZE>,
 ) -> Verdict
     requires apex { IsApex apex.now.zone apex.now }
-    requires origin { origin.now ≡ apex.now.zone.origin }
+    requires zone { steps.now.zone ≡ apex.now.zone }
     ensures { Ends draft.old draft.new apex.now.zone
         (negative apex.now.zone (code_of rcode)) result }
 {
     let Some(soa) = apex.set(RType::SOA) else {
-        return Verdict {
-            rcode,
-            is_referral: false,
-            is_truncated: draft.is_full(),
-        };
+        return ended(rcode, draft);
     };
     let ttl = soa.ttl().min(Rdata::soa_minimum(soa.rdata(0)));
-    draft.offer(Section::Authority, origin, ttl, &soa);
+    draft.offer(Section::Authority, &steps.origin().lent(), ttl, &soa);
+    ended(rcode, draft)
+}
+
+/// Says that the name ends here, without a referral, once all that may not be left out is offered.
+pub(crate) fn ended<const N: usize, const SIZE: usize>(
+    rcode: Rcode,
+    draft: &Draft<N, SIZE>,
+) -> Verdict
+    ensures rcode { result.rcode ≡ rcode }
+    ensures referral { result.is_referral ≡ false }
+    ensures truncated { result.is_truncated ≡ draft.now.full }
+{
     Verdict {
         rcode,
         is_referral: false,
@@ -110,15 +118,11 @@ pub(crate) fn end_with<'z, const N: usize, const SIZE: usize>(
     ensures ends { EndsWith draft.old draft.new steps.old.zone set.now result }
     ensures took { TookWith steps.old steps.new set.now }
 {
-    let is_truncated = draft.is_full();
+    let verdict = ended(Rcode::NoError, draft);
     if has_targets(set.rtype()) {
         offer_addresses(set, Side::All, apex, steps, draft);
     }
-    Verdict {
-        rcode: Rcode::NoError,
-        is_referral: false,
-        is_truncated,
-    }
+    verdict
 }
 
 /// The set asked for; of all types that of the lowest number (RFC 8482 4.1).

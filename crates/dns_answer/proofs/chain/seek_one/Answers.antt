@@ -4,6 +4,7 @@ use Rattle.dns_spec.specs.Layout.{answer}
 use Rattle.dns_spec.specs.Records.{ZoneContents, at, with_owner}
 use Rattle.dns_spec.specs.Answer.{item, has_any, alias_set, positive, negative, referral_to, outcome_by}
 use Rattle.dns_spec.specs.Reading.{no_error, name_error}
+use Rattle.dns_wire.specs.QueryForm.{code_of}
 use Rattle.dns_zone.specs.Nodes.{ZoneNode}
 use Rattle.dns_answer.specs.Ending.{Ends, TookTargets, asked_item}
 use Rattle.dns_answer.specs.Walks.{IsApex, IsBelowCut}
@@ -145,17 +146,17 @@ returns-in_default-next_sought g c =
     let is : IsShown c.args.qtype (at at_node.zone at_node.name) (Some (set, true)) =
     subst (λ b. IsShown c.args.qtype (at at_node.zone at_node.name) (Some (set, b))) c.if-not-is_alias.false c.in-Some.ensures.shown
     in
-    let origin_is : c.lent-2.result ≡ z.origin = c.lent-2.ensures.value ∙ c.origin-origin-2.ensures.value ∙ ap (λ (y : ZoneContents). y.origin) c.look_up.ensures.took.zone in
+    let origin_is : c.lent.result ≡ z.origin = c.lent.ensures.value ∙ c.origin.ensures.value ∙ ap (λ (y : ZoneContents). y.origin) c.look_up.ensures.took.zone in
     let next = subst (λ o. NextIs set c.args.more (names_of c.args.sought) o None) origin_is c.in_default-next_sought.ensures.next in
     record {
       seeks = λ before were. seeks-alias z c.args.qtype c.args.more before s _ _ _ _
           (alias-ends z s at_node no_cut here.1 set is.1 is.2 c.in-Some.ensures.kept c.args.qtype c.args.more (names_of c.args.sought) before is.0 were next)
           (alias-item z s at_node no_cut here.1 set is.1 is.2 c.in-Some.ensures.kept c.ttl.result c.ttl.ensures)
-          c.offer.ensures refl refl c.is_full.ensures;
+          c.offer.ensures (ap code_of c.ended.ensures.rcode) c.ended.ensures.referral c.ended.ensures.truncated;
       took = λ before were. took-less z c.args.qtype c.args.more before s _ _ c.args.depth (item answer (alias_set z s)) (positive [])
           (alias-ends z s at_node no_cut here.1 set is.1 is.2 c.in-Some.ensures.kept c.args.qtype c.args.more (names_of c.args.sought) before is.0 were next)
           c.requires.depth c.in-Records.ensures.took;
-      own = λ r. absurd (false≢true r);
+      own = λ r. absurd (false≢true (sym c.ended.ensures.referral ∙ r));
     }
 
 pub returns : goal.returns
@@ -170,7 +171,7 @@ returns g c =
     let is : IsShown c.args.qtype (at at_node.zone at_node.name) (Some (set, true)) =
     subst (λ b. IsShown c.args.qtype (at at_node.zone at_node.name) (Some (set, b))) c.if-not-is_alias.false c.in-Some.ensures.shown
     in
-    let origin_is : c.lent-2.result ≡ z.origin = c.lent-2.ensures.value ∙ c.origin-origin-2.ensures.value ∙ ap (λ (y : ZoneContents). y.origin) c.look_up.ensures.took.zone in
+    let origin_is : c.lent.result ≡ z.origin = c.lent.ensures.value ∙ c.origin.ensures.value ∙ ap (λ (y : ZoneContents). y.origin) c.look_up.ensures.took.zone in
     let next = subst (λ o. NextIs set c.args.more (names_of c.args.sought) o (Some (m, c.in-Some-next_sought.depth))) origin_is c.in-Some-next_sought.ensures.next in
     let first = c.in-Records.ensures.took in
     record {

@@ -4,6 +4,7 @@ use Rattle.std.specs.List.{filter}
 use Rattle.dns_spec.specs.Data.{type_ns, type_mx, type_srv}
 use Rattle.dns_spec.specs.Answer.{positive}
 use Rattle.dns_spec.specs.Layout.{answer}
+use Rattle.dns_wire.specs.QueryForm.{code_of}
 use Rattle.dns_answer.specs.Ending.{all_names, asked_item}
 use Rattle.dns_answer.specs.Targets.{side_items, side_nodes}
 use Rattle.dns_answer.specs.Walks.{Took}
@@ -19,7 +20,7 @@ returns-then-has_targets-clause-ends g c = λ n begun offers.
     let set = c.args.set.now in
     let ts = targets_of_set answer n set.ttl set (ap (λ t. t == type_ns || t == type_mx || t == type_srv) (sym c.rtype.ensures) ∙ sym c.if-has_targets.ensures) in
     Ends-plain begun c.args.draft.now _ z (positive (asked_item n set)) _ refl offers
-    (Offers-is _ _ _ _ (ap (side_items z all_names []) (sym ts)) c.offer_addresses.ensures.offers) refl refl c.is_full-is_truncated.ensures
+    (Offers-is _ _ _ _ (ap (side_items z all_names []) (sym ts)) c.offer_addresses.ensures.offers) (ap code_of c.ended-verdict.ensures.rcode) c.ended-verdict.ensures.referral c.ended-verdict.ensures.truncated
 
 pub returns-then-has_targets-clause-took : goal.returns-then-has_targets-clause-took
 returns-then-has_targets-clause-took g c = λ n.
@@ -34,4 +35,4 @@ returns-else-has_targets-clause-ends g c = λ n begun offers.
     let set = c.args.set.now in
     let ts = no_targets_of_set answer n set.ttl set (ap (λ t. t == type_ns || t == type_mx || t == type_srv) (sym c.rtype.ensures) ∙ sym c.if-has_targets.ensures) in
     Ends-plain begun c.args.draft.now c.args.draft.now z (positive (asked_item n set)) _ refl offers
-    (Offers-is _ _ [] _ (sym (ap (side_items z all_names []) ts ∙ side_items-none z all_names)) (Offers-nothing _)) refl refl c.is_full-is_truncated.ensures
+    (Offers-is _ _ [] _ (sym (ap (side_items z all_names []) ts ∙ side_items-none z all_names)) (Offers-nothing _)) (ap code_of c.ended-verdict.ensures.rcode) c.ended-verdict.ensures.referral c.ended-verdict.ensures.truncated
