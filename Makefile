@@ -55,12 +55,14 @@ package: built
 examples: built
 	tools/examples crates/zonecheck/out/zonecheck
 
-# Runs the commands of the documents and compares what they print, and tries the remedies of docs/CODES.md and
-# the script of units.
+# Runs the commands of the documents and compares what they print, and tries the remedies of docs/CODES.md and the scripts of
+# examples/.
 docs-check: built
 	tools/docs-check $(PROGRAMS)
 	tools/remedies crates/zonecheck/out/zonecheck
 	tools/test-units crates/zonecheck/out/zonecheck
+	tools/test-explain crates/zonecheck/out/zonecheck
+	tools/test-deploy crates/zonecheck/out/zonecheck
 
 test:
 	RT_JOBS=$$(tools/lanes) rt ci
