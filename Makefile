@@ -63,6 +63,7 @@ docs-check: built
 	tools/test-units crates/zonecheck/out/zonecheck
 	tools/test-explain crates/zonecheck/out/zonecheck
 	tools/test-deploy crates/zonecheck/out/zonecheck
+	tools/test-from-bind crates/zonecheck/out/zonecheck
 
 test:
 	RT_JOBS=$$(tools/lanes) rt ci
