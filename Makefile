@@ -1,4 +1,4 @@
-.PHONY: run programs built install uninstall clean package examples docs-check test misuse clients speed faults caught hostile messages worst memory bench
+.PHONY: run programs built install uninstall clean package operate examples docs-check test misuse clients speed faults caught hostile messages worst memory bench
 
 PREFIX ?= /usr/local
 NAMES = zonecheck zoneserve dnsmsg
@@ -7,6 +7,8 @@ PAGES = $(wildcard man/*.1)
 DOC = $(DESTDIR)$(PREFIX)/share/doc/mitrehyssop
 SHARE = $(DESTDIR)$(PREFIX)/share/mitrehyssop
 UNITS = $(DESTDIR)$(PREFIX)/lib/systemd/system
+# The documents for operators; the others are for those who work on the source.
+DOCUMENTS = $(foreach name,OPERATE CODES FROM-BIND ZONEFILE REPLY PROVED PERFORMANCE,docs/$(name).md)
 COMPLETIONS = $(DESTDIR)$(PREFIX)/share/bash-completion/completions
 
 # Builds the programs, checks two zones in examples/, and asks the server about one of them.
@@ -27,11 +29,12 @@ built:
 # Installs what is built below PREFIX, or below DESTDIR where a package is made. The examples lie beside the documents by a link,
 # since small systems keep no documents, and scripts use them.
 install: built
-	install -d "$(DESTDIR)$(PREFIX)/bin" "$(DESTDIR)$(PREFIX)/share/man/man1" "$(DOC)/docs" "$(SHARE)/examples" "$(COMPLETIONS)" "$(UNITS)"
+	install -d "$(DESTDIR)$(PREFIX)/bin" "$(DESTDIR)$(PREFIX)/share/man/man1" "$(DOC)/docs/plots" "$(SHARE)/examples" "$(COMPLETIONS)" "$(UNITS)"
 	install -m 755 $(PROGRAMS) "$(DESTDIR)$(PREFIX)/bin"
 	install -m 644 $(PAGES) "$(DESTDIR)$(PREFIX)/share/man/man1"
 	install -m 644 README.md LICENSE-MIT LICENSE-APACHE "$(DOC)"
-	install -m 644 docs/*.md "$(DOC)/docs"
+	install -m 644 $(DOCUMENTS) "$(DOC)/docs"
+	install -m 644 docs/plots/*.svg "$(DOC)/docs/plots"
 	cp examples/* "$(SHARE)/examples"
 	ln -sfn ../../mitrehyssop/examples "$(DOC)/examples"
 	for unit in systemd/*; do sed 's|@PREFIX@|$(PREFIX)|' "$$unit" >"$(UNITS)/$${unit##*/}"; done
@@ -50,6 +53,11 @@ clean:
 # Makes out/mitrehyssop_VERSION_ARCH.deb of what is built.
 package: built
 	tools/package
+
+# Has lintian judge the package, and runs the commands of docs/OPERATE.md where it is installed: in a container with systemd. It is
+# no part of the gate.
+operate: built
+	tools/try-operate "$$(tools/package)"
 
 # Compares each zone of examples/ with its canonical text.
 examples: built
@@ -74,13 +82,17 @@ misuse: programs
 	tools/misuse crates/zonecheck/out/zonecheck crates/zoneserve/out/zoneserve
 	tools/must-not-compile
 
-# Serves real clients on loopback: dig, kdig, dnsperf, a resolver, and peers that behave badly. It is no part of the gate.
+# Serves real clients on loopback: dig, kdig, dnsperf, a resolver, and peers that behave badly; and has NSD, Knot and BIND answer
+# from a canonical text. It is no part of the gate.
 clients: built
 	tools/clients crates/zoneserve/out/zoneserve
+	tools/elsewhere crates/zonecheck/out/zonecheck
 
-# Measures zoneserve beside NSD, Knot and BIND where they are installed. It decides nothing, and is no part of the gate.
+# Measures zoneserve beside NSD, Knot and BIND where they are installed, and how long a restart takes. It decides nothing, and is
+# no part of the gate.
 speed: built
 	tools/speed crates/zoneserve/out/zoneserve
+	tools/gap crates/zoneserve/out/zoneserve
 
 # Runs the programs on bad days: refused memory, failing calls of the system, bad streams, signals. It is no part of the
 # gate.
