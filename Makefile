@@ -72,6 +72,7 @@ docs-check: built
 	tools/test-explain crates/zonecheck/out/zonecheck
 	tools/test-deploy crates/zonecheck/out/zonecheck
 	tools/test-from-bind crates/zonecheck/out/zonecheck
+	tools/test-serve crates/zonecheck/out/zonecheck
 	docs/plots/mistakes | cmp - docs/plots/mistakes.svg
 
 test:
