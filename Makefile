@@ -36,6 +36,7 @@ install: built
 	install -m 644 $(DOCUMENTS) "$(DOC)/docs"
 	install -m 644 docs/plots/*.svg "$(DOC)/docs/plots"
 	cp examples/* "$(SHARE)/examples"
+	sed -i 's|/usr/share/|$(PREFIX)/share/|g' "$(DESTDIR)$(PREFIX)"/share/man/man1/zone*.1 "$(DOC)"/README.md "$(DOC)"/docs/*.md "$(SHARE)"/examples/*
 	ln -sfn ../../mitrehyssop/examples "$(DOC)/examples"
 	for unit in systemd/*; do sed 's|@PREFIX@|$(PREFIX)|' "$$unit" >"$(UNITS)/$${unit##*/}"; done
 	for name in $(NAMES); do install -m 644 tools/completion "$(COMPLETIONS)/$$name"; done
