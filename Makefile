@@ -85,11 +85,12 @@ misuse: programs
 	tools/misuse crates/zonecheck/out/zonecheck crates/zoneserve/out/zoneserve
 	tools/must-not-compile
 
-# Serves real clients on loopback: dig, kdig, dnsperf, a resolver, and peers that behave badly; and has NSD, Knot and BIND answer
-# from a canonical text. It is no part of the gate.
+# Serves real clients on loopback: dig, kdig, dnsperf, a resolver, and peers that behave badly; has NSD, Knot and BIND answer from
+# a canonical text; and runs docs/OPERATE.md. It is no part of the gate.
 clients: built
 	tools/clients crates/zoneserve/out/zoneserve
 	tools/elsewhere crates/zonecheck/out/zonecheck
+	$(MAKE) operate
 
 # Measures zoneserve beside NSD, Knot and BIND where they are installed, and how long a restart takes. It decides nothing, and is
 # no part of the gate.
