@@ -11,7 +11,6 @@ ghost use Rattle.dns_zone.specs.ZoneForm.{AreOrdered, IsFront};
 
 use crate::above::is_at_or_below;
 use crate::entry::Entry;
-use crate::key::Key;
 use crate::keyed::Keyed;
 use dns_name::NameRef;
 use dns_rdata::RType;
@@ -25,7 +24,7 @@ pub(crate) fn records_at<'a>(
     keyed: &[Keyed<'_>],
     records: &'a [Entry],
     name: &NameRef<'_>,
-    key: &Key,
+    key: &[u8],
 ) -> &'a [Entry]
     requires keyed { keyed.now ≡ records.now }
     requires ordered { AreOrdered records.now }
@@ -38,7 +37,7 @@ pub(crate) fn records_at<'a>(
 }
 
 /// How many of the records have an owner that comes before the name, whose key this is.
-pub(crate) fn count_before(records: &[Keyed<'_>], name: &NameRef<'_>, key: &Key) -> usize
+pub(crate) fn count_before(records: &[Keyed<'_>], name: &NameRef<'_>, key: &[u8]) -> usize
     requires ordered { AreOrdered records.now }
     requires lower { folded name.now ≡ name.now }
     requires key { key.now ≡ name_key name.now }
