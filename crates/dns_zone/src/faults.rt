@@ -42,17 +42,24 @@ pub(crate) fn faults(
     let count = count_at(others, origin);
     let (own, after) = others.split_at(count);
     let mut found = Vec::new(alloc);
-    report_owners(&survey, keyed_before, before, &mut found)?;
-    report(&survey, origin, key.octets(), own, &mut found)?;
-    report_owners(&survey, keyed_others.split_at(count).1, after, &mut found)?;
+    report_owners(&survey, keyed_before, before, 0, &mut found)?;
+    report(&survey, origin, key.octets(), own, place, &mut found)?;
+    report_owners(
+        &survey,
+        keyed_others.split_at(count).1,
+        after,
+        place + count,
+        &mut found,
+    )?;
     Ok(found)
 }
 
-// Adds the faults of all owners of records that stand by them.
+// Adds the faults of all owners of records that stand by them. The first has this place among all.
 fn report_owners(
     survey: &Survey<'_>,
     keyed: &[Keyed<'_>],
     records: &[Entry],
+    place: usize,
     found: &mut Vec<CheckFault>,
 ) -> Result<(), AllocError>
     requires keyed { keyed.now ≡ records.now }
@@ -63,9 +70,17 @@ fn report_owners(
     let mut rest = records;
     'owners: while let Some((first, _)) = rest.split_first() {
         let owner = first.owner();
-        let key = keyed[records.len() - rest.len()].key();
+        let passed = records.len() - rest.len();
+        let key = keyed[passed].key();
         let (own, others) = rest.split_at(count_in_front(rest, &owner));
-        report(survey, &owner, key, own, found)?;
+        report(
+            survey,
+            &owner,
+            key,
+            own,
+            place.saturating_add(passed),
+            found,
+        )?;
         rest = others;
     }
     Ok(())
@@ -77,13 +92,14 @@ fn report(
     name: &NameRef<'_>,
     key: &[u8],
     own: &[Entry],
+    place: usize,
     found: &mut Vec<CheckFault>,
 ) -> Result<(), AllocError>
     requires own { IsOwner survey.now name.now own.now }
     requires key { key.now ≡ name_key name.now }
     ensures { OnOk result (found.new.items ≡ found.old.items ++ reported_at survey.now name.now) }
 {
-    let failed = Owner::new(survey, name, key, own).judged();
+    let failed = Owner::new(survey, name, key, own, place).judged();
     add_failed(name, &failed, found)
 }
 

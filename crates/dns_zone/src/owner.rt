@@ -23,6 +23,8 @@ pub(crate) struct Owner<'a> {
     name: &'a NameRef<'a>,
     key: &'a [u8],
     own: &'a [Entry],
+    // Where the first of these stands among all records.
+    place: usize,
     // Whether the name is the zone's origin.
     stands_first: bool,
 }
@@ -49,6 +51,7 @@ impl<'a> Owner<'a> {
         name: &'a NameRef<'a>,
         key: &'a [u8],
         own: &'a [Entry],
+        place: usize,
     ) -> Owner<'a>
         requires own { IsOwner survey.now name.now own.now }
         requires key { key.now ≡ name_key name.now }
@@ -59,6 +62,7 @@ impl<'a> Owner<'a> {
             name,
             key,
             own,
+            place,
             stands_first: name.same(survey.origin()),
         }
     }
@@ -166,7 +170,8 @@ impl<'a> Owner<'a> {
         if listed.rtype != RType::NS {
             return (false, false);
         }
-        self.survey.judged_target(listed, self.name, owner_is_cut)
+        self.survey
+            .judged_target(listed, self.place, self.name, owner_is_cut)
     }
 
     fn has_mx_target_alias(&self) -> bool

@@ -95,14 +95,15 @@ impl<'a> Survey<'a> {
         self.key
     }
 
-    // The records at the name, whose key this is, by their types.
-    fn at(&self, name: &NameRef<'_>, key: &[u8]) -> &'a [Entry]
+    // The records at the name, whose key this is, by their types. They mostly stand soon after the
+    // place `from`.
+    fn at(&self, from: usize, name: &NameRef<'_>, key: &[u8]) -> &'a [Entry]
         requires lower { folded name.now ≡ name.now }
         requires key { key.now ≡ name_key name.now }
         ensures own { result.now ≡ at self.now name.now }
         ensures by_types { IsNonDecreasingBy (λ (r : ResourceRecord). r.rtype) result.now }
     {
-        records_at(self.keyed, self.records, name, key)
+        records_at(self.keyed, self.records, from, name, key)
     }
 
     /// Whether the record's target is a name of the zone that owns a CNAME.
@@ -123,15 +124,17 @@ impl<'a> Survey<'a> {
             && owns self.now target.now type_cname) }
     {
         is_at_or_below(target, self.origin())
-            && has_type(self.at(target, Key::of(target).octets()), RType::CNAME)
+            && has_type(self.at(0, target, Key::of(target).octets()), RType::CNAME)
     }
 
     /// Whether the record's target is a name of the zone that owns a CNAME (RFC 2181 10.3), and
     /// whether it is one that lacks an address there (RFC 1034 4.2.1). It is looked up once. The
-    /// record stands at `owner`.
+    /// record stands at the place `from` or before it, at `owner`, soon after which servers below it
+    /// stand.
     pub(crate) fn judged_target(
         &self,
         listed: &Entry,
+        from: usize,
         owner: &NameRef<'_>,
         owner_is_cut: bool,
     ) -> (bool, bool)
@@ -145,7 +148,7 @@ impl<'a> Survey<'a> {
             (target listed.now.rtype listed.now.rdata) false }
     {
         match target(listed) {
-            Some(target) => self.judged_name(&target, owner, owner_is_cut),
+            Some(target) => self.judged_name(&target, from, owner, owner_is_cut),
             None => (false, false),
         }
     }
@@ -153,6 +156,7 @@ impl<'a> Survey<'a> {
     fn judged_name(
         &self,
         target: &NameRef<'_>,
+        from: usize,
         owner: &NameRef<'_>,
         owner_is_cut: bool,
     ) -> (bool, bool)
@@ -168,7 +172,7 @@ impl<'a> Survey<'a> {
             return (false, false);
         }
         let key = Key::of(target);
-        let own = self.at(target, key.octets());
+        let own = self.at(from, target, key.octets());
         let is_lost = !self.has_address(target, own)
             && self.lacks_glue(target, key.octets(), owner, owner_is_cut);
         (has_type(own, RType::CNAME), is_lost)
