@@ -18,10 +18,10 @@ some_octets [] = omega arith
 some_octets (l ∷ n) = omega arith
 
 -- an octet of a name in lower case
-abbrev IsLow : ℕ → Type 0
+abbrev pub IsLow : ℕ → Type 0
 IsLow o = (o < 65) ⊎ (90 < o)
 
-low_octet : (o : ℕ) → to_ascii_lowercase o ≡ o → IsLow o
+pub low_octet : (o : ℕ) → to_ascii_lowercase o ≡ o → IsLow o
 low_octet o e = go (cases_lt o 65) (cases_lt 90 o)
   where
     go : (o < 65) ⊎ (65 ≤ o) → (90 < o) ⊎ (o ≤ 90) → IsLow o
@@ -42,14 +42,14 @@ raised_is o = go (cases_lt o 65)
     go (inl a) = inl (a, ap (λ b. cond b (o + 1) o) (lt-ltb o 65 a))
     go (inr a) = inr (a, ap (λ b. cond b (o + 1) o) (le-ltb o 65 a))
 
-raised_some : (o : ℕ) → 0 < raised o
+pub raised_some : (o : ℕ) → 0 < raised o
 raised_some o = go (raised_is o)
   where
     go : IsRaised o → 0 < raised o
     go (inl (a, e)) = omega (arith, e)
     go (inr (a, e)) = omega (arith, a, e)
 
-raised_less : (x y : ℕ) → IsLow x → IsLow y → x < y → raised x < raised y
+pub raised_less : (x y : ℕ) → IsLow x → IsLow y → x < y → raised x < raised y
 raised_less x y p q l = go p q (raised_is x) (raised_is y)
   where
     go : IsLow x → IsLow y → IsRaised x → IsRaised y → raised x < raised y
@@ -101,12 +101,12 @@ ended_names (l ∷ n) (k ∷ m) p q =
     ∙ ended_order l k (flat_map ended n) (flat_map ended m) (ap (λ ls. get_or ls 0 []) p) (ap (λ ls. get_or ls 0 []) q)
     ∙ ap (ordering_then (label_order l k)) (ended_names n m (ap (drop 1) p) (ap (drop 1) q))
 
-key_flat : (n : DomainName) → name_key n ≡ flat_map ended (reverse n)
+pub key_flat : (n : DomainName) → name_key n ≡ flat_map ended (reverse n)
 key_flat [] = refl
 key_flat (l ∷ n) =
     ap (λ xs. xs ++ ended l) (key_flat n) ∙ flat_map_more ended [] (reverse n) l ∙ ap (flat_map ended) (sym (reverse-append (l ∷ []) n))
 
-map_reverse : {X Y : Type 0} (f : X → Y) (xs : List X) → map f (reverse xs) ≡ reverse (map f xs)
+pub map_reverse : {X Y : Type 0} (f : X → Y) (xs : List X) → map f (reverse xs) ≡ reverse (map f xs)
 map_reverse f [] = refl
 map_reverse f (x ∷ xs) =
     ap (map f) (reverse-append (x ∷ []) xs) ∙ map_push f (reverse xs) x ∙ ap (λ ys. ys ++ f x ∷ []) (map_reverse f xs)

@@ -5,7 +5,7 @@ use Rattle.std.proofs.Math.Seq.{take-append_seam, drop-append_seam}
 use Rattle.dns_spec.specs.Names.{Octets, names_equal, wire}
 use Rattle.dns_spec.specs.Records.{ResourceRecord}
 use Rattle.dns_spec.proofs.DomainNames.NameLaws.{names_equal-decides}
-use Rattle.dns_zone.specs.KeyForm.{name_key, shares_key, keys_left}
+use Rattle.dns_zone.specs.KeyForm.{name_key, shares_key, keys_left, IsKeyOfFirst}
 use Rattle.dns_zone.proofs.KeyOrder.{key_length}
 
 pub keys_shared : (r : ResourceRecord) (rs : List ResourceRecord) → shares_key r rs ≡ true → keys_left (r ∷ rs) ≡ keys_left rs
@@ -50,3 +50,10 @@ pub first_cut : (r inside : ResourceRecord) (rs rest : List ResourceRecord) (key
 first_cut r inside rs rest keys octets e f g h =
     let long : length octets ≡ length (wire r.owner) = ap length h ∙ ap (λ (s : ResourceRecord). length (wire s.owner)) g in
     first_key r rs keys (length octets - 1) (f ∙ ap keys_left e) (omega (arith, long, key_length r.owner))
+
+-- the next record has the same owner, and so the same key
+pub key_shared : (key : Octets) (r : ResourceRecord) (rs : List ResourceRecord)
+    → key ≡ name_key r.owner → shares_key r rs ≡ true → IsKeyOfFirst key rs
+key_shared key r [] e h = tt
+key_shared key r (s ∷ ss) e h =
+    e ∙ ap name_key ((names_equal-decides r.owner s.owner).0 h)

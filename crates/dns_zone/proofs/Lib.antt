@@ -28,6 +28,7 @@ pub mod GrowingTree
 pub mod FoundKid
 pub mod NodeRows
 pub mod KeyOrder
+mod KeyPrefix
 pub mod LabelKeys
 pub mod KeysLeft
 pub mod AlikeKeys

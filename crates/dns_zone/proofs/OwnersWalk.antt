@@ -1,6 +1,7 @@
 -- A walk over records of a zone in canonical order, owner by owner.
-use Rattle.std.proofs.Common.{◌≡◌, ℕ, Bool, true, false, not, cond, List, [], ◌∷◌, ◌++◌, ◌<◌, length, take, drop, refl, sym, ap, ap₂, ◌∙◌, arith, subst, filter, is_gt, is_lt, Ordering, Less, Equal, Greater}
+use Rattle.std.proofs.Common.{◌+◌, ◌-◌, ◌≤◌, length-drop, ◌≡◌, ℕ, Bool, true, false, not, cond, List, [], ◌∷◌, ◌++◌, ◌<◌, length, take, drop, refl, sym, ap, ap₂, ◌∙◌, arith, subst, filter, is_gt, is_lt, Ordering, Less, Equal, Greater}
 use Rattle.std.proofs.lemmas.Bool.{false≢true, true≢false, false_from_ne_true}
+use Rattle.std.proofs.lemmas.List.{drop-drop}
 use Rattle.std.proofs.lemmas.List.Filters.{length-filter_both}
 use Rattle.std.proofs.lemmas.List.Elements.{All-head}
 use Rattle.std.proofs.lemmas.List.Sums.{prefix_len_passes, prefix_len_stops, prefix_len-le-length}
@@ -164,3 +165,13 @@ pub step : (z : ZoneContents) (n : DomainName) (r : ResourceRecord) (rs ss own o
 step z n r rs ss own others k f low e =
     subst (λ ts. HasOwners z ts → IsTaken n k ts own others → Step z n ts own others) (sym e)
     (subst (λ m. folded m ≡ m → HasOwners z (r ∷ rs) → IsTaken m k (r ∷ rs) own others → Step z m (r ∷ rs) own others) (sym f) (step_first z r rs own others k) low)
+
+-- what is left of records stands at their end
+pub part_rest : {X : Type 0} (rs ss os : List X) (k : ℕ) → ss ≡ drop (length rs - length ss) rs
+    → os ≡ drop k ss → k ≤ length ss → os ≡ drop (length rs - length os) rs
+part_rest rs ss os k e f b =
+    let size : length ss ≡ length rs - (length rs - length ss) =
+    ap length e ∙ length-drop (length rs - length ss) rs in
+    let rest : length os ≡ length ss - k = ap length f ∙ length-drop k ss in
+    let place : (length rs - length ss) + k ≡ length rs - length os = omega (arith, size, rest, b) in
+    f ∙ ap (drop k) e ∙ drop-drop k (length rs - length ss) rs ∙ ap (λ i. drop i rs) place

@@ -3,9 +3,10 @@ use Rattle.std.specs.Prelude.{◌≡◌, Bool, true, false, List, [], ◌∷◌,
 use Rattle.std.specs.Borrow.{Bor}
 use Rattle.std.specs.List.{list_any}
 use Rattle.std.specs.Ordering.{is_lt}
-use Rattle.dns_spec.specs.Names.{DomainName, folded, at_or_below, name_order}
+use Rattle.dns_spec.specs.Names.{Octets, DomainName, folded, at_or_below, name_order}
 use Rattle.dns_spec.specs.Records.{ResourceRecord, ZoneContents}
 use Rattle.dns_spec.specs.Tree.{is_cut}
+use Rattle.dns_zone.specs.KeyForm.{name_key}
 use Rattle.dns_zone.specs.ZoneForm.{AreOrdered}
 
 -- the records after references
@@ -36,7 +37,9 @@ pub record AreTopmost (z : ZoneContents) (cuts : List ResourceRecord) : Type 0 w
       (λ (c : ResourceRecord). at_or_below n c.owner) cuts ≡ true
 
 -- What a zone under check keeps.
-pub record IsSurvey (z : ZoneContents) (keyed cuts : List ResourceRecord) : Type 0 where
+pub record IsSurvey (z : ZoneContents) (key : Octets) (keyed cuts : List ResourceRecord)
+    : Type 0 where
+  pub key_is : key ≡ name_key z.origin
   pub keyed_is : keyed ≡ z.records
   pub ordered : AreOrdered z.records
   pub lower : folded z.origin ≡ z.origin

@@ -6,7 +6,6 @@ use Rattle.dns_spec.specs.Names.{DomainName, folded, at_or_below}
 use Rattle.dns_spec.specs.Data.{type_ns, type_cname, target}
 use Rattle.dns_spec.specs.Checks.{lacks_address}
 use Rattle.dns_spec.specs.Records.{ResourceRecord, ZoneContents, at, owns}
-use Rattle.dns_zone.specs.ReportedForm.{HasOwners}
 
 -- a zone, and a name whose checks are asked for
 pub record NameOfZone : Type 0 where
@@ -18,14 +17,6 @@ pub record IsOwner (z : ZoneContents) (n : DomainName) (own : List ResourceRecor
   pub lower : folded n ≡ n
   pub own_is : own ≡ at z n
   pub by_types : IsNonDecreasingBy (λ (r : ResourceRecord). r.rtype) own
-
--- the same, and some records after these, of each owner all of the zone
-pub record IsPlaced (z : ZoneContents) (n : DomainName)
-    (own after : List ResourceRecord) : Type 0 where
-  pub lower : folded n ≡ n
-  pub own_is : own ≡ at z n
-  pub by_types : IsNonDecreasingBy (λ (r : ResourceRecord). r.rtype) own
-  pub followed : HasOwners z after
 
 -- an NS record whose target is a name of the zone that owns a CNAME
 abbrev pub is_server_alias : ZoneContents → ResourceRecord → Bool

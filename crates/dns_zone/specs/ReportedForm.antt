@@ -1,6 +1,6 @@
 -- What a reader learns here: in which order faults are reported.
 use Rattle.std.specs.Prelude.{◌≡◌, ℕ, suc, Bool, false, List, [], ◌∷◌, ◌++◌, All, if◌then◌else◌}
-use Rattle.std.specs.List.{flat_map, filter}
+use Rattle.std.specs.List.{filter}
 use Rattle.dns_spec.specs.Names.{DomainName, folded, same}
 use Rattle.dns_spec.specs.Records.{ResourceRecord, ZoneContents, at}
 use Rattle.dns_spec.specs.Checks.{Fault, faults_at}
@@ -33,10 +33,3 @@ pub record HasOwners (z : ZoneContents) (rs : List ResourceRecord) : Type 0 wher
 -- the faults of a name, as one word
 unfoldable pub reported_at : ZoneContents → DomainName → List Fault
 reported_at z n = faults_at z n
-
--- the faults of the owners before a name, of the name, and of the owners after it
-abbrev pub reported_around : ZoneContents → List ResourceRecord → DomainName → List ResourceRecord
-    → List Fault
-reported_around z before n after =
-    flat_map (reported_at z) (owners_once before) ++
-    (reported_at z n ++ flat_map (reported_at z) (owners_once after))

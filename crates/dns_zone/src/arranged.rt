@@ -4,54 +4,42 @@
 //! short keys first, and each record is moved once.
 ghost use Rattle.std.specs.Prelude.{◌≡◌, ◌<◌, ◌≤◌, All, length, IfOk};
 ghost use Rattle.std.specs.List.Sorted.{IsPermutation};
+ghost use Rattle.dns_spec.specs.Names.{folded};
 
 use crate::entry::Entry;
+use crate::key::raised;
 use crate::lookup::count_in_front;
 use crate::order::record_order;
-use dns_name::NameRef;
+use dns_name::{NameRef, first_label};
 use std::alloc::{AllocError, Global};
 use std::cmp::Ordering;
 
-// How many octets of an owner's key are kept, and how many of them make a half: 6 bits for each.
-const KEY_OCTETS: usize = 20;
+// How many of the first octets of an owner's key are kept, and how many of them make its first half.
+const FRONT_OCTETS: usize = 15;
 
-const HALF_OCTETS: usize = 10;
+const HALF_OCTETS: usize = 8;
 
-const OCTET_BITS: u32 = 6;
+const OCTET_BITS: u32 = 8;
 
-// The most labels that these are of: each has an octet at least, and its end.
-const KEY_LABELS: usize = 10;
+// Where an owner stands: before the zone, in it, or after it.
+const BEFORE: u128 = 0;
 
-// How octets in lower case stand to each other, in 6 bits. The end of a label has 0. Those that names
-// mostly have, as letters, digits, `-` and `_`, have a rank of their own; those below 45 share one, and
-// so do those from 132 on.
-const RANKS: [u8; 256] = [
-    1, 1, 1, 1, 1, 1, 1, 1, 1, 1, 1, 1, 1, 1, 1, 1, 1, 1, 1, 1, 1, 1, 1, 1, 1, 1, 1, 1, 1, 1, 1, 1,
-    1, 1, 1, 1, 1, 1, 1, 1, 1, 1, 1, 1, 1, 2, 3, 4, 5, 6, 7, 8, 9, 10, 11, 12, 13, 14, 15, 16, 17,
-    18, 19, 20, 21, 22, 23, 24, 25, 26, 27, 28, 29, 30, 31, 32, 33, 34, 35, 36, 37, 38, 39, 40, 41,
-    42, 43, 44, 45, 46, 47, 22, 23, 24, 25, 26, 27, 28, 29, 30, 31, 32, 33, 34, 35, 36, 37, 38, 39,
-    40, 41, 42, 43, 44, 45, 46, 47, 48, 49, 50, 51, 52, 53, 54, 55, 56, 57, 58, 59, 60, 61, 62, 63,
-    63, 63, 63, 63, 63, 63, 63, 63, 63, 63, 63, 63, 63, 63, 63, 63, 63, 63, 63, 63, 63, 63, 63, 63,
-    63, 63, 63, 63, 63, 63, 63, 63, 63, 63, 63, 63, 63, 63, 63, 63, 63, 63, 63, 63, 63, 63, 63, 63,
-    63, 63, 63, 63, 63, 63, 63, 63, 63, 63, 63, 63, 63, 63, 63, 63, 63, 63, 63, 63, 63, 63, 63, 63,
-    63, 63, 63, 63, 63, 63, 63, 63, 63, 63, 63, 63, 63, 63, 63, 63, 63, 63, 63, 63, 63, 63, 63, 63,
-    63, 63, 63, 63, 63, 63, 63, 63, 63, 63, 63, 63, 63, 63, 63, 63, 63, 63, 63, 63, 63, 63, 63, 63,
-    63, 63, 63,
-];
+const INSIDE: u128 = 1 << 120;
 
-// Records of one owner that stand side by side, from one place up to another, and the first octets of
-// the owner's key.
+const AFTER: u128 = 2 << 120;
+
+// Records of one owner that stand side by side, from one place up to another, and the front of the
+// owner's key.
 #[derive(Drop)]
 struct Run {
-    key: u128,
+    front: u128,
     at: usize,
     end: usize,
 }
 
-/// Moves records into the order of their keys, and those that stand side by side of one owner into
-/// canonical order. Where all owners are in the zone and of letters, digits, `-` and `_`, and the
-/// records of each stand side by side, that is the canonical order, but nothing here says so: who
-/// needs it sorts, which then moves nothing.
+/// Moves records into the order of their owners, and those that stand side by side of one owner
+/// into canonical order. Where the records of each owner stand side by side, that is the canonical
+/// order of all, but nothing here says so: who needs it looks, and sorts where they are not.
 ///
 /// Memory is taken for 32 octets for each run of records of one owner, for as much again where the
 /// runs are not in order, and for 8 octets for each record.
@@ -60,6 +48,7 @@ pub(crate) fn arrange(
     origin: &NameRef<'_>,
     records: &mut [Entry],
 ) -> Result<(), AllocError>
+    requires { folded origin.now ≡ origin.now }
     ensures { IsPermutation records.old records.new }
 {
     let runs = runs(alloc, origin, records)?;
@@ -70,18 +59,18 @@ pub(crate) fn arrange(
 
 // The runs of records of one owner, each of which is sorted.
 fn runs(alloc: Global, origin: &NameRef<'_>, records: &mut [Entry]) -> Result<Vec<Run>, AllocError>
+    requires { folded origin.now ≡ origin.now }
     ensures permutation { IsPermutation records.old records.new }
     ensures within { IfOk result (λ runs.
         All (λ (r : Run). r.end ≤ length records.new) runs.items) }
 {
-    let origin_count = origin.label_count();
     let mut runs = Vec::with_capacity(alloc, records.len())?;
     let mut at = 0;
     'runs: while at < records.len() {
         let end = end_of_run(records, at);
-        let key = key_below(origin_count, &records[at].owner());
+        let front = front_of(origin, &records[at].owner());
         sort_run(records, at, end);
-        runs.push(Run { key, at, end })?;
+        runs.push(Run { front, at, end })?;
         at = end;
     }
     Ok(runs)
@@ -115,49 +104,60 @@ fn sort_run(records: &mut [Entry], at: usize, end: usize)
     own.sort_unstable_by(|one, other| record_order(one, other));
 }
 
-// The first octets that the key of an owner has after that of the origin, by which most owners of a
-// zone differ. A label further right comes first, so each moves those before it back.
-fn key_below(origin_count: usize, owner: &NameRef<'_>) -> u128 {
-    let count = owner.label_count().saturating_sub(origin_count);
-    let mut labels = owner.labels();
-    let mut key = 0;
-    for _ in KEY_LABELS..count {
-        labels.next();
-    }
-    for _ in 0..count.min(KEY_LABELS) {
-        let Some(label) = labels.next() else {
-            return key;
-        };
-        key = key_of_label(label.octets()) | moved_back(key, label.octets().len());
-    }
-    key
-}
-
-// A key after a label of so many octets and its end.
-fn moved_back(key: u128, count: usize) -> u128 {
-    let bits = OCTET_BITS * (count.min(KEY_OCTETS) as u32 + 1);
-    key.checked_shr(bits).unwrap_or(0)
-}
-
-// The first octets of a label by their ranks, the first highest.
-fn key_of_label(octets: &[u8]) -> u128 {
-    let (front, others) = octets.split_at(octets.len().min(HALF_OCTETS));
-    let (back, _) = others.split_at(others.len().min(HALF_OCTETS));
-    u128::from(half_key(front)) << 68 | u128::from(half_key(back)) << 8
-}
-
-// The ranks of at most 10 octets, in 60 bits.
-fn half_key(octets: &[u8]) -> u64
-    requires { length octets.now ≤ 10 }
+// Where an owner stands, and of one in the zone the first octets of its key after that of the
+// origin. A label further right comes first, so each moves those before it back.
+fn front_of(origin: &NameRef<'_>, owner: &NameRef<'_>) -> u128
+    requires origin { folded origin.now ≡ origin.now }
+    requires owner { folded owner.now ≡ owner.now }
 {
-    let mut key = 0_u64;
-    for octet in octets {
-        key = key << OCTET_BITS | u64::from(RANKS[*octet as usize]);
+    let end = origin.octets();
+    let mut rest = owner.octets();
+    let mut front = 0;
+    'labels: while rest.len() > end.len() {
+        let Some((label, after)) = first_label(rest) else {
+            break;
+        };
+        if after.len() < end.len() + FRONT_OCTETS {
+            front = front_of_label(label.octets()) | moved_back(front, label.octets().len());
+        }
+        rest = after;
     }
-    key << (OCTET_BITS * (HALF_OCTETS - octets.len()) as u32)
+    if rest == end {
+        INSIDE | front
+    } else if owner.order_in_lower_case(origin).is_lt() {
+        BEFORE
+    } else {
+        AFTER
+    }
 }
 
-// For each place the one from which its record comes. Owners whose keys are alike are compared.
+// A front after a label of so many octets and its end.
+fn moved_back(front: u128, count: usize) -> u128 {
+    let bits = OCTET_BITS * (count.min(FRONT_OCTETS) as u32 + 1);
+    front.checked_shr(bits).unwrap_or(0)
+}
+
+// The first octets of a label in a key, the first highest.
+fn front_of_label(octets: &[u8]) -> u128 {
+    let (front, others) = octets.split_at(octets.len().min(HALF_OCTETS));
+    let (back, _) = others.split_at(others.len().min(FRONT_OCTETS - HALF_OCTETS));
+    u128::from(half_of(front)) << 56 | u128::from(half_of(back)) >> 8
+}
+
+// At most 8 octets as they stand in a key, the first highest.
+fn half_of(octets: &[u8]) -> u64
+    requires { length octets.now ≤ 8 }
+{
+    let mut number = 0_u64;
+    for octet in octets {
+        number = number << OCTET_BITS | u64::from(raised(*octet));
+    }
+    number
+        .checked_shl(OCTET_BITS * (HALF_OCTETS - octets.len()) as u32)
+        .unwrap_or(0)
+}
+
+// For each place the one from which its record comes. Owners whose fronts are alike are compared.
 fn places(alloc: Global, mut runs: Vec<Run>, records: &[Entry]) -> Result<Vec<usize>, AllocError>
     requires { All (λ (r : Run). r.end ≤ length records.now) runs.items }
     ensures { IfOk result (λ places. All (λ p. p < length records.now) places.items) }
@@ -181,10 +181,22 @@ fn places_of(alloc: Global, runs: &[Run], count: usize) -> Result<Vec<usize>, Al
 }
 
 fn run_order(records: &[Entry], one: &Run, other: &Run) -> Ordering {
-    one.key.cmp(&other.key).then_with(|| match (records.get(one.at), records.get(other.at)) {
+    one.front.cmp(&other.front).then_with(|| match (records.get(one.at), records.get(other.at)) {
         (Some(one), Some(other)) => record_order(one, other),
         _ => Ordering::Equal,
     })
+}
+
+/// Sorts the records of each owner that stand side by side.
+pub(crate) fn sort_runs(records: &mut [Entry])
+    ensures { IsPermutation records.old records.new }
+{
+    let mut at = 0;
+    'runs: while at < records.len() {
+        let end = end_of_run(records, at);
+        sort_run(records, at, end);
+        at = end;
+    }
 }
 
 // Moves to each place the record that comes there.

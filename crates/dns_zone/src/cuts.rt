@@ -2,16 +2,14 @@
 ghost use Rattle.std.specs.Prelude.{◌≡◌, ◌==◌, ◌&&◌, not, IfOk};
 ghost use Rattle.std.specs.List.{filter};
 ghost use Rattle.std.specs.Ordering.{is_gt};
-ghost use Rattle.dns_spec.specs.Names.{folded, name_order, at_or_below, below};
+ghost use Rattle.dns_spec.specs.Names.{DomainName, folded, name_order, at_or_below, below};
 ghost use Rattle.dns_spec.specs.Records.{ResourceRecord};
 ghost use Rattle.dns_spec.specs.Data.{type_ns};
 ghost use Rattle.dns_zone.specs.ZoneForm.{AreOrdered};
 ghost use Rattle.dns_zone.specs.KeyForm.{name_key};
 ghost use Rattle.dns_zone.specs.CutForm.{after, AreTopmost, AreApart, last_passes};
 
-use crate::above::is_at_or_below;
-use crate::entry::Entry;
-use crate::key::Key;
+use crate::key::{is_below, is_under};
 use crate::keyed::Keyed;
 use dns_name::NameRef;
 use dns_rdata::RType;
@@ -25,15 +23,18 @@ use std::alloc::{AllocError, Global};
 pub(crate) fn topmost_cuts<'a>(
     alloc: Global,
     origin: &NameRef<'_>,
+    key: &[u8],
     records: &'a [Keyed<'a>],
 ) -> Result<Vec<&'a Keyed<'a>>, AllocError>
-    requires { AreOrdered records.now }
+    requires ordered { AreOrdered records.now }
+    requires lower { folded origin.now ≡ origin.now }
+    requires key { key.now ≡ name_key origin.now }
     ensures { IfOk result (λ cuts. AreTopmost
         (record { origin = origin.now; records = records.now }) (after cuts.items)) }
 {
     let mut cuts: Vec<&'a Keyed<'a>> = Vec::with_capacity(alloc, records.len())?;
     'records: for listed in records {
-        if is_topmost(origin, cuts.as_slice(), listed) {
+        if is_topmost(origin, key, cuts.as_slice(), listed) {
             cuts.push(listed)?;
         }
     }
@@ -42,24 +43,23 @@ pub(crate) fn topmost_cuts<'a>(
 
 // Whether the record makes a cut that is not at or below the last of the cuts. The records of a cut
 // but for its first are at the last one, which costs less to see.
-fn is_topmost(origin: &NameRef<'_>, cuts: &[&Keyed<'_>], listed: &Keyed<'_>) -> bool
+fn is_topmost(origin: &NameRef<'_>, key: &[u8], cuts: &[&Keyed<'_>], listed: &Keyed<'_>) -> bool
+    requires lower { folded origin.now ≡ origin.now }
+    requires key { key.now ≡ name_key origin.now }
     ensures { result ≡ ((listed.now.rtype == type_ns && below listed.now.owner origin.now)
         && not (last_passes (λ (c : ResourceRecord). at_or_below listed.now.owner c.owner)
         (after cuts.now))) }
 {
-    let record = listed.listed();
-    if record.rtype != RType::NS {
-        return false;
-    }
-    let owner = record.owner();
-    !is_covered(cuts, &owner) && owner.below(origin)
+    listed.listed().rtype == RType::NS
+        && !is_covered(cuts, listed.key())
+        && is_below(listed.key(), key)
 }
 
 /// The cuts that are not after the name, whose key this is, in canonical order.
 pub(crate) fn not_after<'a, 'b>(
     cuts: &'b [&'a Keyed<'a>],
     name: &NameRef<'_>,
-    key: &Key,
+    key: &[u8],
 ) -> &'b [&'a Keyed<'a>]
     requires apart { AreApart (after cuts.now) }
     requires lower { folded name.now ≡ name.now }
@@ -70,31 +70,24 @@ pub(crate) fn not_after<'a, 'b>(
     &cuts[..cuts.partition_point(|cut| !cut.order(name, key).is_gt())]
 }
 
-/// Whether the name is at or below the last of the cuts.
-pub(crate) fn is_covered(cuts: &[&Keyed<'_>], name: &NameRef<'_>) -> bool
-    requires { folded name.now ≡ name.now }
-    ensures { result ≡ last_passes (λ (c : ResourceRecord). at_or_below name.now c.owner)
-        (after cuts.now) }
+/// Whether the name, whose key this is, is at or below the last of the cuts.
+pub(crate) fn is_covered(cuts: &[&Keyed<'_>], key: &[u8]) -> bool
+    ensures { (n : DomainName) → folded n ≡ n → key.now ≡ name_key n
+        → result ≡ last_passes (λ (c : ResourceRecord). at_or_below n c.owner) (after cuts.now) }
 {
     match cuts.last() {
-        Some(cut) => {
-            let listed = cut.listed();
-            is_at_or_below(name, &listed.owner())
-        }
+        Some(cut) => is_under(key, cut.key()),
         None => false,
     }
 }
 
-/// Whether the name is below the last of the cuts.
-pub(crate) fn is_below_last(cuts: &[&Keyed<'_>], name: &NameRef<'_>) -> bool
-    ensures { result ≡ last_passes (λ (c : ResourceRecord). below name.now c.owner)
-        (after cuts.now) }
+/// Whether the name, whose key this is, is below the last of the cuts.
+pub(crate) fn is_below_last(cuts: &[&Keyed<'_>], key: &[u8]) -> bool
+    ensures { (n : DomainName) → folded n ≡ n → key.now ≡ name_key n
+        → result ≡ last_passes (λ (c : ResourceRecord). below n c.owner) (after cuts.now) }
 {
     match cuts.last() {
-        Some(cut) => {
-            let listed = cut.listed();
-            name.below(&listed.owner())
-        }
+        Some(cut) => is_below(key, cut.key()),
         None => false,
     }
 }

@@ -5,12 +5,13 @@ ghost use Rattle.dns_spec.specs.Names.{folded};
 ghost use Rattle.dns_spec.specs.Checks.{faults};
 ghost use Rattle.dns_zone.specs.ZoneForm.{AreOrdered};
 ghost use Rattle.dns_zone.specs.OwnerForm.{IsOwner};
-ghost use Rattle.dns_zone.specs.ReportedForm.{HasOwners, failed_from, owners_once, reported_around, reported_at};
+ghost use Rattle.dns_zone.specs.KeyForm.{name_key};
+ghost use Rattle.dns_zone.specs.ReportedForm.{HasOwners, failed_from, owners_once, reported_at};
 
 use crate::entry::Entry;
 use crate::fault::CheckFault;
 use crate::key::Key;
-use crate::keyed::{beside_keys, keys_of};
+use crate::keyed::{Keyed, beside_keys, keys_of};
 use crate::lookup::{count_at, count_before, count_in_front};
 use crate::owner::Owner;
 use crate::survey::Survey;
@@ -31,73 +32,74 @@ pub(crate) fn faults(
     ensures { IfOk result (λ found. found.items ≡ faults
         (record { origin = origin.now; records = records.now })) }
 {
+    let key = Key::of(origin);
     let keys = keys_of(alloc, records)?;
     let keyed = beside_keys(alloc, records, keys.as_slice())?;
-    let survey = Survey::new(alloc, origin, records, keyed.as_slice())?;
-    let (before, others) = records.split_at(count_before(
-        keyed.as_slice(),
-        origin,
-        &Key::of(origin),
-    ));
-    let (own, after) = others.split_at(count_at(others, origin));
+    let survey = Survey::new(alloc, origin, key.octets(), records, keyed.as_slice())?;
+    let place = count_before(keyed.as_slice(), origin, key.octets());
+    let (before, others) = records.split_at(place);
+    let (keyed_before, keyed_others) = keyed.as_slice().split_at(place);
+    let count = count_at(others, origin);
+    let (own, after) = others.split_at(count);
     let mut found = Vec::new(alloc);
-    report_around(&survey, before, origin, own, after, &mut found)?;
+    report_owners(&survey, keyed_before, before, 0, &mut found)?;
+    report(&survey, origin, key.octets(), own, place, &mut found)?;
+    report_owners(
+        &survey,
+        keyed_others.split_at(count).1,
+        after,
+        place + count,
+        &mut found,
+    )?;
     Ok(found)
 }
 
-// Adds the faults of the owners before a name, of the name, and of the owners after it.
-fn report_around(
-    survey: &Survey<'_>,
-    before: &[Entry],
-    name: &NameRef<'_>,
-    own: &[Entry],
-    after: &[Entry],
-    found: &mut Vec<CheckFault>,
-) -> Result<(), AllocError>
-    requires before { HasOwners survey.now before.now }
-    requires own { IsOwner survey.now name.now own.now }
-    requires after { HasOwners survey.now after.now }
-    ensures { OnOk result (found.new.items ≡ found.old.items
-        ++ reported_around survey.now before.now name.now after.now) }
-{
-    report_owners(survey, before, found)?;
-    report(survey, name, own, after, found)?;
-    report_owners(survey, after, found)
-}
-
-// Adds the faults of all owners of records that stand by them.
+// Adds the faults of all owners of records that stand by them. The first has this place among all.
 fn report_owners(
     survey: &Survey<'_>,
+    keyed: &[Keyed<'_>],
     records: &[Entry],
+    place: usize,
     found: &mut Vec<CheckFault>,
 ) -> Result<(), AllocError>
-    requires { HasOwners survey.now records.now }
+    requires keyed { keyed.now ≡ records.now }
+    requires owners { HasOwners survey.now records.now }
     ensures { OnOk result (found.new.items ≡ found.old.items ++ flat_map (reported_at survey.now)
         (owners_once records.now)) }
 {
     let mut rest = records;
     'owners: while let Some((first, _)) = rest.split_first() {
         let owner = first.owner();
+        let passed = records.len() - rest.len();
+        let key = keyed[passed].key();
         let (own, others) = rest.split_at(count_in_front(rest, &owner));
-        report(survey, &owner, own, others, found)?;
+        report(
+            survey,
+            &owner,
+            key,
+            own,
+            place.saturating_add(passed),
+            found,
+        )?;
         rest = others;
     }
     Ok(())
 }
 
-// Adds the faults of a name, whose records these are, and after which come others.
+// Adds the faults of a name, whose key and whose records these are.
 fn report(
     survey: &Survey<'_>,
     name: &NameRef<'_>,
+    key: &[u8],
     own: &[Entry],
-    after: &[Entry],
+    place: usize,
     found: &mut Vec<CheckFault>,
 ) -> Result<(), AllocError>
     requires own { IsOwner survey.now name.now own.now }
-    requires after { HasOwners survey.now after.now }
+    requires key { key.now ≡ name_key name.now }
     ensures { OnOk result (found.new.items ≡ found.old.items ++ reported_at survey.now name.now) }
 {
-    let failed = Owner::new(survey, name, own, after).judged();
+    let failed = Owner::new(survey, name, key, own, place).judged();
     add_failed(name, &failed, found)
 }
 

@@ -1,10 +1,11 @@
 //! Keys of names: octets whose plain order is the canonical order of the names.
-ghost use Rattle.std.specs.Prelude.{◌≡◌, ◌+◌, length};
+ghost use Rattle.std.specs.Prelude.{◌≡◌, ◌+◌, ◌<◌, ◌≤◌, ◌++◌, [], length, take, IfSome};
+ghost use Rattle.dns_spec.specs.Names.{DomainName, folded, at_or_below, below};
 ghost use Rattle.dns_name.specs.WireForm.{labels_of, IsWireForm};
-ghost use Rattle.dns_zone.specs.KeyForm.{raised, ended, name_key};
+ghost use Rattle.dns_zone.specs.KeyForm.{raised, ended, name_key, IsSibling};
 
 use arrayvec::ArrayVec;
-use dns_name::{NameRef, first_label};
+use dns_name::{Label, NameRef, are_equal, first_label};
 use std::marker::Model;
 
 const MAX_OCTETS: usize = 255;
@@ -26,7 +27,9 @@ impl Model for Key {
 
 impl Key {
     /// The key of the root, of no octets, to be made that of other names.
-    pub(crate) fn new() -> Key {
+    pub(crate) fn new() -> Key
+        ensures { result ≡ name_key [] }
+    {
         Key {
             octets: ArrayVec::new(),
         }
@@ -38,12 +41,38 @@ impl Key {
         ensures { result ≡ name_key name.now }
     {
         let mut key = Key::new();
-        key.make_that_of(name);
+        key.set_to(name);
         key
     }
 
+    /// Makes the key of one name that of another. Of a sibling only the first label is put, so that
+    /// names which are alike but for that one take little time, however many labels they have.
+    pub(crate) fn move_to(&mut self, from: &NameRef<'_>, name: &NameRef<'_>)
+        requires { self.old ≡ name_key from.now }
+        ensures { self.new ≡ name_key name.now }
+    {
+        match label_of_sibling(name.octets(), from.octets()) {
+            Some((label, kept)) => self.put_last(label.octets(), kept),
+            None => self.set_to(name),
+        }
+    }
+
+    // Puts a label after so many octets.
+    fn put_last(&mut self, label: &[u8], kept: usize)
+        requires inside { kept ≤ length self.old }
+        requires room { kept + length label.now < 255 }
+        ensures { self.new ≡ take kept self.old ++ ended label.now }
+    {
+        self.octets.truncate(kept);
+        if self.octets.try_extend_from_slice(label).is_err() {
+            unreachable!();
+        }
+        self.octets.push(0);
+        put_label(label, &mut self.octets.as_mut_slice()[kept..]);
+    }
+
     /// Makes it the key of a name. Where many are made in turn, that moves no octets but theirs.
-    pub(crate) fn make_that_of(&mut self, name: &NameRef<'_>)
+    pub(crate) fn set_to(&mut self, name: &NameRef<'_>)
         ensures { self.new ≡ name_key name.now }
     {
         let octets = name.octets();
@@ -60,6 +89,38 @@ impl Key {
     {
         self.octets.as_slice()
     }
+}
+
+/// Whether a name is at or below another, both in lower case, whose keys these are: whether the key
+/// of the other begins its own.
+pub(crate) fn is_under(key: &[u8], other: &[u8]) -> bool
+    ensures { (n m : DomainName) → folded n ≡ n → folded m ≡ m → key.now ≡ name_key n
+        → other.now ≡ name_key m → result ≡ at_or_below n m }
+{
+    key.starts_with(other)
+}
+
+/// Whether a name is below another, both in lower case, whose keys these are.
+pub(crate) fn is_below(key: &[u8], other: &[u8]) -> bool
+    ensures { (n m : DomainName) → folded n ≡ n → folded m ≡ m → key.now ≡ name_key n
+        → other.now ≡ name_key m → result ≡ below n m }
+{
+    key.len() > other.len() && is_under(key, other)
+}
+
+// The first label of a name, where it is a sibling of another, and how many octets the key of the
+// name has that both are directly below.
+fn label_of_sibling<'a>(name: &'a [u8], other: &[u8]) -> Option<(Label<'a>, usize)>
+    requires name { IsWireForm name.now }
+    requires other { IsWireForm other.now }
+    ensures { IfSome result (λ r. IsSibling (labels_of name.now) (labels_of other.now) r.0 r.1) }
+{
+    let (label, end) = first_label(name)?;
+    let (_, other_end) = first_label(other)?;
+    if !are_equal(end, other_end) {
+        return None;
+    }
+    Some((label, end.len() - 1))
 }
 
 // Puts the labels of a name in wire form into a key, from its end.
@@ -91,7 +152,7 @@ fn put_label(label: &[u8], key: &mut [u8])
 
 // An octet of a name in lower case, where 65 to 90 do not stand: those below are one more, so that
 // 0 is left to end a label.
-fn raised(octet: u8) -> u8
+pub(crate) fn raised(octet: u8) -> u8
     ensures { result ≡ raised octet }
 {
     if octet < 65 { octet + 1 } else { octet }

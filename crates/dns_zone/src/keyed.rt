@@ -1,7 +1,7 @@
 //! Records beside the keys of their owners, to be found by these.
 ghost use Rattle.std.specs.Prelude.{◌≡◌, ◌∷◌, ◌++◌, IfOk, OnOk};
 ghost use Rattle.dns_spec.specs.Names.{folded, name_order};
-ghost use Rattle.dns_zone.specs.KeyForm.{name_key, shares_key, keys_left};
+ghost use Rattle.dns_zone.specs.KeyForm.{name_key, shares_key, keys_left, IsKeyOfFirst};
 
 use crate::entry::Entry;
 use crate::key::Key;
@@ -39,13 +39,21 @@ impl<'a> Keyed<'a> {
         self.listed
     }
 
+    /// The key of its owner.
+    pub(crate) fn key(&self) -> &'a [u8]
+        ensures value { result.now ≡ name_key self.now.owner }
+        ensures lower { folded self.now.owner ≡ self.now.owner }
+    {
+        self.key
+    }
+
     /// How the owner stands to a name in lower case, whose key this is.
-    pub(crate) fn order(&self, name: &NameRef<'_>, key: &Key) -> Ordering
+    pub(crate) fn order(&self, name: &NameRef<'_>, key: &[u8]) -> Ordering
         requires lower { folded name.now ≡ name.now }
         requires key { key.now ≡ name_key name.now }
         ensures { result ≡ name_order self.now.owner name.now }
     {
-        self.key.cmp(key.octets())
+        self.key.cmp(key)
     }
 }
 
@@ -55,6 +63,9 @@ pub(crate) fn keys_of(alloc: Global, records: &[Entry]) -> Result<Vec<u8>, Alloc
 {
     let mut keys = Vec::new(alloc);
     let mut key = Key::new();
+    if let Some(first) = records.first() {
+        key.set_to(&first.owner());
+    }
     let mut rest = records;
     'records: while let Some((first, others)) = rest.split_first() {
         add_key(first, others, &mut key, &mut keys)?;
@@ -63,21 +74,26 @@ pub(crate) fn keys_of(alloc: Global, records: &[Entry]) -> Result<Vec<u8>, Alloc
     Ok(keys)
 }
 
-// Adds the key of a record's owner, where it is not that of the next. `key` is room to make it in.
+// Adds the key of a record's owner, where it is not that of the next, and makes it that of the next.
 fn add_key(
     first: &Entry,
     others: &[Entry],
     key: &mut Key,
     keys: &mut Vec<u8>,
 ) -> Result<(), AllocError>
-    ensures { OnOk result (keys.new.items ++ keys_left others.now
+    requires key { key.old ≡ name_key first.now.owner }
+    ensures keys { OnOk result (keys.new.items ++ keys_left others.now
         ≡ keys.old.items ++ keys_left (first.now ∷ others.now)) }
+    ensures next { OnOk result (IsKeyOfFirst key.new others.now) }
 {
     if shares_key(first, others) {
         return Ok(());
     }
-    key.make_that_of(&first.owner());
-    keys.extend_from_slice(key.octets())
+    keys.extend_from_slice(key.octets())?;
+    if let Some(next) = others.first() {
+        key.move_to(&first.owner(), &next.owner());
+    }
+    Ok(())
 }
 
 // Whether the next record has the same owner.

@@ -2,11 +2,12 @@
 ghost use Rattle.std.specs.Prelude.{List, ◌≡◌, ◌<◌, ◌≤◌, All, length, IfOk};
 ghost use Rattle.std.specs.List.{dedup};
 ghost use Rattle.std.specs.List.Sorted.{IsPermutation};
+ghost use Rattle.dns_spec.specs.Names.{folded};
 ghost use Rattle.dns_spec.specs.Records.{ResourceRecord, records_equal, distinct, sort_by, record_order};
 ghost use Rattle.dns_spec.specs.ZonePrinted.{IsReadRecord};
 ghost use Rattle.dns_zone.specs.ZoneForm.{AreOrdered, comes_first, neighbours_rise};
 
-use crate::arranged::arrange;
+use crate::arranged::{arrange, sort_runs};
 use crate::entry::Entry;
 use crate::order::record_order;
 use dns_name::NameRef;
@@ -19,6 +20,7 @@ pub(crate) fn ordered(
     origin: &NameRef<'_>,
     mut records: Vec<Entry>,
 ) -> Result<Vec<Entry>, AllocError>
+    requires { folded origin.now ≡ origin.now }
     ensures records { IfOk result (λ kept. kept.items
         ≡ sort_by record_order (distinct records_equal records.items)) }
     ensures in_order { IfOk result (λ kept. AreOrdered kept.items) }
@@ -38,6 +40,10 @@ fn sort_once(records: &mut Vec<Entry>)
         → records.new.items ≡ sort_by record_order (distinct records_equal rs) }
     ensures bound { length records.new.items ≤ length records.old.items }
 {
+    if rises(records.as_slice()) {
+        return;
+    }
+    sort_runs(records.as_mut_slice());
     if rises(records.as_slice()) {
         return;
     }

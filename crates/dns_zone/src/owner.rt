@@ -4,9 +4,11 @@ ghost use Rattle.dns_spec.specs.Records.{owns};
 ghost use Rattle.dns_spec.specs.Tree.{is_cut};
 ghost use Rattle.dns_spec.specs.Checks.{is_origin, count, owns_such, is_address_type, below_cut, checks, no_soa, many_soa, soa_elsewhere, no_ns, outside, cname_and_other, many_cname, ttls_differ, ns_target_alias, ns_target_lost, mx_target_alias, data_at_cut, wildcard_ns, large_set, many_sets};
 ghost use Rattle.dns_spec.specs.Data.{type_ns, type_cname};
-ghost use Rattle.dns_zone.specs.OwnerForm.{IsPlaced, is_server_alias, is_server_lost};
+ghost use Rattle.dns_zone.specs.OwnerForm.{IsOwner, is_server_alias, is_server_lost};
+ghost use Rattle.dns_zone.specs.KeyForm.{name_key};
 
 use crate::entry::Entry;
+use crate::key::{is_below, is_under};
 use crate::lookup::has_type;
 use crate::sets::{have_large_set, have_many_sets, have_other_ttls};
 use crate::survey::Survey;
@@ -19,9 +21,10 @@ use std::marker::Model;
 pub(crate) struct Owner<'a> {
     survey: &'a Survey<'a>,
     name: &'a NameRef<'a>,
+    key: &'a [u8],
     own: &'a [Entry],
-    // Records of other owners, which come after.
-    after: &'a [Entry],
+    // Where the first of these stands among all records.
+    place: usize,
     // Whether the name is the zone's origin.
     stands_first: bool,
 }
@@ -29,33 +32,37 @@ pub(crate) struct Owner<'a> {
 impl<'a> Model for Owner<'a> {
     ghost use Rattle.std.specs.Prelude.{◌≡◌};
     ghost use Rattle.dns_spec.specs.Checks.{is_origin};
-    ghost use Rattle.dns_zone.specs.OwnerForm.{NameOfZone, IsPlaced};
+    ghost use Rattle.dns_zone.specs.KeyForm.{name_key};
+    ghost use Rattle.dns_zone.specs.OwnerForm.{NameOfZone, IsOwner};
 
     ghost Value = { NameOfZone };
 
     ghost view = { λ o. record { zone = o.survey.now; name = o.name.now } };
 
-    ghost invariant = { λ o. IsPlaced o.survey.now o.name.now o.own.now o.after.now
+    ghost invariant = { λ o. IsOwner o.survey.now o.name.now o.own.now
+        × (o.key.now ≡ name_key o.name.now)
         × (o.stands_first ≡ is_origin o.survey.now o.name.now) };
 }
 
 impl<'a> Owner<'a> {
-    /// A name in lower case, of a zone, with the name's records and some after these, which are all
-    /// of their owners.
+    /// A name in lower case, of a zone, with the name's key and records.
     pub(crate) fn new(
         survey: &'a Survey<'a>,
         name: &'a NameRef<'a>,
+        key: &'a [u8],
         own: &'a [Entry],
-        after: &'a [Entry],
+        place: usize,
     ) -> Owner<'a>
-        requires { IsPlaced survey.now name.now own.now after.now }
+        requires own { IsOwner survey.now name.now own.now }
+        requires key { key.now ≡ name_key name.now }
         ensures { result ≡ record { zone = survey.now; name = name.now } }
     {
         Owner {
             survey,
             name,
+            key,
             own,
-            after,
+            place,
             stands_first: name.same(survey.origin()),
         }
     }
@@ -114,7 +121,7 @@ impl<'a> Owner<'a> {
     fn is_outside(&self) -> bool
         ensures { result ≡ outside self.now.zone self.now.name }
     {
-        !self.own.is_empty() && !self.name.at_or_below(self.survey.origin())
+        !self.own.is_empty() && !is_under(self.key, self.survey.key())
     }
 
     fn has_cname_and_other(&self) -> bool
@@ -164,7 +171,7 @@ impl<'a> Owner<'a> {
             return (false, false);
         }
         self.survey
-            .judged_target(listed, self.name, owner_is_cut, self.after)
+            .judged_target(listed, self.place, self.name, owner_is_cut)
     }
 
     fn has_mx_target_alias(&self) -> bool
@@ -225,7 +232,7 @@ impl<'a> Owner<'a> {
     fn is_cut(&self) -> bool
         ensures { result ≡ is_cut self.now.zone self.now.name }
     {
-        self.owns(RType::NS) && self.name.below(self.survey.origin())
+        self.owns(RType::NS) && is_below(self.key, self.survey.key())
     }
 
     // At a cut stand its NS records and addresses alone. Cuts mostly own no more, which costs less to
@@ -244,7 +251,7 @@ impl<'a> Owner<'a> {
         ensures { result ≡ (below_cut self.now.zone self.now.name
             && owns_such self.now.zone self.now.name (λ t. not (is_address_type t))) }
     {
-        self.owns_other_than_address() && self.survey.is_below_cut(self.name)
+        self.owns_other_than_address() && self.survey.is_below_cut(self.name, self.key)
     }
 
     fn owns_other_than_cname(&self) -> bool

@@ -1,10 +1,15 @@
-use Rattle.std.proofs.Common.{ap, ◌∙◌}
+use Rattle.std.proofs.Common.{◌∙◌}
 use Rattle.dns_spec.specs.Names.{at_or_below}
 use Rattle.dns_spec.specs.Records.{ResourceRecord}
-use Rattle.dns_zone.proofs.AboveCuts.{last_is}
+use Rattle.dns_zone.proofs.AboveCuts.{last_is, last_none}
 use Rattle.dns_zone.proofs.cuts.is_covered.Goals as goal
 
 pub returns-in-Some : goal.returns-in-Some
-returns-in-Some c =
-    c.is_at_or_below.ensures ∙ ap (at_or_below c.args.name.now) c.owner.ensures.value ∙ ap (λ (r : ResourceRecord). at_or_below c.args.name.now r.owner) c.listed-listed.ensures
-    ∙ last_is (λ (r : ResourceRecord). at_or_below c.args.name.now r.owner) c.in-Some.cut.now c.args.cuts.now c.in-Some.ensures.value
+returns-in-Some c = λ n p e.
+    c.is_under.ensures n c.in-Some.cut.now.now.owner p c.key.ensures.lower e c.key.ensures.value
+    ∙ last_is (λ (r : ResourceRecord). at_or_below n r.owner) c.in-Some.cut.now c.args.cuts.now
+    c.in-Some.ensures.value
+
+pub returns-in-None : goal.returns-in-None
+returns-in-None c = λ n p e.
+    last_none (λ (r : ResourceRecord). at_or_below n r.owner) c.args.cuts.now c.in-None.ensures.value

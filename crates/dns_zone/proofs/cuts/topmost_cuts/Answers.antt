@@ -29,7 +29,7 @@ records-preserved c =
           let items = sym (map_push (λ (b : Bor ResourceRecord). b.now) cs _) ∙ ap after (sym w.in_ok-push.ensures.items) ∙ ap (λ v. after v.items) (sym w.cuts-is) in
           subst (λ ds. AreTopmost (record { origin = o; records = take (i + 1) rs }) ds) items
           (subst (λ ss. AreTopmost (record { origin = o; records = ss }) (after cs ++ r ∷ [])) next
-          (added o (take i rs) r (after cs) c.records.invariant (earlier_owners rs i r c.requires c.records-test.true c.listed-item.is) parts.0 (not-true _ parts.1)))
+          (added o (take i rs) r (after cs) c.records.invariant (earlier_owners rs i r c.requires.ordered c.records-test.true c.listed-item.is) parts.0 (not-true _ parts.1)))
       | else-is_topmost w ↦
           subst (λ ds. AreTopmost (record { origin = o; records = take (i + 1) rs }) ds) (ap (λ v. after v.items) (sym w.cuts-is))
           (subst (λ ss. AreTopmost (record { origin = o; records = ss }) (after cs)) next

@@ -5,14 +5,6 @@ use Rattle.dns_zone.specs.ReportedForm.{failed_from}
 use Rattle.dns_zone.proofs.ReportedNames.{failed-reported}
 use Rattle.dns_zone.proofs.faults.report.Goals as goal
 
-pub new-requires : goal.new-requires
-new-requires c = record {
-  lower = c.requires.own.lower;
-  own_is = c.requires.own.own_is;
-  by_types = c.requires.own.by_types;
-  followed = c.requires.after;
-}
-
 pub returns : goal.returns
 returns c =
     let n = c.args.name.now in

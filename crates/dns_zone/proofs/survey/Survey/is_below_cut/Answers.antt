@@ -9,7 +9,7 @@ use Rattle.dns_zone.proofs.survey.Survey.is_below_cut.Goals as goal
 pub returns : goal.returns
 returns c =
     let n = c.args.name.now in
-    c.is_below_last.ensures
+    c.is_below_last.ensures n c.requires.lower c.requires.key
     ∙ ap (last_passes (λ (r : ResourceRecord). below n r.owner))
     (c.not_after.ensures ∙ ap (λ bs. filter (λ (r : ResourceRecord). not (is_gt (name_order r.owner n))) (after bs)) c.as_slice.ensures.value)
     ∙ sym (below_cut-last _ _ c.self.invariant.topmost n)

@@ -6,20 +6,11 @@ use Rattle.dns_spec.specs.Records.{ResourceRecord, owns}
 use Rattle.dns_zone.proofs.OwnRecords.{own-owns}
 use Rattle.dns_zone.proofs.survey.Survey.judged_name.Goals as goal
 
-pub returns-in-Some-clause-alias : goal.returns-in-Some-clause-alias
-returns-in-Some-clause-alias c =
-    let z = c.args.self.now in
-    let m = c.args.target.now in
-    let inside = sym c.if-not-is_at_or_below.false ∙ c.is_at_or_below.ensures ∙ ap (at_or_below m) c.origin.ensures.value in
-    c.has_type.ensures ∙ ap (list_any (λ (r : ResourceRecord). r.rtype == type_cname)) c.in-Some.ensures.own_is
-    ∙ own-owns z m type_cname
-    ∙ ap (λ b. b && owns z m type_cname) inside
-
 pub returns-clause-alias : goal.returns-clause-alias
 returns-clause-alias c =
     let z = c.args.self.now in
     let m = c.args.target.now in
     let inside = sym c.if-not-is_at_or_below.false ∙ c.is_at_or_below.ensures ∙ ap (at_or_below m) c.origin.ensures.value in
-    c.has_type-2.ensures ∙ ap (list_any (λ (r : ResourceRecord). r.rtype == type_cname)) c.at-own.ensures.own
+    c.has_type.ensures ∙ ap (list_any (λ (r : ResourceRecord). r.rtype == type_cname)) c.at-own.ensures.own
     ∙ own-owns z m type_cname
     ∙ ap (λ b. b && owns z m type_cname) inside

@@ -4,7 +4,7 @@ use Rattle.dns_name.specs.WireForm.{labels_of}
 use Rattle.dns_name.proofs.WireLemmas.{IsWireForm-wire, labels_of_spelled}
 use Rattle.dns_zone.specs.KeyForm.{name_key}
 use Rattle.dns_zone.proofs.KeyOrder.{some_octets}
-use Rattle.dns_zone.proofs.key.Key.make_that_of.Goals as goal
+use Rattle.dns_zone.proofs.key.Key.set_to.Goals as goal
 
 pub slice_bounds-try_extend_from_slice-count : goal.slice_bounds-try_extend_from_slice-count
 slice_bounds-try_extend_from_slice-count c =

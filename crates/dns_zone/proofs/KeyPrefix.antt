@@ -1,0 +1,180 @@
+-- The key of a name begins with that of another just where the name is at or below it.
+use Rattle.std.proofs.Common.{◌≡◌, ℕ, ◌+◌, ◌<◌, ◌≤◌, ◌==◌, Bool, true, false, ◌⊎◌, inl, inr, [], ◌∷◌, ◌++◌, length, take, drop, get_or, map, reverse, refl, sym, ap, ap₂, ◌∙◌, arith, length-append, nat_lt}
+use Rattle.std.proofs.lemmas.Bool.{cases_order, lt-ltb, ltb-true, le-ltb, and_from, and_parts, and_right}
+use Rattle.std.proofs.lemmas.List.{reverse-append, reverse-reverse, append_assoc, take-append-drop}
+use Rattle.std.proofs.lemmas.List.Concat.{flat_map-cons}
+use Rattle.std.proofs.Math.Seq.{take-append_seam}
+use Rattle.std.specs.Char.{to_ascii_lowercase}
+use Rattle.std.specs.List.{flat_map, starts_with}
+use Rattle.dns_spec.specs.Names.{Octets, DomainName, folded, at_or_below, below, wire}
+use Rattle.dns_spec.proofs.DomainNames.NameLaws.{octets_equal-decides, same_tests}
+use Rattle.dns_name.specs.WireForm.{labels_of}
+use Rattle.dns_zone.specs.KeyForm.{raised, ended, name_key, IsSibling}
+use Rattle.dns_zone.proofs.KeyOrder.{IsLow, low_octet, raised_some, raised_less, key_flat, key_length, map_reverse}
+use Rattle.dns_zone.proofs.NameTree.{Under, under-is, under-from}
+
+pub key_append : (n m : DomainName) → name_key (n ++ m) ≡ name_key m ++ name_key n
+key_append [] m = sym (append-nil (name_key m))
+  where
+    append-nil : (xs : Octets) → xs ++ [] ≡ xs
+    append-nil [] = refl
+    append-nil (x ∷ xs) = ap (λ ys. x ∷ ys) (append-nil xs)
+key_append (l ∷ n) m =
+    ap (λ xs. xs ++ ended l) (key_append n m) ∙ append_assoc (name_key m) (name_key n) (ended l)
+
+raised_one : (x y : ℕ) → IsLow x → IsLow y → raised x ≡ raised y → x ≡ y
+raised_one x y p q e = go (cases_order x y)
+  where
+    go : (x ≡ y) ⊎ ((x < y) ⊎ (y < x)) → x ≡ y
+    go (inl f) = f
+    go (inr (inl l)) = let m = raised_less x y p q l in absurd (omega (arith, m, e))
+    go (inr (inr l)) = let m = raised_less y x q p l in absurd (omega (arith, m, e))
+
+-- what begins with an ended label tells that label, and what follows it
+ended_first : (xs ys us vs : Octets) → map to_ascii_lowercase xs ≡ xs
+    → map to_ascii_lowercase ys ≡ ys → ended xs ++ us ≡ ended ys ++ vs → (xs ≡ ys) × (us ≡ vs)
+ended_first [] [] us vs p q e = (refl, ap (drop 1) e)
+ended_first [] (y ∷ ys) us vs p q e =
+    let first : 0 ≡ raised y = ap (λ l. get_or l 0 0) e in
+    let some = raised_some y in
+    absurd (omega (arith, first, some))
+ended_first (x ∷ xs) [] us vs p q e =
+    let first : raised x ≡ 0 = ap (λ l. get_or l 0 0) e in
+    let some = raised_some x in
+    absurd (omega (arith, first, some))
+ended_first (x ∷ xs) (y ∷ ys) us vs p q e =
+    let first : raised x ≡ raised y = ap (λ l. get_or l 0 0) e in
+    let low_x = low_octet x (ap (λ l. get_or l 0 0) p) in
+    let low_y = low_octet y (ap (λ l. get_or l 0 0) q) in
+    let rest = ended_first xs ys us vs (ap (drop 1) p) (ap (drop 1) q) (ap (drop 1) e) in
+    (ap₂ ◌∷◌ (raised_one x y low_x low_y first) rest.0, rest.1)
+
+-- labels from the right
+begins : (n m : DomainName) (us : Octets) → folded n ≡ n → folded m ≡ m
+    → flat_map ended n ≡ flat_map ended m ++ us → (p : DomainName) × (n ≡ m ++ p)
+begins n [] us p q e = (n, refl)
+begins [] (k ∷ m) us p q e =
+    absurd (none k (flat_map ended m ++ us)
+    (e ∙ ap (λ xs. xs ++ us) (flat_map-cons ended k m)
+    ∙ append_assoc (ended k) (flat_map ended m) us))
+  where
+    none : (k vs : Octets) → ◌≡◌ {A = Octets} [] (ended k ++ vs) → ⊥
+    none [] vs f = cc
+    none (o ∷ k) vs f = cc
+begins (l ∷ n) (k ∷ m) us p q e =
+    let parts = ended_first l k (flat_map ended n) (flat_map ended m ++ us)
+    (ap (λ ls. get_or ls 0 []) p) (ap (λ ls. get_or ls 0 []) q)
+    (sym (flat_map-cons ended l n) ∙ e ∙ ap (λ xs. xs ++ us) (flat_map-cons ended k m)
+    ∙ append_assoc (ended k) (flat_map ended m) us) in
+    let rest = begins n m us (ap (drop 1) p) (ap (drop 1) q) parts.1 in
+    (rest.0, ap₂ ◌∷◌ parts.0 rest.1)
+
+module _ (n m : DomainName) (low_n : folded n ≡ n) (low_m : folded m ≡ m) where
+  turned : (k : DomainName) → folded k ≡ k → folded (reverse k) ≡ reverse k
+  turned k e = map_reverse (map to_ascii_lowercase) k ∙ ap reverse e
+
+  under_key : at_or_below n m ≡ true → starts_with ◌==◌ (name_key n) (name_key m) ≡ true
+  under_key h = go (under-is n m h)
+    where
+      go : Under n m → starts_with ◌==◌ (name_key n) (name_key m) ≡ true
+      go (p, e) =
+          let whole : n ≡ p ++ m = sym low_n ∙ e ∙ ap (λ x. p ++ x) low_m in
+          let key : name_key n ≡ name_key m ++ name_key p = ap name_key whole ∙ key_append p m in
+          (octets_equal-decides (name_key m) (take (length (name_key m)) (name_key n))).1
+          (sym (ap (take (length (name_key m))) key ∙ take-append_seam (name_key m) (name_key p)))
+
+  key_under : starts_with ◌==◌ (name_key n) (name_key m) ≡ true → at_or_below n m ≡ true
+  key_under h =
+      let k = length (name_key m) in
+      let front : name_key m ≡ take k (name_key n) =
+      (octets_equal-decides (name_key m) (take k (name_key n))).0 h in
+      let key : name_key n ≡ name_key m ++ drop k (name_key n) =
+      sym (take-append-drop k (name_key n)) ∙ ap (λ x. x ++ drop k (name_key n)) (sym front) in
+      let found = begins (reverse n) (reverse m) (drop k (name_key n)) (turned n low_n)
+      (turned m low_m) (sym (key_flat n) ∙ key
+      ∙ ap (λ x. x ++ drop k (name_key n)) (key_flat m)) in
+      let whole : n ≡ reverse found.0 ++ m =
+      sym (reverse-reverse n) ∙ ap reverse found.1 ∙ reverse-append (reverse m) found.0
+      ∙ ap (λ x. reverse found.0 ++ x) (reverse-reverse m) in
+      under-from n m (reverse found.0, low_n ∙ whole ∙ ap (λ x. reverse found.0 ++ x) (sym low_m))
+
+  pub starts_under : starts_with ◌==◌ (name_key n) (name_key m) ≡ at_or_below n m
+  starts_under = same_tests _ _ key_under under_key
+
+-- some labels, some octets
+some : (ks : DomainName) → 0 < length ks → length (name_key ks) ≡ 0 → ⊥
+some [] h e = absurd (omega arith)
+some (k ∷ ks) h e =
+    let size : length (name_key ks ++ ended k) ≡ length (name_key ks) + length (ended k) =
+    length-append (name_key ks) (ended k) in
+    let own : length (ended k) ≡ length (map raised k) + 1 =
+    length-append (map raised k) (0 ∷ []) in
+    omega (arith, size, own, e)
+
+-- a name at or below another is longer where its key is
+module _ (n m : DomainName) (key other : Octets) (p : folded n ≡ n) (q : folded m ≡ m)
+    (e : key ≡ name_key n) (f : other ≡ name_key m) where
+  longer : at_or_below n m ≡ true → length other < length key → nat_lt (length m) (length n) ≡ true
+  longer h l = go (under-is n m h)
+    where
+      go : Under n m → nat_lt (length m) (length n) ≡ true
+      go ([], g) =
+          let one : n ≡ m = sym p ∙ g ∙ q in
+          let size : length key ≡ length other = ap length (e ∙ ap name_key one ∙ sym f) in
+          absurd (omega (arith, l, size))
+      go (k ∷ ks, g) =
+          let size : length n ≡ length (k ∷ ks ++ m) =
+          ap length (sym p ∙ g ∙ ap (λ x. k ∷ ks ++ x) q) in
+          let both : length (ks ++ m) ≡ length ks + length m = length-append ks m in
+          lt-ltb (length m) (length n) (omega (arith, size, both))
+
+  pub below_longer : (b : Bool) → length other < length key → b ≡ at_or_below n m → b ≡ below n m
+  below_longer b l g = go (at_or_below n m) refl
+    where
+      go : (a : Bool) → at_or_below n m ≡ a → b ≡ below n m
+      go true h = g ∙ h ∙ sym (and_from _ _ (longer h l) h)
+      go false h = g ∙ h ∙ sym (and_right (nat_lt (length m) (length n)) (at_or_below n m) h)
+
+  pub below_shorter : length key ≤ length other → nat_lt (length other) (length key) ≡ below n m
+  below_shorter l = le-ltb (length other) (length key) l ∙ go (below n m) refl
+    where
+      go : (b : Bool) → below n m ≡ b → false ≡ b
+      go false h = refl
+      go true h =
+          let parts = and_parts (nat_lt (length m) (length n)) (at_or_below n m) h in
+          absurd (shown (under-is n m parts.1) (ltb-true (length m) (length n) parts.0))
+        where
+          shown : Under n m → length m < length n → ⊥
+          shown (ks, g) s =
+              let whole : n ≡ ks ++ m = sym p ∙ g ∙ ap (λ x. ks ++ x) q in
+              let size : length n ≡ length ks + length m = ap length whole ∙ length-append ks m in
+              let keys : length key ≡ length (name_key m) + length (name_key ks) =
+              ap length (e ∙ ap name_key whole ∙ key_append ks m)
+              ∙ length-append (name_key m) (name_key ks) in
+              let other_is : length other ≡ length (name_key m) = ap length f in
+              some ks (omega (arith, size, s)) (omega (arith, keys, other_is, l))
+
+-- the key of a sibling
+module _ (n m : DomainName) (key xs ys l : Octets) (k : ℕ) (e : key ≡ name_key m) where
+  pub sibling_key : labels_of xs ≡ n → labels_of ys ≡ m → IsSibling (labels_of xs) (labels_of ys) l k
+      → take k key ++ ended l ≡ name_key n
+  sibling_key f g s =
+      let whole : key ≡ name_key s.end ++ ended s.other =
+      e ∙ ap name_key (sym g ∙ s.other_is) in
+      let front : take k key ≡ name_key s.end =
+      ap (λ i. take i key) s.count ∙ ap (take (length (name_key s.end))) whole
+      ∙ take-append_seam (name_key s.end) (ended s.other) in
+      ap (λ x. x ++ ended l) front ∙ ap name_key (sym s.name_is ∙ f)
+
+  pub sibling_room : xs ≡ wire n → ys ≡ wire m → length xs ≤ 255 → labels_of xs ≡ n
+      → labels_of ys ≡ m → IsSibling (labels_of xs) (labels_of ys) l k
+      → (k ≤ length key) × (k + length l < 255)
+  sibling_room w v b f g s =
+      let whole : length key ≡ length (name_key s.end) + length (ended s.other) =
+      ap length (e ∙ ap name_key (sym g ∙ s.other_is))
+      ∙ length-append (name_key s.end) (ended s.other) in
+      let count = s.count in
+      let size : length xs ≡ length (wire (l ∷ s.end)) = ap length (w ∙ ap wire (sym f ∙ s.name_is)) in
+      let own : length (l ++ wire s.end) ≡ length l + length (wire s.end) =
+      length-append l (wire s.end) in
+      (omega (arith, whole, count), omega (arith, size, own, count, b, key_length s.end))
