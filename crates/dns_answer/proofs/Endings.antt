@@ -1,5 +1,5 @@
 -- How the sets that end an answer are offered.
-use Rattle.std.proofs.Common.{◌≡◌, ℕ, ◌+◌, ◌<◌, ◌≤◌, Bool, true, false, cond, ◌||◌, not, min, List, [], ◌∷◌, ◌++◌, map, reverse, length, get_or, None, Some, refl, sym, ap, ap₂, ◌∙◌, arith, append-nil}
+use Rattle.std.proofs.Common.{◌≡◌, ◌⊎◌, inl, inr, ℕ, ◌+◌, ◌<◌, ◌≤◌, Bool, true, false, cond, ◌||◌, not, min, List, [], ◌∷◌, ◌++◌, map, reverse, length, get_or, None, Some, refl, sym, ap, ap₂, ◌∙◌, arith, append-nil}
 use Rattle.std.proofs.lemmas.Bool.{and_parts}
 use Rattle.std.proofs.lemmas.List.{length-map}
 use Rattle.std.specs.Prelude.{◌==◌, nat_lt}
@@ -21,7 +21,7 @@ use Rattle.dns_answer.specs.Targets.{side_items, side_nodes, set_targets}
 use Rattle.dns_answer.specs.Walks.{Took}
 use Rattle.dns_answer.specs.Ending.{Ends, all_names, inside, not_inside, ending_targets, ending_required, ending_items, glue_by, others_by}
 use Rattle.dns_answer.specs.declared.ending.Verdict.{Verdict}
-use Rattle.dns_answer.proofs.Offering.{Offers-is, Offers-nothing, Offers-then}
+use Rattle.dns_answer.proofs.Offering.{Offers-is, Offers-nothing, Offers-then, Offers-full}
 use Rattle.dns_answer.proofs.TargetLaws.{side_items-none, items-untaken}
 use Rattle.dns_answer.proofs.WayLaws.{set-owned}
 use Rattle.dns_zone.specs.Nodes.{Walk, ZoneNode, IsSetOf}
@@ -139,12 +139,21 @@ servers_targets z node name ttl set zone named timed e rt k =
     ap targets_of (servers_item z node name ttl set zone named timed e rt k) ∙ targets_of_set authority name ttl set (ap (λ t. t == type_ns || t == type_mx || t == type_srv) rt)
 
 -- where all targets are at or below the cut there are no others
-pub none-outside_cut : (z : ZoneContents) (c : DomainName) (before ms : List DomainName) → list_all (inside c) ms ≡ true → side_items z (not_inside c) before ms ≡ []
+none-outside_cut : (z : ZoneContents) (c : DomainName) (before ms : List DomainName)
+    → list_all (inside c) ms ≡ true → side_items z (not_inside c) before ms ≡ []
 unfolding side_items
 none-outside_cut z c before [] all = refl
 none-outside_cut z c before (m ∷ ms) all =
     let parts = and_parts (inside c m) (list_all (inside c) ms) all in
     ap₂ (λ x y. x ++ y) (items-untaken z (not_inside c) before m (ap not parts.0)) (none-outside_cut z c (before ++ m ∷ []) ms parts.1)
+
+-- nothing is offered for others where all are at or below it, and to a full reply
+pub Offers-others : (z : ZoneContents) (c : DomainName) (w : State) (ms : List DomainName)
+    (b : Bool) → (w.full ≡ true) ⊎ (b ≡ list_all (inside c) ms) → b ≡ true
+    → Offers w w (side_items z (not_inside c) [] ms)
+Offers-others z c w ms b (inl full) e = Offers-full w _ full
+Offers-others z c w ms b (inr all) e =
+    Offers-is _ _ [] _ (sym (none-outside_cut z c [] ms (sym all ∙ e))) (Offers-nothing w)
 
 -- a referral
 pub Ends-referred : (w w1 w2 w' : State) (z z2 : ZoneContents) (node : ZoneNode) (name : DomainName) (ttl : ℕ) (set : RecordSet) (v : Verdict)

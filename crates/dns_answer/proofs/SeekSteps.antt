@@ -1,8 +1,8 @@
 -- What seeking a name has offered and taken, by what is found for it.
-use Rattle.std.proofs.Common.{◌≡◌, ◌⊎◌, inl, inr, ℕ, ◌+◌, ◌-◌, Bool, true, false, cond, ◌&&◌, ◌||◌, not, List, [], ◌∷◌, ◌++◌, map, length, get_or, Option, None, Some, is_some, refl, sym, ap, subst, ◌∙◌, arith}
+use Rattle.std.proofs.Common.{◌≡◌, ◌⊎◌, inl, inr, ℕ, ◌+◌, ◌-◌, Bool, true, false, cond, ◌&&◌, ◌||◌, not, List, [], ◌∷◌, ◌++◌, map, length, get_or, Option, None, Some, is_some, refl, sym, ap, ap₂, subst, ◌∙◌, arith}
 use Rattle.std.specs.List.{list_any}
 use Rattle.std.specs.Option.{option_and_then}
-use Rattle.dns_spec.specs.Names.{Octets, DomainName, same, at_or_below}
+use Rattle.dns_spec.specs.Names.{Octets, DomainName, folded, names_equal, same, at_or_below}
 use Rattle.dns_spec.specs.Data.{target, type_cname}
 use Rattle.dns_spec.specs.Records.{ResourceRecord, ZoneContents, at, of_type, with_owner}
 use Rattle.dns_spec.specs.Sets.{RecordSet, set_of, records_at}
@@ -20,6 +20,9 @@ use Rattle.dns_answer.specs.Walks.{AreRecords, Took, node_of, node_or}
 use Rattle.dns_answer.specs.Chain.{chain_items, chain_required, chain_nodes, chain_misses}
 use Rattle.dns_answer.specs.Seeking.{SeeksFrom, AreSought, Seeks, TookFrom, alias_target, NextIs, Completes, LeadsTo, LedOn}
 use Rattle.dns_answer.specs.declared.ending.Verdict.{Verdict}
+use Rattle.dns_spec.proofs.DataWords.LoweredData.{folded-folded}
+use Rattle.std.specs.Prelude.{All}
+use Rattle.std.proofs.lemmas.List.Elements.{All-tail}
 use Rattle.dns_answer.proofs.Offered.{offered-append}
 use Rattle.dns_answer.proofs.Offering.{Offers-is, Offers-then}
 use Rattle.dns_answer.proofs.EndingSets.{item-shown, of_type-shown}
@@ -111,13 +114,13 @@ module _ (z : ZoneContents) (t k : ℕ) (before : List DomainName) (s : DomainNa
 
       go : (o : Option DomainName) → option_and_then next o ≡ option_and_then (λ m. cond (at_or_below m z.origin && not (list_any (same m) kept)) (Some m) None) o
       go None = refl
-      go (Some m) = ap (λ b. cond (at_or_below m z.origin && not b) (Some m) None) (sym (are (same m)))
+      go (Some m) = ap (λ b. cond (at_or_below m z.origin && not b) (Some m) None) (sym (are m))
 
   pub some-next : (kept : List DomainName) (set : RecordSet) (m : DomainName) → AreSought kept (s ∷ before) → first_target (alias_set z s) ≡ alias_target set
       → alias_target set ≡ Some m → at_or_below m z.origin ≡ true → list_any (same m) kept ≡ false → next_sought z (s ∷ before) s ≡ Some m
   some-next kept set m are is leads inside new =
       ap (option_and_then (λ m. cond (at_or_below m z.origin && not (list_any (same m) (s ∷ before))) (Some m) None)) (is ∙ leads)
-      ∙ ap (λ b. cond (at_or_below m z.origin && not b) (Some m) None) (sym (are (same m)) ∙ new)
+      ∙ ap (λ b. cond (at_or_below m z.origin && not b) (Some m) None) (sym (are m) ∙ new)
       ∙ ap (λ b. cond (b && true) (Some m) None) inside
 
 and_false : (b : Bool) → (b && false) ≡ false
@@ -139,8 +142,36 @@ any_after p (n ∷ ns) m = ap (λ b. p n || b) (any_after p ns m) ∙ swapped (p
     swapped false true c = refl
     swapped false false c = refl
 
-pub AreSought-more : (kept names : List DomainName) (m : DomainName) → AreSought kept names → AreSought (kept ++ m ∷ []) (m ∷ names)
-AreSought-more kept names m are = λ p. any_after p kept m ∙ ap (λ b. p m || b) (are p)
+pub AreSought-more : (kept names : List DomainName) (m : DomainName) → AreSought kept names
+    → AreSought (kept ++ m ∷ []) (m ∷ names)
+AreSought-more kept names m are = λ n. any_after (same n) kept m ∙ ap (λ b. same n m || b) (are n)
+
+-- the case that a name is kept in says nothing of which are the same
+pub same_as-folded : (n m : DomainName) → same n (folded m) ≡ same n m
+same_as-folded n m = ap (names_equal (folded n)) (folded-folded m)
+
+pub AreSought-folded : (kept names : List DomainName) (m : DomainName) → AreSought kept names
+    → AreSought (kept ++ folded m ∷ []) (m ∷ names)
+AreSought-folded kept names m are = λ n.
+    any_after (same n) kept (folded m) ∙ ap₂ (λ a b. a || b) (same_as-folded n m) (are n)
+
+pub AreSought-lower : (a b c : DomainName) (names : List DomainName)
+    → AreSought (a ∷ b ∷ c ∷ []) names → AreSought (folded a ∷ folded b ∷ folded c ∷ []) names
+AreSought-lower a b c names were = λ n.
+    let or : Bool → Bool → Bool = λ x y. x || y in
+    ap₂ or (same_as-folded n a)
+    (ap₂ or (same_as-folded n b) (ap (λ x. x || false) (same_as-folded n c))) ∙ were n
+
+-- names in lower case are the same where they are equal
+pub same-lower : (n m : DomainName) → folded n ≡ n → folded m ≡ m → names_equal n m ≡ same n m
+same-lower n m low kept = sym (ap₂ names_equal low kept)
+
+pub any-lower : (n : DomainName) (ns : List DomainName) → folded n ≡ n → All (λ m. folded m ≡ m) ns
+    → list_any (names_equal n) ns ≡ list_any (same n) ns
+any-lower n [] low kept = refl
+any-lower n (m ∷ ns) low kept =
+    ap₂ (λ a b. a || b) (same-lower n m low (kept 0 m (omega arith)))
+    (any-lower n ns low (All-tail (λ k. folded k ≡ k) m ns kept))
 
 -- the alias among the records found
 pub found-at : (z : ZoneContents) (s : DomainName) (node : Option ZoneNode) (apex at_node : ZoneNode) → AreRecords z s node → apex ≡ node_of z z.origin → at_node ≡ node_or apex node
@@ -220,12 +251,17 @@ module _ (z : ZoneContents) (s : DomainName) (node : ZoneNode) (no_cut : cut_of 
           goes-on z t k before s (k - 1) m follows (some-next z t k before s kept set m were alias-leads next.1 next.2 next.3) (omega (arith, next.0))
 
 -- names sought one after the other
-pub led-begin : (w : State) (s : Walk) (t k : ℕ) (kept : List DomainName) (n n0 : DomainName) → n ≡ n0 → at_or_below n0 s.zone.origin ≡ true → LedOn w w s s t k k kept kept n0 n
-led-begin w s t k kept n n0 e below = subst (LedOn w w s s t k k kept kept n0) (sym e) (record {
-  zone = refl;
-  below = below;
-  completes = λ before were. (before, were, record { seeks = λ last v h. h; took = λ last h. h });
-})
+pub led-begin : (w : State) (s : Walk) (t k : ℕ) (kept kept' : List DomainName) (n n0 : DomainName)
+    → n ≡ n0 → at_or_below n0 s.zone.origin ≡ true
+    → ((names : List DomainName) → AreSought kept names → AreSought kept' names)
+    → LedOn w w s s t k k kept kept' n0 n
+led-begin w s t k kept kept' n n0 e below alike =
+    subst (LedOn w w s s t k k kept kept' n0) (sym e) (record {
+      zone = refl;
+      below = below;
+      completes = λ before were.
+          (before, alike (n0 ∷ before) were, record { seeks = λ last v h. h; took = λ last h. h });
+    })
 
 pub led-seeks : (w0 w last : State) (s0 s : Walk) (t k0 k : ℕ) (kept0 kept : List DomainName) (n0 n : DomainName) (v : Verdict) → LedOn w0 w s0 s t k0 k kept0 kept n0 n
     → Seeks w last s.zone t k kept n v → Seeks w0 last s0.zone t k0 kept0 n0 v
@@ -240,7 +276,9 @@ led-took w0 w s0 s last t k0 k kept0 kept n0 n led h = λ before were.
     on.2.took last (subst (λ y. Took s last (chain_nodes y t k on.0 n) (chain_misses y t k on.0 n)) led.zone (h on.0 on.1))
 
 pub led-further : (w0 w w1 : State) (s0 s s1 : Walk) (t k0 k : ℕ) (kept0 kept kept' : List DomainName) (n0 n m : DomainName) (depth : ℕ) → LedOn w0 w s0 s t k0 k kept0 kept n0 n
-    → LeadsTo w w1 s s1 t k kept n m depth → kept' ≡ kept ++ m ∷ [] → LedOn w0 w1 s0 s1 t k0 (k - 1) kept0 kept' n0 m
+    → LeadsTo w w1 s s1 t k kept n m depth
+    → ((names : List DomainName) → AreSought kept names → AreSought kept' (m ∷ names))
+    → LedOn w0 w1 s0 s1 t k0 (k - 1) kept0 kept' n0 m
 led-further w0 w w1 s0 s s1 t k0 k kept0 kept kept' n0 n m depth led next more = record {
   zone = next.took.zone ∙ led.zone;
   below = subst (λ (y : ZoneContents). at_or_below m y.origin ≡ true) led.zone next.below;
@@ -252,7 +290,7 @@ led-further w0 w w1 s0 s s1 t k0 k kept0 kept kept' n0 n m depth led next more =
     on before0 x =
         let step = subst (λ y. Completes w w1 s s1 y t k (k - 1) x.0 (n ∷ x.0) n m) led.zone (next.completes x.0 x.1) in (
           n ∷ x.0,
-          subst (λ ns. AreSought ns (m ∷ n ∷ x.0)) (sym more) (AreSought-more kept (n ∷ x.0) m x.1),
+          more (n ∷ x.0) x.1,
           record {
             seeks = λ last v h. x.2.seeks last v (step.seeks last v h);
             took = λ last h. x.2.took last (step.took last h);

@@ -1,8 +1,9 @@
 -- The targets of a set, one after the other, and what was offered for those before.
-use Rattle.std.proofs.Common.{◌≡◌, ℕ, zero, suc, ◌+◌, ◌*◌, ◌-◌, ◌<◌, ◌≤◌, Bool, true, false, cond, ◌||◌, ◌&&◌, ◌⊎◌, inl, inr, not, List, [], ◌∷◌, ◌++◌, map, sum, length, take, drop, get_or, Option, None, Some, refl, sym, ap, ◌∙◌, arith, add-one, append_assoc, append-nil}
+use Rattle.std.proofs.Common.{◌≡◌, ℕ, zero, suc, ◌+◌, ◌*◌, ◌-◌, ◌<◌, ◌≤◌, Bool, true, false, cond, ◌||◌, ◌&&◌, ◌⊎◌, inl, inr, not, List, [], ◌∷◌, ◌++◌, map, sum, length, take, drop, get_or, Option, None, Some, refl, sym, ap, ◌∙◌, arith, add-one, append_assoc, append-nil, length-append, subst}
 use Rattle.std.proofs.Math.Seq.{take-suc}
 use Rattle.std.proofs.lemmas.Bool.{false≢true, false_from_ne_true, and_parts, leb-true}
-use Rattle.std.proofs.lemmas.List.Elements.{filter_map-append}
+use Rattle.std.proofs.lemmas.List.{take-append-drop}
+use Rattle.std.proofs.lemmas.List.Elements.{filter-append, filter_map-append}
 use Rattle.std.proofs.lemmas.List.Folds.{list_all-append, list_any-append}
 use Rattle.std.specs.Option.{option_to_list}
 use Rattle.std.specs.List.{list_all, list_any, filter, filter_map, cons_option}
@@ -27,7 +28,9 @@ use Rattle.dns_zone.proofs.NameOrder.{same-from}
 use Rattle.dns_zone.proofs.NameTree.{same-under, itself-under}
 use Rattle.dns_answer.proofs.WayLaws.{at-folded}
 use Rattle.dns_answer.specs.Walks.{Took}
-use Rattle.dns_answer.specs.Targets.{targets_of_first, takes_target, addresses_of, target_items, side_items, side_nodes, target_nodes, target_misses}
+use Rattle.dns_answer.specs.DraftForm.{State, Offers}
+use Rattle.dns_answer.proofs.Offering.{Offers-is, Offers-then, Offers-full}
+use Rattle.dns_answer.specs.Targets.{set_targets, targets_of_first, takes_target, addresses_of, target_items, side_items, side_nodes, target_nodes, target_misses}
 
 one_more : (o : Option DomainName) → cons_option o [] ≡ option_to_list o
 one_more None = refl
@@ -163,6 +166,55 @@ Took-more z p set i s s' s'' h a b =
       visits = omega (arith, a.visits, b.visits, nodes);
       comparisons = omega (arith, a.comparisons, b.comparisons, misses);
     }
+
+-- the first targets of a set and the others
+first-rest : (set : RecordSet) (i : ℕ)
+    → targets_of_first i set ++ filter_map (λ (d : Octets). target set.rtype d) (drop i set.rdata)
+    ≡ set_targets set
+first-rest set i =
+    let of : Octets → Option DomainName = λ d. target set.rtype d in
+    sym (filter_map-append of (take i set.rdata) (drop i set.rdata))
+    ∙ ap (filter_map of) (take-append-drop i set.rdata)
+
+fewer-nodes : (z : ZoneContents) (p : DomainName → Bool) (ms ns : List DomainName)
+    → side_nodes z p ms ≤ side_nodes z p (ms ++ ns)
+fewer-nodes z p [] ns = omega arith
+fewer-nodes z p (m ∷ ms) ns =
+    let one = side_nodes-cons z p m ms in
+    let more = side_nodes-cons z p m (ms ++ ns) in
+    let rest = fewer-nodes z p ms ns in
+    omega (arith, one, more, rest)
+
+-- who ends after the first targets took no more than all may take
+pub Took-rest : (z : ZoneContents) (p : DomainName → Bool) (set : RecordSet) (i : ℕ) (s s' : Walk)
+    → Took s s' (side_nodes z p (targets_of_first i set))
+    (length (filter p (targets_of_first i set)))
+    → Took s s' (side_nodes z p (set_targets set)) (length (filter p (set_targets set)))
+Took-rest z p set i s s' took =
+    let firsts = targets_of_first i set in
+    let others = filter_map (λ (d : Octets). target set.rtype d) (drop i set.rdata) in
+    let nodes = subst (λ ms. side_nodes z p firsts ≤ side_nodes z p ms) (first-rest set i)
+    (fewer-nodes z p firsts others) in
+    let misses = ap (λ ms. length (filter p ms)) (sym (first-rest set i))
+    ∙ ap length (filter-append p firsts others)
+    ∙ length-append (filter p firsts) (filter p others) in
+    record {
+      zone = took.zone;
+      from = took.from;
+      visits = omega (arith, took.visits, nodes);
+      comparisons = omega (arith, took.comparisons, misses);
+    }
+
+-- a full reply has been offered all of them
+pub Offers-rest : (z : ZoneContents) (p : DomainName → Bool) (set : RecordSet) (i : ℕ)
+    (w w' : State) → w'.full ≡ true → Offers w w' (side_items z p [] (targets_of_first i set))
+    → Offers w w' (side_items z p [] (set_targets set))
+Offers-rest z p set i w w' full firsts =
+    let others = filter_map (λ (d : Octets). target set.rtype d) (drop i set.rdata) in
+    Offers-is _ _ _ _
+    (sym (side_items-append z p [] (targets_of_first i set) others)
+    ∙ ap (side_items z p []) (first-rest set i))
+    (Offers-then _ _ _ _ _ firsts (Offers-full w' _ full))
 
 pub nodes-more : (z : ZoneContents) (p : DomainName → Bool) (set : RecordSet) (i : ℕ) → i < length set.rdata → target_nodes z p (target set.rtype (get_or set.rdata i [])) ≤ 127
     → side_nodes z p (targets_of_first i set) ≤ 127 * i → side_nodes z p (targets_of_first (i + 1) set) ≤ 127 * (i + 1)

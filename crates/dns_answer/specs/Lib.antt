@@ -1,5 +1,6 @@
 pub mod Draft
 pub mod DraftForm
+pub mod Starts
 pub mod Walks
 pub mod Targets
 pub mod Ending

@@ -1,9 +1,9 @@
 -- What a reader learns here: what seeking a name has offered, and what the header says of it.
-use Rattle.std.specs.Prelude.{◌≡◌, ◌⊎◌, ℕ, ◌+◌, ◌-◌, ◌≤◌, ◌<◌, Bool, true, false, ◌&&◌, not, List, [], ◌∷◌, length, get_or, if◌then◌else◌}
+use Rattle.std.specs.Prelude.{⊤, ◌≡◌, ◌⊎◌, ℕ, ◌+◌, ◌-◌, ◌≤◌, ◌<◌, Bool, true, false, ◌&&◌, not, All, List, [], ◌∷◌, length, get_or, if◌then◌else◌}
 use Rattle.std.specs.Prelude.{Option, None, Some}
 use Rattle.std.specs.Option.{is_some, option_and_then}
 use Rattle.std.specs.List.{list_any}
-use Rattle.dns_spec.specs.Names.{DomainName, same, at_or_below}
+use Rattle.dns_spec.specs.Names.{DomainName, folded, same, at_or_below}
 use Rattle.dns_spec.specs.Data.{target, type_cname}
 use Rattle.dns_spec.specs.Sets.{RecordSet, set_of}
 use Rattle.dns_spec.specs.Records.{ZoneContents, ResourceRecord, of_type}
@@ -27,9 +27,15 @@ names_of (First n) = n.now ∷ []
 names_of (Second n m) = n.now ∷ m.now ∷ []
 names_of (Others ns) = ns.now
 
--- names that were sought, in any order
+-- where there are more than two they are kept in lower case
+abbrev pub AreKept : Earlier → Type 0
+AreKept (First n) = ⊤
+AreKept (Second n m) = ⊤
+AreKept (Others ns) = All (λ n. folded n ≡ n) ns.now
+
+-- names that were sought, in any order and in any case
 abbrev pub AreSought : List DomainName → List DomainName → Type 0
-AreSought kept names = (p : DomainName → Bool) → list_any p kept ≡ list_any p names
+AreSought kept names = (m : DomainName) → list_any (same m) kept ≡ list_any (same m) names
 
 -- The sets that an answer still has at the name s are offered, and the header says how its last
 -- name is answered.

@@ -1,5 +1,5 @@
 //! Addresses of the targets of a set (RFC 1034 4.3.2 step 6).
-ghost use Rattle.std.specs.Prelude.{◌≡◌, ℕ, ◌+◌, ◌*◌, ◌≤◌, ◌<◌, [], ◌∷◌, ◌++◌, length, take, get_or, map, true, false, not, IsTrue};
+ghost use Rattle.std.specs.Prelude.{◌≡◌, ℕ, ◌+◌, ◌*◌, ◌≤◌, ◌<◌, ◌⊎◌, [], ◌∷◌, ◌++◌, length, take, get_or, map, true, false, not, IsTrue};
 ghost use Rattle.std.specs.List.{list_any, list_all, filter};
 ghost use Rattle.dns_spec.specs.Names.{same, at_or_below, folded};
 ghost use Rattle.dns_spec.specs.Data.{target};
@@ -71,7 +71,8 @@ impl<'c, 'z> Side<'c, '_, 'z> {
 }
 
 /// Offers the addresses of the targets of a set, of those that are meant, in order. Those of a
-/// target that stood before are not offered again. Answers whether all targets are meant.
+/// target that stood before are not offered again. Answers whether all targets are meant, unless
+/// the reply is full: no target is sought then, since none of its addresses is put.
 pub(crate) fn offer_addresses<'z, const N: usize, const SIZE: usize>(
     set: &RecordSet<'z>,
     side: Side<'_, '_, 'z>,
@@ -90,10 +91,14 @@ pub(crate) fn offer_addresses<'z, const N: usize, const SIZE: usize>(
         (side_nodes steps.old.zone (side_takes side.entry) (set_targets set.now))
         (length (filter (side_takes side.entry) (set_targets set.now))) }
     ensures bound { Took steps.old steps.new (127 * 64) 64 }
-    ensures all { result ≡ list_all (side_takes side.entry) (set_targets set.now) }
+    ensures all { (draft.new.full ≡ true)
+        ⊎ (result ≡ list_all (side_takes side.entry) (set_targets set.now)) }
 {
     let mut all = true;
     'targets: for i in 0..set.len() {
+        if draft.is_full() {
+            return all;
+        }
         all &= offer_target(set, i, side, apex, steps, draft);
     }
     all
@@ -140,15 +145,16 @@ fn offer_target<'z, const N: usize, const SIZE: usize>(
     true
 }
 
-// Whether one of the first records of a set has the same target.
+// Whether one of the first records of a set has the same target. Both are in lower case.
 fn stood_before(set: &RecordSet<'_>, count: usize, target: &NameRef<'_>) -> bool
     requires valid { HasValidData set.now }
+    requires lower { folded target.now ≡ target.now }
     requires inside { count ≤ length set.now.rdata }
     ensures { result ≡ list_any (same target.now) (targets_of_first count set.now) }
 {
     'earlier: for i in 0..count {
         if let Some(earlier) = set.target(i) {
-            if target.same(&earlier) {
+            if *target == earlier {
                 return true;
             }
         }
@@ -182,7 +188,7 @@ fn offer_address<'z, const N: usize, const SIZE: usize>(
     offer_type(node, RType::AAAA, target, draft);
 }
 
-// Offers the set of a type at a node, if there is one. A reply that is full needs none.
+// Offers the set of a type at a node, if there is one.
 #[inline(always)]
 fn offer_type<const N: usize, const SIZE: usize>(
     node: &Node<'_>,
@@ -194,9 +200,6 @@ fn offer_type<const N: usize, const SIZE: usize>(
     ensures { Offers draft.old draft.new
         (item additional (rrset node.now.zone node.now.name rtype.0)) }
 {
-    if draft.is_full() {
-        return;
-    }
     if let Some(set) = node.set(rtype) {
         draft.offer(Section::Additional, owner, set.ttl(), &set);
     }

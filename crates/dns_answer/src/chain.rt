@@ -1,14 +1,14 @@
 //! The names sought, one after the other (RFC 1034 4.3.2 step 3a).
 ghost use Rattle.std.specs.Prelude.{◌≡◌, ◌+◌, ◌*◌, ◌≤◌, ◌<◌, ◌⊎◌, [], ◌∷◌, length, true, false, IsTrue, IfSome, MatchOption};
 ghost use Rattle.std.specs.List.{list_any};
-ghost use Rattle.dns_spec.specs.Names.{same, at_or_below};
+ghost use Rattle.dns_spec.specs.Names.{folded, names_equal, same, at_or_below};
 ghost use Rattle.dns_spec.specs.Data.{type_cname};
 ghost use Rattle.dns_spec.specs.Records.{at, of_type};
 ghost use Rattle.dns_spec.specs.Sets.{set_of};
 ghost use Rattle.dns_spec.specs.Answer.{follows_alias};
 ghost use Rattle.dns_zone.specs.Nodes.{IsSetOf};
 ghost use Rattle.dns_answer.specs.Walks.{IsApex, HasRoom};
-ghost use Rattle.dns_answer.specs.Seeking.{Seeks, TookFrom, Followed, SoughtAs, IsShown, NextIs, names_of};
+ghost use Rattle.dns_answer.specs.Seeking.{Seeks, TookFrom, Followed, SoughtAs, IsShown, NextIs, AreKept, names_of};
 
 use crate::draft::Draft;
 use crate::ending::{QTYPE_ANY, Verdict, asked_set, deny, end_with, ended, refer};
@@ -39,21 +39,30 @@ pub(crate) enum Earlier<'e, 'q, 'z> {
     First(&'e NameRef<'q>),
     /// The question's, and the target of its alias.
     Second(&'e NameRef<'q>, &'e NameRef<'z>),
-    /// More of them.
+    /// More of them, in lower case, so that two are the same only where they are equal.
     Others(&'e [Name]),
 }
 
 impl Earlier<'_, '_, '_> {
-    // Whether a name is among them.
+    // Whether a name, in lower case, is among them.
     fn has(self, name: &NameRef<'_>) -> bool
+        requires kept { AreKept self }
+        requires lower { folded name.now ≡ name.now }
         ensures { result ≡ list_any (same name.now) (names_of self.entry) }
     {
         match self {
             Earlier::First(first) => name.same(first),
             Earlier::Second(first, second) => name.same(first) || name.same(second),
-            Earlier::Others(names) => names.iter().any(|earlier| name.same(&earlier.lent())),
+            Earlier::Others(names) => is_among(name, names),
         }
     }
+}
+
+// Whether a name is among others, octet by octet.
+fn is_among(name: &NameRef<'_>, names: &[Name]) -> bool
+    ensures { result ≡ list_any (names_equal name.now) names.now }
+{
+    names.iter().any(|other| *name == other.lent())
 }
 
 /// What seeking the name of a question comes to.
@@ -169,9 +178,9 @@ fn seek_rest<'z, const N: usize, const SIZE: usize>(
         (first.now ∷ second.now ∷ target.entry ∷ []) target.entry }
 {
     let mut sought: ArrayVec<Name, MOST_SOUGHT> = ArrayVec::new();
-    sought.push(first.to_name());
-    sought.push(second.to_name());
-    sought.push(target.to_name());
+    sought.push(first.to_name().fold());
+    sought.push(second.to_name().fold());
+    sought.push(target.to_name().fold());
     let mut name = target;
     let mut depth = depth;
     let mut more = MOST_SOUGHT - 3;
@@ -180,7 +189,7 @@ fn seek_rest<'z, const N: usize, const SIZE: usize>(
         match seek_one(&name, depth, qtype, more, earlier, apex, steps, draft) {
             Sought::Last(verdict) => return verdict,
             Sought::Alias(target, below) => {
-                sought.push(target.to_name());
+                sought.push(target.to_name().fold());
                 name = target;
                 depth = below;
                 more -= 1;
@@ -206,6 +215,7 @@ fn seek_one<'z, const N: usize, const SIZE: usize>(
     requires depth { length name.now ≡ length steps.old.zone.origin + depth }
     requires few { depth ≤ 127 }
     requires room { HasRoom steps.old (129 * (more + 129)) }
+    requires kept { AreKept sought }
     ensures { SoughtAs draft.old draft.new steps.old steps.new qtype more (names_of sought.entry)
         name.now result }
 {
@@ -267,6 +277,7 @@ fn next_sought<'z>(
     origin: &NameRef<'_>,
 ) -> Option<(NameRef<'z>, usize)>
     requires some { 0 < length alias.now.rdata }
+    requires kept { AreKept sought }
     ensures next { NextIs alias.now more (names_of sought.entry) origin.now result }
 {
     if more == 0 {

@@ -1,14 +1,18 @@
 //! What a zone has for a name (RFC 1034 4.3.2 step 3).
-ghost use Rattle.std.specs.Prelude.{◌≡◌, ℕ, ◌+◌, ◌*◌, ◌-◌, ◌≤◌, ◌<◌, ◌∷◌, length, drop, IsTrue, IsSome, IfSome, IsNone, MatchOption, true, false, is_some, []};
+ghost use Rattle.std.specs.Prelude.{◌≡◌, ℕ, ◌+◌, ◌*◌, ◌-◌, ◌≤◌, ◌<◌, ◌∷◌, length, drop, get_or, IsTrue, IsSome, IfSome, IsNone, MatchOption, true, false, is_some, []};
 ghost use Rattle.dns_spec.specs.Names.{Octets, DomainName, at_or_below, folded};
 ghost use Rattle.dns_spec.specs.Tree.{exists, asterisk};
 ghost use Rattle.dns_name.specs.WireForm.{labels_of, IsWireForm};
 ghost use Rattle.dns_zone.specs.Nodes.{ZoneNode, IsNode};
+ghost use Rattle.dns_answer.specs.Starts.{BeginsAt, AreStarts};
 ghost use Rattle.dns_answer.specs.Walks.{IsApex, IsStart, node_or, WalkedTo, FoundAs, ReachedAs, HasRoom, Took, TookWay, TookChild, missed, missed_name};
 
 use dns_name::{Label, NameRef, first_label};
 use dns_rdata::RType;
 use dns_zone::{Node, Steps};
+
+// A name has at most so many labels, since each has two octets or more on the wire.
+const MOST_LABELS: usize = 127;
 
 /// Where the way from the apex down to a name ends.
 #[derive(Drop)]
@@ -107,8 +111,10 @@ fn walk<'z>(octets: &[u8], depth: usize, apex: &Node<'z>, steps: &mut Steps<'z>)
     if depth == 0 {
         return Way::Name(None);
     }
+    let mut starts = [0; MOST_LABELS];
+    put_starts(octets, depth, &mut starts);
     let mut before = depth - 1;
-    let Some(mut node) = apex.down(label_after(octets, before), steps) else {
+    let Some(mut node) = apex.down(label_after(octets, &starts, before), steps) else {
         return Way::Encloser(None);
     };
     'labels: loop {
@@ -119,28 +125,37 @@ fn walk<'z>(octets: &[u8], depth: usize, apex: &Node<'z>, steps: &mut Steps<'z>)
             return Way::Name(Some(node));
         }
         before -= 1;
-        let Some(child) = node.down(label_after(octets, before), steps) else {
+        let Some(child) = node.down(label_after(octets, &starts, before), steps) else {
             return Way::Encloser(Some(node));
         };
         node = child;
     }
 }
 
-// The label of a name after the first `count` ones. These are passed anew for each label, since few
-// names have many labels below an origin.
-fn label_after<'a>(octets: &'a [u8], count: usize) -> Label<'a>
+// Puts where each of the first labels of a name begins in its wire form, so many of them. They are
+// passed once, since a name may have 127 labels, and are taken from the right.
+fn put_starts(octets: &[u8], count: usize, starts: &mut [u8])
     requires form { IsWireForm octets.now }
+    requires labels { count ≤ length (labels_of octets.now) }
+    requires room { count ≤ length starts.old }
+    ensures starts { AreStarts octets.now count starts.new }
+    ensures room { length starts.new ≡ length starts.old }
+{
+    let mut start = 0;
+    'labels: for k in 0..count {
+        starts[k] = start;
+        start += 1 + octets[start as usize];
+    }
+}
+
+// The label of a name after the first `count` ones.
+fn label_after<'a>(octets: &'a [u8], starts: &[u8], count: usize) -> Label<'a>
+    requires start { BeginsAt octets.now count (get_or starts.now count 0) }
+    requires known { count < length starts.now }
     requires inside { count < length (labels_of octets.now) }
     ensures { drop count (labels_of octets.now) ≡ result ∷ drop (count + 1) (labels_of octets.now) }
 {
-    let mut suffix = octets;
-    'labels: for _ in 0..count {
-        let Some((_, rest)) = first_label(suffix) else {
-            unreachable!();
-        };
-        suffix = rest;
-    }
-    let Some((label, _)) = first_label(suffix) else {
+    let Some((label, _)) = first_label(octets.split_at(starts[count] as usize).1) else {
         unreachable!();
     };
     label
@@ -165,13 +180,15 @@ pub(crate) fn reach<'z>(
     if depth == 0 {
         return Reached::Name(None);
     }
+    let mut starts = [0; MOST_LABELS];
+    put_starts(octets, depth, &mut starts);
     let mut before = depth - 1;
-    let Some(mut node) = start.down(label_after(octets, before), steps) else {
+    let Some(mut node) = start.down(label_after(octets, &starts, before), steps) else {
         return Reached::Missing;
     };
     'labels: while 0 < before {
         before -= 1;
-        let Some(child) = node.down(label_after(octets, before), steps) else {
+        let Some(child) = node.down(label_after(octets, &starts, before), steps) else {
             return Reached::Missing;
         };
         node = child;

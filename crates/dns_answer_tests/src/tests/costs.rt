@@ -1,7 +1,7 @@
 //! What answers take: the nodes that are visited, and the labels that are compared.
 
 use super::replies::{compare, joined, query};
-use super::zones::{deep, wide};
+use super::zones::{deep, many_servers, wide};
 use dns_answer::Limit;
 use std::alloc::Global;
 use std::test::Fail;
@@ -54,5 +54,22 @@ fn one_of_100_000_names_takes_17_comparisons(rt: HostRuntime) -> Result<(), Fail
     assert!(rt; found.is_wanted);
     assert_eq!(rt; found.visits, 2);
     assert!(rt; found.comparisons <= 17);
+    Ok(())
+}
+
+#[test]
+fn a_referral_whose_servers_do_not_fit_seeks_none_of_them(rt: HostRuntime) -> Result<(), Fail> {
+    let zone = many_servers(rt.alloc())?;
+    let question = b"\x01x\x03cut\x07example\x00\x00\x01\x00\x01";
+    let asked = query(rt.alloc(), question)?;
+    let wanted: [&[u8]; 2] = [
+        b"\x12\x34\x82\x00\x00\x01\x00\x00\x00\x00\x00\x00",
+        question,
+    ];
+    let wanted = joined(rt.alloc(), &wanted)?;
+    let wanted = Some(wanted.as_slice());
+    let found = compare(rt.alloc(), &zone, Limit::Udp, asked.as_slice(), wanted)?;
+    assert!(rt; found.is_wanted);
+    assert_eq!(rt; found.visits, 2);
     Ok(())
 }

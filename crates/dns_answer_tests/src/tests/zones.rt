@@ -119,6 +119,17 @@ pub(super) fn deep(alloc: Global) -> Result<Zone, Fail> {
     zone(alloc, b".", text.as_slice())
 }
 
+/// A zone with a cut of 64 servers, which have an address each.
+pub(super) fn many_servers(alloc: Global) -> Result<Zone, Fail> {
+    let mut text = Vec::new(alloc);
+    text.extend_from_slice(b"$TTL 60\n@ SOA ns h 1 2 3 4 5\n@ NS ns\nns A 192.0.2.1\n")?;
+    for number in 0..64_u32 {
+        let lines = format!(in alloc; "cut NS n{number}.cut\nn{number}.cut A 192.0.2.2\n")?;
+        text.extend_from_slice(lines.as_bytes())?;
+    }
+    zone(alloc, b"example", text.as_slice())
+}
+
 // 64 addresses at a name.
 fn push_addresses(alloc: Global, text: &mut Vec<u8>, owner: &str) -> Result<(), Fail> {
     for number in 1..65_u32 {

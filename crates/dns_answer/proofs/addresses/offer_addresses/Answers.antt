@@ -1,4 +1,4 @@
-use Rattle.std.proofs.Common.{rules, ◌≡◌, List, take, take_all, ◌<◌, ◌≤◌, get_or, length, [], ◌&&◌, refl, sym, ap, ap₂, ◌∙◌, subst, arith}
+use Rattle.std.proofs.Common.{rules, inl, inr, ◌≡◌, List, take, take_all, ◌<◌, ◌≤◌, get_or, length, [], ◌&&◌, refl, sym, ap, ap₂, ◌∙◌, subst, arith}
 use Rattle.dns_spec.specs.Records.{ZoneContents}
 use Rattle.dns_spec.specs.Data.{target}
 use Rattle.std.specs.List.{filter, filter_map, list_all}
@@ -7,7 +7,7 @@ use Rattle.dns_answer.specs.DraftForm.{Offers}
 use Rattle.dns_answer.specs.Walks.{Took}
 use Rattle.dns_answer.specs.Targets.{target_items, target_nodes, target_misses, targets_of_first, side_takes, side_nodes, IsSide}
 use Rattle.dns_answer.proofs.Offering.{Offers-is, Offers-nothing, Offers-then}
-use Rattle.dns_answer.proofs.TargetLaws.{side_items-none, side_items-more, Took-nothing, Took-more, nodes-more, hits-more, all-more}
+use Rattle.dns_answer.proofs.TargetLaws.{side_items-none, side_items-more, Took-nothing, Took-more, Took-rest, Offers-rest, nodes-more, hits-more, all-more}
 use Rattle.dns_answer.proofs.addresses.offer_addresses.Goals as goal
 
 pub targets-init : goal.targets-init
@@ -85,4 +85,20 @@ returns-clause-all g c =
     let p = side_takes c.args.side in
     let rt = c.args.set.now.rtype in
     let whole : take c.targets.i c.args.set.now.rdata ≡ c.args.set.now.rdata = take_all c.targets.i c.args.set.now.rdata (omega (arith, c.targets-test.false, c.len-i-end.ensures.value)) in
-    c.targets.invariant.all ∙ ap (λ (ds : List Octets). list_all p (filter_map (λ (d : Octets). target rt d) ds)) whole
+    inr (c.targets.invariant.all
+    ∙ ap (λ (ds : List Octets). list_all p (filter_map (λ (d : Octets). target rt d) ds)) whole)
+
+pub returns-then-is_full-clause-offers : goal.returns-then-is_full-clause-offers
+returns-then-is_full-clause-offers g c =
+    Offers-rest c.args.steps.now.zone (side_takes c.args.side) c.args.set.now c.targets.i
+    c.args.draft.now c.targets.draft
+    (sym c.if-is_full.ensures) c.targets.invariant.offers
+
+pub returns-then-is_full-clause-took : goal.returns-then-is_full-clause-took
+returns-then-is_full-clause-took g c =
+    Took-rest c.args.steps.now.zone (side_takes c.args.side) c.args.set.now c.targets.i
+    c.args.steps.now c.targets.steps
+    c.targets.invariant.took
+
+pub returns-then-is_full-clause-all : goal.returns-then-is_full-clause-all
+returns-then-is_full-clause-all g c = inl (sym c.if-is_full.ensures)

@@ -3,7 +3,7 @@ use Rattle.dns_spec.specs.Names.{at_or_below}
 use Rattle.dns_spec.specs.Records.{ZoneContents}
 use Rattle.dns_answer.specs.Walks.{IsApex}
 use Rattle.dns_answer.specs.Seeking.{LedOn}
-use Rattle.dns_answer.proofs.SeekSteps.{led-begin, led-seeks, led-took, led-further}
+use Rattle.dns_answer.proofs.SeekSteps.{AreSought-more, led-begin, led-seeks, led-took, led-further}
 use Rattle.dns_answer.proofs.chain.seek.Given as given
 use Rattle.dns_answer.proofs.chain.seek.Goals as goal
 
@@ -47,7 +47,10 @@ module _ (g : given.Over) (c : goal.After-seek_target g) where
       let next = c.in-Alias.ensures in
       led-further c.args.draft.now c.args.draft.now c.seek_one.new.draft c.args.steps.now c.args.steps.now c.seek_one.new.steps c.args.qtype 16 16
       (c.args.name.now ∷ []) (c.args.name.now ∷ []) (c.args.name.now ∷ c.in-Alias.target ∷ []) c.args.name.now c.args.name.now c.in-Alias.target c.in-Alias.below
-      (led-begin c.args.draft.now c.args.steps.now c.args.qtype 16 (c.args.name.now ∷ []) c.args.name.now c.args.name.now refl c.requires.below) next refl
+      (led-begin c.args.draft.now c.args.steps.now c.args.qtype 16 (c.args.name.now ∷ [])
+      (c.args.name.now ∷ []) c.args.name.now c.args.name.now refl c.requires.below (λ names were. were))
+      next
+      (λ names were. AreSought-more (c.args.name.now ∷ []) names c.in-Alias.target were)
 
 pub returns-in-Alias-clause-seeks : goal.returns-in-Alias-clause-seeks
 returns-in-Alias-clause-seeks g c =

@@ -1,4 +1,6 @@
 use Rattle.std.proofs.Common.{◌≡◌, ◌+◌, ◌*◌, ◌≤◌, ◌∷◌, [], length}
+use Rattle.std.specs.Prelude.{All}
+use Rattle.dns_spec.specs.Names.{folded}
 use Rattle.dns_answer.specs.Walks.{HasRoom}
 use Rattle.dns_answer.specs.Seeking.{LedOn}
 use Rattle.dns_answer.proofs.chain.seek_rest.Given as goal
@@ -10,6 +12,7 @@ invariant-names g l = record {
   deep : length l.name ≡ length l.fn.steps.zone.origin + l.depth;
   few : l.depth ≤ 127;
   room : HasRoom l.steps (129 * (l.more + 129));
+  kept : All (λ n. folded n ≡ n) l.sought.items;
   count : length l.sought.items + l.more ≤ 17;
 }
 

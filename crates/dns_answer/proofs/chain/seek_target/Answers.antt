@@ -3,7 +3,7 @@ use Rattle.dns_spec.specs.Names.{at_or_below}
 use Rattle.dns_spec.specs.Records.{ZoneContents}
 use Rattle.dns_answer.specs.Walks.{IsApex}
 use Rattle.dns_answer.specs.Seeking.{LedOn}
-use Rattle.dns_answer.proofs.SeekSteps.{led-begin, led-seeks, led-took, led-further}
+use Rattle.dns_answer.proofs.SeekSteps.{AreSought-more, led-begin, led-seeks, led-took, led-further}
 use Rattle.dns_answer.proofs.chain.seek_target.Given as given
 use Rattle.dns_answer.proofs.chain.seek_target.Goals as goal
 
@@ -44,7 +44,11 @@ module _ (g : given.Over) (c : goal.After-seek_rest g) where
       let next = c.in-Alias.ensures in
       led-further c.args.draft.now c.args.draft.now c.seek_one.new.draft c.args.steps.now c.args.steps.now c.seek_one.new.steps c.args.qtype 15 15
       (c.args.first.now ∷ c.args.target.now ∷ []) (c.args.first.now ∷ c.args.target.now ∷ []) (c.args.first.now ∷ c.args.target.now ∷ c.in-Alias.next ∷ []) c.args.target.now c.args.target.now c.in-Alias.next c.in-Alias.below
-      (led-begin c.args.draft.now c.args.steps.now c.args.qtype 15 (c.args.first.now ∷ c.args.target.now ∷ []) c.args.target.now c.args.target.now refl c.requires.below) next refl
+      (led-begin c.args.draft.now c.args.steps.now c.args.qtype 15
+      (c.args.first.now ∷ c.args.target.now ∷ []) (c.args.first.now ∷ c.args.target.now ∷ [])
+      c.args.target.now c.args.target.now refl c.requires.below (λ names were. were)) next
+      (λ names were.
+      AreSought-more (c.args.first.now ∷ c.args.target.now ∷ []) names c.in-Alias.next were)
 
 pub returns-in-Alias-clause-seeks : goal.returns-in-Alias-clause-seeks
 returns-in-Alias-clause-seeks g c =

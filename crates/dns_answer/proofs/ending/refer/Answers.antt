@@ -1,14 +1,13 @@
-use Rattle.std.proofs.Common.{rules, [], refl, sym, ap, ◌∙◌, subst, arith}
+use Rattle.std.proofs.Common.{rules, refl, sym, ap, ◌∙◌, subst, arith}
 use Rattle.std.proofs.lemmas.Bool.{false≢true}
 use Rattle.std.specs.Option.{is_some}
 use Rattle.dns_spec.specs.Names.{at_or_below}
 use Rattle.dns_spec.specs.Records.{ZoneContents, rrset}
 use Rattle.dns_spec.specs.Data.{type_ns}
 use Rattle.dns_spec.specs.Sets.{set_of}
-use Rattle.dns_answer.proofs.Endings.{Ends-referred, cut-has_servers, cut-in_zone, none-outside_cut, Took-referred, servers_targets}
+use Rattle.dns_answer.proofs.Endings.{Ends-referred, cut-has_servers, cut-in_zone, Offers-others, Took-referred, servers_targets}
 use Rattle.dns_zone.specs.Nodes.{IsNode}
 use Rattle.dns_answer.specs.Targets.{set_targets}
-use Rattle.dns_answer.proofs.Offering.{Offers-is, Offers-nothing}
 use Rattle.dns_answer.proofs.TargetLaws.{Took-none}
 use Rattle.dns_answer.proofs.ending.refer.Goals as goal
 
@@ -84,16 +83,17 @@ returns-then-not-are_all_inside-clause-took g c =
     (servers_targets c.args.steps.now.zone c.args.cut.now c.in-Some-owner.owner c.ttl.result c.in-Some.servers below.zone named c.ttl.ensures c.in-Some.ensures.set c.in-Some.ensures.rtype c.in-Some.ensures.kept)
     first.ensures.took c.offer_addresses.ensures.took
 
--- where all targets are at or below the cut nothing is offered, and taken, for others
+-- where all targets are at or below the cut, or the reply is full, nothing is offered for others
 pub returns-else-not-are_all_inside-clause-ends : goal.returns-else-not-are_all_inside-clause-ends
 returns-else-not-are_all_inside-clause-ends g c =
     let below = c.requires.cut.1 in
     let first = c.offer_addresses-are_all_inside in
     let z = c.args.steps.now.zone in
-    let none = none-outside_cut z c.in-Some-owner.owner [] (set_targets c.in-Some.servers) (sym first.ensures.all ∙ c.if-not-are_all_inside.false) in
+    let others = Offers-others z c.in-Some-owner.owner first.new.draft
+    (set_targets c.in-Some.servers) _ first.ensures.all c.if-not-are_all_inside.false in
     Ends-referred _ _ _ _ z z c.args.cut.now c.in-Some-owner.owner c.ttl.result c.in-Some.servers _ below.zone refl
     c.in-Some-owner.ensures.name c.ttl.ensures c.in-Some.ensures.set c.in-Some.ensures.rtype c.in-Some.ensures.kept
-    c.offer.ensures first.ensures.offers (Offers-is _ _ [] _ (sym none) (Offers-nothing _)) refl refl c.is_full-is_truncated.ensures
+    c.offer.ensures first.ensures.offers others refl refl c.is_full-is_truncated.ensures
 
 pub returns-else-not-are_all_inside-clause-took : goal.returns-else-not-are_all_inside-clause-took
 returns-else-not-are_all_inside-clause-took g c =

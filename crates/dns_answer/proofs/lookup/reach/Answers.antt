@@ -1,8 +1,10 @@
-use Rattle.std.proofs.Common.{◌≡◌, ◌+◌, ◌-◌, drop, refl, sym, ap, ◌∙◌, subst, arith, None, Some}
+use Rattle.std.proofs.Common.{◌≡◌, ◌+◌, ◌-◌, ◌≤◌, length, drop, refl, sym, ap, ◌∙◌, subst, arith, None, Some}
 use Rattle.std.proofs.lemmas.Bool.{false≢true}
 use Rattle.dns_spec.specs.Tree.{exists}
 use Rattle.dns_zone.specs.Nodes.{ZoneNode}
-use Rattle.dns_name.specs.WireForm.{labels_of}
+use Rattle.dns_spec.proofs.DomainNames.NameLaws.{length-is_name}
+use Rattle.dns_spec.specs.Names.{Octets}
+use Rattle.dns_name.specs.WireForm.{labels_of, IsWireForm}
 use Rattle.dns_answer.specs.Walks.{IsReached}
 use Rattle.dns_answer.proofs.WaySteps.{reached-start, reached-child, unreached-child}
 use Rattle.dns_answer.proofs.LongWays.{unreached-whole, reached-above}
@@ -70,3 +72,31 @@ returns-clause-reached c =
     let n = labels_of c.args.octets.now in
     let all : c.labels.before ≡ 0 = omega (arith, c.labels-test.false) in
     subst (λ k. IsReached z c.args.start.now (drop k n) (Some c.labels.node)) all c.labels.invariant.reached
+
+-- a name has as many labels as there are places
+few : (octets : Octets) → IsWireForm octets → length (labels_of octets) ≤ 127
+few octets form = length-is_name (labels_of octets) form.is_name
+
+pub put_starts-requires-clause-room : goal.put_starts-requires-clause-room
+put_starts-requires-clause-room c =
+    omega (arith, c.requires.depth, few c.args.octets.now c.requires.form)
+
+pub label_after-requires-clause-known : goal.label_after-requires-clause-known
+label_after-requires-clause-known c =
+    omega (
+      arith,
+      c.put_starts.ensures.room,
+      c.requires.depth,
+      c.if-depth-eq0.false,
+      few c.args.octets.now c.requires.form,
+    )
+
+pub label_after-requires-in-labels-clause-known : goal.label_after-requires-in-labels-clause-known
+label_after-requires-in-labels-clause-known c =
+    omega (
+      arith,
+      c.put_starts.ensures.room,
+      c.requires.depth,
+      c.labels.invariant.fewer,
+      few c.args.octets.now c.requires.form,
+    )

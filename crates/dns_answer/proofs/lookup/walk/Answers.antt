@@ -1,7 +1,9 @@
-use Rattle.std.proofs.Common.{◌≡◌, ◌+◌, ◌-◌, drop, refl, sym, ap, ◌∙◌, subst, arith, None, Some}
+use Rattle.std.proofs.Common.{◌≡◌, ◌+◌, ◌-◌, ◌≤◌, length, drop, refl, sym, ap, ◌∙◌, subst, arith, None, Some}
 use Rattle.std.proofs.lemmas.Bool.{false≢true}
 use Rattle.std.specs.Option.{is_some}
-use Rattle.dns_name.specs.WireForm.{labels_of}
+use Rattle.dns_spec.proofs.DomainNames.NameLaws.{length-is_name}
+use Rattle.dns_spec.specs.Names.{Octets}
+use Rattle.dns_name.specs.WireForm.{labels_of, IsWireForm}
 use Rattle.dns_answer.specs.Walks.{IsThere, IsMissing}
 use Rattle.dns_answer.proofs.WaySteps.{there-at_origin, missing-child}
 use Rattle.dns_answer.proofs.LongWays.{cut-next, there-next, zone-next, cut-whole, missing-whole, under-drop, there-above}
@@ -96,3 +98,31 @@ labels-preserved c =
       visits = omega (arith, c.in-Some-down.ensures.visits, inv.visits, c.if-before-eq0.false);
       comparisons = omega (arith, c.in-Some-down.ensures.visits, c.in-Some-down.ensures.bound, inv.comparisons);
     }
+
+-- a name has as many labels as there are places
+few : (octets : Octets) → IsWireForm octets → length (labels_of octets) ≤ 127
+few octets form = length-is_name (labels_of octets) form.is_name
+
+pub put_starts-requires-clause-room : goal.put_starts-requires-clause-room
+put_starts-requires-clause-room c =
+    omega (arith, c.requires.depth, few c.args.octets.now c.requires.form)
+
+pub label_after-requires-clause-known : goal.label_after-requires-clause-known
+label_after-requires-clause-known c =
+    omega (
+      arith,
+      c.put_starts.ensures.room,
+      c.requires.depth,
+      c.if-depth-eq0.false,
+      few c.args.octets.now c.requires.form,
+    )
+
+pub label_after-requires-in-labels-clause-known : goal.label_after-requires-in-labels-clause-known
+label_after-requires-in-labels-clause-known c =
+    omega (
+      arith,
+      c.put_starts.ensures.room,
+      c.requires.depth,
+      c.labels.invariant.fewer,
+      few c.args.octets.now c.requires.form,
+    )

@@ -1,0 +1,69 @@
+-- Where the labels of a name begin, one label after the other.
+use Rattle.std.proofs.Common.{◌≡◌, ◌⊎◌, inl, inr, ℕ, ◌+◌, ◌<◌, ◌≢◌, List, [], ◌∷◌}
+use Rattle.std.proofs.Common.{length, drop, length-drop, get_or, set, subst, arith}
+use Rattle.std.proofs.Common.{refl, sym, ap, ◌∙◌}
+use Rattle.std.proofs.lemmas.List.{drop_more, drop-drop, get_or-set_same, get_or-set_other}
+use Rattle.dns_spec.specs.Names.{Octets, DomainName}
+use Rattle.dns_spec.proofs.DomainNames.NameLaws.{IsName-is_name}
+use Rattle.dns_name.specs.WireForm.{labels_of, IsWireForm}
+use Rattle.dns_name.proofs.WireLemmas.{BeginsWithLabel-IsWireForm, labels_of-zero, IsWireForm-nil}
+use Rattle.dns_answer.specs.Starts.{BeginsAt, AreStarts}
+
+-- a wire form has its length octet
+some-octet : (xs : Octets) → IsWireForm xs → 0 < length xs
+some-octet [] form = absurd (IsWireForm-nil [] form refl)
+some-octet (x ∷ xs) form = omega arith
+
+-- the first label begins at once
+pub begins-first : (octets : Octets) → IsWireForm octets → BeginsAt octets 0 0
+begins-first octets form = record { inside = some-octet octets form; form = form; labels = refl }
+
+-- what comes after one label more
+pub after-label : (k : ℕ) (n m : DomainName) (l : Octets) → drop k n ≡ l ∷ m → drop (k + 1) n ≡ m
+after-label k n m l e = sym (drop-drop 1 k n) ∙ ap (drop 1) e
+
+-- the next label begins after the length octet of this one and as many octets
+pub begins-next : (octets : Octets) (k p : ℕ) → BeginsAt octets k p → k < length (labels_of octets)
+    → BeginsAt octets (k + 1) (p + (1 + get_or octets p 0))
+begins-next octets k p here more =
+    let x = get_or octets p 0 in
+    let ys = drop (p + 1) octets in
+    let front = drop_more octets p 0 here.inside in
+    let some : x ≡ 0 → ⊥ = λ none.
+    let root = ap length (sym here.labels ∙ labels_of-zero _ ys x here.form front none) in
+    absurd (omega (arith, root, length-drop k (labels_of octets), more)) in
+    let first = BeginsWithLabel-IsWireForm _ x ys here.form front some in
+    let place : drop x ys ≡ drop (p + (1 + x)) octets =
+    drop-drop x (p + 1) octets
+    ∙ ap (λ i. drop i octets) {x = p + 1 + x} {y = p + (1 + x)} (omega arith) in
+    let form = subst IsWireForm place first.rest in
+    record {
+      inside = omega (arith, some-octet _ form, length-drop (p + (1 + x)) octets);
+      form = form;
+      labels = ap labels_of (sym place)
+          ∙ sym (after-label k _ _ _ (sym here.labels ∙ first.labels));
+    }
+
+before_or_last : (j k : ℕ) → j < k + 1 → (j < k) ⊎ (j ≡ k)
+before_or_last j k h = grind arith
+
+-- a place more
+pub starts-more : (octets : Octets) (k p : ℕ) (starts : List ℕ) → k < length starts
+    → AreStarts octets k starts → BeginsAt octets k p → AreStarts octets (k + 1) (set starts k p)
+starts-more octets k p starts room known here = λ j inside. by_place j (before_or_last j k inside)
+  where
+    by_place : (j : ℕ) → (j < k) ⊎ (j ≡ k) → BeginsAt octets j (get_or (set starts k p) j 0)
+    by_place j (inl before) =
+        let other : j ≢ k = λ e. absurd (omega (arith, before, e)) in
+        subst (BeginsAt octets j) (sym (get_or-set_other starts k j p 0 other)) (known j before)
+    by_place j (inr last) =
+        subst (λ i. BeginsAt octets i (get_or (set starts k p) i 0)) (sym last)
+        (subst (BeginsAt octets k) (sym (get_or-set_same starts k p 0 room)) here)
+
+-- and a name has at most 255 octets
+pub next-fits : (octets : Octets) (k p : ℕ) → IsWireForm octets → BeginsAt octets k p
+    → k < length (labels_of octets) → p + (1 + get_or octets p 0) < 255
+next-fits octets k p form here more =
+    let next = begins-next octets k p here more in
+    let few = (IsName-is_name (labels_of octets) form.is_name).fits in
+    omega (arith, next.inside, few, ap length form.wire_is)
