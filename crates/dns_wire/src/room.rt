@@ -8,11 +8,13 @@ ghost use Rattle.dns_spec.specs.Layout.{Placed, question_octets, octets16, octet
 ghost use Rattle.dns_wire.specs.Writing.{name_before, IsAsked, asked_places, NotAsked, IsLastOf, front_size, pointed_place, new_places, end_octets, Grows, AfterLabel, Holds, StandsIn, shown, tail_laid, records_laid};
 ghost use Rattle.dns_wire.specs.Kept.{HasPlace, SpellsName, NoneSpelled};
 ghost use Rattle.dns_wire.specs.Rooms.{IsSoundRoom, known_in, HasNames, HasGrown, HasWritten};
+ghost use Rattle.dns_wire.specs.SuffixNumbers.{suffix_number};
 ghost use Rattle.dns_spec.specs.Sets.{records_at};
 ghost use Rattle.dns_spec.specs.Laws.{IsAskable};
 
 use crate::message::{CLASS_IN, HEADER_OCTETS, QuestionRef};
 use crate::places::{Places, SuffixHash};
+use crate::suffix_number::number_of;
 use arrayvec::ArrayVec;
 use byteorder::{BigEndian, ByteOrder};
 use dns_name::{NameRef, are_equal};
@@ -179,11 +181,11 @@ impl<const N: usize, const SIZE: usize> Room<N, SIZE> {
             (data_laid ms (length self.old.octets.items) (laid_parts rtype.0 rdata.now)) result }
         ensures elsewhere { (ms : List Placed) (b : Octets)
             → HasNames self.old (H.numbers hash.old) ms
-            → Holds (H.numbers hash.old) ms b (known_in (H.numbers hash.old) self.old)
+            → Holds (suffix_number (H.numbers hash.old)) ms b (known_in (suffix_number (H.numbers hash.old)) self.old)
             → length b ≡ length self.old.octets.items
-            → OnTrue result (StandsIn (H.numbers hash.old) ms b
+            → OnTrue result (StandsIn (suffix_number (H.numbers hash.old)) ms b
             (data_laid ms (length b) (laid_parts rtype.0 rdata.now))
-            (known_in (H.numbers hash.old) self.new)) }
+            (known_in (suffix_number (H.numbers hash.old)) self.new)) }
         ensures extends { HasGrown self.old self.new }
         ensures asked { self.new.asked_end ≡ self.old.asked_end }
         ensures limit { self.new.limit ≡ self.old.limit }
@@ -485,11 +487,11 @@ fn shared_suffix<H: SuffixHash, const N: usize>(
 ) -> Shared
     requires asked { IsAsked message.now asked_end }
     requires unasked { NotAsked message.now asked_end name.now }
-    ensures front { (ms : List Placed) (n : DomainName) → Holds (H.numbers hash.old) ms message.now
-        (asked_places (H.numbers hash.old) message.now asked_end ++ places.now)
+    ensures front { (ms : List Placed) (n : DomainName) → Holds (suffix_number (H.numbers hash.old)) ms message.now
+        (asked_places (suffix_number (H.numbers hash.old)) message.now asked_end ++ places.now)
         → name.now ≡ wire n → IsTrue (is_name n) → result.front ≡ front_size ms n }
-    ensures place { (ms : List Placed) (n : DomainName) → Holds (H.numbers hash.old) ms message.now
-        (asked_places (H.numbers hash.old) message.now asked_end ++ places.now)
+    ensures place { (ms : List Placed) (n : DomainName) → Holds (suffix_number (H.numbers hash.old)) ms message.now
+        (asked_places (suffix_number (H.numbers hash.old)) message.now asked_end ++ places.now)
         → name.now ≡ wire n → IsTrue (is_name n) → result.place ≡ pointed_place ms n }
     ensures inside { result.front ≤ length name.now }
     ensures reached { IfSome result.place (λ place. place < 16384) }
@@ -529,14 +531,15 @@ fn find_suffix<H: SuffixHash, const N: usize>(
     ensures spelled { IfSome result (λ place. SpellsName message.now place suffix.now) }
     ensures reached { IfSome result (λ place. place < 16384) }
     ensures none { IsNone result
-        → NoneSpelled places.now (H.numbers hash.old suffix.now) message.now suffix.now }
+        → NoneSpelled places.now (suffix_number (H.numbers hash.old) suffix.now)
+        message.now suffix.now }
     ensures same { H.numbers hash.new ≡ H.numbers hash.old }
 {
     if places.is_empty() {
         return None;
     }
-    let head = hash.head(suffix);
-    places.find(head, message, suffix)
+    let number = number_of(hash, suffix);
+    places.find(number, message, suffix)
 }
 
 // The place at which the name of the question, which ends at a place, has a suffix. It is not kept:
@@ -620,7 +623,8 @@ fn keep_suffixes<H: SuffixHash, const N: usize>(
     requires most { N ≤ 8192 }
     ensures kept { (ms : List Placed) (n : DomainName) → name.now ≡ wire n → IsTrue (is_name n)
         → front ≡ front_size ms n
-        → places.new ≡ places.old ++ new_places (H.numbers hash.old) ms n at }
+        → places.new ≡ places.old
+        ++ new_places (suffix_number (H.numbers hash.old)) ms n at }
     ensures few { 2 * length places.new ≤ at + front }
     ensures grows { Grows places.old places.new }
     ensures same { H.numbers hash.new ≡ H.numbers hash.old }
@@ -635,8 +639,8 @@ fn keep_suffixes<H: SuffixHash, const N: usize>(
         if next > at + front || place > LAST_PLACE {
             return;
         }
-        let head = hash.head(rest);
-        places.insert(place as u16, head);
+        let number = number_of(hash, rest);
+        places.insert(place as u16, number);
         place = next;
         rest = after;
     }
