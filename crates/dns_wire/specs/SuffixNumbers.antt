@@ -1,6 +1,6 @@
 -- What a reader learns here: the number by which the places of a suffix are told from those of
 -- others.
-use Rattle.std.specs.Prelude.{ℕ, zero, suc, ◌+◌, ◌-◌, ◌*◌, ◌/◌, ◌%◌, ◌^◌, nat_lt, length, take, drop, if◌then◌else◌}
+use Rattle.std.specs.Prelude.{ℕ, zero, suc, ◌+◌, ◌-◌, ◌*◌, ◌/◌, ◌%◌, ◌^◌, nat_le, length, take, drop, if◌then◌else◌}
 use Rattle.std.specs.Int.{from_le_bytes, w64}
 use Rattle.std.specs.Int.Bits.{bit_xor}
 use Rattle.std.specs.List.{fold}
@@ -22,14 +22,14 @@ few_number = fold with_octet 0
 
 -- the last eight octets, mixed with so many eights from the left
 abbrev pub with_eights : ℕ → Octets → ℕ
-with_eights zero s = mixed (from_le_bytes w64 (drop (length s - 8) s))
+with_eights zero s = from_le_bytes w64 (take 8 (drop (length s - 8) s))
 with_eights (suc k) s =
     mixed (bit_xor (with_eights k s) (from_le_bytes w64 (take 8 (drop (8 * k) s))))
 
 -- 22 bits for which all octets count
 unfoldable pub octets_number : Octets → ℕ
 octets_number s =
-    (if nat_lt (length s) 8
+    (if nat_le (length s) 8
     then mixed (few_number s)
     else with_eights ((length s - 1) / 8) s) / 2 ^ 42
 

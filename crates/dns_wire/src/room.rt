@@ -14,7 +14,7 @@ ghost use Rattle.dns_spec.specs.Laws.{IsAskable};
 
 use crate::message::{CLASS_IN, HEADER_OCTETS, QuestionRef};
 use crate::places::{Places, SuffixHash};
-use crate::suffix_number::number_of;
+use crate::suffix_number::{number_of, number_once};
 use arrayvec::ArrayVec;
 use byteorder::{BigEndian, ByteOrder};
 use dns_name::{NameRef, are_equal};
@@ -160,13 +160,14 @@ impl<const N: usize, const SIZE: usize> Room<N, SIZE> {
         if let Some(place) = place_before(message, self.asked_end, name) {
             return self.append(&pointer_octets(place), &[]);
         }
-        let shared = shared_suffix(&self.places, message, hash, name, self.asked_end);
+        let number = number_of(hash, name);
+        let shared = shared_suffix(&self.places, message, hash, name, number, self.asked_end);
         let (front, _) = name.split_at(shared.front);
         let at = self.octets.len();
         if !self.append_end(front, shared.place) {
             return false;
         }
-        keep_suffixes(&mut self.places, hash, name, shared.front, at);
+        keep_suffixes(&mut self.places, hash, name, number, shared.front, at);
         true
     }
 
@@ -483,8 +484,10 @@ fn shared_suffix<H: SuffixHash, const N: usize>(
     message: &[u8],
     hash: &mut H,
     name: &[u8],
+    number: u32,
     asked_end: usize,
 ) -> Shared
+    requires number { number ≡ suffix_number (H.numbers hash.old) name.now }
     requires asked { IsAsked message.now asked_end }
     requires unasked { NotAsked message.now asked_end name.now }
     ensures front { (ms : List Placed) (n : DomainName) → Holds (suffix_number (H.numbers hash.old)) ms message.now
@@ -498,14 +501,16 @@ fn shared_suffix<H: SuffixHash, const N: usize>(
     ensures same { H.numbers hash.new ≡ H.numbers hash.old }
 {
     let mut rest = name;
+    let mut known = Some(number);
     'suffixes: while let Some((_, after)) = after_first_label(rest) {
-        if let Some(place) = find_suffix(places, message, hash, rest) {
+        if let Some(place) = find_suffix(places, message, hash, rest, known) {
             return Shared {
                 front: name.len() - rest.len(),
                 place: Some(place),
             };
         }
         rest = after;
+        known = None;
         if let Some(place) = place_before(message, asked_end, rest) {
             return Shared {
                 front: name.len() - rest.len(),
@@ -526,7 +531,9 @@ fn find_suffix<H: SuffixHash, const N: usize>(
     message: &[u8],
     hash: &mut H,
     suffix: &[u8],
+    known: Option<u32>,
 ) -> Option<u16>
+    requires { IfSome known (λ n. n ≡ suffix_number (H.numbers hash.old) suffix.now) }
     ensures kept { IfSome result (λ place. HasPlace places.now place) }
     ensures spelled { IfSome result (λ place. SpellsName message.now place suffix.now) }
     ensures reached { IfSome result (λ place. place < 16384) }
@@ -538,7 +545,7 @@ fn find_suffix<H: SuffixHash, const N: usize>(
     if places.is_empty() {
         return None;
     }
-    let number = number_of(hash, suffix);
+    let number = number_once(hash, suffix, known);
     places.find(number, message, suffix)
 }
 
@@ -614,9 +621,11 @@ fn keep_suffixes<H: SuffixHash, const N: usize>(
     places: &mut Places<N>,
     hash: &mut H,
     name: &[u8],
+    number: u32,
     front: usize,
     at: usize,
 )
+    requires number { number ≡ suffix_number (H.numbers hash.old) name.now }
     requires short { at + front < 2 ^ 16 }
     requires room { min (at + front) 16384 ≤ 2 * N }
     requires few { 2 * length places.old ≤ at }
@@ -634,15 +643,17 @@ fn keep_suffixes<H: SuffixHash, const N: usize>(
     }
     let mut rest = name;
     let mut place = at;
+    let mut known = Some(number);
     'suffixes: while let Some((length, after)) = after_first_label(rest) {
         let next = place + 1 + length;
         if next > at + front || place > LAST_PLACE {
             return;
         }
-        let number = number_of(hash, rest);
+        let number = number_once(hash, rest, known);
         places.insert(place as u16, number);
         place = next;
         rest = after;
+        known = None;
     }
 }
 

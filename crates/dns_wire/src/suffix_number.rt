@@ -1,5 +1,5 @@
 //! The number by which the places of a suffix are told from those of others, and chosen.
-ghost use Rattle.std.specs.Prelude.{◌≡◌, ◌<◌, ◌≤◌, ◌^◌, length, take, drop, ◌+◌};
+ghost use Rattle.std.specs.Prelude.{◌≡◌, ◌<◌, ◌≤◌, ◌^◌, IfSome, length, take, drop, ◌+◌};
 ghost use Rattle.std.specs.Int.{from_le_bytes, w64};
 ghost use Rattle.dns_wire.specs.SuffixNumbers.{suffix_number, octets_number, few_number, mixed};
 
@@ -19,23 +19,37 @@ pub(crate) fn number_of<H: SuffixHash>(hash: &mut H, suffix: &[u8]) -> u32
     octets_number(suffix) * 1024 + length * 4 + head
 }
 
+/// The same, where it may be known already.
+pub(crate) fn number_once<H: SuffixHash>(hash: &mut H, suffix: &[u8], known: Option<u32>) -> u32
+    requires { IfSome known (λ n. n ≡ suffix_number (H.numbers hash.old) suffix.now) }
+    ensures value { result ≡ suffix_number (H.numbers hash.old) suffix.now }
+    ensures same { H.numbers hash.new ≡ H.numbers hash.old }
+{
+    match known {
+        Some(number) => number,
+        None => number_of(hash, suffix),
+    }
+}
+
 // A number of 22 bits for which all octets count, eight at a time: the last ones first, then the
 // others from the left. So each suffix of a name has a number that tells nothing of another's.
 fn octets_number(octets: &[u8]) -> u32
     ensures value { result ≡ octets_number octets.now }
     ensures low { result < 2 ^ 22 }
 {
-    let Some(last) = octets.last_chunk::<8>() else {
+    if octets.len() <= 8 {
         return (mixed(few_number(octets)) >> 42) as u32;
-    };
-    let mut number = mixed(u64::from_le_bytes(*last));
+    }
+    let mut number = eight_at(octets, octets.len() - 8);
     'eights: for i in 0..(octets.len() - 1) / 8 {
         number = mixed(number ^ eight_at(octets, 8 * i));
     }
     (number >> 42) as u32
 }
 
-// Less than eight octets, one after another in a number.
+// Few octets, one after another in a number. Out of line, it saves some 10 instructions
+// of each name that is written.
+#[inline(never)]
 fn few_number(octets: &[u8]) -> u64
     ensures { result ≡ few_number octets.now }
 {

@@ -1,4 +1,4 @@
-use Rattle.std.proofs.Common.{◌∙◌, refl, sym, ap, ◌++◌}
+use Rattle.std.proofs.Common.{rules, ◌≡◌, ◌∙◌, IfSome, refl, sym, ap, subst, ◌++◌}
 use Rattle.dns_wire.specs.Writing.{asked_places}
 use Rattle.dns_wire.proofs.Suffixes.{Left, left_begins, left_root, left_found}
 use Rattle.dns_wire.proofs.AskedLemmas.{left_after, place_asked, place_kept}
@@ -12,6 +12,7 @@ suffixes-init g c =
     record {
       left = left_begins head c.args.message.now (asked_places head c.args.message.now c.args.asked_end ++ c.args.places.now) c.args.name.now;
       unasked = c.requires.unasked;
+      known = c.requires.number;
       same = refl;
     }
 
@@ -56,6 +57,7 @@ suffixes-preserved g c =
     record {
       left = left_after c.args.asked_end c.args.places.now c.in-Some.field-0-0 i.left i.unasked (c.in_default-find_suffix.ensures.none refl) (ap (λ f. suffix_number f c.suffixes.rest.now) i.same) a.first a.some a.fits a.cut;
       unasked = c.in_default-place_before.ensures.none refl;
+      known = tt;
       same = c.find_suffix.ensures.same ∙ i.same;
     }
 
@@ -64,3 +66,8 @@ returns-clause-front g c = λ ms n holds e ok. sym (left_root ms n c.suffixes.in
 
 pub returns-clause-place : goal.returns-clause-place
 returns-clause-place g c = λ ms n holds e ok. sym (left_root ms n c.suffixes.invariant.left (c.in_default.ensures.root refl) holds e ok).1
+
+pub find_suffix-requires : goal.find_suffix-requires
+find_suffix-requires g c =
+    let i = c.suffixes.invariant in
+    (search rules, subst (λ h. IfSome c.suffixes.known (λ n. n ≡ suffix_number h c.suffixes.rest.now)) (sym i.same) i.known)

@@ -1,13 +1,13 @@
-use Rattle.std.proofs.Common.{◌≡◌, ◌-◌, ◌/◌, ◌^◌, ◌∙◌, cond, sym, ap, arith, length}
-use Rattle.std.proofs.lemmas.Bool.{lt-ltb, le-ltb}
+use Rattle.std.proofs.Common.{◌≡◌, ◌-◌, ◌/◌, ◌^◌, ◌∙◌, cond, sym, ap, arith, length, le-leb}
+use Rattle.std.proofs.lemmas.Bool.{lt-leb}
 use Rattle.dns_wire.specs.SuffixNumbers.{octets_number, mixed, few_number, with_eights}
 use Rattle.dns_wire.proofs.suffix_number.octets_number.Goals as goal
 
-pub returns-in_default-clause-value : goal.returns-in_default-clause-value
+pub returns-then-octets-le8-clause-value : goal.returns-then-octets-le8-clause-value
 unfolding octets_number
-returns-in_default-clause-value c =
+returns-then-octets-le8-clause-value c =
     let o = c.args.octets.now in
-    let few = lt-ltb (length o) 8 c.in_default.ensures.cases in
+    let few = le-leb (length o) 8 c.if-octets-le8.true in
     ap (λ n. n / 2 ^ 42) (c.mixed.ensures ∙ ap mixed c.few_number.ensures)
     ∙ sym (ap (λ t. cond t (mixed (few_number o)) (with_eights ((length o - 1) / 8) o) / 2 ^ 42) few)
 
@@ -15,7 +15,8 @@ pub returns-clause-value : goal.returns-clause-value
 unfolding octets_number
 returns-clause-value c =
     let o = c.args.octets.now in
-    let many = le-ltb (length o) 8 c.in-Some.ensures.cases.0 in
+    let more = c.if-octets-le8.false in
+    let many = lt-leb (length o) 8 (omega (arith, more)) in
     let over = c.eights-test.false in
     let within = c.eights.auto.i-end in
     let all : c.eights.i ≡ (length o - 1) / 8 = omega (arith, over, within) in

@@ -54,6 +54,7 @@ pub returns-then-not-append_end-clause-fits : goal.returns-then-not-append_end-c
 returns-then-not-append_end-clause-fits g c = λ ms n holds e ok.
     let head = suffix_number (g.H.SuffixHash.numbers c.args.hash.now) in
     let there = subst (λ b. Holds head ms b (asked_places head b c.args.self.now.asked_end ++ c.args.self.now.places)) (sym c.as_slice-message.ensures.value) holds in
+    let there = subst (λ h. Holds (suffix_number h) ms c.as_slice-message.result.now (asked_places (suffix_number h) c.as_slice-message.result.now c.args.self.now.asked_end ++ c.args.self.now.places)) (sym c.number_of-number.ensures.same) there in
     let front = c.shared_suffix-shared.ensures.front ms n there e ok in
     let end = ap (λ p. length (end_octets p)) (c.shared_suffix-shared.ensures.place ms n there e ok) in
     let cost = cost_is ms n in (
@@ -65,6 +66,7 @@ pub returns-clause-fits : goal.returns-clause-fits
 returns-clause-fits g c = λ ms n holds e ok.
     let head = suffix_number (g.H.SuffixHash.numbers c.args.hash.now) in
     let there = subst (λ b. Holds head ms b (asked_places head b c.args.self.now.asked_end ++ c.args.self.now.places)) (sym c.as_slice-message.ensures.value) holds in
+    let there = subst (λ h. Holds (suffix_number h) ms c.as_slice-message.result.now (asked_places (suffix_number h) c.as_slice-message.result.now c.args.self.now.asked_end ++ c.args.self.now.places)) (sym c.number_of-number.ensures.same) there in
     let front = c.shared_suffix-shared.ensures.front ms n there e ok in
     let end = ap (λ p. length (end_octets p)) (c.shared_suffix-shared.ensures.place ms n there e ok) in
     let cost = cost_is ms n in
@@ -75,6 +77,7 @@ pub returns-clause-octets : goal.returns-clause-octets
 returns-clause-octets g c = λ ms n holds e ok.
     let head = suffix_number (g.H.SuffixHash.numbers c.args.hash.now) in
     let there = subst (λ b. Holds head ms b (asked_places head b c.args.self.now.asked_end ++ c.args.self.now.places)) (sym c.as_slice-message.ensures.value) holds in
+    let there = subst (λ h. Holds (suffix_number h) ms c.as_slice-message.result.now (asked_places (suffix_number h) c.as_slice-message.result.now c.args.self.now.asked_end ++ c.args.self.now.places)) (sym c.number_of-number.ensures.same) there in
     let front = c.shared_suffix-shared.ensures.front ms n there e ok in
     let place = c.shared_suffix-shared.ensures.place ms n there e ok in
     c.if-not-append_end.ensures.octets
@@ -86,9 +89,10 @@ returns-clause-holds g c = λ ms n holds e ok.
     let head = suffix_number (g.H.SuffixHash.numbers c.args.hash.now) in
     let b = c.args.self.now.octets.items in
     let there = subst (λ x. Holds head ms x (asked_places head x c.args.self.now.asked_end ++ c.args.self.now.places)) (sym c.as_slice-message.ensures.value) holds in
+    let there = subst (λ h. Holds (suffix_number h) ms c.as_slice-message.result.now (asked_places (suffix_number h) c.as_slice-message.result.now c.args.self.now.asked_end ++ c.args.self.now.places)) (sym c.number_of-number.ensures.same) there in
     let front = c.shared_suffix-shared.ensures.front ms n there e ok in
     let octets = returns-clause-octets g c ms n holds e ok in
-    let numbers = c.shared_suffix-shared.ensures.same in
+    let numbers = c.shared_suffix-shared.ensures.same ∙ c.number_of-number.ensures.same in
     let new = new_places head ms n (length b) in
     let places : c.keep_suffixes.new.places ≡ c.args.self.now.places ++ new =
     c.keep_suffixes.ensures.kept ms n e ok front
@@ -115,7 +119,10 @@ returns-then-not-append_end-clause-extends g c =
 pub shared_suffix-shared-requires : goal.shared_suffix-shared-requires
 shared_suffix-shared-requires g c = (
   search rules,
-  (subst (λ b. IsAsked b c.args.self.now.asked_end) (sym c.as_slice-message.ensures.value) c.requires.asked, c.in_default.ensures.none refl),
+  (
+    c.number_of-number.ensures.value ∙ ap (λ h. suffix_number h c.args.name.now) (sym c.number_of-number.ensures.same),
+    (subst (λ b. IsAsked b c.args.self.now.asked_end) (sym c.as_slice-message.ensures.value) c.requires.asked, c.in_default.ensures.none refl),
+  ),
 )
 
 pub returns-clause-sound : goal.returns-clause-sound
