@@ -10,6 +10,11 @@ use std::marker::Model;
 
 // There are so many chains of places: a suffix with number k is in the one of k modulo this. They
 // are few, since a table of them is filled for each message.
+//
+// However a hash chooses, a chain has suffixes of eight lengths, 32 octets apart, since five of
+// the seven bits that choose it are of the length. So of a name it has one for each 32 octets: at
+// most 512 in the 16,384 octets that a pointer reaches, and one more for each name there. A reply
+// has some 82 names, so a suffix is compared by its octets with some 82 of its length at most.
 const HEADS: usize = 128;
 
 /// Chooses the chain in which a suffix is looked for: a number below 1,024, the same at every call
