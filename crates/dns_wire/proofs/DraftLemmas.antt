@@ -19,6 +19,7 @@ use Rattle.dns_spec.proofs.Layouts.LayoutSize.{length-records_octets, length-lay
 use Rattle.dns_wire.specs.declared.page.Section.{Section}
 use Rattle.dns_wire.specs.Kept.{Kept}
 use Rattle.dns_wire.specs.Writing.{Holds, IsWritten, records_laid, shown}
+use Rattle.dns_wire.specs.SuffixNumbers.{suffix_number}
 use Rattle.dns_wire.specs.Draft.{Draft, known_places, IsDraft, section_of, item_of, names_so_far}
 use Rattle.dns_wire.proofs.RecordsWritten.{octets_of_records, records-more, records-none}
 
@@ -101,7 +102,7 @@ module _ (head : Octets → ℕ) (q : Option MessageQuestion) (items : List Item
       omega (arith, written, next_place, length-append l more, length-append d.octets more)
 
   pub draft_put : (limit : ℕ) (section : Section) (owner : DomainName) (ttl : ℕ) (set : RecordSet) (d' : Draft)
-      → IsWritten head limit (names_so_far q items) d.octets (records_laid (names_so_far q items) (length d.octets) (records_at owner ttl set)) true d'.octets (known_places head d')
+      → IsWritten (suffix_number head) limit (names_so_far q items) d.octets (records_laid (names_so_far q items) (length d.octets) (records_at owner ttl set)) true d'.octets (known_places (suffix_number head) d')
       → d'.questions ≡ d.questions → d'.answers ≡ d.answers + count answer section (length set.rdata)
       → d'.authorities ≡ d.authorities + count authority section (length set.rdata) → d'.additionals ≡ d.additionals + count additional section (length set.rdata)
       → IsDraft head q (items ++ item_of section owner ttl set ∷ []) d'
@@ -115,7 +116,7 @@ module _ (head : Octets → ℕ) (q : Option MessageQuestion) (items : List Item
       let front = replicate 12 0 ++ asked_octets q in
       record {
         written = done.written ∙ ap (λ z. z ++ more.written) draft.written ∙ append_assoc front l.written more.written ∙ ap (λ (x : Laid). front ++ x.written) (sym all);
-        holds = subst (λ x. Holds head x d'.octets (known_places head d')) (append_assoc ms l.names more.names ∙ ap (λ (x : Laid). ms ++ x.names) (sym all)) done.holds;
+        holds = subst (λ x. Holds (suffix_number head) x d'.octets (known_places (suffix_number head) d')) (append_assoc ms l.names more.names ∙ ap (λ (x : Laid). ms ++ x.names) (sym all)) done.holds;
         questions = questions ∙ draft.questions;
         answers = answers ∙ ap (λ k. k + count answer section (length set.rdata)) draft.answers ∙ sym (section_counted answer items section owner ttl set);
         authorities = authorities ∙ ap (λ k. k + count authority section (length set.rdata)) draft.authorities ∙ sym (section_counted authority items section owner ttl set);
@@ -126,7 +127,7 @@ module _ (head : Octets → ℕ) (q : Option MessageQuestion) (items : List Item
 -- A set was put exactly where the layout with it is within the limit.
 pub put_fits : {head : Octets → ℕ} {t u : Bool} {b : Octets} {ks : List Kept} {d now : Draft} (q : Option MessageQuestion) (items : List Item) (section : Section)
     (owner : DomainName) (ttl : ℕ) (set : RecordSet) → d ≡ now → IsDraft head q items now
-    → ((ms : List Placed) → Holds head ms d.octets (known_places head d) → IsWritten head d.limit ms d.octets (records_laid ms (length d.octets) (records_at owner ttl set)) t b ks)
+    → ((ms : List Placed) → Holds (suffix_number head) ms d.octets (known_places (suffix_number head) d) → IsWritten (suffix_number head) d.limit ms d.octets (records_laid ms (length d.octets) (records_at owner ttl set)) t b ks)
     → t ≡ u → (u ≡ true) ↔ (size q (items ++ item_of section owner ttl set ∷ []) ≤ now.limit)
 put_fits {head} {t} {u} {b} {ks} {d} {now} q items section owner ttl set view draft written is =
     let here = subst (IsDraft head q items) (sym view) draft in
@@ -140,26 +141,26 @@ put_fits {head} {t} {u} {b} {ks} {d} {now} q items section owner ttl set view dr
 -- a set that was put, in the section that was asked for
 pub put_in : {head : Octets → ℕ} {limit : ℕ} {t : Bool} {d now d' : Draft} {asked : Section} (q : Option MessageQuestion) (items : List Item) (section : Section)
     (owner : DomainName) (ttl : ℕ) (set : RecordSet) → asked ≡ section → d ≡ now → IsDraft head q items now
-    → ((ms : List Placed) → Holds head ms d.octets (known_places head d) → IsWritten head limit ms d.octets (records_laid ms (length d.octets) (records_at owner ttl set)) t d'.octets (known_places head d'))
+    → ((ms : List Placed) → Holds (suffix_number head) ms d.octets (known_places (suffix_number head) d) → IsWritten (suffix_number head) limit ms d.octets (records_laid ms (length d.octets) (records_at owner ttl set)) t d'.octets (known_places (suffix_number head) d'))
     → t ≡ true → d'.questions ≡ d.questions → d'.answers ≡ d.answers + count answer section (length set.rdata)
     → d'.authorities ≡ d.authorities + count authority section (length set.rdata) → d'.additionals ≡ d.additionals + count additional section (length set.rdata)
     → IsDraft head q (items ++ item_of asked owner ttl set ∷ []) d'
 put_in {head} {limit} {t} {d} {now} {d'} {asked} q items section owner ttl set is view draft written put questions answers authorities additionals =
     let here = subst (IsDraft head q items) (sym view) draft in
     let ms = names_so_far q items in
-    let done = subst (λ u. IsWritten head limit ms d.octets (records_laid ms (length d.octets) (records_at owner ttl set)) u d'.octets (known_places head d')) put (written ms here.holds) in
+    let done = subst (λ u. IsWritten (suffix_number head) limit ms d.octets (records_laid ms (length d.octets) (records_at owner ttl set)) u d'.octets (known_places (suffix_number head) d')) put (written ms here.holds) in
     subst (λ (s : Section). IsDraft head q (items ++ item_of s owner ttl set ∷ []) d') (sym is)
     (draft_put head q items d here limit section owner ttl set d' done questions answers authorities additionals)
 
 -- a draft without sets
-pub draft_begins : (head : Octets → ℕ) (q : Option MessageQuestion) (d : Draft) → d.octets ≡ replicate 12 0 ++ asked_octets q → Holds head (asked_placed q) d.octets (known_places head d)
+pub draft_begins : (head : Octets → ℕ) (q : Option MessageQuestion) (d : Draft) → d.octets ≡ replicate 12 0 ++ asked_octets q → Holds (suffix_number head) (asked_placed q) d.octets (known_places (suffix_number head) d)
     → d.questions ≡ length (option_to_list q) → d.answers ≡ 0 → d.authorities ≡ 0 → d.additionals ≡ 0 → IfSome q IsAskable → IsDraft head q [] d
 draft_begins head q d octets holds questions answers authorities additionals askable =
     let none = records-none (asked_placed q) (12 + length (asked_octets q)) in
     let front = replicate 12 0 ++ asked_octets q in
     record {
       written = octets ∙ sym (append-nil front) ∙ ap (λ (l : Laid). front ++ l.written) (sym none);
-      holds = subst (λ ms. Holds head ms d.octets (known_places head d)) (sym (append-nil (asked_placed q)) ∙ ap (λ (l : Laid). asked_placed q ++ l.names) (sym none)) holds;
+      holds = subst (λ ms. Holds (suffix_number head) ms d.octets (known_places (suffix_number head) d)) (sym (append-nil (asked_placed q)) ∙ ap (λ (l : Laid). asked_placed q ++ l.names) (sym none)) holds;
       questions = questions;
       answers = answers;
       authorities = authorities;

@@ -7,6 +7,7 @@ mod NameLoop
 mod QueryName
 mod ChainLemmas
 mod SpelledLemmas
+mod CommonFront
 mod Suffixes
 mod NameWritten
 mod AskedLemmas

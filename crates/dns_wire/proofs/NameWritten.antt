@@ -95,7 +95,7 @@ run_more {b} x (jumps i o o' p n e at high at' is from before rest) =
 pub kept_left : (ks more : List Kept) (p h : ℕ) → IsKept ks p h → IsKept (ks ++ more) p h
 kept_left ks more p h kept = (kept.0, go ks kept.0 kept.1)
   where
-    go : (ks : List Kept) (k : ℕ) → slice_get ks k ≡ Some (record { place = p; head = h }) → slice_get (ks ++ more) k ≡ Some (record { place = p; head = h })
+    go : (ks : List Kept) (k : ℕ) → slice_get ks k ≡ Some (record { place = p; number = h }) → slice_get (ks ++ more) k ≡ Some (record { place = p; number = h })
     go [] k at = absurd (none-some _ at)
     go (y ∷ ks) zero at = at
     go (y ∷ ks) (suc k) at = go ks k at
@@ -119,7 +119,7 @@ pub kept_complete : (head : Octets → ℕ) (ms : List Placed) (n front : Domain
 kept_complete head ms n [] l t i p e none short at low =
     let same : i ≡ p = omega (arith, at, ap (λ x. length (wire x)) e) in
     let more = kept-more head ms l t i (shared_none ms (l ∷ t) none) (omega (arith, same, low)) in
-    (0, ap (λ x. slice_get (new_places head ms x i) 0) e ∙ ap (λ x. slice_get x 0) more ∙ ap (λ j. Some (record { place = j; head = head (wire (l ∷ t)) })) same)
+    (0, ap (λ x. slice_get (new_places head ms x i) 0) e ∙ ap (λ x. slice_get x 0) more ∙ ap (λ j. Some (record { place = j; number = head (wire (l ∷ t)) })) same)
 kept_complete head ms [] (x ∷ front) l t i p e none short at low = absurd (let z = ap length e in omega (arith, z))
 kept_complete head ms (k ∷ n) (x ∷ front) l t i p e none short at low =
     let tail : n ≡ front ++ l ∷ t = ap (λ (y : DomainName). drop 1 y) e in
@@ -146,12 +146,12 @@ pub kept_sound : (head : Octets → ℕ) (ms : List Placed) (n : DomainName) (i 
 kept_sound head ms [] i p h (k, at) = absurd (none-some _ (ap (λ x. slice_get x k) (sym (kept-root head ms i)) ∙ at))
 kept_sound head ms (l ∷ n) i p h (k, at) = go (shared_place ms (l ∷ n)) refl (nat_le i last_place) refl k at (λ j kept. kept_sound head ms n j p h kept)
   where
-    go : (x : Option ℕ) → shared_place ms (l ∷ n) ≡ x → (t : Bool) → nat_le i last_place ≡ t → (k : ℕ) → slice_get (new_places head ms (l ∷ n) i) k ≡ Some (record { place = p; head = h })
+    go : (x : Option ℕ) → shared_place ms (l ∷ n) ≡ x → (t : Bool) → nat_le i last_place ≡ t → (k : ℕ) → slice_get (new_places head ms (l ∷ n) i) k ≡ Some (record { place = p; number = h })
         → ((j : ℕ) → IsKept (new_places head ms n j) p h → NewSuffix ms n j p) → NewSuffix ms (l ∷ n) i p
     go (Some q) e t r k at again = absurd (none-some _ (ap (λ x. slice_get x k) (sym (kept-some head ms l n i q e)) ∙ at))
     go None e false r k at again =
         absurd (none-some _ (ap (λ x. slice_get x k) (sym (kept-none head ms l n i e
-        ∙ ap (λ t. cond t (record { place = i; head = head (wire (l ∷ n)) } ∷ new_places head ms n (i + 1 + length l)) []) r)) ∙ at))
+        ∙ ap (λ t. cond t (record { place = i; number = head (wire (l ∷ n)) } ∷ new_places head ms n (i + 1 + length l)) []) r)) ∙ at))
     go None e true r zero at again =
         let low = leb-true i last_place r in
         let first = ap (λ x. slice_get x 0) (sym (kept-more head ms l n i e low)) ∙ at in

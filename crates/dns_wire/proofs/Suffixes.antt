@@ -174,22 +174,22 @@ left_found {b = b} {name = name} {rest} p ms n left kept there holds e ok =
 -- which places are kept of a name, by whether its first suffix is shared
 module _ (head : Octets → ℕ) (ms : List Placed) (l : Octets) (n : DomainName) (p : ℕ) where
   pub kept-none : shared_place ms (l ∷ n) ≡ None
-      → new_places head ms (l ∷ n) p ≡ cond (nat_le p last_place) (record { place = p; head = head (wire (l ∷ n)) } ∷ new_places head ms n (p + 1 + length l)) []
+      → new_places head ms (l ∷ n) p ≡ cond (nat_le p last_place) (record { place = p; number = head (wire (l ∷ n)) } ∷ new_places head ms n (p + 1 + length l)) []
   unfolding new_places
   kept-none e = ap (λ (x : Option ℕ). elim x as (λ _. List Kept) [
-    | None ↦ cond (nat_le p last_place) (record { place = p; head = head (wire (l ∷ n)) } ∷ new_places head ms n (p + 1 + length l)) []
+    | None ↦ cond (nat_le p last_place) (record { place = p; number = head (wire (l ∷ n)) } ∷ new_places head ms n (p + 1 + length l)) []
     | Some q ↦ []
   ]) e
 
   pub kept-some : (q : ℕ) → shared_place ms (l ∷ n) ≡ Some q → new_places head ms (l ∷ n) p ≡ []
   unfolding new_places
   kept-some q e = ap (λ (x : Option ℕ). elim x as (λ _. List Kept) [
-    | None ↦ cond (nat_le p last_place) (record { place = p; head = head (wire (l ∷ n)) } ∷ new_places head ms n (p + 1 + length l)) []
+    | None ↦ cond (nat_le p last_place) (record { place = p; number = head (wire (l ∷ n)) } ∷ new_places head ms n (p + 1 + length l)) []
     | Some r ↦ []
   ]) e
 
-  pub kept-more : shared_place ms (l ∷ n) ≡ None → p ≤ last_place → new_places head ms (l ∷ n) p ≡ record { place = p; head = head (wire (l ∷ n)) } ∷ new_places head ms n (p + 1 + length l)
-  kept-more e low = kept-none e ∙ ap (λ t. cond t (record { place = p; head = head (wire (l ∷ n)) } ∷ new_places head ms n (p + 1 + length l)) []) (le-leb p last_place low)
+  pub kept-more : shared_place ms (l ∷ n) ≡ None → p ≤ last_place → new_places head ms (l ∷ n) p ≡ record { place = p; number = head (wire (l ∷ n)) } ∷ new_places head ms n (p + 1 + length l)
+  kept-more e low = kept-none e ∙ ap (λ t. cond t (record { place = p; number = head (wire (l ∷ n)) } ∷ new_places head ms n (p + 1 + length l)) []) (le-leb p last_place low)
 
   -- nothing is kept past the reach of a pointer, or of a shared suffix
   kept-high : last_place < p → new_places head ms (l ∷ n) p ≡ []
@@ -197,7 +197,7 @@ module _ (head : Octets → ℕ) (ms : List Placed) (l : Octets) (n : DomainName
     where
       go : (x : Option ℕ) → shared_place ms (l ∷ n) ≡ x → (t : Bool) → nat_le p last_place ≡ t → new_places head ms (l ∷ n) p ≡ []
       go None e true q = absurd (let low = leb-true p last_place q in omega (arith, low, high))
-      go None e false q = kept-none e ∙ ap (λ t. cond t (record { place = p; head = head (wire (l ∷ n)) } ∷ new_places head ms n (p + 1 + length l)) []) q
+      go None e false q = kept-none e ∙ ap (λ t. cond t (record { place = p; number = head (wire (l ∷ n)) } ∷ new_places head ms n (p + 1 + length l)) []) q
       go (Some r) e t q = kept-some r e
 
   kept-shared : front_size ms (l ∷ n) < 1 + length l → new_places head ms (l ∷ n) p ≡ []
@@ -233,9 +233,9 @@ keep_begins head old name front at few = record {
 
 pub keep_label : {head : Octets → ℕ} {old ks : List Kept} {name rest others after : Octets} {front at place : ℕ} (k h : ℕ) → Keep head old ks name rest front at place → rest ≡ k ∷ others → (k ≡ 0 → ⊥)
     → k ≤ length others → after ≡ drop k others → place + 1 + k ≤ at + front → place ≤ last_place → h ≡ head rest
-    → Keep head old (ks ++ record { place = place; head = h } ∷ []) name after front at (place + 1 + k)
+    → Keep head old (ks ++ record { place = place; number = h } ∷ []) name after front at (place + 1 + k)
 keep_label {head} {old} {ks} {name} {rest} {others} {after} {front} {at} {place} k h keep first some fits cut room low number = record {
-  few = let f = keep.few in let positive = pos k some in omega (arith, f, positive, length-append ks (record { place = place; head = h } ∷ []));
+  few = let f = keep.few in let positive = pos k some in omega (arith, f, positive, length-append ks (record { place = place; number = h } ∷ []));
   within = room;
   all = all;
 }
@@ -244,7 +244,7 @@ keep_label {head} {old} {ks} {name} {rest} {others} {after} {front} {at} {place}
     pos zero not_zero = absurd (not_zero refl)
     pos (suc j) not_zero = omega arith
 
-    all : (ms : List Placed) (n : DomainName) → name ≡ wire n → is_name n ≡ true → front ≡ front_size ms n → KeepOf head ms old (ks ++ record { place = place; head = h } ∷ []) after front at (place + 1 + k) n
+    all : (ms : List Placed) (n : DomainName) → name ≡ wire n → is_name n ≡ true → front ≡ front_size ms n → KeepOf head ms old (ks ++ record { place = place; number = h } ∷ []) after front at (place + 1 + k) n
     all ms n e ok f =
         let a = keep.all ms n e ok f in
         let g = first_label rest others k a.left a.spelled first some in
@@ -255,14 +255,14 @@ keep_label {head} {old} {ks} {name} {rest} {others} {after} {front} {at} {place}
         go ms n a g (shared_place ms (l ∷ m)) refl
       where
         go : (ms : List Placed) (n : DomainName) (a : KeepOf head ms old ks rest front at place n) (g : FirstLabel rest others k a.left) → (x : Option ℕ) → shared_place ms (g.label ∷ g.labels) ≡ x
-            → KeepOf head ms old (ks ++ record { place = place; head = h } ∷ []) after front at (place + 1 + k) n
+            → KeepOf head ms old (ks ++ record { place = place; number = h } ∷ []) after front at (place + 1 + k) n
         go ms n a g (Some r) q = absurd (let fit = a.fits in omega (arith, fit, room, ap (front_size ms) g.whole, front-some ms g.label g.labels r q))
         go ms n a g None q =
             let l = g.label in
             let m = g.labels in
-            let one : Kept = record { place = place; head = h } in
+            let one : Kept = record { place = place; number = h } in
             let w : rest ≡ wire (l ∷ m) = a.spelled ∙ ap wire g.whole in
-            let named : record { place = place; head = head (wire (l ∷ m)) } ≡ one = ap (λ j. record { place = place; head = j }) (ap head (sym w) ∙ sym number) in
+            let named : record { place = place; number = head (wire (l ∷ m)) } ≡ one = ap (λ j. record { place = place; number = j }) (ap head (sym w) ∙ sym number) in
             let next : place + 1 + length l ≡ place + 1 + k = ap (λ j. place + 1 + j) (sym g.long) in
             let more = kept-more head ms l m place q low ∙ ap₂ (λ (x : Kept) j. x ∷ new_places head ms m j) named next in
             let fit = a.fits in

@@ -8,6 +8,7 @@ use Rattle.dns_spec.specs.Layout as Layout
 use Rattle.dns_spec.specs.Layout.{Item, Placed, records_of, in_section, asked_octets, asked_placed, answer, authority, additional}
 use Rattle.dns_spec.specs.Laws.{IsAskable}
 use Rattle.dns_wire.specs.Kept.{Kept}
+use Rattle.dns_wire.specs.SuffixNumbers.{suffix_number}
 use Rattle.dns_wire.specs.Writing.{asked_places, Holds, IsSound, records_laid}
 use Rattle.dns_wire.specs.declared.page.Section.{Section}
 use Rattle.dns_wire.specs.declared.page.Section.TheVariants.{Answer, Authority, Additional}
@@ -53,7 +54,7 @@ no_draft limit = record {
 
 -- the places of the name of the question, and those kept of the names after it
 abbrev pub known_places : (Octets → ℕ) → Draft → List Kept
-known_places head d = asked_places head d.octets d.asked_end ++ d.kept
+known_places number d = asked_places number d.octets d.asked_end ++ d.kept
 
 -- the names of the records so far, with their places
 abbrev pub names_so_far : Option MessageQuestion → List Item → List Placed
@@ -67,7 +68,7 @@ pub record IsDraft (head : Octets → ℕ) (q : Option MessageQuestion) (items :
   pub written : d.octets
       ≡ replicate 12 0 ++ asked_octets q
       ++ (records_laid (asked_placed q) (12 + length (asked_octets q)) (records_of items)).written
-  pub holds : Holds head (names_so_far q items) d.octets (known_places head d)
+  pub holds : Holds (suffix_number head) (names_so_far q items) d.octets (known_places (suffix_number head) d)
   pub questions : d.questions ≡ length (option_to_list q)
   pub answers : d.answers ≡ length (in_section answer items)
   pub authorities : d.authorities ≡ length (in_section authority items)

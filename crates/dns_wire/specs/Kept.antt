@@ -1,17 +1,17 @@
 -- What a reader learns here: which places a writer keeps for the suffixes of names, and what it
 -- means that one is found.
-use Rattle.std.specs.Prelude.{◌≡◌, ℕ, ◌≤◌, List, length, take, drop, slice_get, Some, IsTrue}
+use Rattle.std.specs.Prelude.{◌≡◌, ◌≢◌, ℕ, ◌<◌, ◌≤◌, List, length, take, drop, slice_get, Some, IsTrue}
 use Rattle.dns_spec.specs.Names.{Octets, DomainName, wire, is_name}
 use Rattle.dns_spec.specs.Reading.{RunAt}
 
 -- a place, and the number of the suffix that stands there
 pub record Kept : Type 0 where
   pub place : ℕ
-  pub head : ℕ
+  pub number : ℕ
 
 -- such a pair is among those kept
 abbrev pub IsKept : List Kept → ℕ → ℕ → Type 0
-IsKept ks p h = (k : ℕ) × (slice_get ks k ≡ Some (record { place = p; head = h }))
+IsKept ks p h = (k : ℕ) × (slice_get ks k ≡ Some (record { place = p; number = h }))
 
 -- a place is kept, with whatever number
 abbrev pub HasPlace : List Kept → ℕ → Type 0
@@ -32,6 +32,13 @@ SpellsName b p o = (n : DomainName) → o ≡ wire n → IsTrue (is_name n) → 
 -- from a place of a message on stand these octets
 abbrev pub HasAt : Octets → ℕ → Octets → Type 0
 HasAt b p o = (p ≤ length b) × (take (length o) (drop p b) ≡ o)
+
+-- two runs have k octets in common at their fronts, and the first has not the next of the second
+pub record IsCommon (x y : Octets) (k : ℕ) : Type 0 where
+  pub within : k ≤ length x
+  pub most : k ≤ length y
+  pub alike : take k x ≡ take k y
+  pub other : k < length y → slice_get x k ≢ slice_get y k
 
 -- at none of the places kept with this number the message spells the suffix
 abbrev pub NoneSpelled : List Kept → ℕ → Octets → Octets → Type 0

@@ -9,3 +9,4 @@ pub mod Writing
 pub mod Rooms
 pub mod Draft
 pub mod QuickNumbers
+pub mod SuffixNumbers

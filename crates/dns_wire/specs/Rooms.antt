@@ -4,6 +4,7 @@ use Rattle.dns_spec.specs.Names.{Octets}
 use Rattle.dns_spec.specs.Layout.{Placed, Laid}
 use Rattle.dns_wire.specs.Kept.{Kept}
 use Rattle.dns_wire.specs.Writing.{asked_places, Extends, Holds, IsSound, IsWritten}
+use Rattle.dns_wire.specs.SuffixNumbers.{suffix_number}
 use Rattle.dns_wire.specs.declared.room.Room.{Room}
 
 module _ {N size : ℕ} where
@@ -13,11 +14,11 @@ module _ {N size : ℕ} where
 
   -- the places of the name of the question, and those kept of the names after it
   abbrev pub known_in : (Octets → ℕ) → Room N size → List Kept
-  known_in head r = asked_places head r.octets.items r.asked_end ++ r.places
+  known_in number r = asked_places number r.octets.items r.asked_end ++ r.places
 
-  -- these are its earlier names
+  -- these are its earlier names, where suffixes have their numbers by this hash
   abbrev pub HasNames : Room N size → (Octets → ℕ) → List Placed → Type 0
-  HasNames r head ms = Holds head ms r.octets.items (known_in head r)
+  HasNames r head ms = Holds (suffix_number head) ms r.octets.items (known_in (suffix_number head) r)
 
   -- octets and places came after those that were there
   abbrev pub HasGrown : Room N size → Room N size → Type 0
@@ -27,5 +28,5 @@ module _ {N size : ℕ} where
   abbrev pub HasWritten : Room N size → Room N size → (Octets → ℕ) → List Placed → Laid
       → Bool → Type 0
   HasWritten old new head ms laid fits =
-      IsWritten head old.limit ms old.octets.items laid fits new.octets.items
-      (known_in head new)
+      IsWritten (suffix_number head) old.limit ms old.octets.items laid fits new.octets.items
+      (known_in (suffix_number head) new)

@@ -40,11 +40,11 @@ end_octets (Some p) = pointer p
 -- the places that are kept of a name that is laid out from place p on: those of the suffixes
 -- written out, as far as a pointer reaches
 unfoldable pub new_places : (Octets → ℕ) → List Placed → DomainName → ℕ → List Kept
-new_places head ms [] p = []
-new_places head ms (l ∷ n) p = elim (shared_place ms (l ∷ n)) [
+new_places number ms [] p = []
+new_places number ms (l ∷ n) p = elim (shared_place ms (l ∷ n)) [
   | None ↦ if nat_le p last_place
-      then record { place = p; head = head (wire (l ∷ n)) }
-      ∷ new_places head ms n (p + 1 + length l)
+      then record { place = p; number = number (wire (l ∷ n)) }
+      ∷ new_places number ms n (p + 1 + length l)
       else []
   | Some q ↦ []
 ]
@@ -61,12 +61,12 @@ pub record IsAsked (b : Octets) (a : ℕ) : Type 0 where
 
 -- the places of its suffixes, each with the number of the suffix
 unfoldable pub asked_places : (Octets → ℕ) → Octets → ℕ → List Kept
-asked_places head b a = new_places head [] (labels_of (name_before b a)) 12
+asked_places number b a = new_places number [] (labels_of (name_before b a)) 12
 
 -- at none of them the message spells these octets
 abbrev pub NotAsked : Octets → ℕ → Octets → Type 0
 NotAsked b a o =
-    (head : Octets → ℕ) (p h : ℕ) → IsKept (asked_places head b a) p h → SpelledAt b p o → ⊥
+    (number : Octets → ℕ) (p h : ℕ) → IsKept (asked_places number b a) p h → SpelledAt b p o → ⊥
 
 -- octets are the end of a name from one of its labels on
 abbrev pub IsLastOf : Octets → Octets → Type 0
@@ -74,24 +74,24 @@ IsLastOf o last = (n : DomainName) → o ≡ wire n → IsTrue (is_name n)
     → (front : DomainName) × (n' : DomainName) × (n ≡ front ++ n') × (last ≡ wire n')
 
 -- The places kept are just those of the suffixes that are shared, each with its number.
-pub record Answers (head : Octets → ℕ) (ms : List Placed) (ks : List Kept) : Type 0 where
+pub record Answers (number : Octets → ℕ) (ms : List Placed) (ks : List Kept) : Type 0 where
   pub complete : (l : Octets) (n : DomainName) (p : ℕ) → shared_place ms (l ∷ n) ≡ Some p
-      → IsKept ks p (head (wire (l ∷ n)))
+      → IsKept ks p (number (wire (l ∷ n)))
   pub sound : (p h : ℕ) → IsKept ks p h
       → (l : Octets) × (n : DomainName) × (shared_place ms (l ∷ n) ≡ Some p)
       × IsTrue (is_name (l ∷ n))
 
 -- The message spells each suffix that is shared, and all places are in it.
-pub record Holds (head : Octets → ℕ) (ms : List Placed) (b : Octets) (ks : List Kept) : Type 0 where
+pub record Holds (number : Octets → ℕ) (ms : List Placed) (b : Octets) (ks : List Kept) : Type 0 where
   pub spelled : (l : Octets) (n : DomainName) (p : ℕ) → shared_place ms (l ∷ n) ≡ Some p
       → (12 ≤ p) × (p < length b) × (e : ℕ) × RunAt b p p (l ∷ n) e
   pub before : (l : Octets) (n : DomainName) (p : ℕ) → place_of ms (l ∷ n) ≡ Some p → p < length b
   pub after_header : 12 ≤ length b
-  pub answers : Answers head ms ks
+  pub answers : Answers number ms ks
 
 -- What was laid out after octets b spells its names in them, and these are their places.
 abbrev pub StandsIn : (Octets → ℕ) → List Placed → Octets → Laid → List Kept → Type 0
-StandsIn head ms b laid ks = Holds head (ms ++ laid.names) (b ++ laid.written) ks
+StandsIn number ms b laid ks = Holds number (ms ++ laid.names) (b ++ laid.written) ks
 
 -- A writer's room: N places and so many octets, of which a limit may be used. The name of the
 -- question ends at place a.
@@ -118,11 +118,11 @@ pub record Grows (ks ks' : List Kept) : Type 0 where
 
 -- What was laid out after these octets is written exactly where it fits the limit, and its names
 -- are earlier names then.
-pub record IsWritten (head : Octets → ℕ) (limit : ℕ) (ms : List Placed) (b : Octets) (laid : Laid)
+pub record IsWritten (number : Octets → ℕ) (limit : ℕ) (ms : List Placed) (b : Octets) (laid : Laid)
     (fits : Bool) (b' : Octets) (ks' : List Kept) : Type 0 where
   pub exactly : IsTrue fits ↔ (length (b ++ laid.written) ≤ limit)
   pub written : OnTrue fits (b' ≡ b ++ laid.written)
-  pub holds : OnTrue fits (Holds head (ms ++ laid.names) b' ks')
+  pub holds : OnTrue fits (Holds number (ms ++ laid.names) b' ks')
 
 -- a record, and what is laid out of it after its owner
 abbrev pub shown : DomainName → ℕ → ℕ → Octets → ResourceRecord

@@ -13,6 +13,7 @@ mod quick_hash;
 mod reader;
 mod room;
 mod spelled;
+mod suffix_number;
 mod writer;
 
 pub use fault::WireFault;

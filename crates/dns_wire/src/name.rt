@@ -1,7 +1,7 @@
 //! Names in a message, which may go on elsewhere by a pointer (RFC 1035 4.1.4).
-ghost use Rattle.std.specs.Prelude.{◌≡◌, ◌≤◌, ◌<◌, length, get_or, IfOk, IsErr};
+ghost use Rattle.std.specs.Prelude.{◌≡◌, ◌≤◌, ◌<◌, length, get_or, IfOk, IsErr, IfSome, IsNone};
 ghost use Rattle.dns_spec.specs.Reading.{NameAt};
-ghost use Rattle.dns_wire.specs.Labels.{StepAt, NoRunAt, NoNameAt};
+ghost use Rattle.dns_wire.specs.Labels.{StepAt, PointerAt, NoRunAt, NoNameAt};
 
 use crate::fault::WireFault;
 use crate::message::HEADER_OCTETS;
@@ -64,8 +64,22 @@ pub(crate) fn step_at(message: &[u8], run: usize, place: usize) -> Result<Step<'
         0 => Ok(Step::End),
         1..=63 => label_at(message, run, place),
         64..=191 => Err(WireFault::ReservedLabel),
-        192..=255 => pointer_at(message, run, place),
+        192..=255 => match pointer_at(message, run, place) {
+            Ok(target) => Ok(Step::Jump(target)),
+            Err(fault) => Err(fault),
+        },
     }
+}
+
+/// Where a pointer leads that stands at a place of a run of labels that began at `run`.
+pub(crate) fn jump_at(message: &[u8], run: usize, place: usize) -> Option<usize>
+    ensures some { IfSome result (λ target. PointerAt message.now run place target) }
+    ensures none { IsNone result → 192 ≤ get_or message.now place 0 → NoRunAt message.now run place }
+{
+    if *message.get(place)? < 192 {
+        return None;
+    }
+    pointer_at(message, run, place).ok()
 }
 
 // A label, after its length of 1 to 63 octets.
@@ -87,11 +101,11 @@ fn label_at(message: &[u8], run: usize, place: usize) -> Result<Step<'_>, WireFa
     }
 }
 
-// A pointer of two octets, the first from 192 on.
-fn pointer_at(message: &[u8], run: usize, place: usize) -> Result<Step<'_>, WireFault>
+// Where a pointer of two octets leads, the first from 192 on.
+fn pointer_at(message: &[u8], run: usize, place: usize) -> Result<usize, WireFault>
     requires inside { place < length message.now }
     requires high { 192 ≤ get_or message.now place 0 }
-    ensures step { IfOk result (λ step. StepAt message.now run place step) }
+    ensures jump { IfOk result (λ target. PointerAt message.now run place target) }
     ensures none { IsErr result → NoRunAt message.now run place }
 {
     let Some(second) = message.get(place + 1) else {
@@ -101,5 +115,5 @@ fn pointer_at(message: &[u8], run: usize, place: usize) -> Result<Step<'_>, Wire
     if target < HEADER_OCTETS || target >= run {
         return Err(WireFault::BadPointer);
     }
-    Ok(Step::Jump(target))
+    Ok(target)
 }

@@ -10,6 +10,11 @@ use std::marker::Model;
 
 // There are so many chains of places: a suffix with number k is in the one of k modulo this. They
 // are few, since a table of them is filled for each message.
+//
+// However a hash chooses, a chain has suffixes of eight lengths, 32 octets apart, since five of
+// the seven bits that choose it are of the length. So of a name it has one for each 32 octets: at
+// most 512 in the 16,384 octets that a pointer reaches, and one more for each name there. A reply
+// has some 82 names, so a suffix is compared by its octets with some 82 of its length at most.
 const HEADS: usize = 128;
 
 /// Chooses the chain in which a suffix is looked for: a number below 1,024, the same at every call
@@ -30,13 +35,13 @@ pub trait SuffixHash {
         ensures same { numbers self.new ≡ numbers self.old };
 }
 
-// A place, the number of its suffix, and which entry of its chain was kept before it, counted from
-// 1; 0 is none.
+// A place, which entry of its chain was kept before it, counted from 1 with 0 for none, and the
+// number of its suffix.
 #[derive(Clone, Copy, Default)]
 struct Entry {
     place: u16,
-    head: u16,
     next: u16,
+    number: u32,
 }
 
 /// The places that are kept, each with the number of its suffix, in the order in which they came.
@@ -96,16 +101,19 @@ impl<const N: usize> Places<N> {
     }
 
     /// Keeps a place more, of a suffix with this number.
-    pub(crate) fn insert(&mut self, place: u16, head: u16)
+    pub(crate) fn insert(&mut self, place: u16, number: u32)
         requires few { N ≤ 8192 }
         requires room { length self.old < N }
-        requires low { head < 1024 }
         requires reached { place < 16384 }
-        ensures { self.new ≡ self.old ++ record { place = place; head = head } ∷ [] }
+        ensures { self.new ≡ self.old ++ record { place = place; number = number } ∷ [] }
     {
-        let next = self.heads[chain_of(head)];
-        self.entries.push(Entry { place, head, next });
-        self.heads[chain_of(head)] = self.entries.len() as u16;
+        let next = self.heads[chain_of(number)];
+        self.entries.push(Entry {
+            place,
+            next,
+            number,
+        });
+        self.heads[chain_of(number)] = self.entries.len() as u16;
     }
 
     /// Keeps only the places that came first, as if the others had never come.
@@ -121,26 +129,25 @@ impl<const N: usize> Places<N> {
         ensures { self.new ≡ take (length self.old - 1) self.old }
     {
         if let Some(newest) = self.entries.pop() {
-            self.heads[chain_of(newest.head)] = newest.next;
+            self.heads[chain_of(newest.number)] = newest.next;
         }
     }
 
     /// A place at which the message spells the suffix, among those that are kept with this number;
     /// the newest of them.
-    pub(crate) fn find(&self, head: u16, message: &[u8], suffix: &[u8]) -> Option<u16>
-        requires { head < 1024 }
-        ensures kept { IfSome result (λ place. IsKept self.now place head) }
+    pub(crate) fn find(&self, number: u32, message: &[u8], suffix: &[u8]) -> Option<u16>
+        ensures kept { IfSome result (λ place. IsKept self.now place number) }
         ensures spelled { IfSome result (λ place. SpellsName message.now place suffix.now) }
         ensures reached { IfSome result (λ place. place < 16384) }
-        ensures none { IsNone result → NoneSpelled self.now head message.now suffix.now }
+        ensures none { IsNone result → NoneSpelled self.now number message.now suffix.now }
     {
-        let mut number = self.heads[chain_of(head)];
-        'chain: while number > 0 {
-            let entry = self.entries.as_slice()[usize::from(number) - 1];
-            if is_sought(entry, head, message, suffix) {
+        let mut newest = self.heads[chain_of(number)];
+        'chain: while newest > 0 {
+            let entry = self.entries.as_slice()[usize::from(newest) - 1];
+            if is_sought(entry, number, message, suffix) {
                 return Some(entry.place);
             }
-            number = entry.next;
+            newest = entry.next;
         }
         None
     }
@@ -153,19 +160,19 @@ fn no_heads() -> [u16; HEADS]
 }
 
 // The chain of the suffixes with a number.
-fn chain_of(head: u16) -> usize
-    ensures chain { result ≡ chain_of head }
+fn chain_of(number: u32) -> usize
+    ensures chain { result ≡ chain_of number }
     ensures low { result < 128 }
 {
-    usize::from(head) % HEADS
+    (number % HEADS as u32) as usize
 }
 
 // Whether an entry has this number, and the message spells the suffix at its place.
-fn is_sought(entry: Entry, head: u16, message: &[u8], suffix: &[u8]) -> bool
+fn is_sought(entry: Entry, number: u32, message: &[u8], suffix: &[u8]) -> bool
     ensures yes { IsTrue result
-        → (entry.head ≡ head) × SpellsName message.now entry.place suffix.now }
-    ensures no { (entry.head ≡ head) × SpelledAt message.now entry.place suffix.now
+        → (entry.number ≡ number) × SpellsName message.now entry.place suffix.now }
+    ensures no { (entry.number ≡ number) × SpelledAt message.now entry.place suffix.now
         → IsTrue result }
 {
-    entry.head == head && is_spelled(message, usize::from(entry.place), suffix)
+    entry.number == number && is_spelled(message, usize::from(entry.place), suffix)
 }

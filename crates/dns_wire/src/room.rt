@@ -8,11 +8,13 @@ ghost use Rattle.dns_spec.specs.Layout.{Placed, question_octets, octets16, octet
 ghost use Rattle.dns_wire.specs.Writing.{name_before, IsAsked, asked_places, NotAsked, IsLastOf, front_size, pointed_place, new_places, end_octets, Grows, AfterLabel, Holds, StandsIn, shown, tail_laid, records_laid};
 ghost use Rattle.dns_wire.specs.Kept.{HasPlace, SpellsName, NoneSpelled};
 ghost use Rattle.dns_wire.specs.Rooms.{IsSoundRoom, known_in, HasNames, HasGrown, HasWritten};
+ghost use Rattle.dns_wire.specs.SuffixNumbers.{suffix_number};
 ghost use Rattle.dns_spec.specs.Sets.{records_at};
 ghost use Rattle.dns_spec.specs.Laws.{IsAskable};
 
 use crate::message::{CLASS_IN, HEADER_OCTETS, QuestionRef};
 use crate::places::{Places, SuffixHash};
+use crate::suffix_number::{number_of, number_once};
 use arrayvec::ArrayVec;
 use byteorder::{BigEndian, ByteOrder};
 use dns_name::{NameRef, are_equal};
@@ -158,13 +160,14 @@ impl<const N: usize, const SIZE: usize> Room<N, SIZE> {
         if let Some(place) = place_before(message, self.asked_end, name) {
             return self.append(&pointer_octets(place), &[]);
         }
-        let shared = shared_suffix(&self.places, message, hash, name, self.asked_end);
+        let number = number_of(hash, name);
+        let shared = shared_suffix(&self.places, message, hash, name, number, self.asked_end);
         let (front, _) = name.split_at(shared.front);
         let at = self.octets.len();
         if !self.append_end(front, shared.place) {
             return false;
         }
-        keep_suffixes(&mut self.places, hash, name, shared.front, at);
+        keep_suffixes(&mut self.places, hash, name, number, shared.front, at);
         true
     }
 
@@ -179,11 +182,11 @@ impl<const N: usize, const SIZE: usize> Room<N, SIZE> {
             (data_laid ms (length self.old.octets.items) (laid_parts rtype.0 rdata.now)) result }
         ensures elsewhere { (ms : List Placed) (b : Octets)
             → HasNames self.old (H.numbers hash.old) ms
-            → Holds (H.numbers hash.old) ms b (known_in (H.numbers hash.old) self.old)
+            → Holds (suffix_number (H.numbers hash.old)) ms b (known_in (suffix_number (H.numbers hash.old)) self.old)
             → length b ≡ length self.old.octets.items
-            → OnTrue result (StandsIn (H.numbers hash.old) ms b
+            → OnTrue result (StandsIn (suffix_number (H.numbers hash.old)) ms b
             (data_laid ms (length b) (laid_parts rtype.0 rdata.now))
-            (known_in (H.numbers hash.old) self.new)) }
+            (known_in (suffix_number (H.numbers hash.old)) self.new)) }
         ensures extends { HasGrown self.old self.new }
         ensures asked { self.new.asked_end ≡ self.old.asked_end }
         ensures limit { self.new.limit ≡ self.old.limit }
@@ -481,29 +484,33 @@ fn shared_suffix<H: SuffixHash, const N: usize>(
     message: &[u8],
     hash: &mut H,
     name: &[u8],
+    number: u32,
     asked_end: usize,
 ) -> Shared
+    requires number { number ≡ suffix_number (H.numbers hash.old) name.now }
     requires asked { IsAsked message.now asked_end }
     requires unasked { NotAsked message.now asked_end name.now }
-    ensures front { (ms : List Placed) (n : DomainName) → Holds (H.numbers hash.old) ms message.now
-        (asked_places (H.numbers hash.old) message.now asked_end ++ places.now)
+    ensures front { (ms : List Placed) (n : DomainName) → Holds (suffix_number (H.numbers hash.old)) ms message.now
+        (asked_places (suffix_number (H.numbers hash.old)) message.now asked_end ++ places.now)
         → name.now ≡ wire n → IsTrue (is_name n) → result.front ≡ front_size ms n }
-    ensures place { (ms : List Placed) (n : DomainName) → Holds (H.numbers hash.old) ms message.now
-        (asked_places (H.numbers hash.old) message.now asked_end ++ places.now)
+    ensures place { (ms : List Placed) (n : DomainName) → Holds (suffix_number (H.numbers hash.old)) ms message.now
+        (asked_places (suffix_number (H.numbers hash.old)) message.now asked_end ++ places.now)
         → name.now ≡ wire n → IsTrue (is_name n) → result.place ≡ pointed_place ms n }
     ensures inside { result.front ≤ length name.now }
     ensures reached { IfSome result.place (λ place. place < 16384) }
     ensures same { H.numbers hash.new ≡ H.numbers hash.old }
 {
     let mut rest = name;
+    let mut known = Some(number);
     'suffixes: while let Some((_, after)) = after_first_label(rest) {
-        if let Some(place) = find_suffix(places, message, hash, rest) {
+        if let Some(place) = find_suffix(places, message, hash, rest, known) {
             return Shared {
                 front: name.len() - rest.len(),
                 place: Some(place),
             };
         }
         rest = after;
+        known = None;
         if let Some(place) = place_before(message, asked_end, rest) {
             return Shared {
                 front: name.len() - rest.len(),
@@ -524,19 +531,22 @@ fn find_suffix<H: SuffixHash, const N: usize>(
     message: &[u8],
     hash: &mut H,
     suffix: &[u8],
+    known: Option<u32>,
 ) -> Option<u16>
+    requires { IfSome known (λ n. n ≡ suffix_number (H.numbers hash.old) suffix.now) }
     ensures kept { IfSome result (λ place. HasPlace places.now place) }
     ensures spelled { IfSome result (λ place. SpellsName message.now place suffix.now) }
     ensures reached { IfSome result (λ place. place < 16384) }
     ensures none { IsNone result
-        → NoneSpelled places.now (H.numbers hash.old suffix.now) message.now suffix.now }
+        → NoneSpelled places.now (suffix_number (H.numbers hash.old) suffix.now)
+        message.now suffix.now }
     ensures same { H.numbers hash.new ≡ H.numbers hash.old }
 {
     if places.is_empty() {
         return None;
     }
-    let head = hash.head(suffix);
-    places.find(head, message, suffix)
+    let number = number_once(hash, suffix, known);
+    places.find(number, message, suffix)
 }
 
 // The place at which the name of the question, which ends at a place, has a suffix. It is not kept:
@@ -611,16 +621,19 @@ fn keep_suffixes<H: SuffixHash, const N: usize>(
     places: &mut Places<N>,
     hash: &mut H,
     name: &[u8],
+    number: u32,
     front: usize,
     at: usize,
 )
+    requires number { number ≡ suffix_number (H.numbers hash.old) name.now }
     requires short { at + front < 2 ^ 16 }
     requires room { min (at + front) 16384 ≤ 2 * N }
     requires few { 2 * length places.old ≤ at }
     requires most { N ≤ 8192 }
     ensures kept { (ms : List Placed) (n : DomainName) → name.now ≡ wire n → IsTrue (is_name n)
         → front ≡ front_size ms n
-        → places.new ≡ places.old ++ new_places (H.numbers hash.old) ms n at }
+        → places.new ≡ places.old
+        ++ new_places (suffix_number (H.numbers hash.old)) ms n at }
     ensures few { 2 * length places.new ≤ at + front }
     ensures grows { Grows places.old places.new }
     ensures same { H.numbers hash.new ≡ H.numbers hash.old }
@@ -630,15 +643,17 @@ fn keep_suffixes<H: SuffixHash, const N: usize>(
     }
     let mut rest = name;
     let mut place = at;
+    let mut known = Some(number);
     'suffixes: while let Some((length, after)) = after_first_label(rest) {
         let next = place + 1 + length;
         if next > at + front || place > LAST_PLACE {
             return;
         }
-        let head = hash.head(rest);
-        places.insert(place as u16, head);
+        let number = number_once(hash, rest, known);
+        places.insert(place as u16, number);
         place = next;
         rest = after;
+        known = None;
     }
 }
 

@@ -1,7 +1,7 @@
 //! Replies past 16,384 octets, where pointers no longer reach the names that are written.
 ghost use Rattle.std.specs.Prelude.{◌≡◌, IfOk, length};
 
-use crate::tests::written::{Offered, asked, put};
+use crate::tests::written::{Offered, OneChain, asked, put};
 use crate::{Head, QuickHash, Section, SuffixHash, Writer};
 use dns_rdata::RType;
 use std::test::Fail;
@@ -106,12 +106,13 @@ fn sixty_four_strings(rt: HostRuntime) -> Result<(), Fail> {
     Ok(())
 }
 
-// The addresses of `t26` begin at place 17,002, so that none of their owners is shared whole.
-#[test]
-fn names_past_the_reach_of_a_pointer(rt: HostRuntime) -> Result<(), Fail> {
+// The reply of 17 services with the addresses of their targets: its length, and room that begins
+// with its octets.
+fn services<H: SuffixHash>(rt: HostRuntime, hash: &mut H) -> Result<(usize, Vec<u8>), Fail>
+    ensures { IfOk result (λ reply. length reply.1.items ≡ 65535) }
+{
     let question = asked(b"y.example", 33)?;
-    let mut hash = QuickHash;
-    let mut writer = Writer::new(MOST_OCTETS, Some(&question), &mut hash);
+    let mut writer = Writer::new(MOST_OCTETS, Some(&question), hash);
     put_services(rt, &mut writer)?;
     put_targets(rt, &mut writer)?;
     let mut out = most_octets(rt)?;
@@ -119,13 +120,30 @@ fn names_past_the_reach_of_a_pointer(rt: HostRuntime) -> Result<(), Fail> {
         id: 0x1234,
         flags: 0x8400,
     };
-    assert_eq!(rt; writer.finish(head, &mut out), 18_282);
+    let length = writer.finish(head, &mut out);
+    Ok((length, out))
+}
+
+// The addresses of `t26` begin at place 17,002, so that none of their owners is shared whole.
+#[test]
+fn names_past_the_reach_of_a_pointer(rt: HostRuntime) -> Result<(), Fail> {
+    let (length, out) = services(rt, &mut QuickHash)?;
+    assert_eq!(rt; length, 18_282);
     assert_eq!(rt;
         &out[..12],
         b"\x12\x34\x84\x00\x00\x01\x00\x11\x00\x00\x04\x40".as_slice()
     );
     assert_eq!(rt; &out[15_974..15_980], b"\x03t25\xc0\x0e".as_slice());
     assert_eq!(rt; &out[17_002..17_008], b"\x03t26\xc0\x0e".as_slice());
+    assert_eq!(rt; &out[18_262..18_268], b"\x03t26\xc0\x0e".as_slice());
+    Ok(())
+}
+
+#[test]
+fn one_number_for_all_suffixes(rt: HostRuntime) -> Result<(), Fail> {
+    let (length, out) = services(rt, &mut OneChain)?;
+    assert_eq!(rt; length, 18_282);
+    assert_eq!(rt; &out[15_974..15_980], b"\x03t25\xc0\x0e".as_slice());
     assert_eq!(rt; &out[18_262..18_268], b"\x03t26\xc0\x0e".as_slice());
     Ok(())
 }

@@ -172,7 +172,57 @@ const INSIDE_A_LABEL: Row<'static> = Row {
         \x00\x0e\x10\x00\x04\xc0\x00\x02\x01",
 };
 
-const ROWS: [Row<'static>; 7] = [
+// Two exchanges alike but for their last label below the question's, and their addresses: as runs
+// of octets the names differ before the pointer that ends them.
+const MANY_LABELS: Row<'static> = Row {
+    name: "names of many labels",
+    qname: b"q.example",
+    qtype: 15,
+    flags: 0x8400,
+    sets: &[
+        Offered {
+            section: Section::Answer,
+            owner: b"q.example",
+            ttl: 3600,
+            rtype: RType::MX,
+            rdata: b"\x00\x01\x01a\x01a\x01a\x01a\x01a\x01a\x01a\x01a\x01a\x01a\
+                \x01a\x01a\x01a\x01a\x01a\x01a\x01a\x01a\x01a\x01a\x02x1\x07example\x00",
+        },
+        Offered {
+            section: Section::Answer,
+            owner: b"q.example",
+            ttl: 3600,
+            rtype: RType::MX,
+            rdata: b"\x00\x02\x01a\x01a\x01a\x01a\x01a\x01a\x01a\x01a\x01a\x01a\
+                \x01a\x01a\x01a\x01a\x01a\x01a\x01a\x01a\x01a\x01a\x02x2\x07example\x00",
+        },
+        Offered {
+            section: Section::Additional,
+            owner: b"a.a.a.a.a.a.a.a.a.a.a.a.a.a.a.a.a.a.a.a.x1.example",
+            ttl: 3600,
+            rtype: RType::A,
+            rdata: b"\xc0\x00\x02\x01",
+        },
+        Offered {
+            section: Section::Additional,
+            owner: b"a.a.a.a.a.a.a.a.a.a.a.a.a.a.a.a.a.a.a.a.x2.example",
+            ttl: 3600,
+            rtype: RType::A,
+            rdata: b"\xc0\x00\x02\x02",
+        },
+    ],
+    wanted: b"\x12\x34\x84\x00\x00\x01\x00\x02\x00\x00\x00\x02\x01q\x07example\x00\x00\x0f\x00\x01\
+        \xc0\x0c\x00\x0f\x00\x01\x00\x00\x0e\x10\x00\x2f\x00\x01\
+        \x01a\x01a\x01a\x01a\x01a\x01a\x01a\x01a\x01a\x01a\
+        \x01a\x01a\x01a\x01a\x01a\x01a\x01a\x01a\x01a\x01a\x02x1\xc0\x0e\
+        \xc0\x0c\x00\x0f\x00\x01\x00\x00\x0e\x10\x00\x2f\x00\x02\
+        \x01a\x01a\x01a\x01a\x01a\x01a\x01a\x01a\x01a\x01a\
+        \x01a\x01a\x01a\x01a\x01a\x01a\x01a\x01a\x01a\x01a\x02x2\xc0\x0e\
+        \xc0\x29\x00\x01\x00\x01\x00\x00\x0e\x10\x00\x04\xc0\x00\x02\x01\
+        \xc0\x64\x00\x01\x00\x01\x00\x00\x0e\x10\x00\x04\xc0\x00\x02\x02",
+};
+
+const ROWS: [Row<'static>; 8] = [
     NAME_ERROR,
     WILDCARD,
     REFERRAL,
@@ -180,6 +230,7 @@ const ROWS: [Row<'static>; 7] = [
     NAME_SERVERS,
     RING,
     INSIDE_A_LABEL,
+    MANY_LABELS,
 ];
 
 #[test]

@@ -7,7 +7,7 @@ use dns_name::Name;
 use dns_rdata::{RType, Rdata, SetView};
 use std::test::Fail;
 
-/// Puts all suffixes into one chain.
+/// Has one number for all suffixes, so that chains are chosen by their lengths alone.
 #[derive(Drop)]
 pub(crate) struct OneChain;
 

@@ -11,4 +11,4 @@ returns-then-is_empty-clause-none g c = λ none p kept there.
 
 pub returns-clause-none : goal.returns-clause-none
 returns-clause-none g c = λ none.
-    subst (λ h. NoneSpelled c.args.places.now h c.args.message.now c.args.suffix.now) c.head-head.ensures.value (c.find.ensures.none none)
+    subst (λ h. NoneSpelled c.args.places.now h c.args.message.now c.args.suffix.now) c.number_once-number.ensures.value (c.find.ensures.none none)

@@ -1,13 +1,15 @@
-use Rattle.std.proofs.Common.{◌≡◌, length}
+use Rattle.std.proofs.Common.{IfSome, ◌≡◌, length}
 use Rattle.dns_wire.specs.Writing.{Grows}
 use Rattle.dns_wire.proofs.Suffixes.{Keep}
+use Rattle.dns_wire.specs.SuffixNumbers.{suffix_number}
 use Rattle.dns_wire.proofs.room.keep_suffixes.Given as goal
 
 -- what is kept and what is to come are the new places
 abbrev pub invariant-suffixes : goal.invariant-suffixes
 invariant-suffixes g l = record {
-  keep : Keep (g.H.SuffixHash.numbers l.initial.hash) l.initial.places l.places l.name l.rest l.front l.at l.place;
+  keep : Keep (suffix_number (g.H.SuffixHash.numbers l.initial.hash)) l.initial.places l.places l.name l.rest l.front l.at l.place;
   grows : Grows l.initial.places l.places;
+  known : IfSome l.known (λ n. n ≡ suffix_number (g.H.SuffixHash.numbers l.initial.hash) l.rest);
   same : g.H.SuffixHash.numbers l.hash ≡ g.H.SuffixHash.numbers l.initial.hash;
 }
 

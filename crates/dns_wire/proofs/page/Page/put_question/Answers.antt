@@ -4,6 +4,7 @@ use Rattle.dns_wire.proofs.AskedLemmas.{asked_nothing}
 use Rattle.std.specs.Borrow.{Bor}
 use Rattle.std.specs.Option.{option_copied}
 use Rattle.dns_spec.specs.Reading.{MessageQuestion}
+use Rattle.dns_wire.specs.SuffixNumbers.{suffix_number}
 use Rattle.dns_wire.specs.Draft.{Draft, IsDraft, no_draft}
 use Rattle.dns_wire.proofs.NameWritten.{holds_nothing}
 use Rattle.dns_wire.proofs.DraftLemmas.{draft_begins}
@@ -21,5 +22,6 @@ returns-in-Some-clause-draft g c =
 pub returns-in_default-clause-draft : goal.returns-in_default-clause-draft
 returns-in_default-clause-draft g c =
     let head = g.H.SuffixHash.numbers c.args.hash.now in
-    let begun = draft_begins head None (no_draft c.args.self.now.limit) refl (subst (Holds head [] (replicate 12 0)) (sym (append-nil (asked_places head (replicate 12 0) 0) ∙ asked_nothing head (replicate 12 0))) (holds_nothing head)) refl refl refl refl tt in
+    let number = suffix_number head in
+    let begun = draft_begins head None (no_draft c.args.self.now.limit) refl (subst (Holds number [] (replicate 12 0)) (sym (append-nil (asked_places number (replicate 12 0) 0) ∙ asked_nothing number (replicate 12 0))) (holds_nothing number)) refl refl refl refl tt in
     subst₂ (λ (o : Option (Bor MessageQuestion)) (d : Draft). IsDraft head (option_copied o) [] d) (sym c.in_default.is) (sym c.requires.nothing) begun

@@ -10,13 +10,13 @@ use Rattle.dns_wire.proofs.places.Places.find.Given as given
 pub chain-init : goal.chain-init
 chain-init g c =
     let es = c.self.inside.entries.items in
-    let P = λ (e : Entry). (e.head ≡ c.args.head) × SpelledAt c.args.message.now e.place c.args.suffix.now in
+    let P = λ (e : Entry). (e.number ≡ c.args.number) × SpelledAt c.args.message.now e.place c.args.suffix.now in
     let low = c.chain_of.ensures.low in
-    let begun = chain_begins P c.self.inside.heads es (chain_of c.args.head) c.self.invariant (omega (arith, low, c.chain_of.ensures.chain)) in
-    subst (λ k. Chain P (chain_of c.args.head) es (get_or c.self.inside.heads k 0)) (sym c.chain_of.ensures.chain) begun
+    let begun = chain_begins P c.self.inside.heads es (chain_of c.args.number) c.self.invariant (omega (arith, low, c.chain_of.ensures.chain)) in
+    subst (λ k. Chain P (chain_of c.args.number) es (get_or c.self.inside.heads k 0)) (sym c.chain_of.ensures.chain) begun
 
 module _ (g : given.Over) (c : goal.Then-is_sought g) where
-  found : EntryRead (chain_of c.args.head) c.self.inside.entries.items c.chain.number (get_or c.as_slice.result.now (c.from.result - 1) (record { place = 0; head = 0; next = 0 }))
+  found : EntryRead (chain_of c.args.number) c.self.inside.entries.items c.chain.newest (get_or c.as_slice.result.now (c.from.result - 1) (record { place = 0; number = 0; next = 0 }))
   found = let positive = c.chain-test.true in read_entry _ c.chain.invariant (omega (arith, positive)) c.as_slice.ensures.value c.from.ensures
 
 pub returns-then-is_sought-clause-kept : goal.returns-then-is_sought-clause-kept
@@ -24,8 +24,8 @@ returns-then-is_sought-clause-kept g c =
     let r = found g c in
     let own = ap (λ (e : Entry). Some (kept_in e)) (sym r.own) in
     let number = (c.is_sought.ensures.yes c.if-is_sought.true).0 in
-    let e = get_or c.as_slice.result.now (c.from.result - 1) (record { place = 0; head = 0; next = 0 }) in
-    (r.k, ap (λ x. slice_get x r.k) (sym c.self.view_is) ∙ entry_kept c.self.inside.entries.items (chain_of c.args.head) r.k r.last ∙ own ∙ ap (λ n. Some (record { place = e.place; head = n })) number)
+    let e = get_or c.as_slice.result.now (c.from.result - 1) (record { place = 0; number = 0; next = 0 }) in
+    (r.k, ap (λ x. slice_get x r.k) (sym c.self.view_is) ∙ entry_kept c.self.inside.entries.items (chain_of c.args.number) r.k r.last ∙ own ∙ ap (λ n. Some (record { place = e.place; number = n })) number)
 
 pub returns-then-is_sought-clause-reached : goal.returns-then-is_sought-clause-reached
 returns-then-is_sought-clause-reached g c =
@@ -33,16 +33,16 @@ returns-then-is_sought-clause-reached g c =
     subst (λ (e : Entry). e.place < 16384) (sym r.own) (c.self.invariant.linked r.k r.last.entry r.last.there).0
 
 module _ (g : given.Over) (c : goal.Else-is_sought g) where
-  passed : EntryRead (chain_of c.args.head) c.self.inside.entries.items c.chain.number (get_or c.as_slice.result.now (c.from.result - 1) (record { place = 0; head = 0; next = 0 }))
+  passed : EntryRead (chain_of c.args.number) c.self.inside.entries.items c.chain.newest (get_or c.as_slice.result.now (c.from.result - 1) (record { place = 0; number = 0; next = 0 }))
   passed = let positive = c.chain-test.true in read_entry _ c.chain.invariant (omega (arith, positive)) c.as_slice.ensures.value c.from.ensures
 
   -- the chain goes on after the entry, which is not the one sought
-  next : Chain (λ (e : Entry). (e.head ≡ c.args.head) × SpelledAt c.args.message.now e.place c.args.suffix.now) (chain_of c.args.head) c.self.inside.entries.items passed.last.entry.next × (passed.last.entry.next ≤ passed.k)
+  next : Chain (λ (e : Entry). (e.number ≡ c.args.number) × SpelledAt c.args.message.now e.place c.args.suffix.now) (chain_of c.args.number) c.self.inside.entries.items passed.last.entry.next × (passed.last.entry.next ≤ passed.k)
   next =
-      let P = λ (e : Entry). (e.head ≡ c.args.head) × SpelledAt c.args.message.now e.place c.args.suffix.now in
+      let P = λ (e : Entry). (e.number ≡ c.args.number) × SpelledAt c.args.message.now e.place c.args.suffix.now in
       let es = c.self.inside.entries.items in
       let other : P passed.last.entry → ⊥ = λ there. false≢true (sym c.if-is_sought.false ∙ c.is_sought.ensures.no (subst P (sym passed.own) there)) in
-      chain_next P c.self.inside.heads es (chain_of c.args.head) passed.k c.self.invariant (subst (Chain P (chain_of c.args.head) es) passed.is c.chain.invariant) passed.last other
+      chain_next P c.self.inside.heads es (chain_of c.args.number) passed.k c.self.invariant (subst (Chain P (chain_of c.args.number) es) passed.is c.chain.invariant) passed.last other
 
 pub chain-smaller : goal.chain-smaller
 chain-smaller g c =
@@ -53,12 +53,12 @@ chain-smaller g c =
 
 pub chain-preserved : goal.chain-preserved
 chain-preserved g c =
-    subst (λ (e : Entry). Chain (λ (e : Entry). (e.head ≡ c.args.head) × SpelledAt c.args.message.now e.place c.args.suffix.now) (chain_of c.args.head) c.self.inside.entries.items e.next) (sym (passed g c).own) (next g c).0
+    subst (λ (e : Entry). Chain (λ (e : Entry). (e.number ≡ c.args.number) × SpelledAt c.args.message.now e.place c.args.suffix.now) (chain_of c.args.number) c.self.inside.entries.items e.next) (sym (passed g c).own) (next g c).0
 
 pub returns-clause-none : goal.returns-clause-none
 returns-clause-none g c = λ none p kept there.
     let es = c.self.inside.entries.items in
-    let e = kept_entry es kept.0 p c.args.head (ap (λ x. slice_get x kept.0) c.self.view_is ∙ kept.1) in
+    let e = kept_entry es kept.0 p c.args.number (ap (λ x. slice_get x kept.0) c.self.view_is ∙ kept.1) in
     let over = c.chain-test.false in
     c.chain.invariant.after kept.0 e.0 e.1 (omega (arith, over)) (ap chain_of e.2)
     (e.2, subst (λ q. SpelledAt c.args.message.now q c.args.suffix.now) (sym e.3) there)

@@ -7,7 +7,7 @@ use Rattle.dns_wire.proofs.places.Places.find.Given as goal
 
 -- from the entry at hand on, none is the one sought
 abbrev pub invariant-chain : goal.invariant-chain
-invariant-chain g l = Chain (λ (e : Entry). (e.head ≡ l.head) × SpelledAt l.message e.place l.suffix) (chain_of l.head) l.self-inside.entries.items l.number
+invariant-chain g l = Chain (λ (e : Entry). (e.number ≡ l.number) × SpelledAt l.message e.place l.suffix) (chain_of l.number) l.self-inside.entries.items l.newest
 
 abbrev pub decreases-chain : goal.decreases-chain
-decreases-chain g l = l.number
+decreases-chain g l = l.newest

@@ -9,6 +9,7 @@ use Rattle.dns_wire.proofs.Suffixes.{extends_again}
 use Rattle.dns_wire.proofs.DataWritten.{past_name, octets_extend, octets_written, not_written}
 use Rattle.dns_wire.proofs.AskedLemmas.{kept_stays}
 use Rattle.dns_wire.proofs.AuthorityLaid.{server_some, server_lent, name_then}
+use Rattle.dns_wire.specs.SuffixNumbers.{suffix_number}
 use Rattle.dns_wire.proofs.room.Room.put_authority.Goals as goal
 
 pub unreachable-requires : goal.unreachable-requires
@@ -20,7 +21,7 @@ overflow_sub-rest g c =
 
 pub returns-then-not-put_name-clause-written : goal.returns-then-not-put_name-clause-written
 returns-then-not-put_name-clause-written g c = λ ms holds.
-    let head = g.H.SuffixHash.numbers c.args.hash.now in
+    let head = suffix_number (g.H.SuffixHash.numbers c.args.hash.now) in
     let limit = c.args.self.now.limit in
     let b = c.args.self.now.octets.items in
     let b' = c.put_name.new.self.octets.items in
@@ -36,7 +37,7 @@ returns-then-not-put_name-clause-written g c = λ ms holds.
 
 pub returns-then-not-put_name-2-clause-written : goal.returns-then-not-put_name-2-clause-written
 returns-then-not-put_name-2-clause-written g c = λ ms holds.
-    let head = g.H.SuffixHash.numbers c.args.hash.now in
+    let head = suffix_number (g.H.SuffixHash.numbers c.args.hash.now) in
     let limit = c.args.self.now.limit in
     let b = c.args.self.now.octets.items in
     let b' = c.put_name.new.self.octets.items in
@@ -50,7 +51,7 @@ returns-then-not-put_name-2-clause-written g c = λ ms holds.
     let o = octets c.split_at.result.1.now in
     let own = c.if-not-put_name.ensures.octets ms n holds (sym s.lent.wire_is) s.lent.is_name in
     let there = c.if-not-put_name.ensures.holds ms n holds (sym s.lent.wire_is) s.lent.is_name in
-    let there' = subst (λ h. Holds h more b' (known_in h c.put_name.new.self)) (sym c.put_name.ensures.same) there in
+    let there' = subst (λ h. Holds h more b' (known_in h c.put_name.new.self)) (ap suffix_number (sym c.put_name.ensures.same)) there in
     let exactly = c.put_name-2.ensures.fits more m there' (c.split_at.ensures.front ∙ s.laid.whole) s.laid.is_name in
     let over : c.put_name.new.self.limit < length b' + cost more m = lt_of_not-le (λ fits. false≢true (sym c.if-not-put_name-2.true ∙ exactly.1 fits)) in
     let over' : limit < length b' + cost more m = subst (λ k. k < length b' + cost more m) c.put_name.ensures.limit over in
@@ -60,7 +61,7 @@ returns-then-not-put_name-2-clause-written g c = λ ms holds.
 
 pub returns-clause-written : goal.returns-clause-written
 returns-clause-written g c = λ ms holds.
-    let head = g.H.SuffixHash.numbers c.args.hash.now in
+    let head = suffix_number (g.H.SuffixHash.numbers c.args.hash.now) in
     let limit = c.args.self.now.limit in
     let b = c.args.self.now.octets.items in
     let b' = c.put_name.new.self.octets.items in
@@ -76,10 +77,10 @@ returns-clause-written g c = λ ms holds.
     let both = more ++ (m, length b') ∷ [] in
     let x = c.split_at.result.1.now in
     let own = c.if-not-put_name.ensures.octets ms n holds (sym s.lent.wire_is) s.lent.is_name in
-    let there = subst (λ h. Holds h more b' (known_in h c.put_name.new.self)) (sym c.put_name.ensures.same) (c.if-not-put_name.ensures.holds ms n holds (sym s.lent.wire_is) s.lent.is_name) in
+    let there = subst (λ h. Holds h more b' (known_in h c.put_name.new.self)) (ap suffix_number (sym c.put_name.ensures.same)) (c.if-not-put_name.ensures.holds ms n holds (sym s.lent.wire_is) s.lent.is_name) in
     let whole = c.split_at.ensures.front ∙ s.laid.whole in
     let own' = c.if-not-put_name-2.ensures.octets more m there whole s.laid.is_name in
-    let there' = subst (λ h. Holds h both b'' (known_in h c.put_name-2.new.self)) c.put_name.ensures.same (c.if-not-put_name-2.ensures.holds more m there whole s.laid.is_name) in
+    let there' = subst (λ h. Holds h both b'' (known_in h c.put_name-2.new.self)) (ap suffix_number c.put_name.ensures.same) (c.if-not-put_name-2.ensures.holds more m there whole s.laid.is_name) in
     let same = kept_stays head _ _ _ _ _ _ (x ++ []) c.append.result c.put_name-2.ensures.sound.asked c.append.ensures.octets c.append.ensures.unchanged c.append.ensures.asked c.append.ensures.places in
     let last = octets_written x c.append.result there' c.append.ensures.fits c.append.ensures.octets same in
     let last' = subst (λ k. IsWritten head k both b'' (data_laid both (length b'') (octets x ∷ [])) c.append.result end kept) (c.put_name-2.ensures.limit ∙ c.put_name.ensures.limit) last in

@@ -10,11 +10,12 @@ use Rattle.dns_wire.specs.Writing.{StandsIn, IsWritten}
 use Rattle.dns_wire.proofs.DataPatched.{stands_elsewhere}
 use Rattle.dns_wire.proofs.DataNames.{one_name_laid, exchange_laid, one_written}
 use Rattle.dns_wire.proofs.AuthorityLaid.{authority_names, one_left}
+use Rattle.dns_wire.specs.SuffixNumbers.{suffix_number}
 use Rattle.dns_wire.proofs.room.Room.put_data.Goals as goal
 
 pub returns-then-eq-clause-elsewhere : goal.returns-then-eq-clause-elsewhere
 returns-then-eq-clause-elsewhere g c = λ ms b holds there same.
-    let head = g.H.SuffixHash.numbers c.args.hash.now in
+    let head = suffix_number (g.H.SuffixHash.numbers c.args.hash.now) in
     let d = c.args.rdata.now in
     let own : c.args.rtype.0 ≡ type_soa = eqb-true c.args.rtype.0 type_soa (sym c.eq.ensures ∙ c.if-eq.true) in
     let names = authority_names d (subst (λ t. Valid t d) own c.requires.valid) in
@@ -23,7 +24,7 @@ returns-then-eq-clause-elsewhere g c = λ ms b holds there same.
 
 pub returns-then-eq-2-clause-elsewhere : goal.returns-then-eq-2-clause-elsewhere
 returns-then-eq-2-clause-elsewhere g c = λ ms b holds there same.
-    let head = g.H.SuffixHash.numbers c.args.hash.now in
+    let head = suffix_number (g.H.SuffixHash.numbers c.args.hash.now) in
     let d = c.args.rdata.now in
     let own : c.args.rtype.0 ≡ type_mx = eqb-true c.args.rtype.0 type_mx (sym c.eq-2.ensures ∙ c.if-eq-2.true) in
     let laid = exchange_laid d (subst (λ t. Valid t d) own c.requires.valid) in
@@ -34,7 +35,7 @@ returns-then-eq-2-clause-elsewhere g c = λ ms b holds there same.
 
 pub returns-clause-written : goal.returns-clause-written
 returns-clause-written g c = λ ms holds.
-    let head = g.H.SuffixHash.numbers c.args.hash.now in
+    let head = suffix_number (g.H.SuffixHash.numbers c.args.hash.now) in
     let b = c.args.self.now.octets.items in
     let d = c.args.rdata.now in
     let t = c.args.rtype.0 in

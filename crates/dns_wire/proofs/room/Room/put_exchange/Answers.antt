@@ -8,6 +8,7 @@ use Rattle.dns_wire.proofs.NameWritten.{holds_octets}
 use Rattle.dns_wire.proofs.AskedLemmas.{kept_more}
 use Rattle.dns_wire.proofs.DataWritten.{past_octets, octets_extend, not_written}
 use Rattle.dns_wire.proofs.DataNames.{exchange_laid, one_written, name_after}
+use Rattle.dns_wire.specs.SuffixNumbers.{suffix_number}
 use Rattle.dns_wire.proofs.room.Room.put_exchange.Goals as goal
 
 pub split_at-requires : goal.split_at-requires
@@ -15,7 +16,7 @@ split_at-requires g c = (exchange_laid c.args.rdata.now c.requires.valid).inside
 
 pub returns-then-append-clause-written : goal.returns-then-append-clause-written
 returns-then-append-clause-written g c = λ ms holds.
-    let head = g.H.SuffixHash.numbers c.args.hash.now in
+    let head = suffix_number (g.H.SuffixHash.numbers c.args.hash.now) in
     let b = c.args.self.now.octets.items in
     let b' = c.append.new.self.octets.items in
     let b'' = c.put_name.new.self.octets.items in
@@ -35,7 +36,7 @@ returns-then-append-clause-written g c = λ ms holds.
 
 pub returns-else-append-clause-written : goal.returns-else-append-clause-written
 returns-else-append-clause-written g c = λ ms holds.
-    let head = g.H.SuffixHash.numbers c.args.hash.now in
+    let head = suffix_number (g.H.SuffixHash.numbers c.args.hash.now) in
     let b = c.args.self.now.octets.items in
     let b' = c.append.new.self.octets.items in
     let limit = c.args.self.now.limit in

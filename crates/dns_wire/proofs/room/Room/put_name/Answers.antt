@@ -10,15 +10,16 @@ use Rattle.dns_wire.specs.Writing.{IsAsked, asked_places, end_octets, new_places
 use Rattle.dns_wire.proofs.Suffixes.{extends_none}
 use Rattle.dns_wire.proofs.DataWritten.{octets_extend}
 use Rattle.dns_wire.proofs.NameWritten.{name_laid, cost_is, holds_name, LaidAt, laid_at, holds_pointed}
+use Rattle.dns_wire.specs.SuffixNumbers.{suffix_number}
 use Rattle.dns_wire.proofs.room.Room.put_name.Goals as goal
 use Rattle.dns_wire.proofs.room.Room.put_name.Given as given
 
 -- the whole name is a suffix of the question's
-module _ (g : given.Over) (c : goal.After-append g) (ms : List Placed) (n : DomainName) (holds : Holds (g.H.SuffixHash.numbers c.args.hash.now) ms c.args.self.now.octets.items (known_in (g.H.SuffixHash.numbers c.args.hash.now) c.args.self.now))
+module _ (g : given.Over) (c : goal.After-append g) (ms : List Placed) (n : DomainName) (holds : Holds (suffix_number (g.H.SuffixHash.numbers c.args.hash.now)) ms c.args.self.now.octets.items (known_in (suffix_number (g.H.SuffixHash.numbers c.args.hash.now)) c.args.self.now))
     (e : c.args.name.now ≡ wire n) (ok : is_name n ≡ true) where
-  laid : LaidAt (g.H.SuffixHash.numbers c.args.hash.now) ms n c.in-Some.place (length c.args.self.now.octets.items)
+  laid : LaidAt (suffix_number (g.H.SuffixHash.numbers c.args.hash.now)) ms n c.in-Some.place (length c.args.self.now.octets.items)
   laid =
-      let head = g.H.SuffixHash.numbers c.args.hash.now in
+      let head = suffix_number (g.H.SuffixHash.numbers c.args.hash.now) in
       let found = c.in-Some.ensures in
       let b = c.args.self.now.octets.items in
       let a = c.args.self.now.asked_end in
@@ -44,15 +45,16 @@ returns-in-Some-clause-octets g c = λ ms n holds e ok. pointed g c ms n holds e
 pub returns-in-Some-clause-holds : goal.returns-in-Some-clause-holds
 returns-in-Some-clause-holds g c = λ ms n holds e ok.
     holds_pointed c.args.self.now.octets.items c.append.new.self.octets.items n c.in-Some.place c.append.result holds ok (laid g c ms n holds e ok) (pointed g c ms n holds e ok)
-    (kept_stays (g.H.SuffixHash.numbers c.args.hash.now) _ _ _ _ _ _ (c.pointer_octets.result ++ []) c.append.result c.requires.asked c.append.ensures.octets c.append.ensures.unchanged c.append.ensures.asked c.append.ensures.places)
+    (kept_stays (suffix_number (g.H.SuffixHash.numbers c.args.hash.now)) _ _ _ _ _ _ (c.pointer_octets.result ++ []) c.append.result c.requires.asked c.append.ensures.octets c.append.ensures.unchanged c.append.ensures.asked c.append.ensures.places)
 
 pub returns-in-Some-clause-extends : goal.returns-in-Some-clause-extends
 returns-in-Some-clause-extends g c = octets_extend (c.pointer_octets.result ++ []) c.append.result c.append.ensures.octets c.append.ensures.unchanged c.append.ensures.places
 
 pub returns-then-not-append_end-clause-fits : goal.returns-then-not-append_end-clause-fits
 returns-then-not-append_end-clause-fits g c = λ ms n holds e ok.
-    let head = g.H.SuffixHash.numbers c.args.hash.now in
+    let head = suffix_number (g.H.SuffixHash.numbers c.args.hash.now) in
     let there = subst (λ b. Holds head ms b (asked_places head b c.args.self.now.asked_end ++ c.args.self.now.places)) (sym c.as_slice-message.ensures.value) holds in
+    let there = subst (λ h. Holds (suffix_number h) ms c.as_slice-message.result.now (asked_places (suffix_number h) c.as_slice-message.result.now c.args.self.now.asked_end ++ c.args.self.now.places)) (sym c.number_of-number.ensures.same) there in
     let front = c.shared_suffix-shared.ensures.front ms n there e ok in
     let end = ap (λ p. length (end_octets p)) (c.shared_suffix-shared.ensures.place ms n there e ok) in
     let cost = cost_is ms n in (
@@ -62,8 +64,9 @@ returns-then-not-append_end-clause-fits g c = λ ms n holds e ok.
 
 pub returns-clause-fits : goal.returns-clause-fits
 returns-clause-fits g c = λ ms n holds e ok.
-    let head = g.H.SuffixHash.numbers c.args.hash.now in
+    let head = suffix_number (g.H.SuffixHash.numbers c.args.hash.now) in
     let there = subst (λ b. Holds head ms b (asked_places head b c.args.self.now.asked_end ++ c.args.self.now.places)) (sym c.as_slice-message.ensures.value) holds in
+    let there = subst (λ h. Holds (suffix_number h) ms c.as_slice-message.result.now (asked_places (suffix_number h) c.as_slice-message.result.now c.args.self.now.asked_end ++ c.args.self.now.places)) (sym c.number_of-number.ensures.same) there in
     let front = c.shared_suffix-shared.ensures.front ms n there e ok in
     let end = ap (λ p. length (end_octets p)) (c.shared_suffix-shared.ensures.place ms n there e ok) in
     let cost = cost_is ms n in
@@ -72,8 +75,9 @@ returns-clause-fits g c = λ ms n holds e ok.
 
 pub returns-clause-octets : goal.returns-clause-octets
 returns-clause-octets g c = λ ms n holds e ok.
-    let head = g.H.SuffixHash.numbers c.args.hash.now in
+    let head = suffix_number (g.H.SuffixHash.numbers c.args.hash.now) in
     let there = subst (λ b. Holds head ms b (asked_places head b c.args.self.now.asked_end ++ c.args.self.now.places)) (sym c.as_slice-message.ensures.value) holds in
+    let there = subst (λ h. Holds (suffix_number h) ms c.as_slice-message.result.now (asked_places (suffix_number h) c.as_slice-message.result.now c.args.self.now.asked_end ++ c.args.self.now.places)) (sym c.number_of-number.ensures.same) there in
     let front = c.shared_suffix-shared.ensures.front ms n there e ok in
     let place = c.shared_suffix-shared.ensures.place ms n there e ok in
     c.if-not-append_end.ensures.octets
@@ -82,16 +86,17 @@ returns-clause-octets g c = λ ms n holds e ok.
 
 pub returns-clause-holds : goal.returns-clause-holds
 returns-clause-holds g c = λ ms n holds e ok.
-    let head = g.H.SuffixHash.numbers c.args.hash.now in
+    let head = suffix_number (g.H.SuffixHash.numbers c.args.hash.now) in
     let b = c.args.self.now.octets.items in
     let there = subst (λ x. Holds head ms x (asked_places head x c.args.self.now.asked_end ++ c.args.self.now.places)) (sym c.as_slice-message.ensures.value) holds in
+    let there = subst (λ h. Holds (suffix_number h) ms c.as_slice-message.result.now (asked_places (suffix_number h) c.as_slice-message.result.now c.args.self.now.asked_end ++ c.args.self.now.places)) (sym c.number_of-number.ensures.same) there in
     let front = c.shared_suffix-shared.ensures.front ms n there e ok in
     let octets = returns-clause-octets g c ms n holds e ok in
-    let numbers = c.shared_suffix-shared.ensures.same in
+    let numbers = c.shared_suffix-shared.ensures.same ∙ c.number_of-number.ensures.same in
     let new = new_places head ms n (length b) in
     let places : c.keep_suffixes.new.places ≡ c.args.self.now.places ++ new =
     c.keep_suffixes.ensures.kept ms n e ok front
-    ∙ ap₂ (λ ks h. ks ++ new_places h ms n c.len-at.result) c.append_end.ensures.places numbers
+    ∙ ap₂ (λ ks h. ks ++ new_places (suffix_number h) ms n c.len-at.result) c.append_end.ensures.places numbers
     ∙ ap (λ i. c.args.self.now.places ++ new_places head ms n i) c.len-at.ensures.value in
     let o = c.split_at.result.0.now ++ end_octets c.shared_suffix-shared.result.place in
     let asked = asked_places head b c.args.self.now.asked_end in
@@ -114,7 +119,10 @@ returns-then-not-append_end-clause-extends g c =
 pub shared_suffix-shared-requires : goal.shared_suffix-shared-requires
 shared_suffix-shared-requires g c = (
   search rules,
-  (subst (λ b. IsAsked b c.args.self.now.asked_end) (sym c.as_slice-message.ensures.value) c.requires.asked, c.in_default.ensures.none refl),
+  (
+    c.number_of-number.ensures.value ∙ ap (λ h. suffix_number h c.args.name.now) (sym c.number_of-number.ensures.same),
+    (subst (λ b. IsAsked b c.args.self.now.asked_end) (sym c.as_slice-message.ensures.value) c.requires.asked, c.in_default.ensures.none refl),
+  ),
 )
 
 pub returns-clause-sound : goal.returns-clause-sound

@@ -8,6 +8,7 @@ use Rattle.dns_spec.specs.Laws.{IsAskable}
 use Rattle.dns_wire.specs.Writing.{Holds, asked_places, new_places}
 use Rattle.dns_wire.proofs.NameWritten.{holds_nothing, holds_octets, holds_name}
 use Rattle.dns_wire.proofs.AskedLemmas.{asked_whole, is_asked_whole}
+use Rattle.dns_wire.specs.SuffixNumbers.{suffix_number}
 use Rattle.dns_wire.proofs.room.Room.put_question.Goals as goal
 use Rattle.dns_wire.proofs.room.Room.put_question.Given as given
 
@@ -50,7 +51,8 @@ returns-clause-octets g c =
     ∙ ap (λ (q : MessageQuestion). replicate 12 0 ++ question_octets q) c.question.view_is
 
 pub returns-clause-holds : goal.returns-clause-holds
-returns-clause-holds g c = λ head.
+returns-clause-holds g c = λ hash.
+    let head = suffix_number hash in
     let n = c.question.inside.name in
     let b' = c.extend.new.self.octets.items in
     let o = c.number_octets.result ++ c.number_octets-2.result in

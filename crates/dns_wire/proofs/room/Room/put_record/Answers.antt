@@ -6,20 +6,21 @@ use Rattle.dns_wire.specs.Rooms.{known_in}
 use Rattle.dns_wire.specs.Writing.{Holds, IsWritten, tail_laid, shown}
 use Rattle.dns_wire.proofs.Suffixes.{extends_again}
 use Rattle.dns_wire.proofs.DataWritten.{record_written, record_past, not_written}
+use Rattle.dns_wire.specs.SuffixNumbers.{suffix_number}
 use Rattle.dns_wire.proofs.room.Room.put_record.Goals as goal
 
 pub returns-then-put_name-clause-written : goal.returns-then-put_name-clause-written
 returns-then-put_name-clause-written g c = λ ms holds.
-    let head = g.H.SuffixHash.numbers c.args.hash.now in
+    let head = suffix_number (g.H.SuffixHash.numbers c.args.hash.now) in
     let b = c.args.self.now.octets.items in
     let b' = c.put_name.new.self.octets.items in
     let n = c.args.owner.now in
     let more = ms ++ (n, length b) ∷ [] in
     let e = c.if-put_name.ensures.octets ms n holds c.octets.ensures.value c.octets.ensures.is_name in
     let there = c.if-put_name.ensures.holds ms n holds c.octets.ensures.value c.octets.ensures.is_name in
-    let done = c.put_tail.ensures.written more (subst (λ h. Holds h more b' (known_in h c.put_name.new.self)) (sym c.put_name.ensures.same) there) in
+    let done = c.put_tail.ensures.written more (subst (λ h. Holds h more b' (known_in h c.put_name.new.self)) (ap suffix_number (sym c.put_name.ensures.same)) there) in
     let same = subst₂ (λ h l. IsWritten h l more b' (tail_laid more (length b') c.args.rtype.0 c.args.ttl c.args.rdata.now) c.put_tail.result c.put_tail.new.self.octets.items (known_in h c.put_tail.new.self))
-    c.put_name.ensures.same c.put_name.ensures.limit done in
+    (ap suffix_number c.put_name.ensures.same) c.put_name.ensures.limit done in
     record_written n c.args.rtype.0 c.args.ttl c.args.rdata.now e same
 
 pub returns-then-put_name-clause-extends : goal.returns-then-put_name-clause-extends
@@ -31,7 +32,7 @@ returns-else-put_name-clause-written g c = λ ms holds.
     let n = c.args.owner.now in
     let exactly = c.put_name.ensures.fits ms n holds c.octets.ensures.value c.octets.ensures.is_name in
     let over = lt_of_not-le (λ fits. false≢true (sym c.if-put_name.false ∙ exactly.1 fits)) in
-    subst (λ f. IsWritten (g.H.SuffixHash.numbers c.args.hash.now) c.args.self.now.limit ms b (record_laid ms (length b) (shown n c.args.rtype.0 c.args.ttl c.args.rdata.now)) f c.put_name.new.self.octets.items (known_in (g.H.SuffixHash.numbers c.args.hash.now) c.put_name.new.self))
+    subst (λ f. IsWritten (suffix_number (g.H.SuffixHash.numbers c.args.hash.now)) c.args.self.now.limit ms b (record_laid ms (length b) (shown n c.args.rtype.0 c.args.ttl c.args.rdata.now)) f c.put_name.new.self.octets.items (known_in (suffix_number (g.H.SuffixHash.numbers c.args.hash.now)) c.put_name.new.self))
     (sym c.if-put_name.false) (not_written (record_past c.args.self.now.limit ms b n c.args.rtype.0 c.args.ttl c.args.rdata.now over))
 
 pub returns-then-put_name-clause-longer : goal.returns-then-put_name-clause-longer

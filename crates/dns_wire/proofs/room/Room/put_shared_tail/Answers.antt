@@ -10,6 +10,7 @@ use Rattle.dns_wire.proofs.NameWritten.{holds_octets}
 use Rattle.dns_wire.proofs.AskedLemmas.{kept_more, kept_same, take_patched}
 use Rattle.dns_wire.proofs.DataWritten.{numbers_of, octets_extend, tail_past, not_written}
 use Rattle.dns_wire.proofs.DataPatched.{patched_extends, tail_patched}
+use Rattle.dns_wire.specs.SuffixNumbers.{suffix_number}
 use Rattle.dns_wire.proofs.room.Room.put_shared_tail.Goals as goal
 
 pub returns-then-not-append-clause-written : goal.returns-then-not-append-clause-written
@@ -32,7 +33,7 @@ returns-then-not-put_data-clause-extends g c =
 
 pub returns-then-not-put_data-clause-written : goal.returns-then-not-put_data-clause-written
 returns-then-not-put_data-clause-written g c = λ ms holds.
-    let head = g.H.SuffixHash.numbers c.args.hash.now in
+    let head = suffix_number (g.H.SuffixHash.numbers c.args.hash.now) in
     let b = c.args.self.now.octets.items in
     let b' = c.append.new.self.octets.items in
     let t = c.args.rtype.0 in
@@ -52,7 +53,7 @@ returns-then-not-put_data-clause-written g c = λ ms holds.
 
 pub returns-clause-written : goal.returns-clause-written
 returns-clause-written g c = λ ms holds.
-    let head = g.H.SuffixHash.numbers c.args.hash.now in
+    let head = suffix_number (g.H.SuffixHash.numbers c.args.hash.now) in
     let b = c.args.self.now.octets.items in
     let b' = c.append.new.self.octets.items in
     let b'' = c.put_data.new.self.octets.items in

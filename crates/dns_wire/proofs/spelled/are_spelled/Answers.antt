@@ -1,7 +1,7 @@
 use Rattle.std.proofs.Common.{◌≡◌, refl, sym, subst, arith, length, ◌∷◌, ◌++◌}
 use Rattle.dns_wire.specs.Labels.{StepAt}
 use Rattle.dns_wire.proofs.SpelledLemmas.{spelled_end, spelled_label, spelled_jump, spelled_whole, named_after, spelled_front}
-use Rattle.dns_wire.proofs.spelled.is_spelled.Goals as goal
+use Rattle.dns_wire.proofs.spelled.are_spelled.Goals as goal
 
 pub steps-init : goal.steps-init
 steps-init c = record {

@@ -1,7 +1,7 @@
 use Rattle.std.proofs.Common.{◌≡◌, true, ◌≤◌, length, ◌+◌, ◌-◌, ◌*◌}
 use Rattle.dns_spec.specs.Names.{DomainName, wire, is_name}
 use Rattle.dns_wire.specs.Kept.{SpelledFrom}
-use Rattle.dns_wire.proofs.spelled.is_spelled.Given as goal
+use Rattle.dns_wire.proofs.spelled.are_spelled.Given as goal
 
 -- what is left to compare decides as the whole does, and is a name's where the whole is
 abbrev pub invariant-steps : goal.invariant-steps

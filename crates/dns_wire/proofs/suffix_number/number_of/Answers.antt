@@ -1,0 +1,9 @@
+use Rattle.std.proofs.Common.{◌+◌, ◌*◌, ◌/◌, ◌%◌, ◌∙◌, ap, ap₂, length}
+use Rattle.dns_wire.specs.SuffixNumbers.{suffix_number}
+use Rattle.dns_wire.proofs.suffix_number.number_of.Goals as goal
+
+pub returns-clause-value : goal.returns-clause-value
+unfolding suffix_number
+returns-clause-value g c =
+    ap₂ (λ n h. n * 1024 + length c.args.suffix.now % 256 * 4 + h) c.octets_number.ensures.value
+    (c.from-head.ensures ∙ ap (λ h. h / 256) c.head.ensures.value)

@@ -1,0 +1,7 @@
+use Rattle.std.proofs.Common.{◌≡◌}
+use Rattle.dns_wire.specs.SuffixNumbers.{with_eights}
+use Rattle.dns_wire.proofs.suffix_number.octets_number.Given as goal
+
+-- the number of the eights so far
+abbrev pub invariant-eights : goal.invariant-eights
+invariant-eights l = l.number ≡ with_eights l.i l.octets

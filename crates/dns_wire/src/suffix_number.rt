@@ -1,0 +1,81 @@
+//! The number by which the places of a suffix are told from those of others, and chosen.
+ghost use Rattle.std.specs.Prelude.{◌≡◌, ◌<◌, ◌≤◌, ◌^◌, IfSome, length, take, drop, ◌+◌};
+ghost use Rattle.std.specs.Int.{from_le_bytes, w64};
+ghost use Rattle.dns_wire.specs.SuffixNumbers.{suffix_number, octets_number, few_number, mixed};
+
+use crate::places::SuffixHash;
+
+// 2^64 divided by the golden ratio.
+const SPREAD: u64 = 11_400_714_819_323_198_485;
+
+/// The number of a suffix: 22 bits of a hash of all its octets, its length, and the two highest bits
+/// of its number by the hash that a writer is lent.
+pub(crate) fn number_of<H: SuffixHash>(hash: &mut H, suffix: &[u8]) -> u32
+    ensures value { result ≡ suffix_number (H.numbers hash.old) suffix.now }
+    ensures same { H.numbers hash.new ≡ H.numbers hash.old }
+{
+    let head = u32::from(hash.head(suffix) / 256);
+    let length = (suffix.len() % 256) as u32;
+    octets_number(suffix) * 1024 + length * 4 + head
+}
+
+/// The same, where it may be known already.
+pub(crate) fn number_once<H: SuffixHash>(hash: &mut H, suffix: &[u8], known: Option<u32>) -> u32
+    requires { IfSome known (λ n. n ≡ suffix_number (H.numbers hash.old) suffix.now) }
+    ensures value { result ≡ suffix_number (H.numbers hash.old) suffix.now }
+    ensures same { H.numbers hash.new ≡ H.numbers hash.old }
+{
+    match known {
+        Some(number) => number,
+        None => number_of(hash, suffix),
+    }
+}
+
+// A number of 22 bits for which all octets count, eight at a time: the last ones first, then the
+// others from the left. So each suffix of a name has a number that tells nothing of another's.
+fn octets_number(octets: &[u8]) -> u32
+    ensures value { result ≡ octets_number octets.now }
+    ensures low { result < 2 ^ 22 }
+{
+    if octets.len() <= 8 {
+        return (mixed(few_number(octets)) >> 42) as u32;
+    }
+    let mut number = eight_at(octets, octets.len() - 8);
+    'eights: for i in 0..(octets.len() - 1) / 8 {
+        number = mixed(number ^ eight_at(octets, 8 * i));
+    }
+    (number >> 42) as u32
+}
+
+// Few octets, one after another in a number. Out of line, it saves some 10 instructions
+// of each name that is written.
+#[inline(never)]
+fn few_number(octets: &[u8]) -> u64
+    ensures { result ≡ few_number octets.now }
+{
+    let mut number: u64 = 0;
+    'octets: for octet in octets {
+        number = number.wrapping_mul(256) ^ u64::from(*octet);
+    }
+    number
+}
+
+// Each bit of a number counts for all bits of what it is mixed to.
+fn mixed(number: u64) -> u64
+    ensures { result ≡ mixed number }
+{
+    let product = u128::from(number) * u128::from(SPREAD);
+    (product >> 64) as u64 ^ number.wrapping_mul(SPREAD)
+}
+
+/// The eight octets at a place, as a number.
+pub(crate) fn eight_at(octets: &[u8], at: usize) -> u64
+    requires { at + 8 ≤ length octets.now }
+    ensures { result ≡ from_le_bytes w64 (take 8 (drop at octets.now)) }
+{
+    let (_, rest) = octets.split_at(at);
+    let Some(eight) = rest.first_chunk::<8>() else {
+        unreachable!();
+    };
+    u64::from_le_bytes(*eight)
+}
