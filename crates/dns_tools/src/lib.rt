@@ -9,6 +9,7 @@ mod listen;
 mod load;
 mod message;
 mod once;
+mod peer;
 mod report;
 mod socket;
 mod words;

@@ -14,6 +14,7 @@ use std::io::{self, BufWriter};
 use std::net::{Net, TcpListener, TcpStream};
 use std::process::ExitCode;
 use std::rt::{Env, Files};
+use std::time::Clock;
 
 fn main(rt: HostRuntime) -> ExitCode {
     ExitCode::from(match run(&rt, &rt.stderr()) {
@@ -25,7 +26,7 @@ fn main(rt: HostRuntime) -> ExitCode {
 // Serves the zone that the words name, as they ask, and gives the status.
 fn run<R, E: Print>(rt: &R, errors: &E) -> Result<u8, FaultWord>
 where
-    R: Env + Files + Input + Print + Eprint + AllocGlobal,
+    R: Env + Files + Input + Print + Eprint + Clock + AllocGlobal,
     R: Net<Listener = TcpListener, Stream = TcpStream>,
 {
     let alloc = rt.alloc();
@@ -43,7 +44,8 @@ where
 
 fn serve<R>(rt: &R, zone: &Zone, service: &Service<'_>) -> Result<u8, FaultWord>
 where
-    R: Input + Print + Eprint + AllocGlobal + Net<Listener = TcpListener, Stream = TcpStream>,
+    R: Input + Print + Eprint + Clock + AllocGlobal,
+    R: Net<Listener = TcpListener, Stream = TcpStream>,
 {
     let are_said = match service {
         Service::Once(limit) => {

@@ -1,0 +1,236 @@
+//! The peer of a connection: a stream whose calls wait as long as a message may take, and no
+//! longer.
+
+use std::cell::Cell;
+use std::io::{self, ErrorKind, Read, Write};
+use std::net::{Shutdown, TcpStream};
+use std::time::{Clock, Duration};
+
+// Times in milliseconds. Connections are served one after another, and no peer may hold the others
+// for ever: these are limits of this project.
+
+// How long a peer may say nothing, or take nothing.
+const SILENCE: u64 = 10_000;
+
+// How long a message may take, from its first octet until the last of its reply is taken.
+const MESSAGE: u64 = 30_000;
+
+// How long a call waits that was interrupted when its time was over: it takes what has come.
+const LAST_LOOK: u64 = 1;
+
+// After the last message a peer is heard until it has said nothing for so long, for so long in
+// all, and for so many octets.
+const LAST_SILENCE: u64 = 1_000;
+
+const LAST_TIME: u64 = 10_000;
+
+const LAST_OCTETS: usize = 16_777_216;
+
+// The message that is read or answered.
+#[derive(Clone, Copy)]
+enum Current {
+    // No octet of it has come.
+    Awaited,
+    // It began after the last call on the socket: its time runs from the next.
+    Begun,
+    // Its time ends then, on the clock.
+    Until(Duration),
+}
+
+/// A connection and its clock. As a reader and a writer, shared by both, it makes a call that the
+/// system interrupts again, and its calls end by an error where the time of the message is over: a
+/// silence of ten seconds, or thirty seconds from its first octet.
+#[derive(Drop)]
+pub struct Peer<'a, C> {
+    stream: TcpStream,
+    clock: &'a C,
+    current: Cell<Current>,
+    // The time-outs of the socket, once they are set.
+    read_wait: Cell<Duration>,
+    write_wait: Cell<Duration>,
+}
+
+impl<'a, C: Clock> Peer<'a, C> {
+    /// The peer of a connection, before its first message.
+    pub fn new(stream: TcpStream, clock: &'a C) -> Peer<'a, C> {
+        Peer {
+            stream,
+            clock,
+            current: Cell::new(Current::Awaited),
+            read_wait: Cell::new(Duration::ZERO),
+            write_wait: Cell::new(Duration::ZERO),
+        }
+    }
+
+    /// Ends what is written, and hears the peer until it ends too, for a second of silence at most.
+    ///
+    /// A socket that is closed before all of its input is read resets the connection, and the peer
+    /// loses what it has not yet got of the replies (RFC 2525 2.17).
+    pub fn hear_out(&self) -> io::Result<()> {
+        self.stream.shutdown(Shutdown::Write)?;
+        self.set_read_wait(Duration::from_millis(LAST_SILENCE))?;
+        let end = after(self.clock.monotonic()?, LAST_TIME);
+        let mut room = [0; 4096];
+        let mut heard = 0;
+        while heard < LAST_OCTETS && self.clock.monotonic()? < end {
+            heard += match (&self.stream).read(&mut room) {
+                Ok(0) => break,
+                Ok(count) => count,
+                Err(error) if is_interrupted(&error) => 1,
+                Err(error) => return Err(error),
+            };
+        }
+        Ok(())
+    }
+
+    // When a call that begins now has to end, and how long it may wait: an error where the time of
+    // the message is over.
+    fn begin_call(&self) -> io::Result<(Duration, Duration)> {
+        let now = self.clock.monotonic()?;
+        let silence = after(now, SILENCE);
+        let end = match self.current.get() {
+            Current::Awaited => silence,
+            Current::Begun => {
+                self.current.set(Current::Until(after(now, MESSAGE)));
+                silence
+            }
+            Current::Until(end) => silence.min(end),
+        };
+        if end <= now {
+            return Err(io::Error::from(ErrorKind::TimedOut));
+        }
+        Ok((end, end.saturating_sub(now)))
+    }
+
+    // How long a call that was interrupted may wait.
+    fn wait_again(&self, end: Duration) -> io::Result<Duration> {
+        let left = end.saturating_sub(self.clock.monotonic()?);
+        Ok(left.max(Duration::from_millis(LAST_LOOK)))
+    }
+
+    fn set_read_wait(&self, wait: Duration) -> io::Result<()> {
+        if self.read_wait.get() != wait {
+            self.stream.set_read_timeout(Some(wait))?;
+            self.read_wait.set(wait);
+        }
+        Ok(())
+    }
+
+    fn set_write_wait(&self, wait: Duration) -> io::Result<()> {
+        if self.write_wait.get() != wait {
+            self.stream.set_write_timeout(Some(wait))?;
+            self.write_wait.set(wait);
+        }
+        Ok(())
+    }
+}
+
+// The time so many milliseconds later.
+fn after(time: Duration, millis: u64) -> Duration {
+    time.saturating_add(Duration::from_millis(millis))
+}
+
+pub(crate) fn is_interrupted(error: &io::Error) -> bool {
+    error.kind() == ErrorKind::Interrupted
+}
+
+impl<C: Clock> Read for &Peer<'_, C> {
+    fn read(&mut self, buf: &mut [u8]) -> io::Result<usize> {
+        let (end, mut wait) = self.begin_call()?;
+        'calls: for _ in 0..u64::MAX {
+            self.set_read_wait(wait)?;
+            match (&self.stream).read(buf) {
+                Err(error) if is_interrupted(&error) => {}
+                came => return came,
+            }
+            wait = self.wait_again(end)?;
+        }
+        Err(io::Error::from(ErrorKind::TimedOut))
+    }
+}
+
+impl<C: Clock> Write for &Peer<'_, C> {
+    fn write(&mut self, piece: &[u8]) -> io::Result<usize> {
+        let (end, mut wait) = self.begin_call()?;
+        'calls: for _ in 0..u64::MAX {
+            self.set_write_wait(wait)?;
+            match (&self.stream).write(piece) {
+                Err(error) if is_interrupted(&error) => {}
+                taken => return taken,
+            }
+            wait = self.wait_again(end)?;
+        }
+        Err(io::Error::from(ErrorKind::TimedOut))
+    }
+
+    fn flush(&mut self) -> io::Result<()> {
+        Ok(())
+    }
+}
+
+// Where a reader of messages stands, each of which comes after its length in two octets (RFC 1035
+// 4.2.2).
+#[derive(Clone, Copy)]
+enum Place {
+    // Between two messages.
+    Between,
+    // After the first octet of a length, which it is.
+    Length(u8),
+    // So many octets before the end of a message.
+    Message(u16),
+}
+
+impl Place {
+    fn after(self, octet: u8) -> Place {
+        match self {
+            Place::Between => Place::Length(octet),
+            Place::Length(high) => Place::before(u16::from_be_bytes([high, octet])),
+            Place::Message(left) => Place::before(left.saturating_sub(1)),
+        }
+    }
+
+    fn before(left: u16) -> Place {
+        if left == 0 {
+            Place::Between
+        } else {
+            Place::Message(left)
+        }
+    }
+}
+
+/// What a peer says, by a reader of it that may read ahead: tells the peer where each message
+/// begins for who reads them here.
+#[derive(Drop)]
+pub struct Messages<'a, R, C> {
+    source: R,
+    peer: &'a Peer<'a, C>,
+    place: Place,
+}
+
+impl<'a, R: Read, C: Clock> Messages<'a, R, C> {
+    /// The messages of a peer, from the first on.
+    pub fn new(source: R, peer: &'a Peer<'a, C>) -> Messages<'a, R, C> {
+        Messages {
+            source,
+            peer,
+            place: Place::Between,
+        }
+    }
+}
+
+impl<R: Read, C: Clock> Read for Messages<'_, R, C> {
+    fn read(&mut self, buf: &mut [u8]) -> io::Result<usize> {
+        let begins = matches!(self.place, Place::Between);
+        if begins {
+            self.peer.current.set(Current::Awaited);
+        }
+        let count = self.source.read(buf)?;
+        if begins {
+            self.peer.current.set(Current::Begun);
+        }
+        for octet in buf.iter().take(count) {
+            self.place = self.place.after(*octet);
+        }
+        Ok(count)
+    }
+}
