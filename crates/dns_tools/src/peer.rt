@@ -72,7 +72,7 @@ impl<'a, C: Clock> Peer<'a, C> {
         let end = after(self.clock.monotonic()?, LAST_TIME);
         let mut room = [0; 4096];
         let mut heard = 0;
-        while heard < LAST_OCTETS && self.clock.monotonic()? < end {
+        'octets: while heard < LAST_OCTETS && self.clock.monotonic()? < end {
             heard += match (&self.stream).read(&mut room) {
                 Ok(0) => break,
                 Ok(count) => count,
