@@ -8,6 +8,7 @@ use crate::socket::Socket;
 use dns_name::Tally;
 use dns_serve::{Datagrams, StreamFault, StreamRoom, serve_stream_in, udp_turn};
 use dns_zone::Zone;
+use std::alloc::Global;
 use std::io::{self, BufReader, Read};
 use std::net::{Net, SocketAddr, TcpListener, TcpStream, UdpSocket};
 use std::thread;
@@ -144,7 +145,8 @@ fn take_connections<R: Clock + Eprint + AllocGlobal>(
 }
 
 impl Connections {
-    // Asks for a connection, and answers its messages.
+    // Asks for a connection, answers its messages, and hears what its peer still says where it has
+    // not ended.
     fn serve_next<R: Clock + AllocGlobal>(
         &mut self,
         rt: &R,
@@ -159,42 +161,40 @@ impl Connections {
             thread::sleep(rt, Duration::from_millis(PAUSE));
             return Err(TurnWord::NotAccepted);
         };
-        serve_peer(rt, zone, &Peer::new(stream, rt), room)
-    }
-}
-
-// Answers the messages of a connection, and hears what its peer still says.
-fn serve_peer<R: Clock + AllocGlobal>(
-    rt: &R,
-    zone: &Zone,
-    peer: &Peer<'_, R>,
-    room: &mut StreamRoom,
-) -> Result<(), TurnWord> {
-    // Questions that come together are read together. Where there is no memory for that, the stream
-    // is read as it is.
-    let served = match BufReader::new(rt.alloc(), peer) {
-        Ok(source) => serve_session(zone, source, peer, room),
-        Err(_) => serve_session(zone, peer, peer, room),
-    };
-    match served {
-        Err(StreamFault::Cut) => {}
-        Ok(count) if count < MOST_MESSAGES => {}
-        _ => {
-            let _heard = peer.hear_out();
+        let peer = Peer::new(stream, rt);
+        let served = serve_peer(rt.alloc(), zone, &peer, room);
+        match served {
+            Err(StreamFault::Cut) => {}
+            Ok(count) if count < MOST_MESSAGES => {}
+            _ => {
+                let _heard = peer.hear_out();
+            }
         }
+        served?;
+        Ok(())
     }
-    served?;
-    Ok(())
 }
 
 // Answers the messages of a connection, and tells how many there were.
-fn serve_session<R: Read + Drop, C: Clock>(
+fn serve_peer<C: Clock>(
+    alloc: Global,
     zone: &Zone,
-    source: R,
     peer: &Peer<'_, C>,
     room: &mut StreamRoom,
 ) -> Result<u32, StreamFault> {
+    // Questions that come together are read together, where there is memory for that.
+    let Ok(source) = buffered(alloc, peer) else {
+        return Err(StreamFault::SourceFailed);
+    };
     let mut source = Tally::new(Messages::new(source, peer));
     let mut sink = Tally::new(peer);
     serve_stream_in(zone, &mut source, &mut sink, MOST_MESSAGES, room)
+}
+
+// A source that reads ahead, or one without a buffer where there is no memory.
+fn buffered<S: Read + Copy + Drop>(alloc: Global, source: S) -> io::Result<BufReader<S>> {
+    match BufReader::new(alloc, source) {
+        Ok(buffered) => Ok(buffered),
+        Err(_) => BufReader::with_capacity(alloc, 0, source),
+    }
 }
