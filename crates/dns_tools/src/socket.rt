@@ -1,6 +1,5 @@
 //! A UDP socket, as a device that hands out datagrams.
-ghost use Rattle.std.specs.Prelude.{◌≡◌, false, None, IfOk};
-ghost use Rattle.io.specs.Counts.{IsPrefixLen};
+ghost use Rattle.std.specs.Prelude.{◌≡◌, ◌≤◌, false, None, IfOk};
 
 use crate::peer::is_interrupted;
 use dns_serve::{Datagrams, Failed};
@@ -80,7 +79,7 @@ impl Datagrams for Socket {
 
 // Receives a datagram. A call that the system interrupts is made again: it took nothing.
 fn receive_once(socket: &UdpSocket, buf: &mut [u8; 512]) -> io::Result<(usize, SocketAddr)>
-    ensures { IfOk result (λ came. IsPrefixLen came.0 buf.new) }
+    ensures { IfOk result (λ came. came.0 ≤ 512) }
 {
     'calls: for _ in 0..u64::MAX {
         match socket.recv_from(buf) {
