@@ -33,8 +33,8 @@ enum Current {
     Awaited,
     // It began after the last call on the socket: its time runs from the next.
     Begun,
-    // Its time ends then, on the clock.
-    Until(Duration),
+    // Its time runs since then, on the clock.
+    Since(Duration),
 }
 
 /// A connection and its clock. As a reader and a writer, shared by both, it makes a call that the
@@ -69,10 +69,13 @@ impl<'a, C: Clock> Peer<'a, C> {
     pub fn hear_out(&self) -> io::Result<()> {
         self.stream.shutdown(Shutdown::Write)?;
         self.set_read_wait(Duration::from_millis(LAST_SILENCE))?;
-        let end = after(self.clock.monotonic()?, LAST_TIME);
+        let begun = self.clock.monotonic()?;
         let mut room = [0; 4096];
         let mut heard = 0;
-        'octets: while heard < LAST_OCTETS && self.clock.monotonic()? < end {
+        'octets: while heard < LAST_OCTETS {
+            if left(LAST_TIME, begun, self.clock.monotonic()?).is_zero() {
+                break;
+            }
             heard += match (&self.stream).read(&mut room) {
                 Ok(0) => break,
                 Ok(count) => count,
@@ -83,29 +86,33 @@ impl<'a, C: Clock> Peer<'a, C> {
         Ok(())
     }
 
-    // When a call that begins now has to end, and how long it may wait: an error where the time of
-    // the message is over.
+    // When a call begins, on the clock, and how long it may wait: an error where the time of the
+    // message is over.
     fn begin_call(&self) -> io::Result<(Duration, Duration)> {
         let now = self.clock.monotonic()?;
-        let silence = after(now, SILENCE);
-        let end = match self.current.get() {
+        let silence = Duration::from_millis(SILENCE);
+        let wait = match self.current.get() {
             Current::Awaited => silence,
             Current::Begun => {
-                self.current.set(Current::Until(after(now, MESSAGE)));
+                self.current.set(Current::Since(now));
                 silence
             }
-            Current::Until(end) => silence.min(end),
+            Current::Since(begun) => silence.min(left(MESSAGE, begun, now)),
         };
-        if end <= now {
+        if wait.is_zero() {
             return Err(io::Error::from(ErrorKind::TimedOut));
         }
-        Ok((end, end.saturating_sub(now)))
+        Ok((now, wait))
     }
 
-    // How long a call that was interrupted may wait.
-    fn wait_again(&self, end: Duration) -> io::Result<Duration> {
-        let left = end.saturating_sub(self.clock.monotonic()?);
-        Ok(left.max(Duration::from_millis(LAST_LOOK)))
+    // How long a call may wait that was interrupted, of the whole time that it had then.
+    fn wait_again(&self, begun: Duration, whole: Duration) -> io::Result<Duration> {
+        let passed = self.clock.monotonic()?.saturating_sub(begun);
+        Ok(
+            whole
+                .saturating_sub(passed)
+                .max(Duration::from_millis(LAST_LOOK)),
+        )
     }
 
     fn set_read_wait(&self, wait: Duration) -> io::Result<()> {
@@ -125,9 +132,9 @@ impl<'a, C: Clock> Peer<'a, C> {
     }
 }
 
-// The time so many milliseconds later.
-fn after(time: Duration, millis: u64) -> Duration {
-    time.saturating_add(Duration::from_millis(millis))
+// What is left of so many milliseconds since then.
+fn left(millis: u64, since: Duration, now: Duration) -> Duration {
+    Duration::from_millis(millis).saturating_sub(now.saturating_sub(since))
 }
 
 pub(crate) fn is_interrupted(error: &io::Error) -> bool {
@@ -136,14 +143,15 @@ pub(crate) fn is_interrupted(error: &io::Error) -> bool {
 
 impl<C: Clock> Read for &Peer<'_, C> {
     fn read(&mut self, buf: &mut [u8]) -> io::Result<usize> {
-        let (end, mut wait) = self.begin_call()?;
+        let (begun, whole) = self.begin_call()?;
+        let mut wait = whole;
         'calls: for _ in 0..u64::MAX {
             self.set_read_wait(wait)?;
             match (&self.stream).read(buf) {
                 Err(error) if is_interrupted(&error) => {}
                 came => return came,
             }
-            wait = self.wait_again(end)?;
+            wait = self.wait_again(begun, whole)?;
         }
         Err(io::Error::from(ErrorKind::TimedOut))
     }
@@ -151,14 +159,15 @@ impl<C: Clock> Read for &Peer<'_, C> {
 
 impl<C: Clock> Write for &Peer<'_, C> {
     fn write(&mut self, piece: &[u8]) -> io::Result<usize> {
-        let (end, mut wait) = self.begin_call()?;
+        let (begun, whole) = self.begin_call()?;
+        let mut wait = whole;
         'calls: for _ in 0..u64::MAX {
             self.set_write_wait(wait)?;
             match (&self.stream).write(piece) {
                 Err(error) if is_interrupted(&error) => {}
                 taken => return taken,
             }
-            wait = self.wait_again(end)?;
+            wait = self.wait_again(begun, whole)?;
         }
         Err(io::Error::from(ErrorKind::TimedOut))
     }
@@ -177,19 +186,31 @@ enum Place {
     // After the first octet of a length, which it is.
     Length(u8),
     // So many octets before the end of a message.
-    Message(u16),
+    Message(usize),
 }
 
 impl Place {
-    fn after(self, octet: u8) -> Place {
+    // The place after what was read at once: octets of a length, or of a message.
+    fn after(self, octets: &[u8]) -> Place {
         match self {
-            Place::Between => Place::Length(octet),
-            Place::Length(high) => Place::before(u16::from_be_bytes([high, octet])),
-            Place::Message(left) => Place::before(left.saturating_sub(1)),
+            Place::Between => match octets {
+                [] => Place::Between,
+                [high] => Place::Length(*high),
+                [high, low, ..] => Place::after_length(*high, *low),
+            },
+            Place::Length(high) => match octets.first() {
+                Some(low) => Place::after_length(high, *low),
+                None => Place::Length(high),
+            },
+            Place::Message(left) => Place::before_end(left.saturating_sub(octets.len())),
         }
     }
 
-    fn before(left: u16) -> Place {
+    fn after_length(high: u8, low: u8) -> Place {
+        Place::before_end(usize::from(u16::from_be_bytes([high, low])))
+    }
+
+    fn before_end(left: usize) -> Place {
         if left == 0 {
             Place::Between
         } else {
@@ -228,9 +249,7 @@ impl<R: Read, C: Clock> Read for Messages<'_, R, C> {
         if begins {
             self.peer.current.set(Current::Begun);
         }
-        for octet in buf.iter().take(count) {
-            self.place = self.place.after(*octet);
-        }
+        self.place = self.place.after(&buf[..count]);
         Ok(count)
     }
 }
