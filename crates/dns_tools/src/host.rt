@@ -1,6 +1,8 @@
 //! What the programs' mains do alike: their words, their zone file, and what they say where they
 //! stop.
-ghost use Rattle.std.specs.Prelude.{◌≡◌, ◌⊎◌, Ok, Err, IfOk, IfErr};
+ghost use Rattle.std.specs.Prelude.{◌≡◌, ◌⊎◌, Ok, Err, IfOk, IfErr, OnOk};
+ghost use Rattle.std.specs.Io.Buffered.{writer_contents};
+ghost use Rattle.std.specs.Io.KnownBytes.{Keeps};
 
 use crate::fault::{FAULT_STATUS, FaultWord, Stop};
 use std::alloc::Global;
@@ -54,26 +56,29 @@ pub fn open_file<R: Files>(rt: &R, path: &str) -> Result<R::File, FaultWord>
     fs::open(rt, path).map_err(|error| word_or_no_memory(&error, FaultWord::SourceFailed))
 }
 
-/// Writes what the buffer still holds of a report, where its engine came to its end, and lets the
-/// buffer go.
+/// Writes what the buffer still holds of a report, where its engine came to its end, and gives the
+/// device below it.
 ///
 /// The buffer is taken apart: dropped as it is, it would write once more after a failure.
 pub fn finish<W: Write + Drop>(
     outcome: Result<bool, Stop>,
     output: BufWriter<W>,
-) -> Result<bool, Stop>
-    ensures stopped { IfErr outcome (λ stop. result ≡ Err stop) }
-    ensures ended { IfOk outcome (λ passes. (result ≡ Ok passes) ⊎ (result ≡ Err Stop.Sink)) }
+) -> (Result<bool, Stop>, W)
+    ensures stopped { IfErr outcome (λ stop. result.0 ≡ Err stop) }
+    ensures ended { IfOk outcome (λ passes.
+        (result.0 ≡ Ok passes) ⊎ (result.0 ≡ Err Stop.Sink)) }
+    ensures written { OnOk result.0
+        (Keeps (writer_contents W.contents output) (W.contents result.1)) }
 {
     let mut output = output;
     let flushed = match outcome {
         Ok(_) => output.flush(),
         Err(_) => Ok(()),
     };
-    let (_writer, _unwritten) = output.into_parts();
+    let (device, _unwritten) = output.into_parts();
     match flushed {
-        Ok(()) => outcome,
-        Err(_) => Err(Stop::Sink),
+        Ok(()) => (outcome, device),
+        Err(_) => (Err(Stop::Sink), device),
     }
 }
 

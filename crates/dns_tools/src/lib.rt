@@ -9,8 +9,10 @@ mod listen;
 mod load;
 mod message;
 mod once;
+mod peer;
 mod report;
 mod socket;
+mod waiting;
 mod words;
 
 pub use check::{Flags, check_zone};
@@ -21,4 +23,5 @@ pub use load::{LoadFault, Refusal, load as load_zone, write_refusal};
 pub use message::run_message;
 pub use once::run_once;
 pub use socket::Socket;
+pub use waiting::Waiting;
 pub use words::{CheckWords, ServeWords, Service, check_words, serve_words};

@@ -3,21 +3,23 @@ ghost use Rattle.std.specs.Prelude.{◌≡◌, ◌⊎◌, ◌+◌, ◌-◌, ◌^
 ghost use Rattle.dns_tools.specs.Turns.{TakesTurns};
 
 use crate::fault::{FaultWord, TurnWord};
+use crate::peer::{Messages, Peer};
 use crate::socket::Socket;
 use dns_name::Tally;
-use dns_serve::{Datagrams, StreamRoom, serve_stream_in, udp_turn};
+use dns_serve::{Datagrams, StreamFault, StreamRoom, serve_stream_in, udp_turn};
 use dns_zone::Zone;
 use std::alloc::Global;
-use std::io::{self, BufReader, Read, Write};
+use std::io::{self, BufReader, Read};
 use std::net::{Net, SocketAddr, TcpListener, TcpStream, UdpSocket};
-use std::time::Duration;
+use std::thread;
+use std::time::{Clock, Duration};
 
 // How many messages of one connection are answered.
 const MOST_MESSAGES: u32 = 1_000_000;
 
-// For how many seconds a peer may say nothing, or take nothing: connections are served one after
-// another, and a silent peer must not hold the server (a limit of this project).
-const PATIENCE: u64 = 10;
+// How many milliseconds no connection is asked for after one was not accepted: mostly the process
+// may open no more files, and would ask in vain.
+const PAUSE: u64 = 100;
 
 /// Answers so many datagrams at an address, and tells whether standard error had each word that was
 /// due: `U1` where no datagram was received, `U2` where a reply was not sent. Such a turn counts.
@@ -82,8 +84,11 @@ fn say_of_turn(rt: &impl Eprint, are_said: bool, word: TurnWord) -> bool {
 
 /// Serves so many connections at an address, one after another, and tells whether standard error
 /// had each word that was due: `accept` where none was accepted, `S1` where a stream could not be
-/// read, or no octet came for ten seconds, `S2` where it could not be written, or none was taken
-/// for ten seconds, `S3` where it ended inside a message. Such a turn counts.
+/// read, or a message did not come in time, `S2` where it could not be written, or a reply was not
+/// taken in time, `S3` where it ended inside a message. Such a turn counts.
+///
+/// A message has thirty seconds, from its first octet until the last of its reply is taken, and a
+/// silence ten.
 ///
 /// `bind` where the address can't be had. The room is lent for one connection after the other.
 pub fn serve_connections<R>(
@@ -94,7 +99,7 @@ pub fn serve_connections<R>(
     room: &mut StreamRoom,
 ) -> Result<bool, FaultWord>
 where
-    R: Net<Listener = TcpListener, Stream = TcpStream> + Eprint + AllocGlobal,
+    R: Net<Listener = TcpListener, Stream = TcpStream> + Clock + Eprint + AllocGlobal,
     ensures { IfErr result (λ fault. fault ≡ FaultWord.NotBound) }
 {
     let Ok(listener) = listening(rt, address) else {
@@ -120,7 +125,7 @@ struct Connections {
 
 // Serves so many connections, one after another, and tells whether standard error had each word
 // that was due.
-fn take_connections<R: Eprint + AllocGlobal>(
+fn take_connections<R: Clock + Eprint + AllocGlobal>(
     rt: &R,
     zone: &Zone,
     connections: &mut Connections,
@@ -132,7 +137,7 @@ fn take_connections<R: Eprint + AllocGlobal>(
 {
     let mut are_said = true;
     'connections: for _ in 0..turns {
-        if let Err(word) = connections.serve_next(rt.alloc(), zone, room) {
+        if let Err(word) = connections.serve_next(rt, zone, room) {
             are_said = say_of_turn(rt, are_said, word);
         }
     }
@@ -140,10 +145,11 @@ fn take_connections<R: Eprint + AllocGlobal>(
 }
 
 impl Connections {
-    // Asks for a connection, and answers its messages.
-    fn serve_next(
+    // Asks for a connection, answers its messages, and hears what its peer still says where it has
+    // not ended.
+    fn serve_next<R: Clock + AllocGlobal>(
         &mut self,
-        alloc: Global,
+        rt: &R,
         zone: &Zone,
         room: &mut StreamRoom,
     ) -> Result<(), TurnWord>
@@ -152,43 +158,43 @@ impl Connections {
     {
         self.asked += 1;
         let Ok((stream, _)) = self.listener.accept() else {
+            thread::sleep(rt, Duration::from_millis(PAUSE));
             return Err(TurnWord::NotAccepted);
         };
-        serve_peer(alloc, zone, &stream, room)
+        let peer = Peer::new(stream, rt);
+        let served = serve_peer(rt.alloc(), zone, &peer, room);
+        match served {
+            Err(StreamFault::Cut) => {}
+            Ok(count) if count < MOST_MESSAGES => {}
+            _ => {
+                let _heard = peer.hear_out();
+            }
+        }
+        served?;
+        Ok(())
     }
 }
 
-// Answers the messages of a connection, with a peer that keeps within the time.
-fn serve_peer(
+// Answers the messages of a connection, and tells how many there were.
+fn serve_peer<C: Clock>(
     alloc: Global,
     zone: &Zone,
-    stream: &TcpStream,
+    peer: &Peer<'_, C>,
     room: &mut StreamRoom,
-) -> Result<(), TurnWord> {
-    let patience = Duration::from_secs(PATIENCE);
-    if stream.set_read_timeout(Some(patience)).is_err() {
-        return Err(TurnWord::StreamNotRead);
-    }
-    if stream.set_write_timeout(Some(patience)).is_err() {
-        return Err(TurnWord::StreamNotWritten);
-    }
-    // Questions that come together are read together. Where there is no memory for that, the stream
-    // is read as it is.
-    match BufReader::new(alloc, stream) {
-        Ok(source) => serve_session(zone, source, stream, room),
-        Err(_) => serve_session(zone, stream, stream, room),
-    }
+) -> Result<u32, StreamFault> {
+    // Questions that come together are read together, where there is memory for that.
+    let Ok(source) = buffered(alloc, peer) else {
+        return Err(StreamFault::SourceFailed);
+    };
+    let mut source = Tally::new(Messages::new(source, peer));
+    let mut sink = Tally::new(peer);
+    serve_stream_in(zone, &mut source, &mut sink, MOST_MESSAGES, room)
 }
 
-// Answers the messages of a connection.
-fn serve_session<R: Read + Drop, W: Write + Drop>(
-    zone: &Zone,
-    source: R,
-    sink: W,
-    room: &mut StreamRoom,
-) -> Result<(), TurnWord> {
-    let mut source = Tally::new(source);
-    let mut sink = Tally::new(sink);
-    serve_stream_in(zone, &mut source, &mut sink, MOST_MESSAGES, room)?;
-    Ok(())
+// A source that reads ahead, or one without a buffer where there is no memory.
+fn buffered<S: Read + Copy + Drop>(alloc: Global, source: S) -> io::Result<BufReader<S>> {
+    match BufReader::new(alloc, source) {
+        Ok(buffered) => Ok(buffered),
+        Err(_) => BufReader::with_capacity(alloc, 0, source),
+    }
 }

@@ -6,4 +6,5 @@ mod load;
 mod long;
 mod message;
 mod once;
+mod waiting;
 mod words;

@@ -3,10 +3,11 @@
 #![tactic(auto)]
 
 use dns_name::Tally;
-use dns_tools::{FaultWord, exit_status, finish, given_words, run_message, say};
+use dns_tools::{FaultWord, Waiting, exit_status, finish, given_words, run_message, say};
 use std::io::{self, BufWriter};
 use std::process::ExitCode;
 use std::rt::Env;
+use std::time::Clock;
 
 fn main(rt: HostRuntime) -> ExitCode {
     ExitCode::from(match print(&rt) {
@@ -16,15 +17,16 @@ fn main(rt: HostRuntime) -> ExitCode {
 }
 
 // Prints the message of standard input, and gives the status for it. There are no words.
-fn print<R: Env + Input + Print + AllocGlobal>(rt: &R) -> Result<u8, FaultWord> {
+fn print<R: Env + Input + Print + Clock + AllocGlobal>(rt: &R) -> Result<u8, FaultWord> {
     let alloc = rt.alloc();
     if !given_words(rt)?.is_empty() {
         return Err(FaultWord::Usage);
     }
-    let output = BufWriter::new(alloc, io::writer(rt)).map_err(|_| FaultWord::NoMemory)?;
-    let (mut source, mut sink) = (Tally::new(rt.reader()), Tally::new(output));
+    let output = BufWriter::new(alloc, Waiting::new(io::writer(rt), rt));
+    let mut sink = Tally::new(output.map_err(|_| FaultWord::NoMemory)?);
+    let mut source = Tally::new(Waiting::new(rt.reader(), rt));
     let outcome = run_message(alloc, &mut source, &mut sink);
-    let outcome = finish(outcome, sink.into_inner());
+    let (outcome, _device) = finish(outcome, sink.into_inner());
     outcome?;
     Ok(exit_status(&outcome))
 }

@@ -4,11 +4,12 @@
 
 use dns_name::Tally;
 use dns_tools::{
-    FaultWord, check_words, check_zone, exit_status, finish, given_words, open_file, say,
+    FaultWord, Waiting, check_words, check_zone, exit_status, finish, given_words, open_file, say,
 };
 use std::io::{self, BufWriter};
 use std::process::ExitCode;
 use std::rt::{Env, Files};
+use std::time::Clock;
 
 fn main(rt: HostRuntime) -> ExitCode {
     ExitCode::from(match check(&rt) {
@@ -18,15 +19,16 @@ fn main(rt: HostRuntime) -> ExitCode {
 }
 
 // Writes the report of the zone that the words name, and gives the status for it.
-fn check<R: Env + Files + Print + AllocGlobal>(rt: &R) -> Result<u8, FaultWord> {
+fn check<R: Env + Files + Print + Clock + AllocGlobal>(rt: &R) -> Result<u8, FaultWord> {
     let alloc = rt.alloc();
     let words = given_words(rt)?;
     let words = check_words(alloc, words.as_slice())?;
     let mut source = Tally::new(open_file(rt, words.file)?);
-    let output = BufWriter::new(alloc, io::writer(rt)).map_err(|_| FaultWord::NoMemory)?;
+    let output = BufWriter::new(alloc, Waiting::new(io::writer(rt), rt));
+    let output = output.map_err(|_| FaultWord::NoMemory)?;
     let mut sink = Tally::new(output);
     let outcome = check_zone(alloc, &words.origin, words.flags, &mut source, &mut sink);
-    let outcome = finish(outcome, sink.into_inner());
+    let (outcome, _device) = finish(outcome, sink.into_inner());
     outcome?;
     Ok(exit_status(&outcome))
 }

@@ -6,14 +6,15 @@
 use dns_name::Tally;
 use dns_serve::StreamRoom;
 use dns_tools::{
-    FaultWord, LoadFault, Refusal, Service, exit_status, finish, given_words, load_zone, open_file,
-    run_once, say, serve_connections, serve_datagrams, serve_words, write_refusal,
+    FaultWord, LoadFault, Refusal, Service, Waiting, exit_status, finish, given_words, load_zone,
+    open_file, run_once, say, serve_connections, serve_datagrams, serve_words, write_refusal,
 };
 use dns_zone::Zone;
 use std::io::{self, BufWriter};
 use std::net::{Net, TcpListener, TcpStream};
 use std::process::ExitCode;
 use std::rt::{Env, Files};
+use std::time::Clock;
 
 fn main(rt: HostRuntime) -> ExitCode {
     ExitCode::from(match run(&rt, &rt.stderr()) {
@@ -25,7 +26,7 @@ fn main(rt: HostRuntime) -> ExitCode {
 // Serves the zone that the words name, as they ask, and gives the status.
 fn run<R, E: Print>(rt: &R, errors: &E) -> Result<u8, FaultWord>
 where
-    R: Env + Files + Input + Print + Eprint + AllocGlobal,
+    R: Env + Files + Input + Print + Eprint + Clock + AllocGlobal,
     R: Net<Listener = TcpListener, Stream = TcpStream>,
 {
     let alloc = rt.alloc();
@@ -43,11 +44,13 @@ where
 
 fn serve<R>(rt: &R, zone: &Zone, service: &Service<'_>) -> Result<u8, FaultWord>
 where
-    R: Input + Print + Eprint + AllocGlobal + Net<Listener = TcpListener, Stream = TcpStream>,
+    R: Input + Print + Eprint + Clock + AllocGlobal,
+    R: Net<Listener = TcpListener, Stream = TcpStream>,
 {
     let are_said = match service {
         Service::Once(limit) => {
-            let (mut source, mut sink) = (Tally::new(rt.reader()), Tally::new(io::writer(rt)));
+            let mut source = Tally::new(Waiting::new(rt.reader(), rt));
+            let mut sink = Tally::new(Waiting::new(io::writer(rt), rt));
             let outcome = run_once(rt.alloc(), zone, *limit, &mut source, &mut sink);
             outcome?;
             return Ok(exit_status(&outcome));
@@ -65,12 +68,12 @@ where
 }
 
 // Says on standard error why there is no zone to serve, in the lines of the checker.
-fn refuse<R: AllocGlobal, E: Print>(
+fn refuse<R: Clock + AllocGlobal, E: Print>(
     rt: &R,
     errors: &E,
     refusal: &Refusal,
 ) -> Result<u8, FaultWord> {
-    let Ok(output) = BufWriter::new(rt.alloc(), io::writer(errors)) else {
+    let Ok(output) = BufWriter::new(rt.alloc(), Waiting::new(io::writer(errors), rt)) else {
         return Err(FaultWord::NoMemory);
     };
     let mut sink = Tally::new(output);
@@ -79,6 +82,6 @@ fn refuse<R: AllocGlobal, E: Print>(
         Ok(()) => Ok(false),
         Err(failed) => Err(failed.into()),
     };
-    let outcome = finish(outcome, sink.into_inner());
+    let (outcome, _device) = finish(outcome, sink.into_inner());
     Ok(exit_status(&outcome))
 }

@@ -31,7 +31,7 @@ fn a_buffer_is_written_once_at_most(rt: HostRuntime) -> Result<(), Fail> {
         let mut calls = 0;
         let mut output = BufWriter::new(rt.alloc(), Counting { calls: &mut calls })?;
         output.write_all(b"zone")?;
-        assert_eq!(rt; finish(outcome, output), wanted);
+        assert_eq!(rt; finish(outcome, output).0, wanted);
         assert_eq!(rt; calls, wanted_calls, "at {outcome:?}");
     }
     Ok(())

@@ -1,0 +1,10 @@
+use Rattle.std.proofs.Common.{◌≡◌, length}
+use Rattle.std.specs.Io.KnownBytes.{Keeps}
+use Rattle.dns_tools.proofs.waiting.WaitingRead.read.Given as goal
+
+-- the calls so far took nothing
+abbrev pub invariant-calls : goal.invariant-calls
+invariant-calls g l = record {
+  room : length l.buf ≡ length l.initial.buf;
+  kept : Keeps (g.T.Read.remaining l.initial.self.device) (g.T.Read.remaining l.self.device);
+}

@@ -1,0 +1,255 @@
+//! The peer of a connection: a stream whose calls wait as long as a message may take, and no
+//! longer.
+
+use std::cell::Cell;
+use std::io::{self, ErrorKind, Read, Write};
+use std::net::{Shutdown, TcpStream};
+use std::time::{Clock, Duration};
+
+// Times in milliseconds. Connections are served one after another, and no peer may hold the others
+// for ever: these are limits of this project.
+
+// How long a peer may say nothing, or take nothing.
+const SILENCE: u64 = 10_000;
+
+// How long a message may take, from its first octet until the last of its reply is taken.
+const MESSAGE: u64 = 30_000;
+
+// How long a call waits that was interrupted when its time was over: it takes what has come.
+const LAST_LOOK: u64 = 1;
+
+// After the last message a peer is heard until it has said nothing for so long, for so long in
+// all, and for so many octets.
+const LAST_SILENCE: u64 = 1_000;
+
+const LAST_TIME: u64 = 10_000;
+
+const LAST_OCTETS: usize = 16_777_216;
+
+// The message that is read or answered.
+#[derive(Clone, Copy)]
+enum Current {
+    // No octet of it has come.
+    Awaited,
+    // It began after the last call on the socket: its time runs from the next.
+    Begun,
+    // Its time runs since then, on the clock.
+    Since(Duration),
+}
+
+/// A connection and its clock. As a reader and a writer, shared by both, it makes a call that the
+/// system interrupts again, and its calls end by an error where the time of the message is over: a
+/// silence of ten seconds, or thirty seconds from its first octet.
+#[derive(Drop)]
+pub struct Peer<'a, C> {
+    stream: TcpStream,
+    clock: &'a C,
+    current: Cell<Current>,
+    // The time-outs of the socket, once they are set.
+    read_wait: Cell<Duration>,
+    write_wait: Cell<Duration>,
+}
+
+impl<'a, C: Clock> Peer<'a, C> {
+    /// The peer of a connection, before its first message.
+    pub fn new(stream: TcpStream, clock: &'a C) -> Peer<'a, C> {
+        Peer {
+            stream,
+            clock,
+            current: Cell::new(Current::Awaited),
+            read_wait: Cell::new(Duration::ZERO),
+            write_wait: Cell::new(Duration::ZERO),
+        }
+    }
+
+    /// Ends what is written, and hears the peer until it ends too, for a second of silence at most.
+    ///
+    /// A socket that is closed before all of its input is read resets the connection, and the peer
+    /// loses what it has not yet got of the replies (RFC 2525 2.17).
+    pub fn hear_out(&self) -> io::Result<()> {
+        self.stream.shutdown(Shutdown::Write)?;
+        self.set_read_wait(Duration::from_millis(LAST_SILENCE))?;
+        let begun = self.clock.monotonic()?;
+        let mut room = [0; 4096];
+        let mut heard = 0;
+        'octets: while heard < LAST_OCTETS {
+            if left(LAST_TIME, begun, self.clock.monotonic()?).is_zero() {
+                break;
+            }
+            heard += match (&self.stream).read(&mut room) {
+                Ok(0) => break,
+                Ok(count) => count,
+                Err(error) if is_interrupted(&error) => 1,
+                Err(error) => return Err(error),
+            };
+        }
+        Ok(())
+    }
+
+    // When a call begins, on the clock, and how long it may wait: an error where the time of the
+    // message is over.
+    fn begin_call(&self) -> io::Result<(Duration, Duration)> {
+        let now = self.clock.monotonic()?;
+        let silence = Duration::from_millis(SILENCE);
+        let wait = match self.current.get() {
+            Current::Awaited => silence,
+            Current::Begun => {
+                self.current.set(Current::Since(now));
+                silence
+            }
+            Current::Since(begun) => silence.min(left(MESSAGE, begun, now)),
+        };
+        if wait.is_zero() {
+            return Err(io::Error::from(ErrorKind::TimedOut));
+        }
+        Ok((now, wait))
+    }
+
+    // How long a call may wait that was interrupted, of the whole time that it had then.
+    fn wait_again(&self, begun: Duration, whole: Duration) -> io::Result<Duration> {
+        let passed = self.clock.monotonic()?.saturating_sub(begun);
+        Ok(
+            whole
+                .saturating_sub(passed)
+                .max(Duration::from_millis(LAST_LOOK)),
+        )
+    }
+
+    fn set_read_wait(&self, wait: Duration) -> io::Result<()> {
+        if self.read_wait.get() != wait {
+            self.stream.set_read_timeout(Some(wait))?;
+            self.read_wait.set(wait);
+        }
+        Ok(())
+    }
+
+    fn set_write_wait(&self, wait: Duration) -> io::Result<()> {
+        if self.write_wait.get() != wait {
+            self.stream.set_write_timeout(Some(wait))?;
+            self.write_wait.set(wait);
+        }
+        Ok(())
+    }
+}
+
+// What is left of so many milliseconds since then.
+fn left(millis: u64, since: Duration, now: Duration) -> Duration {
+    Duration::from_millis(millis).saturating_sub(now.saturating_sub(since))
+}
+
+pub(crate) fn is_interrupted(error: &io::Error) -> bool {
+    error.kind() == ErrorKind::Interrupted
+}
+
+impl<C: Clock> Read for &Peer<'_, C> {
+    fn read(&mut self, buf: &mut [u8]) -> io::Result<usize> {
+        let (begun, whole) = self.begin_call()?;
+        let mut wait = whole;
+        'calls: for _ in 0..u64::MAX {
+            self.set_read_wait(wait)?;
+            match (&self.stream).read(buf) {
+                Err(error) if is_interrupted(&error) => {}
+                came => return came,
+            }
+            wait = self.wait_again(begun, whole)?;
+        }
+        Err(io::Error::from(ErrorKind::TimedOut))
+    }
+}
+
+impl<C: Clock> Write for &Peer<'_, C> {
+    fn write(&mut self, piece: &[u8]) -> io::Result<usize> {
+        let (begun, whole) = self.begin_call()?;
+        let mut wait = whole;
+        'calls: for _ in 0..u64::MAX {
+            self.set_write_wait(wait)?;
+            match (&self.stream).write(piece) {
+                Err(error) if is_interrupted(&error) => {}
+                taken => return taken,
+            }
+            wait = self.wait_again(begun, whole)?;
+        }
+        Err(io::Error::from(ErrorKind::TimedOut))
+    }
+
+    fn flush(&mut self) -> io::Result<()> {
+        Ok(())
+    }
+}
+
+// Where a reader of messages stands, each of which comes after its length in two octets (RFC 1035
+// 4.2.2).
+#[derive(Clone, Copy)]
+enum Place {
+    // Between two messages.
+    Between,
+    // After the first octet of a length, which it is.
+    Length(u8),
+    // So many octets before the end of a message.
+    Message(usize),
+}
+
+impl Place {
+    // The place after what was read at once: octets of a length, or of a message.
+    fn after(self, octets: &[u8]) -> Place {
+        match self {
+            Place::Between => match octets {
+                [] => Place::Between,
+                [high] => Place::Length(*high),
+                [high, low, ..] => Place::after_length(*high, *low),
+            },
+            Place::Length(high) => match octets.first() {
+                Some(low) => Place::after_length(high, *low),
+                None => Place::Length(high),
+            },
+            Place::Message(left) => Place::before_end(left.saturating_sub(octets.len())),
+        }
+    }
+
+    fn after_length(high: u8, low: u8) -> Place {
+        Place::before_end(usize::from(u16::from_be_bytes([high, low])))
+    }
+
+    fn before_end(left: usize) -> Place {
+        if left == 0 {
+            Place::Between
+        } else {
+            Place::Message(left)
+        }
+    }
+}
+
+/// What a peer says, by a reader of it that may read ahead: tells the peer where each message
+/// begins for who reads them here.
+#[derive(Drop)]
+pub struct Messages<'a, R, C> {
+    source: R,
+    peer: &'a Peer<'a, C>,
+    place: Place,
+}
+
+impl<'a, R: Read, C: Clock> Messages<'a, R, C> {
+    /// The messages of a peer, from the first on.
+    pub fn new(source: R, peer: &'a Peer<'a, C>) -> Messages<'a, R, C> {
+        Messages {
+            source,
+            peer,
+            place: Place::Between,
+        }
+    }
+}
+
+impl<R: Read, C: Clock> Read for Messages<'_, R, C> {
+    fn read(&mut self, buf: &mut [u8]) -> io::Result<usize> {
+        let begins = matches!(self.place, Place::Between);
+        if begins {
+            self.peer.current.set(Current::Awaited);
+        }
+        let count = self.source.read(buf)?;
+        if begins {
+            self.peer.current.set(Current::Begun);
+        }
+        self.place = self.place.after(&buf[..count]);
+        Ok(count)
+    }
+}

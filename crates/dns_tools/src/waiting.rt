@@ -1,0 +1,69 @@
+//! A standard stream that is set not to block, waited for all the same.
+ghost use Rattle.std.specs.Prelude.{◌≡◌};
+
+use std::io::{self, ErrorKind, Read, Write};
+use std::thread;
+use std::time::{Clock, Duration};
+
+// How many milliseconds pass before a call is made again that the system put off.
+const PAUSE: u64 = 10;
+
+/// A device whose calls wait: where it is set not to block (`O_NONBLOCK`, which a stream has from
+/// another process that shares it), a call that the system puts off is made again after a pause.
+///
+/// A call that was put off took nothing, so no octet is lost or comes twice.
+#[derive(Drop)]
+pub struct Waiting<'a, T, C> {
+    device: T,
+    clock: &'a C,
+}
+
+impl<'a, T, C: Clock> Waiting<'a, T, C> {
+    /// The device, with the clock of its pauses.
+    pub fn new(device: T, clock: &'a C) -> Waiting<'a, T, C>
+        ensures { result.device ≡ device }
+    {
+        Waiting { device, clock }
+    }
+}
+
+impl<T: Read, C: Clock> Read for Waiting<'_, T, C> {
+    ghost remaining = { λ s. T.remaining s.device };
+
+    fn read(&mut self, buf: &mut [u8]) -> io::Result<usize> {
+        'calls: for _ in 0..u64::MAX {
+            match self.device.read(buf) {
+                Err(error) if is_put_off(&error, self.clock) => {}
+                came => return came,
+            }
+        }
+        Err(io::Error::from(ErrorKind::TimedOut))
+    }
+}
+
+impl<T: Write, C: Clock> Write for Waiting<'_, T, C> {
+    ghost contents = { λ s. T.contents s.device };
+
+    fn write(&mut self, piece: &[u8]) -> io::Result<usize> {
+        'calls: for _ in 0..u64::MAX {
+            match self.device.write(piece) {
+                Err(error) if is_put_off(&error, self.clock) => {}
+                taken => return taken,
+            }
+        }
+        Err(io::Error::from(ErrorKind::TimedOut))
+    }
+
+    fn flush(&mut self) -> io::Result<()> {
+        self.device.flush()
+    }
+}
+
+// Whether a call was put off: then the pause has passed.
+fn is_put_off(error: &io::Error, clock: &impl Clock) -> bool {
+    let put_off = error.kind() == ErrorKind::WouldBlock;
+    if put_off {
+        thread::sleep(clock, Duration::from_millis(PAUSE));
+    }
+    put_off
+}
