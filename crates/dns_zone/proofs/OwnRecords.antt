@@ -1,22 +1,16 @@
 -- The records of a name of a zone, by their types, and what is found for a target.
-use Rattle.std.proofs.Common.{◌≡◌, ℕ, ◌≤◌, ◌<◌, Bool, true, false, ◌&&◌, ◌||◌, not, cond, ◌==◌, List, [], ◌∷◌, refl, sym, ap, ap₂, ◌∙◌, arith, filter, is_gt, Less, Equal, Greater, nat_cmp, inl, inr, ◌⊎◌}
+use Rattle.std.proofs.Common.{◌≡◌, ℕ, ◌≤◌, ◌<◌, Bool, true, false, ◌&&◌, ◌||◌, cond, ◌==◌, List, [], ◌∷◌, refl, sym, ap, ◌∙◌, arith, filter, is_gt, Less, Equal, Greater, nat_cmp, inl, inr, ◌⊎◌}
 use Rattle.std.proofs.lemmas.Bool.{cases_lt, le-ltb, ne_eqb, true≢false}
 use Rattle.std.specs.List.{list_any}
 use Rattle.std.specs.List.Sorted.{IsNonDecreasingBy}
 use Rattle.std.specs.Ordering.{ordering_then}
-use Rattle.dns_spec.specs.Names.{DomainName, folded, same, at_or_below, name_order}
-use Rattle.dns_spec.specs.Data.{type_a, type_aaaa}
+use Rattle.dns_spec.specs.Names.{DomainName, same, name_order}
 use Rattle.dns_spec.specs.Records.{ResourceRecord, ZoneContents, at, owns, data_order, record_order}
-use Rattle.dns_spec.specs.Tree.{is_cut}
-use Rattle.dns_spec.specs.Checks.{at_or_below_cut, lacks_address}
 use Rattle.dns_spec.proofs.Records.SortedOnce.{filter_each}
 use Rattle.dns_zone.specs.ZoneForm.{AreOrdered}
-use Rattle.dns_zone.specs.CutForm.{AreTopmost}
 use Rattle.dns_zone.proofs.Pairs.{pairs_of, pairs_filter, rising}
-use Rattle.dns_zone.proofs.NameOrder.{same-is, same-from, same-tied, lower_twice}
-use Rattle.dns_zone.proofs.NameTree.{same-under}
+use Rattle.dns_zone.proofs.NameOrder.{same-is, same-from, same-tied}
 use Rattle.dns_zone.proofs.AtName.{ordered_records}
-use Rattle.dns_zone.proofs.AboveCuts.{at_cut-any, owns-folded}
 
 -- the records of one name stand by their types
 type_up_to : (r s : ResourceRecord) → name_order r.owner s.owner ≡ Equal → is_gt (record_order r s) ≡ false → r.rtype ≤ s.rtype
@@ -50,25 +44,3 @@ any_filter p q (x ∷ xs) = go (p x) (any_filter p q xs)
 
 pub own-owns : (z : ZoneContents) (n : DomainName) (t : ℕ) → list_any (λ (r : ResourceRecord). r.rtype == t) (at z n) ≡ owns z n t
 own-owns z n t = any_filter (λ (r : ResourceRecord). same r.owner n) (λ (r : ResourceRecord). r.rtype == t) z.records
-
--- only the lower case of a target counts
-pub itself-folded : (m : DomainName) → same (folded m) m ≡ true
-itself-folded m = same-from (folded m) m (lower_twice m)
-
-pub owns-lower : (z : ZoneContents) (m : DomainName) (t : ℕ) → owns z (folded m) t ≡ owns z m t
-owns-lower z m t = owns-folded z (folded m) m t (itself-folded m)
-
-any_alike : {X : Type 0} (p q : X → Bool) (xs : List X) → ((x : X) → p x ≡ q x) → list_any p xs ≡ list_any q xs
-any_alike p q [] f = refl
-any_alike p q (x ∷ xs) f = ap₂ ◌||◌ (f x) (any_alike p q xs f)
-
-at_cut-lower : (z : ZoneContents) (cs : List ResourceRecord) → AreTopmost z cs → (m : DomainName) → at_or_below_cut z (folded m) ≡ at_or_below_cut z m
-at_cut-lower z cs h m =
-    at_cut-any z cs h (folded m)
-    ∙ any_alike (λ (c : ResourceRecord). at_or_below (folded m) c.owner) (λ (c : ResourceRecord). at_or_below m c.owner) cs (λ c. same-under (folded m) m c.owner (itself-folded m))
-    ∙ sym (at_cut-any z cs h m)
-
-pub lacks-lower : (z : ZoneContents) (cs : List ResourceRecord) → AreTopmost z cs → (n m : DomainName) → lacks_address z n (folded m) ≡ lacks_address z n m
-lacks-lower z cs h n m =
-    ap₂ (λ a b. not a && b) (ap₂ ◌||◌ (owns-lower z m type_a) (owns-lower z m type_aaaa))
-    (ap₂ (λ a b. not a || (is_cut z n && b)) (at_cut-lower z cs h m) (same-under (folded m) m n (itself-folded m)))
