@@ -17,7 +17,8 @@ label_octets (l ∷ n) = length l ∷ (l ++ label_octets n)
 
 pub wire_front : (f t : DomainName) → wire (f ++ t) ≡ label_octets f ++ wire t
 wire_front [] t = refl
-wire_front (l ∷ f) t = ap (λ z. length l ∷ (l ++ z)) (wire_front f t) ∙ ap (λ z. length l ∷ z) (sym (append_assoc l (label_octets f) (wire t)))
+wire_front (l ∷ f) t = ap (λ z. length l ∷ (l ++ z)) (wire_front f t)
+    ∙ ap (λ z. length l ∷ z) (sym (append_assoc l (label_octets f) (wire t)))
 
 -- where an element of a part stands in the whole
 get_taken : (m k : ℕ) (xs : Octets) → k < m → slice_get (take m xs) k ≡ slice_get xs k
@@ -29,7 +30,8 @@ get_taken (suc m) (suc k) (x ∷ xs) h = get_taken m k xs (omega arith)
 get_dropped : (s k : ℕ) (b : Octets) → slice_get (drop s b) k ≡ slice_get b (s + k)
 get_dropped zero k b = ap (slice_get b) {x = k} {y = 0 + k} (omega arith)
 get_dropped (suc s) k [] = refl
-get_dropped (suc s) k (x ∷ b) = get_dropped s k b ∙ ap (slice_get (x ∷ b)) {x = suc (s + k)} {y = suc s + k} (omega arith)
+get_dropped (suc s) k (x ∷ b) = get_dropped s k b
+    ∙ ap (slice_get (x ∷ b)) {x = suc (s + k)} {y = suc s + k} (omega arith)
 
 get_front : (x y : Octets) (k : ℕ) → k < length x → slice_get (x ++ y) k ≡ slice_get x k
 get_front [] y k h = absurd (omega arith)
@@ -43,29 +45,36 @@ get_seam (o ∷ x) y = get_seam x y
 drop_get : (b : Octets) (i k : ℕ) → slice_get b i ≡ Some k → drop i b ≡ k ∷ drop (i + 1) b
 drop_get [] i k at = absurd (none-some k at)
 drop_get (x ∷ b) zero k at = ap (λ z. z ∷ b) (same_Some x k at)
-drop_get (x ∷ b) (suc i) k at = drop_get b i k at ∙ ap (λ j. k ∷ drop j (x ∷ b)) {x = suc (i + 1)} {y = suc i + 1} (omega arith)
+drop_get (x ∷ b) (suc i) k at = drop_get b i k at
+    ∙ ap (λ j. k ∷ drop j (x ∷ b)) {x = suc (i + 1)} {y = suc i + 1} (omega arith)
 
 -- octets alike have the same element at a place
-get_alike : (b o : Octets) (s m k : ℕ) → take m (drop s b) ≡ take m o → k < m → slice_get b (s + k) ≡ slice_get o k
-get_alike b o s m k alike h = sym (get_dropped s k b) ∙ sym (get_taken m k (drop s b) h) ∙ ap (λ z. slice_get z k) alike ∙ get_taken m k o h
+get_alike : (b o : Octets) (s m k : ℕ) → take m (drop s b) ≡ take m o → k < m
+    → slice_get b (s + k) ≡ slice_get o k
+get_alike b o s m k alike h = sym (get_dropped s k b) ∙ sym (get_taken m k (drop s b) h)
+    ∙ ap (λ z. slice_get z k) alike ∙ get_taken m k o h
 
 get_at : (b x : Octets) (s k : ℕ) → HasAt b s x → k < length x → slice_get b (s + k) ≡ slice_get x k
-get_at b x s k has h = sym (get_dropped s k b) ∙ sym (get_taken (length x) k (drop s b) h) ∙ ap (λ z. slice_get z k) has.1
+get_at b x s k has h = sym (get_dropped s k b) ∙ sym (get_taken (length x) k (drop s b) h)
+    ∙ ap (λ z. slice_get z k) has.1
 
 -- a label before other octets
-has_label : {b y : Octets} {i : ℕ} (l : Octets) → LabelAt b i l → HasAt b (i + 1 + length l) y → HasAt b i (length l ∷ (l ++ y))
+has_label : {b y : Octets} {i : ℕ} (l : Octets) → LabelAt b i l → HasAt b (i + 1 + length l) y
+    → HasAt b i (length l ∷ (l ++ y))
 has_label {b} {y} {i} l there has = (
   let within = there.within in omega (arith, within),
   ap (take (length (length l ∷ (l ++ y)))) (drop_get b i (length l) there.length_there)
       ∙ ap (λ z. length l ∷ z)
-      (ap (λ k. take k (drop (i + 1) b)) (length-append l y) ∙ take-add (length l) (length y) (drop (i + 1) b)
+      (ap (λ k. take k (drop (i + 1) b)) (length-append l y)
+      ∙ take-add (length l) (length y) (drop (i + 1) b)
       ∙ ap₂ (λ u v. u ++ v) (sym there.label) (ap (take (length y)) (drop-drop (length l) (i + 1) b) ∙ has.1)),
 )
 
 -- What is spelled from a place on stands there to its end, or to a pointer.
 data RunEnds (b : Octets) (s i : ℕ) (n : DomainName) : Type 0 where
   whole : HasAt b i (wire n) → RunEnds b s i n
-  pointed : (f t : DomainName) (p d : ℕ) → n ≡ f ++ t → HasAt b i (label_octets f) → PointerAt b s (i + length (label_octets f)) p → RunAt b p p t d → RunEnds b s i n
+  pointed : (f t : DomainName) (p d : ℕ) → n ≡ f ++ t → HasAt b i (label_octets f)
+      → PointerAt b s (i + length (label_octets f)) p → RunAt b p p t d → RunEnds b s i n
 
 run_ends : {b : Octets} {s i e : ℕ} {n : DomainName} → RunAt b s i n e → RunEnds b s i n
 run_ends {b} (ends i at) = whole (
@@ -75,7 +84,8 @@ run_ends {b} (ends i at) = whole (
 run_ends {b} {s} (goes_on i k l n e at some short within is rest) = go (run_ends rest)
   where
     long : length l ≡ k
-    long = ap length is ∙ length-take-le k (drop (i + 1) b) (omega (arith, within, length-drop (i + 1) b))
+    long = ap length is
+        ∙ length-take-le k (drop (i + 1) b) (omega (arith, within, length-drop (i + 1) b))
 
     there : LabelAt b i l
     there = record {
@@ -94,14 +104,20 @@ run_ends {b} {s} (goes_on i k l n e at some short within is rest) = go (run_ends
 run_ends {b} {s} (jumps i o o' p n e at high at' is from before rest) =
     let here : i ≡ i + length (label_octets []) = omega arith in
     let pointer : PointerAt b s i p = record { first = o; second = o'; first_there = at; high = high; second_there = at'; place = is; after_header = from; before_run = before } in
-    pointed [] n p e refl (let inside = slice_get_within b i o at in omega (arith, inside), refl) (subst (λ j. PointerAt b s j p) here pointer) rest
+    pointed [] n p e refl (
+      let inside = slice_get_within b i o at in
+          omega (arith, inside),
+      refl,
+    ) (subst (λ j. PointerAt b s j p) here pointer) rest
 
 -- a label that is spelled is short
-label_short : {b : Octets} {s i e : ℕ} {l : Octets} {t : DomainName} → RunAt b s i (l ∷ t) e → length l < 64
+label_short : {b : Octets} {s i e : ℕ} {l : Octets} {t : DomainName} → RunAt b s i (l ∷ t) e
+    → length l < 64
 label_short {b} (goes_on i k l n e at some short within is rest) = omega (arith, short, ap length is, length-take-le k (drop (i + 1) b) (omega (arith, within, length-drop (i + 1) b)))
 label_short (jumps i o o' p n e at high at' is from before rest) = label_short rest
 
-first_low : {b : Octets} {s i e : ℕ} {t : DomainName} (o : ℕ) → RunAt b s i t e → slice_get (wire t) 0 ≡ Some o → o < 192
+first_low : {b : Octets} {s i e : ℕ} {t : DomainName} (o : ℕ) → RunAt b s i t e
+    → slice_get (wire t) 0 ≡ Some o → o < 192
 first_low {t = []} o run at = omega (arith, same_Some 0 o at)
 first_low {t = l ∷ t} o run at = omega (arith, same_Some (length l) o at, label_short run)
 
@@ -111,13 +127,15 @@ pub record PointedOn (b : Octets) (s k : ℕ) (o : Octets) : Type 0 where
   pub pointer : PointerAt b s (s + k) place
   pub spelled : SpelledAt b place (drop k o)
 
-pub pointed_on : {b o : Octets} {s : ℕ} (k : ℕ) → SpelledAt b s o → IsCommon (drop s b) o k → k < length o → PointedOn b s k o
+pub pointed_on : {b o : Octets} {s : ℕ} (k : ℕ) → SpelledAt b s o → IsCommon (drop s b) o k
+    → k < length o → PointedOn b s k o
 pointed_on {b} {o} {s} k there common inside = go there.0 there.1 there.2 there.3 (run_ends there.2)
   where
     other : slice_get b (s + k) ≡ slice_get o k → ⊥
     other same = common.other inside (get_dropped s k b ∙ same)
 
-    go : (n : DomainName) (e : ℕ) → RunAt b s s n e → wire n ≡ o → RunEnds b s s n → PointedOn b s k o
+    go : (n : DomainName) (e : ℕ) → RunAt b s s n e → wire n ≡ o → RunEnds b s s n
+        → PointedOn b s k o
     go n e run w (whole has) = absurd (other (get_at b _ s k has (omega (arith, inside, ap length w)) ∙ ap (λ z. slice_get z k) w))
     go n e run w (pointed f t p d shape has pointer rest) = cases (nat_lt k (length x)) refl (nat_lt (length x) k) refl
       where
@@ -127,13 +145,16 @@ pointed_on {b} {o} {s} k there common inside = go there.0 there.1 there.2 there.
         own : o ≡ x ++ wire t
         own = sym w ∙ ap wire shape ∙ wire_front f t
 
-        cases : (u : Bool) → nat_lt k (length x) ≡ u → (v : Bool) → nat_lt (length x) k ≡ v → PointedOn b s k o
+        cases : (u : Bool) → nat_lt k (length x) ≡ u → (v : Bool) → nat_lt (length x) k ≡ v
+            → PointedOn b s k o
         cases true before v q =
             let h = ltb-true k (length x) before in
-            absurd (other (get_at b _ s k has h ∙ sym (get_front x (wire t) k h) ∙ ap (λ z. slice_get z k) (sym own)))
+            absurd (other (get_at b _ s k has h ∙ sym (get_front x (wire t) k h)
+            ∙ ap (λ z. slice_get z k) (sym own)))
         cases false least true past =
             let at = sym (get_alike b o s k (length x) common.alike (ltb-true (length x) k past)) ∙ pointer.first_there in
-            let low = first_low pointer.first rest (sym (get_seam x (wire t)) ∙ ap (λ z. slice_get z (length x)) (sym own) ∙ at) in
+            let low = first_low pointer.first rest (sym (get_seam x (wire t))
+            ∙ ap (λ z. slice_get z (length x)) (sym own) ∙ at) in
             let high = pointer.high in
             absurd (omega (arith, low, high))
         cases false least false most =
@@ -147,21 +168,29 @@ pointed_on {b} {o} {s} k there common inside = go there.0 there.1 there.2 there.
             }
 
 -- where a pointer leads, the octets left are spelled
-pub spelled_after : {b o : Octets} {s k p : ℕ} → PointedOn b s k o → PointerAt b s (s + k) p → SpelledAt b p (drop k o)
+pub spelled_after : {b o : Octets} {s k p : ℕ} → PointedOn b s k o → PointerAt b s (s + k) p
+    → SpelledAt b p (drop k o)
 spelled_after {b} {o} {s} {k} {p} on there =
-    let one = same_Some on.pointer.first there.first (sym on.pointer.first_there ∙ there.first_there) in
-    let two = same_Some on.pointer.second there.second (sym on.pointer.second_there ∙ there.second_there) in
-    subst (λ j. SpelledAt b j (drop k o)) (on.pointer.place ∙ ap₂ pointer_place one two ∙ sym there.place) on.spelled
+    let one = same_Some on.pointer.first there.first (sym on.pointer.first_there
+    ∙ there.first_there) in
+    let two = same_Some on.pointer.second there.second (sym on.pointer.second_there
+    ∙ there.second_there) in
+    subst (λ j. SpelledAt b j (drop k o)) (on.pointer.place ∙ ap₂ pointer_place one two
+    ∙ sym there.place) on.spelled
 
 -- where all eights are in common, or an octet more is
-pub common_more : (k w : ℕ) (x y : Octets) → take k x ≡ take k y → take w (drop k x) ≡ take w (drop k y) → take (k + w) x ≡ take (k + w) y
-common_more k w x y alike more = take-add k w x ∙ ap₂ (λ u v. u ++ v) alike more ∙ sym (take-add k w y)
+pub common_more : (k w : ℕ) (x y : Octets) → take k x ≡ take k y
+    → take w (drop k x) ≡ take w (drop k y) → take (k + w) x ≡ take (k + w) y
+common_more k w x y alike more = take-add k w x ∙ ap₂ (λ u v. u ++ v) alike more
+    ∙ sym (take-add k w y)
 
-pub one_more : (k o : ℕ) (x y : Octets) → slice_get x k ≡ Some o → slice_get y k ≡ Some o → take 1 (drop k x) ≡ take 1 (drop k y)
+pub one_more : (k o : ℕ) (x y : Octets) → slice_get x k ≡ Some o → slice_get y k ≡ Some o
+    → take 1 (drop k x) ≡ take 1 (drop k y)
 one_more k o x y at at' = ap (take 1) (drop_get x k o at) ∙ sym (ap (take 1) (drop_get y k o at'))
 
 -- a pointer where no run goes on
-pub not_pointed : {b o : Octets} {s k : ℕ} → PointedOn b s k o → (192 ≤ get_or b (s + k) 0 → NoRunAt b s (s + k)) → ⊥
+pub not_pointed : {b o : Octets} {s k : ℕ} → PointedOn b s k o → (192 ≤ get_or b (s + k) 0
+    → NoRunAt b s (s + k)) → ⊥
 not_pointed {b} {o} {s} {k} on none =
     let p = on.pointer in
     let first = get_or_from_slice_get b (s + k) p.first 0 p.first_there in

@@ -68,7 +68,8 @@ pub record IsDraft (head : Octets → ℕ) (q : Option MessageQuestion) (items :
   pub written : d.octets
       ≡ replicate 12 0 ++ asked_octets q
       ++ (records_laid (asked_placed q) (12 + length (asked_octets q)) (records_of items)).written
-  pub holds : Holds (suffix_number head) (names_so_far q items) d.octets (known_places (suffix_number head) d)
+  pub holds : Holds (suffix_number head) (names_so_far q items) d.octets
+      (known_places (suffix_number head) d)
   pub questions : d.questions ≡ length (option_to_list q)
   pub answers : d.answers ≡ length (in_section answer items)
   pub authorities : d.authorities ≡ length (in_section authority items)

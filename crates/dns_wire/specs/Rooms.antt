@@ -18,7 +18,8 @@ module _ {N size : ℕ} where
 
   -- these are its earlier names, where suffixes have their numbers by this hash
   abbrev pub HasNames : Room N size → (Octets → ℕ) → List Placed → Type 0
-  HasNames r head ms = Holds (suffix_number head) ms r.octets.items (known_in (suffix_number head) r)
+  HasNames r head ms =
+      Holds (suffix_number head) ms r.octets.items (known_in (suffix_number head) r)
 
   -- octets and places came after those that were there
   abbrev pub HasGrown : Room N size → Room N size → Type 0

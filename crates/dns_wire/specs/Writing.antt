@@ -82,7 +82,8 @@ pub record Answers (number : Octets → ℕ) (ms : List Placed) (ks : List Kept)
       × IsTrue (is_name (l ∷ n))
 
 -- The message spells each suffix that is shared, and all places are in it.
-pub record Holds (number : Octets → ℕ) (ms : List Placed) (b : Octets) (ks : List Kept) : Type 0 where
+pub record Holds (number : Octets → ℕ) (ms : List Placed) (b : Octets) (ks : List Kept)
+    : Type 0 where
   pub spelled : (l : Octets) (n : DomainName) (p : ℕ) → shared_place ms (l ∷ n) ≡ Some p
       → (12 ≤ p) × (p < length b) × (e : ℕ) × RunAt b p p (l ∷ n) e
   pub before : (l : Octets) (n : DomainName) (p : ℕ) → place_of ms (l ∷ n) ≡ Some p → p < length b

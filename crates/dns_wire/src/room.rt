@@ -182,7 +182,8 @@ impl<const N: usize, const SIZE: usize> Room<N, SIZE> {
             (data_laid ms (length self.old.octets.items) (laid_parts rtype.0 rdata.now)) result }
         ensures elsewhere { (ms : List Placed) (b : Octets)
             → HasNames self.old (H.numbers hash.old) ms
-            → Holds (suffix_number (H.numbers hash.old)) ms b (known_in (suffix_number (H.numbers hash.old)) self.old)
+            → Holds (suffix_number (H.numbers hash.old)) ms b
+            (known_in (suffix_number (H.numbers hash.old)) self.old)
             → length b ≡ length self.old.octets.items
             → OnTrue result (StandsIn (suffix_number (H.numbers hash.old)) ms b
             (data_laid ms (length b) (laid_parts rtype.0 rdata.now))
@@ -490,10 +491,12 @@ fn shared_suffix<H: SuffixHash, const N: usize>(
     requires number { number ≡ suffix_number (H.numbers hash.old) name.now }
     requires asked { IsAsked message.now asked_end }
     requires unasked { NotAsked message.now asked_end name.now }
-    ensures front { (ms : List Placed) (n : DomainName) → Holds (suffix_number (H.numbers hash.old)) ms message.now
+    ensures front { (ms : List Placed) (n : DomainName)
+        → Holds (suffix_number (H.numbers hash.old)) ms message.now
         (asked_places (suffix_number (H.numbers hash.old)) message.now asked_end ++ places.now)
         → name.now ≡ wire n → IsTrue (is_name n) → result.front ≡ front_size ms n }
-    ensures place { (ms : List Placed) (n : DomainName) → Holds (suffix_number (H.numbers hash.old)) ms message.now
+    ensures place { (ms : List Placed) (n : DomainName)
+        → Holds (suffix_number (H.numbers hash.old)) ms message.now
         (asked_places (suffix_number (H.numbers hash.old)) message.now asked_end ++ places.now)
         → name.now ≡ wire n → IsTrue (is_name n) → result.place ≡ pointed_place ms n }
     ensures inside { result.front ≤ length name.now }

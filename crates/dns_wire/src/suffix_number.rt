@@ -8,8 +8,8 @@ use crate::places::SuffixHash;
 // 2^64 divided by the golden ratio.
 const SPREAD: u64 = 11_400_714_819_323_198_485;
 
-/// The number of a suffix: 22 bits of a hash of all its octets, its length, and the two highest bits
-/// of its number by the hash that a writer is lent.
+/// The number of a suffix: 22 bits of a hash of all its octets, its length, and the two highest
+/// bits of its number by the hash that a writer is lent.
 pub(crate) fn number_of<H: SuffixHash>(hash: &mut H, suffix: &[u8]) -> u32
     ensures value { result ≡ suffix_number (H.numbers hash.old) suffix.now }
     ensures same { H.numbers hash.new ≡ H.numbers hash.old }
