@@ -28,12 +28,17 @@ long-first-label A 192.0.2.1
 #[test]
 fn records_are_arranged_in_canonical_order(rt: HostRuntime) -> Result<(), Fail> {
     let origin = Name::read_text(b"example.", &Name::root())?;
+    let read = read_zone(rt.alloc(), &origin, &mut Tally::new(TURNED))?;
     let mut records = Vec::new(rt.alloc());
-    for listed in &read_zone(rt.alloc(), &origin, &mut Tally::new(TURNED))? {
+    for listed in &read {
         records.push(Entry::of(rt.alloc(), listed)?)?;
     }
-    arrange(rt.alloc(), &origin.lent(), records.as_mut_slice())?;
     assert_eq!(rt; records.len(), 13);
+    // The last one stands at the origin.
+    if let Some(soa) = read.last() {
+        let soa = Entry::of(rt.alloc(), soa)?;
+        arrange(rt.alloc(), &soa.owner(), records.as_mut_slice())?;
+    }
     for (one, next) in records.iter().zip(records.iter().skip(1)) {
         assert!(rt;
             record_order(one, next).is_lt(),
