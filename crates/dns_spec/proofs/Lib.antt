@@ -9,4 +9,5 @@ pub mod Messages
 pub mod Layouts
 pub mod Replies
 pub mod Streams
+pub mod CommandLines
 pub mod WorkedExamples

@@ -3,6 +3,7 @@ pub mod Zones
 pub mod ReadTexts
 pub mod AnswerRows
 pub mod CheckRows
+pub mod CommandRows
 pub mod DataRows
 pub mod FileRows
 pub mod LayoutRows
@@ -10,6 +11,7 @@ pub mod LimitRows
 pub mod LineRows
 pub mod LongRows
 pub mod MeaningRows
+pub mod MessageLineRows
 pub mod MessageRows
 pub mod NameRows
 pub mod ParenthesisRows

@@ -25,4 +25,6 @@ pub mod Answer
 pub mod Reply
 pub mod Stream
 pub mod Lines
+pub mod MessageLines
+pub mod CommandWords
 pub mod Laws

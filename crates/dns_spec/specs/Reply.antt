@@ -11,7 +11,8 @@ use Rattle.dns_spec.specs.Query.{reply_head, refusal_head, QueryRead, absent, re
 use Rattle.dns_spec.specs.Layout.{Item, layout, size, message_of, greatest}
 use Rattle.dns_spec.specs.Answer.{outcome, items, required_items, is_authoritative}
 
--- What is kept of a list of sets: the longest beginning whose size is at most the limit.
+-- What is kept of a list of sets: the longest beginning whose size is at most the limit, and no set
+-- where there is none, as where the limit has no room for the question.
 abbrev pub kept : (List Item → ℕ) → ℕ → List Item → List Item
 kept size_of limit sets =
     take (greatest (λ k. nat_le (size_of (take k sets)) limit) (length sets)) sets
@@ -24,7 +25,8 @@ fitting size_of limit front (i ∷ is) =
     let next = front ++ i ∷ [] in
     if nat_le (size_of next) limit then fitting size_of limit next is else front
 
--- RFC 1035 4.1.1, 4.2.1: a set that may not be left out is missing
+-- RFC 1035 4.1.1, RFC 2181 section 9: TC is set where a set that may not be left out is missing, and
+-- not for one that adds to the answer only.
 abbrev pub truncated : ZoneContents → MessageQuestion → List Item → Bool
 truncated z q sets = nat_lt (length sets) (length (required_items z q.qname q.qtype))
 
@@ -88,7 +90,7 @@ reply_of keep z (answered h q) = Some (answer_with z h q (keep q))
 unfoldable pub reply_with : (MessageQuestion → List Item) → ZoneContents → Octets → Option Reply
 reply_with keep z d = reply_of keep z (decide z d)
 
--- the longest beginning of all sets that fits the limit
+-- the longest beginning of all sets that fits the limit, where that is 271 octets or more
 abbrev pub keep_longest : ZoneContents → ℕ → MessageQuestion → List Item
 keep_longest z limit q = kept (size (Some q)) limit (items z q.qname q.qtype)
 
@@ -103,6 +105,7 @@ octets_by lay r = lay r.header r.question r.sets
 abbrev pub reply_message : Reply → DnsMessage
 reply_message r = message_of r.header r.question r.sets
 
--- The octets of the reply to a datagram, of at most so many octets, or none.
+-- The octets of the reply to a datagram, or none. They are at most so many, where the limit is 271
+-- or more: then each question has room.
 unfoldable pub octets_of : ZoneContents → Octets → ℕ → Option Octets
 octets_of z d limit = option_map (octets_by layout) (reply z d limit)

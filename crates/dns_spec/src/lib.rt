@@ -2,6 +2,7 @@
 #![tactic(auto)]
 
 pub mod checks;
+pub mod commands;
 pub mod data;
 pub mod layout;
 pub mod meaning;

@@ -108,6 +108,12 @@ pub fn first_512_octets_decide()
         → reply_with keep z d ≡ reply_with keep z (take 512 d) }
 {}
 
+/// So do its header, its question and its sets, whatever the limit: the message that it spells.
+pub fn first_512_octets_give_the_message()
+    ensures { (z : ZoneContents) (d : Octets) (limit : ℕ)
+        → reply z d limit ≡ reply z (take 512 d) limit }
+{}
+
 /// And so do its octets, whatever their limit.
 pub fn first_512_octets_give_the_octets()
     ensures { (z : ZoneContents) (d : Octets) (limit : ℕ)

@@ -65,7 +65,11 @@ pub first_octets_decide : (z : ZoneContents) (keep : MessageQuestion → List It
 unfolding reply_with decide
 first_octets_decide z keep d = ap (λ x. reply_of keep z (decide_query z x)) (first_octets_read d)
 
--- and so do its octets
+-- so do the message that it is, and its octets
+pub first_octets_reply : (z : ZoneContents) (d : Octets) (limit : ℕ) → reply z d limit ≡ reply z (take 512 d) limit
+unfolding reply
+first_octets_reply z d limit = first_octets_decide z (keep_longest z limit) d
+
 pub first_octets_answer : (z : ZoneContents) (d : Octets) (limit : ℕ) → octets_of z d limit ≡ octets_of z (take 512 d) limit
-unfolding octets_of reply
-first_octets_answer z d limit = ap (option_map (octets_by layout)) (first_octets_decide z (keep_longest z limit) d)
+unfolding octets_of
+first_octets_answer z d limit = ap (option_map (octets_by layout)) (first_octets_reply z d limit)
