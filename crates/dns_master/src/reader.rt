@@ -151,7 +151,7 @@ fn gather<G: Gathers>(entries: &mut Records<'_>, found: &mut G) -> Result<(), Re
     Ok(())
 }
 
-// Adds the record that was gone on to last.
+// Adds the current record.
 fn add_last<G: Gathers>(entries: &Records<'_>, found: &mut G) -> Result<(), ReadFault>
     ensures ok { OnOk result (G.gathered found.new
         ≡ G.gathered found.old ++ came true entries.now) }

@@ -62,7 +62,7 @@ impl<'a> Records<'a> {
         Ok(false)
     }
 
-    /// The record that was gone on to last; `None` before the first.
+    /// The current record; `None` before the first.
     pub fn record(&self) -> Option<&Record>
         ensures { option_copied result ≡ self.now.reader.last }
     {

@@ -7,7 +7,7 @@ use Rattle.std.specs.Borrow.{Bor}
 use Rattle.std.specs.Io.KnownBytes.{Appends}
 use Rattle.std.proofs.KnownBytes.{Appends-trans}
 use Rattle.dns_name.proofs.Results.{OnOk-map, OnErr-map}
-use Rattle.dns_name.specs.Counted.{Counted, Writes, failures_after, joined, AppendsBeginning}
+use Rattle.dns_name.specs.Counted.{Counted, Writes, Fills, failures_after, joined, AppendsBeginning, AppendsAllBut}
 
 -- the first n octets of a text, and then the first m of the rest, `&text[n..]`
 pub Appends-take-add : (a b c : Option (List ℕ)) (text : List ℕ) (n m : ℕ)
@@ -64,10 +64,8 @@ beginning_of_parts a b c parts i d h before begun =
     subst (AppendsBeginning a c) (sym (joined_at parts i d h)) (beginning_of_first a c _ _ (beginning_of_second a b c _ _ before begun))
 
 -- of the whole text, all but the rest was appended
-pub record Written (old new : Option (List ℕ)) (whole rest : List ℕ) : Type 0 where
-  pub done : List ℕ
-  pub appended : Appends old new done
-  pub whole_is : done ++ rest ≡ whole
+abbrev pub Written : Option (List ℕ) → Option (List ℕ) → List ℕ → List ℕ → Type 0
+Written = AppendsAllBut
 
 Appends-none : (old : Option (List ℕ)) → Appends old old []
 Appends-none None = tt
@@ -96,3 +94,71 @@ Written-begun old new newer whole rest piece others so e h =
 pub Written-all : (old new : Option (List ℕ)) (whole rest : List ℕ) → Written old new whole rest → rest ≡ [] → Appends old new whole
 Written-all old new whole rest so e =
     subst (Appends old new) (sym (append-nil so.done) ∙ ap (λ xs. so.done ++ xs) (sym e) ∙ so.whole_is) so.appended
+
+-- of what was held and is to come, the next piece is held too
+pub held_more : (old new : Option (List ℕ)) (whole held rest piece others : List ℕ) → AppendsAllBut old new whole (held ++ rest) → rest ≡ piece ++ others
+    → AppendsAllBut old new whole ((held ++ piece) ++ others)
+held_more old new whole held rest piece others so e =
+    subst (AppendsAllBut old new whole) (ap (λ xs. held ++ xs) e ∙ sym (append_assoc held piece others)) so
+
+-- what was held was put into a buffer, which holds less of it now
+pub held_less : (old new newer : Option (List ℕ)) (whole held less rest : List ℕ) → AppendsAllBut old new whole (held ++ rest) → AppendsAllBut new newer held less
+    → AppendsAllBut old newer whole (less ++ rest)
+held_less old new newer whole held less rest so then = record {
+  done = so.done ++ then.done;
+  appended = Appends-trans old new newer so.done then.done so.appended then.appended;
+  whole_is =
+      append_assoc so.done then.done (less ++ rest)
+      ∙ ap (λ xs. so.done ++ xs) (sym (append_assoc then.done less rest) ∙ ap (λ xs. xs ++ rest) then.whole_is)
+      ∙ so.whole_is;
+}
+
+-- a beginning of what was held was written
+pub held_begun : (old new newer : Option (List ℕ)) (whole held rest : List ℕ) → AppendsAllBut old new whole (held ++ rest) → AppendsBeginning new newer held
+    → AppendsBeginning old newer whole
+held_begun old new newer whole held rest so begun =
+    subst (AppendsBeginning old newer) so.whole_is
+    (beginning_of_second old new newer so.done (held ++ rest) so.appended (beginning_of_first new newer held rest begun))
+
+-- nothing was written yet
+pub all_held : (old : Option (List ℕ)) (whole : List ℕ) → AppendsAllBut old old whole whole
+all_held = Written-none
+
+-- more is to come after what was put, and it is held
+pub held_before : (old new : Option (List ℕ)) (whole held more : List ℕ) → AppendsAllBut old new whole held → AppendsAllBut old new (whole ++ more) (held ++ more)
+held_before old new whole held more so = record {
+  done = so.done;
+  appended = so.appended;
+  whole_is = sym (append_assoc so.done held more) ∙ ap (λ xs. xs ++ more) so.whole_is;
+}
+
+-- what a call puts may be said in other words
+pub Fills-same : {W A E : Type 0} {contents : W → Option (List ℕ)} {old new : Counted W} {r : Result A E} {xs ys held : List ℕ} → xs ≡ ys → Fills contents old new r xs held
+    → Fills contents old new r ys held
+Fills-same {contents = contents} {old} {new} {r} {held = held} e f = subst (λ (xs : List ℕ). Fills contents old new r xs held) e f
+
+-- a text was put, and then a call puts what was held of it
+pub Fills-after : {W A E : Type 0} {contents : W → Option (List ℕ)} {old mid new : Counted W} {r : Result A E} (whole held less : List ℕ)
+    → AppendsAllBut (contents old.device) (contents mid.device) whole held → mid.failures ≡ old.failures → Fills contents mid new r held less → Fills contents old new r whole less
+Fills-after {contents = contents} {old} {mid} {new} {r} whole held less so same f = record {
+  ok = OnOk-map r (λ then. after then) f.ok;
+  err = OnErr-map r (λ begun. begins begun) f.err;
+  counted = f.counted ∙ ap (λ count. failures_after count r) same;
+}
+  where
+    all : AppendsAllBut (contents old.device) (contents mid.device) whole (held ++ [])
+    all = subst (AppendsAllBut (contents old.device) (contents mid.device) whole) (sym (append-nil held)) so
+
+    after : AppendsAllBut (contents mid.device) (contents new.device) held less → AppendsAllBut (contents old.device) (contents new.device) whole less
+    after then =
+        subst (AppendsAllBut (contents old.device) (contents new.device) whole) (append-nil less)
+        (held_less (contents old.device) (contents mid.device) (contents new.device) whole held less [] all then)
+
+    begins : AppendsBeginning (contents mid.device) (contents new.device) held → AppendsBeginning (contents old.device) (contents new.device) whole
+    begins = held_begun (contents old.device) (contents mid.device) (contents new.device) whole held [] all
+
+-- a text was put, and then what was held of it is written
+pub Writes-held : {W A E : Type 0} {contents : W → Option (List ℕ)} {old mid new : Counted W} {r : Result A E} (whole held : List ℕ)
+    → AppendsAllBut (contents old.device) (contents mid.device) whole held → mid.failures ≡ old.failures → Writes contents mid new r held → Writes contents old new r whole
+Writes-held {contents = contents} {old} {mid} {new} {r} whole held so same w =
+    Writes-same so.whole_is (Writes-after so.done held so.appended same w)

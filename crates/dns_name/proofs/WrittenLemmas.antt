@@ -1,13 +1,13 @@
 -- What is written for an octet, a label and a name, as it is put together, and how long it can get.
-use Rattle.std.proofs.Common.{◌≡◌, ℕ, suc, ◌+◌, ◌-◌, ◌*◌, ◌<◌, ◌≤◌, inl, inr, true, false, [], ◌∷◌, ◌++◌, length, map, take, drop, slice_index_or, refl, sym, ◌∙◌, ap, ap₂, arith, length-append}
+use Rattle.std.proofs.Common.{◌≡◌, ◌≢◌, not, ℕ, ◌+◌, ◌-◌, ◌*◌, ◌<◌, ◌≤◌, inl, inr, true, false, [], ◌∷◌, ◌++◌, length, map, take, refl, sym, ◌∙◌, ap, ap₂, arith, length-append}
 use Rattle.std.proofs.lemmas.List.{append_assoc, append-nil, take_at}
-use Rattle.std.proofs.lemmas.Bool.{cases_Bool}
-use Rattle.std.proofs.Math.Seq.{drop-cons}
+use Rattle.std.proofs.lemmas.Bool.{cases_Bool, and_parts, false≢true}
 use Rattle.std.specs.Char.{is_ascii_graphic}
-use Rattle.std.specs.List.{join_with_byte}
+use Rattle.std.specs.List.{join_with_byte, list_all}
 use Rattle.dns_spec.specs.Names.{Octets, DomainName, wire}
 use Rattle.dns_spec.specs.NameText.{is_special, three_digits, octet_text, label_text, labels_text, name_text}
 use Rattle.dns_spec.specs.Report.{bare_name_text}
+use Rattle.dns_name.specs.WrittenForm.{is_plain}
 
 pub special_text : (x : ℕ) → is_special x ≡ true → octet_text x ≡ 92 ∷ x ∷ []
 unfolding octet_text
@@ -21,12 +21,20 @@ pub other_text : (x : ℕ) → is_special x ≡ false → is_ascii_graphic x ≡
 unfolding octet_text
 other_text x plain other = rw (plain, other) refl
 
-pub two_appended : (t : Octets) (a b : ℕ) → (t ++ a ∷ []) ++ b ∷ [] ≡ t ++ a ∷ b ∷ []
-two_appended t a b = append_assoc t (a ∷ []) (b ∷ [])
+-- an octet that is written as it is
+plain_text : (x : ℕ) → is_plain x ≡ true → octet_text x ≡ x ∷ []
+plain_text x e =
+    let both = and_parts (is_ascii_graphic x) (not (is_special x)) e in
+    elim (cases_Bool (is_special x)) [
+      | inl special ↦ absurd (false≢true (ap not (sym special) ∙ both.1))
+      | inr plain ↦ graphic_text x plain both.0
+    ]
 
-pub four_appended : (t : Octets) (a b c d : ℕ) → (((t ++ a ∷ []) ++ b ∷ []) ++ c ∷ []) ++ d ∷ [] ≡ t ++ a ∷ b ∷ c ∷ d ∷ []
-four_appended [] a b c d = refl
-four_appended (x ∷ t) a b c d = ap (λ u. x ∷ u) (four_appended t a b c d)
+pub plain_label : (l : Octets) → list_all is_plain l ≡ true → label_text l ≡ l
+plain_label [] e = refl
+plain_label (x ∷ l) e =
+    let both = and_parts (is_plain x) (list_all is_plain l) e in
+    ap₂ (λ a b. a ++ b) (plain_text x both.0) (plain_label l both.1)
 
 -- at most four octets are written for one
 pub length-octet_text : (x : ℕ) → length (octet_text x) ≤ 4
@@ -40,28 +48,15 @@ pub length-label_text : (l : Octets) → length (label_text l) ≤ 4 * length l
 length-label_text [] = omega arith
 length-label_text (x ∷ l) = omega (arith, length-octet_text x, length-label_text l, length-append (octet_text x) (label_text l))
 
--- the octets of a label from place i on are still to come
-pub record LabelSoFar (before l text : Octets) (i : ℕ) : Type 0 where
-  pub whole : text ++ label_text (drop i l) ≡ before ++ label_text l
-  pub room : length text + 4 * (length l - i) ≤ 1020
-
-pub LabelSoFar-next : (before l text new : Octets) (i d : ℕ) → LabelSoFar before l text i → i < length l → new ≡ text ++ octet_text (slice_index_or l i d) → LabelSoFar before l new (i + 1)
-LabelSoFar-next before l text new i d so_far h e =
-    let x : ℕ = slice_index_or l i d in
-    let rest : drop i l ≡ x ∷ drop (i + 1) l = drop-cons l i d h ∙ ap (λ k. x ∷ drop k l) {x = suc i} {y = i + 1} (omega arith) in
-    record {
-      whole = rw e (append_assoc text (octet_text x) (label_text (drop (i + 1) l)) ∙ ap (λ r. text ++ label_text r) (sym rest) ∙ so_far.whole);
-      room = omega (arith, so_far.room, ap length e, length-append text (octet_text x), length-octet_text x);
-    }
-
--- the labels `rest` are still to come
-pub record NameSoFar (n : DomainName) (text : Octets) (rest : DomainName) : Type 0 where
-  pub whole : text ++ labels_text rest ≡ labels_text n
-  pub room : length text + 4 * length (wire rest) ≤ 1020
+-- after `before` the labels `rest` are still to come
+pub record NameSoFar (before : Octets) (n : DomainName) (text : Octets) (rest : DomainName) : Type 0 where
+  pub whole : text ++ labels_text rest ≡ before ++ labels_text n
+  pub room : length text + 4 * length (wire rest) ≤ length before + 1020
 
 -- a label more, with its dot
-pub NameSoFar-next : (n : DomainName) (text new : Octets) (labels rest : DomainName) (l : Octets) → NameSoFar n text labels → labels ≡ l ∷ rest → new ≡ (text ++ label_text l) ++ 46 ∷ [] → NameSoFar n new rest
-NameSoFar-next n text new labels rest l so_far e f = record {
+pub NameSoFar-next : (before : Octets) (n : DomainName) (text new : Octets) (labels rest : DomainName) (l : Octets) → NameSoFar before n text labels → labels ≡ l ∷ rest
+    → new ≡ (text ++ label_text l) ++ 46 ∷ [] → NameSoFar before n new rest
+NameSoFar-next before n text new labels rest l so_far e f = record {
   whole = rw f
       (ap (λ t. t ++ labels_text rest) (append_assoc text (label_text l) (46 ∷ []))
       ∙ append_assoc text (label_text l ++ 46 ∷ []) (labels_text rest)
@@ -69,21 +64,21 @@ NameSoFar-next n text new labels rest l so_far e f = record {
   room = omega (arith, so_far.room, ap (λ ls. length (wire ls)) e, ap length f, length-append text (label_text l), length-append (text ++ label_text l) (46 ∷ []), length-label_text l, length-append l (wire rest));
 }
 
--- it leaves room for the dot
-pub NameSoFar-room : (n : DomainName) (text new : Octets) (labels rest : DomainName) (l : Octets) → NameSoFar n text labels → labels ≡ l ∷ rest → new ≡ text ++ label_text l → length new < 1020
-NameSoFar-room n text new labels rest l so_far e f =
-    omega (arith, so_far.room, ap (λ ls. length (wire ls)) e, ap length f, length-append text (label_text l), length-label_text l, length-append l (wire rest))
+-- it leaves room for the label and the dot
+pub NameSoFar-room : (before : Octets) (n : DomainName) (text : Octets) (labels rest : DomainName) (l : Octets) → NameSoFar before n text labels → labels ≡ l ∷ rest
+    → length text + 4 * length l + 4 ≤ length before + 1020
+NameSoFar-room before n text labels rest l so_far e =
+    omega (arith, so_far.room, ap (λ ls. length (wire ls)) e, length-append l (wire rest))
 
--- where all labels are there: the root has none, and is a dot
-pub root_text : (n : DomainName) (text : Octets) → NameSoFar n text [] → length text ≡ 0 → text ++ 46 ∷ [] ≡ name_text n
-root_text [] [] so_far e = refl
-root_text (l ∷ n) [] so_far e =
-    absurd (omega (arith, ap length so_far.whole, length-append (label_text l ++ 46 ∷ []) (labels_text n), length-append (label_text l) (46 ∷ [])))
-root_text n (x ∷ text) so_far e = absurd (omega arith)
+-- a name of one octet is the root
+pub root_text : (n : DomainName) → length (wire n) ≡ 1 → name_text n ≡ 46 ∷ []
+root_text [] e = refl
+root_text (l ∷ []) e = absurd (omega (arith, e, length-append l (0 ∷ [])))
+root_text (l ∷ k ∷ n) e = absurd (omega (arith, e, length-append l (wire (k ∷ n))))
 
-pub other_name_text : (n : DomainName) (text : Octets) → NameSoFar n text [] → 0 < length text → text ≡ name_text n
-other_name_text [] text so_far h = absurd (omega (arith, ap length so_far.whole, length-append text []))
-other_name_text (l ∷ n) text so_far h = sym (append-nil text) ∙ so_far.whole
+pub other_name_text : (n : DomainName) → length (wire n) ≢ 1 → name_text n ≡ labels_text n
+other_name_text [] e = absurd (e refl)
+other_name_text (l ∷ n) e = refl
 
 -- the dot after the last label, left off
 last_dot : (l : Octets) (n : DomainName) → labels_text (l ∷ n) ≡ join_with_byte 46 (map label_text (l ∷ n)) ++ 46 ∷ []

@@ -1,6 +1,6 @@
 -- What a reader learns here: a device with the number of its failed calls, and what a call and a
 -- whole text do to it.
-use Rattle.std.specs.Prelude.{◌≡◌, ℕ, ◌+◌, ◌≤◌, List, length, take, Result, OnOk, OnErr, is_ok, if◌then◌else◌, Option}
+use Rattle.std.specs.Prelude.{◌≡◌, ℕ, ◌+◌, ◌≤◌, List, ◌++◌, length, take, Result, OnOk, OnErr, is_ok, if◌then◌else◌, Option}
 use Rattle.std.specs.Borrow.{Bor}
 use Rattle.std.specs.List.{flat_map}
 use Rattle.std.specs.Io.KnownBytes.{Appends}
@@ -29,4 +29,19 @@ pub record Writes {W A E : Type 0} (contents : W → Option (List ℕ)) (old new
     (result : Result A E) (text : List ℕ) : Type 0 where
   pub ok : OnOk result (Appends (contents old.device) (contents new.device) text)
   pub err : OnErr result (AppendsBeginning (contents old.device) (contents new.device) text)
+  pub counted : new.failures ≡ failures_after old.failures result
+
+-- of a whole text all but its end, which is still held, was appended to known bytes
+pub record AppendsAllBut (old new : Option (List ℕ)) (whole held : List ℕ) : Type 0 where
+  pub done : List ℕ
+  pub appended : Appends old new done
+  pub whole_is : done ++ held ≡ whole
+
+-- What a call does that puts a text into a buffer, which is written where it is full: of what was
+-- held and the text, the whole, it has written all but what is held now; or it answers an error
+-- with a beginning of the whole written and one more failure counted.
+pub record Fills {W A E : Type 0} (contents : W → Option (List ℕ)) (old new : Counted W)
+    (result : Result A E) (whole held : List ℕ) : Type 0 where
+  pub ok : OnOk result (AppendsAllBut (contents old.device) (contents new.device) whole held)
+  pub err : OnErr result (AppendsBeginning (contents old.device) (contents new.device) whole)
   pub counted : new.failures ≡ failures_after old.failures result

@@ -2,3 +2,4 @@ pub mod Counted
 pub mod NameFault
 pub mod TextForm
 pub mod WireForm
+pub mod WrittenForm

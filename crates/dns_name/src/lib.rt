@@ -2,6 +2,7 @@
 //! that count their failures.
 #![tactic(auto)]
 
+mod buffer;
 mod label;
 mod lent;
 mod name;
@@ -10,6 +11,7 @@ mod tally;
 mod text;
 mod written;
 
+pub use buffer::TextBuffer;
 pub use label::Label;
 pub use lent::{Labels, NameRef, first_label};
 pub use name::Name;

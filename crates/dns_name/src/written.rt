@@ -1,18 +1,16 @@
 //! Names as they are written in zone files (RFC 1035 5.1).
 ghost use Rattle.std.specs.Prelude.{◌≡◌, ◌+◌, ◌-◌, ◌*◌, ◌^◌, ◌<◌, ◌≤◌, ◌++◌, length, OnOk, OnErr};
-ghost use Rattle.arrayvec.specs.ArrayVec.{array_vec_len};
-ghost use Rattle.dns_spec.specs.NameText.{is_special, octet_text, label_text, name_text};
+ghost use Rattle.std.specs.List.{list_all};
+ghost use Rattle.dns_spec.specs.NameText.{is_special, octet_text, label_text, labels_text, name_text};
 ghost use Rattle.dns_spec.specs.Report.{bare_name_text};
 ghost use Rattle.dns_name.specs.Counted.{Writes};
+ghost use Rattle.dns_name.specs.WrittenForm.{is_plain};
 
+use crate::buffer::TextBuffer;
 use crate::lent::NameRef;
 use crate::name::Name;
 use crate::tally::{SinkFailed, Tally};
-use arrayvec::ArrayVec;
 use std::io::Write;
-
-// A name has at most 255 octets on the wire, each of which is written as at most four.
-const MAX_TEXT: usize = 1020;
 
 impl Name {
     /// Writes the name as it stands in a zone file (RFC 1035 5.1): its labels, each with a dot
@@ -39,7 +37,7 @@ impl Name {
         requires { sink.old.failures < 2 ^ 64 - 1 }
         ensures { Writes W.contents sink.old sink.new result (bare_name_text self.now) }
     {
-        sink.write_all(self.lent().bare_text().as_slice())
+        self.lent().bare_text().finish(sink)
     }
 }
 
@@ -51,60 +49,92 @@ impl NameRef<'_> {
         requires { sink.old.failures < 2 ^ 64 - 1 }
         ensures { Writes W.contents sink.old sink.new result (name_text self.now) }
     {
-        sink.write_all(self.text().as_slice())
+        let mut text = TextBuffer::new();
+        self.append_text(&mut text);
+        text.finish(sink)
+    }
+
+    /// Appends the name as `write_text` writes it: at most 1,020 octets.
+    pub fn append_text(&self, text: &mut TextBuffer)
+        requires { length text.old + 1020 ≤ 4096 }
+        ensures text { text.new ≡ text.old ++ name_text self.now }
+        ensures upto { length text.new ≤ length text.old + 1020 }
+    {
+        if self.octets().len() == 1 {
+            text.push(b'.');
+            return;
+        }
+        self.append_labels(text);
     }
 
     // The name as it is written, but for the dot after its last label.
-    fn bare_text(&self) -> ArrayVec<u8, MAX_TEXT>
-        ensures { result.items ≡ bare_name_text self.now }
+    fn bare_text(&self) -> TextBuffer
+        ensures { result ≡ bare_name_text self.now }
     {
-        let mut text = self.text();
+        let mut bare = TextBuffer::new();
+        self.append_text(&mut bare);
         if self.label_count() > 0 {
-            text.pop();
+            bare.pop();
         }
-        text
+        bare
     }
 
-    // The name as it is written.
-    fn text(&self) -> ArrayVec<u8, MAX_TEXT>
-        ensures { result.items ≡ name_text self.now }
+    // Appends the labels, each with a dot after it.
+    fn append_labels(&self, text: &mut TextBuffer)
+        requires { length text.old + 1020 ≤ 4096 }
+        ensures text { text.new ≡ text.old ++ labels_text self.now }
+        ensures upto { length text.new ≤ length text.old + 1020 }
     {
-        let mut text = ArrayVec::new();
         'labels: for label in self.labels() {
-            append_label(&mut text, label.octets());
+            append_label(text, label.octets());
             text.push(b'.');
         }
-        if text.is_empty() {
-            text.push(b'.');
-        }
-        text
     }
 }
 
 // Appends what is written for a label, without its dot.
-fn append_label(text: &mut ArrayVec<u8, MAX_TEXT>, label: &[u8])
-    requires { array_vec_len text.old + 4 * length label.now ≤ MAX_TEXT }
-    ensures { text.new.items ≡ text.old.items ++ label_text label.now }
+fn append_label(text: &mut TextBuffer, label: &[u8])
+    requires { length text.old + 4 * length label.now ≤ 4096 }
+    ensures { text.new ≡ text.old ++ label_text label.now }
 {
+    if are_plain(label) {
+        text.append(label);
+        return;
+    }
     'octets: for octet in label {
         append_octet(text, *octet);
     }
 }
 
-fn append_octet(text: &mut ArrayVec<u8, MAX_TEXT>, octet: u8)
-    requires { array_vec_len text.old + 4 ≤ MAX_TEXT }
-    ensures { text.new.items ≡ text.old.items ++ octet_text octet }
+// Whether each octet is written as it is.
+fn are_plain(octets: &[u8]) -> bool
+    ensures { result ≡ list_all is_plain octets.now }
+{
+    octets.iter().all(|octet| is_plain(*octet))
+}
+
+fn is_plain(octet: u8) -> bool
+    ensures { result ≡ is_plain octet }
+{
+    octet.is_ascii_graphic() && !is_special(octet)
+}
+
+fn append_octet(text: &mut TextBuffer, octet: u8)
+    requires { length text.old + 4 ≤ 4096 }
+    ensures text { text.new ≡ text.old ++ octet_text octet }
+    ensures upto { length text.new ≤ length text.old + 4 }
 {
     if is_special(octet) {
-        text.push(b'\\');
-        text.push(octet);
+        text.append(&[b'\\', octet]);
     } else if octet.is_ascii_graphic() {
         text.push(octet);
     } else {
-        text.push(b'\\');
-        text.push(b'0' + octet / 100);
-        text.push(b'0' + octet / 10 % 10);
-        text.push(b'0' + octet % 10);
+        text.append(&[
+            b'\\',
+            b'0' + octet / 100,
+            b'0' + octet / 10 % 10,
+            b'0' + octet % 10,
+        ]);
     }
 }
 

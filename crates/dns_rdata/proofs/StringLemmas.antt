@@ -1,11 +1,14 @@
 -- Reading a string from left to right finds what it spells, and nothing else.
-use Rattle.std.proofs.Common.{◌≡◌, ◌↔◌, ℕ, ◌<◌, ◌≤◌, false, inl, inr, ◌==◌, ◌||◌, if◌then◌else◌, [], ◌∷◌, ◌++◌, length, refl, sym, ◌∙◌, ap, subst, arith, length-append}
+use Rattle.std.proofs.Common.{◌≡◌, ◌↔◌, ℕ, ◌<◌, ◌≤◌, true, false, ◌&&◌, not, ap₂, inl, inr, ◌==◌, ◌||◌, if◌then◌else◌, [], ◌∷◌, ◌++◌, length, refl, sym, ◌∙◌, ap, subst, arith, length-append}
 use Rattle.std.specs.Prelude.{Some, None}
 use Rattle.std.proofs.lemmas.List.{append_assoc, append-nil}
-use Rattle.std.proofs.lemmas.Bool.{cases_Bool, eqb-true, false≢true}
-use Rattle.std.specs.List.{list_any}
+use Rattle.std.proofs.lemmas.Bool.{cases_Bool, and_parts, not-true, eqb-true, false≢true}
+use Rattle.std.specs.List.{list_any, list_all, flat_map}
 use Rattle.dns_spec.specs.Names.{Octets}
 use Rattle.dns_spec.specs.DataText.{SpellsString, SpellsStringOctet}
+use Rattle.dns_spec.specs.NameText.{is_printable}
+use Rattle.dns_spec.specs.WrittenText.{string_octet_text}
+use Rattle.dns_rdata.specs.WrittenForm.{is_plain}
 use Rattle.dns_name.specs.TextForm.{octet_at, escaped_at}
 use Rattle.dns_name.proofs.TextLemmas.{octet_at-OctetThen, OctetThen-octet_at}
 
@@ -146,3 +149,16 @@ plain_read text read (a ∷ rest) so_far none = elim (cases_Bool (a == 92)) [
 -- a text without a backslash spells its own octets alone
 pub plain_string : (text : Octets) → list_any (λ (o : ℕ). o == 92) text ≡ false → (s : Octets) → SpellsString text s ↔ (s ≡ text)
 plain_string text none = StringSoFar-iff text text [] (plain_read text [] text (StringSoFar-none text) none) refl
+
+-- an octet, and octets, that are written as they are
+plain_octet : (o : ℕ) → is_plain o ≡ true → string_octet_text o ≡ o ∷ []
+plain_octet o e =
+    let printable = and_parts (is_printable o) (not (o == 34) && not (o == 92)) e in
+    let others = and_parts (not (o == 34)) (not (o == 92)) printable.1 in
+    rw (not-true (o == 34) others.0, not-true (o == 92) others.1, printable.0) refl
+
+pub plain_text : (s : Octets) → list_all is_plain s ≡ true → flat_map string_octet_text s ≡ s
+plain_text [] e = refl
+plain_text (o ∷ s) e =
+    let both = and_parts (is_plain o) (list_all is_plain s) e in
+    ap₂ (λ a b. a ++ b) (plain_octet o both.0) (plain_text s both.1)

@@ -1,8 +1,9 @@
 -- What a reader learns here: how the words of data are written from left to right, by the cases of
 -- the code.
-use Rattle.std.specs.Prelude.{Bool, List, [], ◌∷◌, ◌++◌, length, nat_lt}
+use Rattle.std.specs.Prelude.{ℕ, Bool, ◌&&◌, ◌==◌, not, List, [], ◌∷◌, ◌++◌, length, nat_lt}
 use Rattle.std.specs.List.{list_all}
 use Rattle.dns_spec.specs.Names.{Octets}
+use Rattle.dns_spec.specs.NameText.{is_printable}
 use Rattle.dns_spec.specs.Data.{Piece}
 use Rattle.dns_spec.specs.DataText.{Word, WordForm, forms_in}
 use Rattle.dns_spec.specs.WrittenText.{word_text, word_front, form_words, string_count}
@@ -38,3 +39,7 @@ has_words p = nat_lt 0 (length (forms_in 1 p))
 
 abbrev pub have_words : List Piece → Bool
 have_words = list_all has_words
+
+-- an octet of a string that is written as it is
+abbrev pub is_plain : ℕ → Bool
+is_plain o = is_printable o && (not (o == 34) && not (o == 92))

@@ -105,7 +105,7 @@ impl Rdata {
         Parts::new(rtype, octets)
     }
 
-    /// The first name in valid data: of NS the server, of CNAME the alias's own name, of MX the
+    /// The first name in valid data: of NS the server, of CNAME the target of the alias, of MX the
     /// exchange (RFC 1035 3.3.1, 3.3.9, 3.3.11).
     pub fn target(rtype: RType, octets: &[u8]) -> Option<Name>
         requires { Valid rtype.0 octets.now }

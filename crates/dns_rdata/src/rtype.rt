@@ -1,12 +1,12 @@
 //! Types of records.
-ghost use Rattle.std.specs.Prelude.{◌≡◌, ◌≢◌, ℕ, ◌-◌, ◌^◌, ◌<◌, MatchOption};
+ghost use Rattle.std.specs.Prelude.{◌≡◌, ◌≢◌, ℕ, ◌-◌, ◌^◌, ◌<◌, MatchOption, ◌+◌, ◌≤◌, ◌++◌, length};
 ghost use Rattle.dns_spec.specs.Data.{compresses};
 ghost use Rattle.dns_spec.specs.TypeText.{NamesType, text_in_lower_case, numbered_type, type_text};
 ghost use Rattle.dns_name.specs.Counted.{Writes};
 
 use crate::number::read_number;
 use crate::table::{row_of_mnemonic, row_of_type, same_text};
-use dns_name::{SinkFailed, Tally};
+use dns_name::{SinkFailed, Tally, TextBuffer};
 use itoa::Buffer;
 use std::io::Write;
 
@@ -70,9 +70,20 @@ impl RType {
         requires { sink.old.failures < 2 ^ 64 - 1 }
         ensures { Writes W.contents sink.old sink.new result (type_text self.0) }
     {
+        let mut text = TextBuffer::new();
+        self.append_text(&mut text);
+        text.finish(sink)
+    }
+
+    /// Appends the type as `write_text` writes it: at most 9 octets.
+    pub fn append_text(self, text: &mut TextBuffer)
+        requires { length text.old + 9 ≤ 4096 }
+        ensures text { text.new ≡ text.old ++ type_text self.0 }
+        ensures upto { length text.new ≤ length text.old + 9 }
+    {
         match row_of_type(self) {
-            Some(row) => sink.write_all(row.mnemonic),
-            None => write_numbered(self.0, sink),
+            Some(row) => text.append(row.mnemonic),
+            None => append_numbered(self.0, text),
         }
     }
 }
@@ -91,11 +102,12 @@ fn read_numbered(word: &[u8]) -> Option<RType>
     Some(RType(number as u16))
 }
 
-fn write_numbered<W: Write>(number: u16, sink: &mut Tally<W>) -> Result<(), SinkFailed>
-    requires { sink.old.failures < 2 ^ 64 - 1 }
-    ensures { Writes W.contents sink.old sink.new result (numbered_type number) }
+fn append_numbered(number: u16, text: &mut TextBuffer)
+    requires { length text.old + 9 ≤ 4096 }
+    ensures text { text.new ≡ text.old ++ numbered_type number }
+    ensures upto { length text.new ≤ length text.old + 9 }
 {
-    sink.write_all(b"TYPE")?;
     let mut digits = Buffer::new();
-    sink.write_all(digits.format(number).as_bytes())
+    text.append(b"TYPE");
+    text.append(digits.format(number).as_bytes());
 }

@@ -1,11 +1,14 @@
 //! Character-strings in the text of zone files.
-ghost use Rattle.std.specs.Prelude.{◌≡◌, ◌↔◌, ◌≤◌, ◌+◌, ◌++◌, length, IsNone, IfSome};
+ghost use Rattle.std.specs.Prelude.{◌≡◌, ◌↔◌, ◌≤◌, ◌+◌, ◌*◌, ◌++◌, length, IsNone, IfSome};
+ghost use Rattle.std.specs.List.{list_all, flat_map};
+ghost use Rattle.dns_spec.specs.NameText.{is_printable};
 ghost use Rattle.dns_spec.specs.Names.{Octets};
 ghost use Rattle.dns_spec.specs.DataText.{SpellsString};
 ghost use Rattle.dns_spec.specs.WrittenText.{string_octet_text, string_text};
+ghost use Rattle.dns_rdata.specs.WrittenForm.{is_plain};
 
 use arrayvec::ArrayVec;
-use dns_name::first_octet;
+use dns_name::{TextBuffer, first_octet};
 
 /// A character-string has at most 255 octets (RFC 1035 3.3).
 pub(crate) const MOST_STRING_OCTETS: usize = 255;
@@ -41,38 +44,66 @@ pub(crate) fn read_string(word: &[u8]) -> Option<ArrayVec<u8, MOST_STRING_OCTETS
     Some(octets)
 }
 
-/// The text of a character-string in quotation marks: `"` and `\` with a backslash before, octets
-/// that are not printable as `\DDD` (RFC 1035 5.1).
-pub(crate) fn text_of_string(string: &[u8]) -> ArrayVec<u8, MOST_STRING_TEXT>
-    requires { length string.now ≤ 255 }
-    ensures { result.items ≡ string_text string.now }
+/// Appends the text of a character-string in quotation marks: `"` and `\` with a backslash before,
+/// octets that are not printable as `\DDD` (RFC 1035 5.1).
+pub(crate) fn append_string_text(string: &[u8], text: &mut TextBuffer)
+    requires short { length string.now ≤ 255 }
+    requires room { length text.old + 1022 ≤ 4096 }
+    ensures { text.new ≡ text.old ++ string_text string.now }
 {
-    let mut text = ArrayVec::new();
     text.push(b'"');
-    'octets: for octet in string {
-        push_octet(&mut text, *octet);
-    }
+    append_octets(string, text);
     text.push(b'"');
-    text
 }
 
-// Adds the text of an octet of a string.
-fn push_octet(text: &mut ArrayVec<u8, MOST_STRING_TEXT>, octet: u8)
-    requires { length text.old.items + 4 ≤ 1022 }
-    ensures text { text.new.items ≡ text.old.items ++ string_octet_text octet }
-    ensures short { length text.new.items ≤ length text.old.items + 4 }
+fn append_octets(string: &[u8], text: &mut TextBuffer)
+    requires { length text.old + 4 * length string.now ≤ 4096 }
+    ensures text { text.new ≡ text.old ++ flat_map string_octet_text string.now }
+    ensures upto { length text.new ≤ length text.old + 4 * length string.now }
+{
+    if are_plain(string) {
+        text.append(string);
+        return;
+    }
+    'octets: for octet in string {
+        append_octet(text, *octet);
+    }
+}
+
+fn append_octet(text: &mut TextBuffer, octet: u8)
+    requires { length text.old + 4 ≤ 4096 }
+    ensures text { text.new ≡ text.old ++ string_octet_text octet }
+    ensures upto { length text.new ≤ length text.old + 4 }
 {
     if octet == b'"' || octet == b'\\' {
-        text.push(b'\\');
+        text.append(&[b'\\', octet]);
+    } else if is_printable(octet) {
         text.push(octet);
-        return;
+    } else {
+        text.append(&[
+            b'\\',
+            b'0' + octet / 100,
+            b'0' + octet / 10 % 10,
+            b'0' + octet % 10,
+        ]);
     }
-    if octet >= b' ' && octet <= b'~' {
-        text.push(octet);
-        return;
-    }
-    text.push(b'\\');
-    text.push(b'0' + octet / 100);
-    text.push(b'0' + octet / 10 % 10);
-    text.push(b'0' + octet % 10);
+}
+
+// Whether each octet is written as it is.
+fn are_plain(octets: &[u8]) -> bool
+    ensures { result ≡ list_all is_plain octets.now }
+{
+    octets.iter().all(|octet| is_plain(*octet))
+}
+
+fn is_plain(octet: u8) -> bool
+    ensures { result ≡ is_plain octet }
+{
+    is_printable(octet) && octet != b'"' && octet != b'\\'
+}
+
+fn is_printable(octet: u8) -> bool
+    ensures { result ≡ is_printable octet }
+{
+    octet >= b' ' && octet <= b'~'
 }

@@ -1,5 +1,5 @@
 -- A record's line goes out in four parts, and the records of a list one after another.
-use Rattle.std.proofs.Common.{◌≡◌, ℕ, suc, ◌+◌, ◌<◌, Bool, true, false, cond, List, ◌∷◌, ◌++◌, length, drop, get_or, sym, ap, ◌∙◌, filter, flat_map, append_assoc, codes, decimal, add-one}
+use Rattle.std.proofs.Common.{◌≡◌, ℕ, suc, ◌+◌, ◌<◌, Bool, true, false, cond, Option, List, ◌∷◌, ◌++◌, length, drop, get_or, sym, subst, ap, ap₂, ◌∙◌, filter, flat_map, append_assoc, codes, decimal, add-one}
 use Rattle.std.proofs.Math.Seq.{drop-cons}
 use Rattle.dns_spec.specs.Names.{Octets}
 use Rattle.dns_spec.specs.NameText.{name_text}
@@ -7,21 +7,24 @@ use Rattle.dns_spec.specs.TypeText.{type_text}
 use Rattle.dns_spec.specs.WrittenText.{data_text}
 use Rattle.dns_spec.specs.Records.{ResourceRecord, ZoneContents}
 use Rattle.dns_spec.specs.ZonePrinted.{record_line, soa_first, zone_text}
+use Rattle.dns_name.specs.Counted.{AppendsAllBut}
+use Rattle.dns_name.proofs.WritesLemmas.{held_before}
 use Rattle.dns_zone.specs.ZoneForm.{AreOrdered}
 
--- the second part of a line, and the last
-abbrev pub ttl_part : ℕ → Octets
-ttl_part ttl = codes " " ++ decimal ttl ++ codes " IN "
+-- what stands in a line up to the data, after a text
+abbrev pub after_front : Octets → ResourceRecord → Octets
+after_front t r = ((((t ++ name_text r.owner) ++ codes " ") ++ decimal r.ttl) ++ codes " IN ") ++ type_text r.rtype ++ codes " "
 
-abbrev pub data_part : ℕ → Octets → Octets
-data_part t d = codes " " ++ data_text t d ++ codes "\n"
+regroup : (t a b c d e f g h : Octets) → t ++ (a ++ b ++ c ++ d ++ e ++ f ++ g ++ h) ≡ ((((((t ++ a) ++ b) ++ c) ++ d) ++ e ++ f) ++ g) ++ h
+regroup t a b c d e f g h = simp append_assoc
 
-regroup : (a b c d e f g h : Octets) → a ++ b ++ c ++ d ++ e ++ f ++ g ++ h ≡ a ++ ((b ++ c ++ d) ++ (e ++ (f ++ g ++ h)))
-regroup a b c d e f g h = simp append_assoc
-
--- the line of a record, part by part
-pub line_parts : (r : ResourceRecord) → record_line r ≡ name_text r.owner ++ (ttl_part r.ttl ++ (type_text r.rtype ++ data_part r.rtype r.rdata))
-line_parts r = regroup (name_text r.owner) (codes " ") (decimal r.ttl) (codes " IN ") (type_text r.rtype) (codes " ") (data_text r.rtype r.rdata) (codes "\n")
+-- the line of a record is to come after what is held, of which its front is put
+pub line_held : (old new : Option (List ℕ)) (whole held front d : Octets) (r : ResourceRecord) → AppendsAllBut old new whole held → front ≡ after_front held r
+    → d ≡ data_text r.rtype r.rdata → AppendsAllBut old new (whole ++ record_line r) ((front ++ d) ++ codes "\n")
+line_held old new whole held front d r so e f =
+    let line = regroup held (name_text r.owner) (codes " ") (decimal r.ttl) (codes " IN ") (type_text r.rtype) (codes " ") (data_text r.rtype r.rdata) (codes "\n") in
+    subst (AppendsAllBut old new (whole ++ record_line r)) (line ∙ ap₂ (λ t u. (t ++ u) ++ codes "\n") (sym e) (sym f))
+    (held_before old new whole held (record_line r) so)
 
 -- a record of a list that is chosen, or is not
 module _ (p : ResourceRecord → Bool) (rs : List ResourceRecord) (r : ResourceRecord) (i : ℕ) (h : i < length rs) (e : r ≡ get_or rs i r) where

@@ -1,21 +1,25 @@
 //! The canonical text of a zone (RFC 1035 5.1).
-ghost use Rattle.std.specs.Prelude.{◌≡◌, ◌-◌, ◌^◌, ◌<◌, ◌≤◌, ◌++◌, All, length, codes, decimal};
+ghost use Rattle.std.specs.Prelude.{◌≡◌, ◌+◌, ◌-◌, ◌^◌, ◌<◌, ◌≤◌, ◌++◌, All, length, codes, decimal};
 ghost use Rattle.std.specs.List.Sorted.{IsPermutation};
 ghost use Rattle.dns_spec.specs.Names.{DomainName};
 ghost use Rattle.dns_spec.specs.ZoneText.{most_octets};
 ghost use Rattle.dns_spec.specs.Meaning.{Means, records};
 ghost use Rattle.std.specs.List.{filter, flat_map};
-ghost use Rattle.dns_spec.specs.WrittenText.{data_text};
+ghost use Rattle.dns_spec.specs.NameText.{name_text};
+ghost use Rattle.dns_spec.specs.TypeText.{type_text};
 ghost use Rattle.dns_spec.specs.ZonePrinted.{HasZoneType, record_line, soa_first, printed_records, zone_text};
-ghost use Rattle.dns_name.specs.Counted.{Writes};
+ghost use Rattle.dns_name.specs.Counted.{Writes, Fills};
 ghost use Rattle.dns_zone.specs.ZoneForm.{is_chosen};
 
 use crate::entry::Entry;
 use crate::zone::Zone;
-use dns_name::{SinkFailed, Tally};
+use dns_name::{SinkFailed, Tally, TextBuffer};
 use dns_rdata::{RType, Rdata};
 use itoa::Buffer;
 use std::io::Write;
+
+// The text of an owner, a TTL and a type, with what stands between: 1,020, 10, 9 and 6 octets.
+const FRONT_ROOM: usize = 1045;
 
 /// A zone could not be printed, since the sink failed (`P1`). The failure was counted.
 #[derive(Clone, Copy, Debug, PartialEq, Eq)]
@@ -46,69 +50,84 @@ pub fn print<W: Write>(zone: &Zone, sink: &mut Tally<W>) -> Result<(), PrintFaul
     Ok(())
 }
 
-// The SOA first, then the others in order.
 fn write_records<W: Write>(records: &[Entry], sink: &mut Tally<W>) -> Result<(), SinkFailed>
     requires { sink.old.failures < 2 ^ 64 - 1 }
     ensures { Writes W.contents sink.old sink.new result
         (flat_map record_line (soa_first records.now)) }
 {
-    write_chosen(true, records, sink)?;
-    write_chosen(false, records, sink)
+    let mut text = TextBuffer::new();
+    put_records(records, &mut text, sink)?;
+    text.finish(sink)
 }
 
-// Those of the records that are an SOA, or those that are none, in order.
-fn write_chosen<W: Write>(
-    is_soa: bool,
+// The SOA first, then the others in order.
+fn put_records<W: Write>(
     records: &[Entry],
+    text: &mut TextBuffer,
     sink: &mut Tally<W>,
 ) -> Result<(), SinkFailed>
     requires { sink.old.failures < 2 ^ 64 - 1 }
-    ensures { Writes W.contents sink.old sink.new result
-        (flat_map record_line (filter (is_chosen is_soa) records.now)) }
+    ensures { Fills W.contents sink.old sink.new result
+        (text.old ++ flat_map record_line (soa_first records.now)) text.new }
 {
-    'records: for listed in records {
-        if is_chosen(is_soa, listed) {
-            write_record(listed, sink)?;
+    put_chosen(true, records, text, sink)?;
+    put_chosen(false, records, text, sink)
+}
+
+// Those of the records that are an SOA, or those that are none, in order.
+fn put_chosen<W: Write>(
+    is_soa: bool,
+    records: &[Entry],
+    text: &mut TextBuffer,
+    sink: &mut Tally<W>,
+) -> Result<(), SinkFailed>
+    requires { sink.old.failures < 2 ^ 64 - 1 }
+    ensures { Fills W.contents sink.old sink.new result
+        (text.old ++ flat_map record_line (filter (is_chosen is_soa) records.now)) text.new }
+{
+    'records: for record in records {
+        if is_chosen(is_soa, record) {
+            put_record(record, text, sink)?;
         }
     }
     Ok(())
 }
 
-fn is_chosen(is_soa: bool, listed: &Entry) -> bool
-    ensures { result ≡ is_chosen is_soa listed.now }
+fn is_chosen(is_soa: bool, record: &Entry) -> bool
+    ensures { result ≡ is_chosen is_soa record.now }
 {
-    (listed.rtype == RType::SOA) == is_soa
+    (record.rtype == RType::SOA) == is_soa
 }
 
 // A record on a line of its own.
-fn write_record<W: Write>(listed: &Entry, sink: &mut Tally<W>) -> Result<(), SinkFailed>
+fn put_record<W: Write>(
+    record: &Entry,
+    text: &mut TextBuffer,
+    sink: &mut Tally<W>,
+) -> Result<(), SinkFailed>
     requires { sink.old.failures < 2 ^ 64 - 1 }
-    ensures { Writes W.contents sink.old sink.new result (record_line listed.now) }
+    ensures { Fills W.contents sink.old sink.new result
+        (text.old ++ record_line record.now) text.new }
 {
-    listed.owner().write_text(sink)?;
-    write_ttl(listed.ttl, sink)?;
-    listed.rtype.write_text(sink)?;
-    write_data(listed, sink)
+    text.make_room(FRONT_ROOM, sink)?;
+    append_front(record, text);
+    Rdata::put_text(record.rtype, record.rdata(), text, sink)?;
+    text.make_room(1, sink)?;
+    text.push(b'\n');
+    Ok(())
 }
 
-// The TTL and the class, with spaces around them.
-fn write_ttl<W: Write>(ttl: u32, sink: &mut Tally<W>) -> Result<(), SinkFailed>
-    requires { sink.old.failures < 2 ^ 64 - 1 }
-    ensures { Writes W.contents sink.old sink.new result
-        (codes " " ++ decimal ttl ++ codes " IN ") }
+// A record up to its data: owner, TTL, class and type, with a space after each.
+fn append_front(record: &Entry, text: &mut TextBuffer)
+    requires { length text.old + 1045 ≤ 4096 }
+    ensures { text.new ≡ ((((text.old ++ name_text record.now.owner) ++ codes " ")
+        ++ decimal record.now.ttl) ++ codes " IN ") ++ type_text record.now.rtype ++ codes " " }
 {
     let mut digits = Buffer::new();
-    let text = digits.format(ttl).as_bytes();
-    sink.write_parts(&[b" ", text, b" IN "])
-}
-
-// The data after a space, and the end of the line.
-fn write_data<W: Write>(listed: &Entry, sink: &mut Tally<W>) -> Result<(), SinkFailed>
-    requires { sink.old.failures < 2 ^ 64 - 1 }
-    ensures { Writes W.contents sink.old sink.new result
-        (codes " " ++ data_text listed.now.rtype listed.now.rdata ++ codes "\n") }
-{
-    sink.write_all(b" ")?;
-    Rdata::write_text(listed.rtype, listed.rdata(), sink)?;
-    sink.write_all(b"\n")
+    record.owner().append_text(text);
+    text.push(b' ');
+    text.append(digits.format(record.ttl).as_bytes());
+    text.append(b" IN ");
+    record.rtype.append_text(text);
+    text.push(b' ');
 }

@@ -1,4 +1,5 @@
-use crate::string::{read_string, text_of_string};
+use crate::string::{append_string_text, read_string};
+use dns_name::TextBuffer;
 use std::test::Fail;
 
 const LONG: [u8; 256] = [b'x'; 256];
@@ -42,8 +43,12 @@ fn strings_written(rt: HostRuntime) -> Result<(), Fail> {
         (b"\x7f\xff\x00", b"\"\\127\\255\\000\""),
     ];
     for (string, text) in rows {
-        assert_eq!(rt; text_of_string(string).as_slice(), text, "at {string:?}");
+        let mut written = TextBuffer::new();
+        append_string_text(string, &mut written);
+        assert_eq!(rt; written.octets(), text, "at {string:?}");
     }
-    assert_eq!(rt; text_of_string(&[0; 255]).len(), 1022);
+    let mut longest = TextBuffer::new();
+    append_string_text(&[0; 255], &mut longest);
+    assert_eq!(rt; longest.octets().len(), 1022);
     Ok(())
 }

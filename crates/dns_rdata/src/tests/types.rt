@@ -55,7 +55,7 @@ fn types_written(rt: HostRuntime) -> Result<(), Fail> {
     Ok(())
 }
 
-/// A device that takes the first text and fails from then on.
+/// A device that takes one octet and fails from then on.
 #[derive(Drop)]
 struct TakesOne {
     taken: bool,
@@ -67,7 +67,7 @@ impl Write for TakesOne {
             return Err(io::Error::from(ErrorKind::Other));
         }
         self.taken = true;
-        Ok(piece.len())
+        Ok(piece.len().min(1))
     }
 
     fn flush(&mut self) -> io::Result<()> {
@@ -76,7 +76,7 @@ impl Write for TakesOne {
 }
 
 #[test]
-fn a_failure_after_the_word_is_told(rt: HostRuntime) {
+fn a_failure_after_the_first_octet_is_told(rt: HostRuntime) {
     let mut sink = Tally::new(TakesOne { taken: false });
     assert!(rt; RType(65).write_text(&mut sink).is_err());
     assert_eq!(rt; sink.failures(), 1);

@@ -1,5 +1,10 @@
-use Rattle.dns_name.proofs.WrittenLemmas.{LabelSoFar}
+use Rattle.std.proofs.Common.{◌≡◌, ◌≤◌, ◌+◌, ◌*◌, ◌++◌, length, take}
+use Rattle.dns_spec.specs.NameText.{label_text}
 use Rattle.dns_name.proofs.written.append_label.Given as goal
 
+-- the octets so far are written
 abbrev pub invariant-octets : goal.invariant-octets
-invariant-octets l = LabelSoFar l.initial.text.items l.label l.text.items l.octet-index
+invariant-octets l = record {
+  written : l.text ≡ l.initial.text ++ label_text (take l.octet-index l.label);
+  upto : length l.text ≤ length l.initial.text + 4 * l.octet-index;
+}

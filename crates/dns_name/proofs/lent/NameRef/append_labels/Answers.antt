@@ -1,0 +1,24 @@
+use Rattle.std.proofs.Common.{◌≡◌, [], ◌∷◌, ◌++◌, ap, ◌∙◌, arith, length, length-append}
+use Rattle.dns_spec.specs.Names.{Octets}
+use Rattle.dns_spec.specs.NameText.{label_text}
+use Rattle.dns_name.proofs.WrittenLemmas.{NameSoFar-next, NameSoFar-room, length-label_text}
+use Rattle.dns_name.proofs.lent.NameRef.append_labels.Goals as goal
+
+appended : (text new octets l : Octets) → new ≡ text ++ label_text octets → octets ≡ l → new ≡ text ++ label_text l
+appended text new octets l e f = e ∙ ap (λ k. text ++ label_text k) f
+
+pub append_label-requires : goal.append_label-requires
+append_label-requires c =
+    let room = NameSoFar-room _ _ _ _ _ _ c.labels.invariant c.in-Some.ensures.steps in
+    omega (arith, room, ap length c.octets.ensures.value)
+
+pub push-requires : goal.push-requires
+push-requires c =
+    let new = appended _ _ _ c.in-Some.label c.append_label.ensures c.octets.ensures.value in
+    let room = NameSoFar-room _ _ _ _ _ _ c.labels.invariant c.in-Some.ensures.steps in
+    omega (arith, room, ap length new, length-append c.labels.text (label_text c.in-Some.label), length-label_text c.in-Some.label)
+
+pub labels-preserved : goal.labels-preserved
+labels-preserved c =
+    let new = appended _ _ _ c.in-Some.label c.append_label.ensures c.octets.ensures.value in
+    NameSoFar-next _ _ _ _ _ _ _ c.labels.invariant c.in-Some.ensures.steps (c.push.ensures ∙ ap (λ t. t ++ 46 ∷ []) new)

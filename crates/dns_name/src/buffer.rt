@@ -1,0 +1,100 @@
+//! Text that is gathered before it is written.
+ghost use Rattle.std.specs.Prelude.{◌≡◌, ◌+◌, ◌-◌, ◌^◌, ◌<◌, ◌≤◌, [], ◌∷◌, ◌++◌, length, take, OnOk};
+ghost use Rattle.dns_name.specs.Counted.{Writes, Fills};
+
+use crate::tally::{SinkFailed, Tally};
+use arrayvec::ArrayVec;
+use std::io::Write;
+use std::marker::Model;
+
+/// Text that is gathered in place, up to 4,096 octets, on its way to a writer: so a line of many
+/// parts is written by few calls.
+#[derive(Drop)]
+pub struct TextBuffer {
+    octets: ArrayVec<u8, 4096>,
+}
+
+impl Model for TextBuffer {
+    ghost use Rattle.dns_spec.specs.Names.{Octets};
+
+    ghost Value = { Octets };
+
+    ghost view = { λ b. b.octets.items };
+}
+
+impl TextBuffer {
+    /// A buffer without a text.
+    pub fn new() -> TextBuffer
+        ensures { result ≡ [] }
+    {
+        TextBuffer {
+            octets: ArrayVec::new(),
+        }
+    }
+
+    /// The text.
+    pub fn octets(&self) -> &[u8]
+        ensures { result.now ≡ self.now }
+    {
+        self.octets.as_slice()
+    }
+
+    /// Adds a text.
+    #[inline(always)]
+    pub fn append(&mut self, text: &[u8])
+        requires { length self.old + length text.now ≤ 4096 }
+        ensures { self.new ≡ self.old ++ text.now }
+    {
+        if self.octets.try_extend_from_slice(text).is_err() {
+            unreachable!();
+        }
+    }
+
+    /// Adds an octet.
+    #[inline(always)]
+    pub fn push(&mut self, octet: u8)
+        requires { length self.old + 1 ≤ 4096 }
+        ensures { self.new ≡ self.old ++ octet ∷ [] }
+    {
+        self.octets.push(octet);
+    }
+
+    /// Takes the last octet out.
+    pub fn pop(&mut self)
+        requires { 0 < length self.old }
+        ensures { self.new ≡ take (length self.old - 1) self.old }
+    {
+        self.octets.pop();
+    }
+
+    /// Makes room for `count` octets more: where they may not fit, what is gathered is written.
+    ///
+    /// Where the writer fails, a beginning of that was written.
+    #[inline(always)]
+    pub fn make_room<W: Write>(
+        &mut self,
+        count: usize,
+        sink: &mut Tally<W>,
+    ) -> Result<(), SinkFailed>
+        requires count { count ≤ 4096 }
+        requires few_failures { sink.old.failures < 2 ^ 64 - 1 }
+        ensures room { OnOk result (length self.new + count ≤ 4096) }
+        ensures fills { Fills W.contents sink.old sink.new result self.old self.new }
+    {
+        if self.octets.remaining_capacity() < count {
+            sink.write_all(self.octets.as_slice())?;
+            self.octets.clear();
+        }
+        Ok(())
+    }
+
+    /// Writes what is gathered, which is then let go.
+    ///
+    /// Where the writer fails, a beginning of that was written.
+    pub fn finish<W: Write>(self, sink: &mut Tally<W>) -> Result<(), SinkFailed>
+        requires { sink.old.failures < 2 ^ 64 - 1 }
+        ensures { Writes W.contents sink.old sink.new result self }
+    {
+        sink.write_all(self.octets())
+    }
+}

@@ -1,0 +1,11 @@
+use Rattle.std.proofs.Common.{◌≡◌, ◌+◌, ◌*◌, ◌≤◌, ◌++◌, length, take}
+use Rattle.std.specs.List.{flat_map}
+use Rattle.dns_spec.specs.WrittenText.{string_octet_text}
+use Rattle.dns_rdata.proofs.string.append_octets.Given as goal
+
+-- the octets so far are appended, each by at most four
+abbrev pub invariant-octets : goal.invariant-octets
+invariant-octets l = record {
+  appended : l.text ≡ l.initial.text ++ flat_map string_octet_text (take l.octet-index l.string);
+  upto : length l.text ≤ length l.initial.text + 4 * l.octet-index;
+}

@@ -1,0 +1,13 @@
+use Rattle.std.proofs.Common.{◌≡◌, ◌++◌, length}
+use Rattle.dns_spec.specs.WrittenText.{hex_text}
+use Rattle.dns_name.specs.Counted.{AppendsAllBut}
+use Rattle.dns_rdata.proofs.write.put_hex.Given as goal
+
+abbrev pub invariant-chunks : goal.invariant-chunks
+invariant-chunks g l = record {
+  fills : AppendsAllBut (g.W.Write.contents l.initial.sink.device) (g.W.Write.contents l.sink.device) (l.initial.text ++ hex_text l.octets) (l.text ++ hex_text l.rest);
+  counted : l.sink.failures ≡ l.initial.sink.failures;
+}
+
+abbrev pub decreases-chunks : goal.decreases-chunks
+decreases-chunks g l = length l.rest

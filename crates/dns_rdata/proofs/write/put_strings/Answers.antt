@@ -1,0 +1,36 @@
+use Rattle.std.proofs.Common.{rules, ap, sym, ◌∙◌}
+use Rattle.std.proofs.lemmas.Bool.{eqb-true, eqb-false}
+use Rattle.std.proofs.lemmas.List.{nil_from_length}
+use Rattle.dns_spec.specs.Data.{are_strings}
+use Rattle.dns_name.proofs.Results.{OnErr-always}
+use Rattle.dns_name.proofs.WritesLemmas.{held_more, held_less, held_begun}
+use Rattle.dns_rdata.proofs.SpacedWords.{string_begins, more_strings, spaced-strings, after_strings}
+use Rattle.dns_rdata.proofs.write.put_strings.Goals as goal
+
+pub append_string-rest-requires-clause-string : goal.append_string-rest-requires-clause-string
+append_string-rest-requires-clause-string g c =
+    string_begins _ c.strings.invariant.strings (eqb-false _ _ (sym c.is_empty.ensures ∙ c.strings-test.true))
+
+pub returns-in_err-make_room-clause-fills : goal.returns-in_err-make_room-clause-fills
+returns-in_err-make_room-clause-fills g c = record {
+  ok = search rules;
+  err = OnErr-always c.from_residual.result (held_begun _ _ _ _ _ _ c.strings.invariant.fills c.in_err-make_room.ensures.fills.err);
+  counted = search rules;
+}
+
+pub strings-preserved : goal.strings-preserved
+strings-preserved g c =
+    let some = eqb-false _ _ (sym c.is_empty.ensures ∙ c.strings-test.true) in
+    let held = held_less _ _ _ _ _ _ _ c.strings.invariant.fills c.in_ok-make_room.ensures.fills.ok in
+    record {
+      strings = ap (are_strings 0) c.append_string-rest.ensures.rest ∙ more_strings _ c.strings.invariant.strings some;
+      short = search rules;
+      fills =
+          rw (c.append_string-rest.ensures.rest, c.append_string-rest.ensures.text)
+          (held_more _ _ _ _ _ _ _ held (spaced-strings _ _ c.strings.invariant.strings some));
+      counted = search rules;
+    }
+
+pub returns-clause-rest : goal.returns-clause-rest
+returns-clause-rest g c =
+    nil_from_length c.strings.rest.now (eqb-true _ _ (sym c.is_empty.ensures ∙ c.strings-test.false)) ∙ sym (after_strings c.args.octets.now c.requires.strings)

@@ -1,0 +1,26 @@
+use Rattle.std.proofs.Common.{◌≡◌, [], ◌∷◌, ◌++◌, decimal, length, refl, sym, ap, ◌∙◌, append-nil, append_assoc}
+use Rattle.std.proofs.lemmas.Bool.{eqb-false}
+use Rattle.dns_spec.specs.Names.{Octets}
+use Rattle.dns_spec.specs.WrittenText.{hex_text, hex_words}
+use Rattle.dns_rdata.specs.WrittenForm.{spaced}
+use Rattle.dns_name.proofs.WritesLemmas.{held_before, Fills-same, Fills-after}
+use Rattle.dns_rdata.proofs.SpacedWords.{space}
+use Rattle.dns_rdata.proofs.write.put_unknown.Goals as goal
+
+hex_word_text : (d : Octets) → (length d ≡ 0 → ⊥) → space ++ hex_text d ≡ spaced space (hex_words d)
+hex_word_text [] some = absurd (some refl)
+hex_word_text (o ∷ d) some = ap (λ xs. space ++ xs) (sym (append-nil (hex_text (o ∷ d))))
+
+-- the mark and the length, and the octets after a space
+marked : (text mark d : Octets) → (length d ≡ 0 → ⊥) → ((text ++ mark) ++ space) ++ hex_text d ≡ text ++ (mark ++ spaced space (hex_words d))
+marked text mark d some =
+    append_assoc (text ++ mark) space (hex_text d) ∙ append_assoc text mark (space ++ hex_text d) ∙ ap (λ xs. text ++ (mark ++ xs)) (hex_word_text d some)
+
+pub returns : goal.returns
+returns g c =
+    let some = eqb-false _ _ (sym c.is_empty.ensures ∙ c.if-is_empty.false) in
+    let d = c.args.octets.now in
+    let mark = 92 ∷ 35 ∷ 32 ∷ decimal (length d) in
+    let before = c.append.ensures ∙ ap (λ t. t ++ space) c.append_length.ensures.text in
+    Fills-after _ _ _ (held_before _ _ _ _ (mark ++ spaced space (hex_words d)) c.in_ok-make_room.ensures.fills.ok) c.in_ok-make_room.ensures.fills.counted
+    (Fills-same (ap (λ t. t ++ hex_text d) before ∙ marked _ mark d some) c.put_hex.ensures)

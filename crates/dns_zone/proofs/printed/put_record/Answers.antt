@@ -1,0 +1,42 @@
+use Rattle.std.proofs.Common.{rules, ◌∙◌, ap}
+use Rattle.dns_spec.specs.WrittenText.{data_text}
+use Rattle.dns_spec.specs.Records.{ResourceRecord}
+use Rattle.dns_name.proofs.Results.{OnErr-always}
+use Rattle.dns_name.proofs.WritesLemmas.{held_less, held_begun}
+use Rattle.dns_zone.proofs.PrintedRecords.{line_held}
+use Rattle.dns_zone.proofs.printed.put_record.Goals as goal
+
+pub returns-in_err-put_text : goal.returns-in_err-put_text
+returns-in_err-put_text g c =
+    let r = c.args.record.now in
+    let said = ap (data_text c.record.inside.rtype.0) c.rdata.ensures.value ∙ ap (λ (s : ResourceRecord). data_text s.rtype r.rdata) c.record.view_is in
+    let held = line_held _ _ _ _ _ _ r c.in_ok-make_room.ensures.fills.ok c.append_front.ensures said in
+    record {
+      ok = search rules;
+      err = OnErr-always c.from_residual-in_err-put_text.result (held_begun _ _ _ _ _ _ held c.in_err-put_text.ensures.err);
+      counted = search rules;
+    }
+
+pub returns-in_err-make_room-2 : goal.returns-in_err-make_room-2
+returns-in_err-make_room-2 g c =
+    let r = c.args.record.now in
+    let said = ap (data_text c.record.inside.rtype.0) c.rdata.ensures.value ∙ ap (λ (s : ResourceRecord). data_text s.rtype r.rdata) c.record.view_is in
+    let held = line_held _ _ _ _ _ _ r c.in_ok-make_room.ensures.fills.ok c.append_front.ensures said in
+    let less = held_less _ _ _ _ _ _ _ held c.in_ok-put_text.ensures.ok in
+    record {
+      ok = search rules;
+      err = OnErr-always c.from_residual-in_err-make_room-2.result (held_begun _ _ _ _ _ _ less c.in_err-make_room-2.ensures.fills.err);
+      counted = search rules;
+    }
+
+pub returns : goal.returns
+returns g c =
+    let r = c.args.record.now in
+    let said = ap (data_text c.record.inside.rtype.0) c.rdata.ensures.value ∙ ap (λ (s : ResourceRecord). data_text s.rtype r.rdata) c.record.view_is in
+    let held = line_held _ _ _ _ _ _ r c.in_ok-make_room.ensures.fills.ok c.append_front.ensures said in
+    let less = held_less _ _ _ _ _ _ _ held c.in_ok-put_text.ensures.ok in
+    record {
+      ok = rw c.push.ensures (held_less _ _ _ _ _ _ _ less c.in_ok-make_room-2.ensures.fills.ok);
+      err = search rules;
+      counted = search rules;
+    }
