@@ -2,7 +2,7 @@
 ghost use Rattle.std.specs.Prelude.{List, ◌≡◌, ◌<◌, ◌≤◌, All, length, IfOk};
 ghost use Rattle.std.specs.List.{dedup};
 ghost use Rattle.std.specs.List.Sorted.{IsPermutation};
-ghost use Rattle.dns_spec.specs.Names.{folded};
+ghost use Rattle.dns_spec.specs.Meaning.{most_records};
 ghost use Rattle.dns_spec.specs.Records.{ResourceRecord, records_equal, distinct, sort_by, record_order};
 ghost use Rattle.dns_spec.specs.ZonePrinted.{IsReadRecord};
 ghost use Rattle.dns_zone.specs.ZoneForm.{AreOrdered, comes_first, neighbours_rise};
@@ -20,7 +20,7 @@ pub(crate) fn ordered(
     origin: &NameRef<'_>,
     mut records: Vec<Entry>,
 ) -> Result<Vec<Entry>, AllocError>
-    requires { folded origin.now ≡ origin.now }
+    requires { length records.items ≤ most_records }
     ensures records { IfOk result (λ kept. kept.items
         ≡ sort_by record_order (distinct records_equal records.items)) }
     ensures in_order { IfOk result (λ kept. AreOrdered kept.items) }

@@ -1,24 +1,24 @@
 //! Records that are arranged before they are sorted.
 
-use crate::arranged::arrange;
+use crate::arranged::{arrange, sort_runs};
 use crate::entry::Entry;
 use crate::order::record_order;
 use dns_master::read_zone;
 use dns_name::{Name, Tally};
 use std::test::Fail;
 
-// Owners that differ by a label below another, after their first 16 octets, by length, or not at
+// Owners that differ by a label below another, after their first 24 octets, by length, or not at
 // all.
 const TURNED: &[u8] = b"$TTL 60
 zz A 192.0.2.1
 x.y TXT a
 _s._tcp.y SRV 1 2 53 zz
 y TXT a
-long-first-label-b A 192.0.2.1
-long-first-label-a TXT b
-long-first-label-a TXT a
-long-first-label-a A 192.0.2.1
-long-first-label A 192.0.2.1
+long-first-label-of-an-owner-b A 192.0.2.1
+long-first-label-of-an-owner-a TXT b
+long-first-label-of-an-owner-a TXT a
+long-first-label-of-an-owner-a A 192.0.2.1
+long-first-label-of-an-owner A 192.0.2.1
 \\000a A 192.0.2.1
 \\000 A 192.0.2.1
 @ NS zz
@@ -38,6 +38,7 @@ fn records_are_arranged_in_canonical_order(rt: HostRuntime) -> Result<(), Fail> 
     if let Some(soa) = read.last() {
         let soa = Entry::of(rt.alloc(), soa)?;
         arrange(rt.alloc(), &soa.owner(), records.as_mut_slice())?;
+        sort_runs(records.as_mut_slice());
     }
     for (one, next) in records.iter().zip(records.iter().skip(1)) {
         assert!(rt;
