@@ -41,31 +41,29 @@ pub(crate) fn find(
 {
     let key = label_key(label);
     let (mut low, mut high) = (0, kids.len());
-    let mut count = 0;
     'halves: while low < high {
         let middle = (low + high) / 2;
-        count += 1;
-        match order(records, &kids[middle], key, label) {
+        match order(records, &kids[middle], key, label, steps) {
             Ordering::Less => low = middle + 1,
-            Ordering::Equal => {
-                steps.count_comparisons(count);
-                return Some(middle);
-            }
+            Ordering::Equal => return Some(middle),
             Ordering::Greater => high = middle,
         }
     }
-    steps.count_comparisons(count);
     None
 }
 
-// The order of a row's label and of another, whose key this is. Mostly their keys differ. Where
-// these are the same, a label that has no octets beyond its key begins the other.
-fn order(records: &[Entry], row: &Row, key: u32, label: &[u8]) -> Ordering
+// The order of a row's label and of another, whose key this is: one comparison, which is counted.
+// Mostly their keys differ. Where these are the same, a label that has no octets beyond its key
+// begins the other.
+fn order(records: &[Entry], row: &Row, key: u32, label: &[u8], steps: &mut Steps<'_>) -> Ordering
     requires row { IsRow records.now row.now (row_name records.now row.now) }
     requires key { IsKey key (map to_ascii_lowercase label.now) }
-    ensures { result ≡ label_order (row_label records.now row.now)
+    requires room { steps.old.comparisons < 4294967295 }
+    ensures order { result ≡ label_order (row_label records.now row.now)
         (map to_ascii_lowercase label.now) }
+    ensures counted { steps.new ≡ record steps.old { comparisons = steps.old.comparisons + 1 } }
 {
+    steps.count_comparison();
     if row.key != key {
         return row.key.cmp(&key);
     }

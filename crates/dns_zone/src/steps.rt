@@ -1,10 +1,11 @@
 //! A walk over the names of a zone, and the counts of what it took.
-ghost use Rattle.std.specs.Prelude.{◌≡◌, ◌+◌, ◌<◌, ◌≤◌};
+ghost use Rattle.std.specs.Prelude.{◌≡◌, ◌+◌, ◌<◌};
 ghost use Rattle.dns_spec.specs.Names.{folded};
 ghost use Rattle.dns_zone.specs.Nodes.{IsNode};
 ghost use Rattle.dns_zone.specs.ZoneForm.{IsBuilt};
 
 use crate::node::Node;
+use crate::tree::LentTree;
 use crate::zone::Zone;
 use dns_name::Name;
 use std::marker::Model;
@@ -15,21 +16,24 @@ use std::marker::Model;
 /// zone nor another walk is had from it: who is lent one is counted.
 #[derive(Drop)]
 pub struct Steps<'z> {
-    zone: &'z Zone,
+    tree: LentTree<'z>,
     visits: u32,
     comparisons: u32,
 }
 
 impl<'z> Model for Steps<'z> {
     ghost use Rattle.dns_zone.specs.Nodes.{Walk};
+    ghost use Rattle.dns_zone.specs.NodeForm.{zone_of_tree, IsLentTree};
 
     ghost Value = { Walk };
 
     ghost view = { λ s. record {
-      zone = s.zone.now;
+      zone = zone_of_tree s.tree;
       visits = s.visits;
       comparisons = s.comparisons;
     } };
+
+    ghost invariant = { λ s. IsLentTree s.tree };
 }
 
 impl<'z> Steps<'z> {
@@ -38,7 +42,7 @@ impl<'z> Steps<'z> {
         ensures { result ≡ record { zone = zone.now; visits = 0; comparisons = 0 } }
     {
         Steps {
-            zone,
+            tree: zone.lent(),
             visits: 0,
             comparisons: 0,
         }
@@ -66,7 +70,7 @@ impl<'z> Steps<'z> {
         ensures lower { folded self.now.zone.origin ≡ self.now.zone.origin }
         ensures built { IsBuilt self.now.zone }
     {
-        self.zone.origin()
+        self.tree.origin
     }
 
     /// The node of the origin. It is counted.
@@ -81,7 +85,7 @@ impl<'z> Steps<'z> {
         ensures zone { self.new.zone ≡ self.old.zone }
     {
         self.count_visit();
-        Node::of_origin(self.zone.tree())
+        Node::of_origin(&self.tree)
     }
 
     // Counts a node that is handed out.
@@ -92,11 +96,11 @@ impl<'z> Steps<'z> {
         self.visits += 1;
     }
 
-    // Counts comparisons of labels.
-    pub(crate) fn count_comparisons(&mut self, count: u32)
-        requires { self.old.comparisons + count ≤ 4294967295 }
-        ensures { self.new ≡ record self.old { comparisons = self.old.comparisons + count } }
+    // Counts a comparison of labels.
+    pub(crate) fn count_comparison(&mut self)
+        requires { self.old.comparisons < 4294967295 }
+        ensures { self.new ≡ record self.old { comparisons = self.old.comparisons + 1 } }
     {
-        self.comparisons += count;
+        self.comparisons += 1;
     }
 }

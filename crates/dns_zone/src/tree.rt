@@ -25,6 +25,15 @@ pub(crate) struct Tree {
     pub(crate) bounds: Vec<usize>,
 }
 
+/// A tree that is lent, from which no allocator is reached.
+#[derive(Clone, Copy)]
+pub(crate) struct LentTree<'z> {
+    pub(crate) origin: &'z Name,
+    pub(crate) records: &'z [Entry],
+    pub(crate) rows: &'z [Row],
+    pub(crate) bounds: &'z [usize],
+}
+
 /// Rows, and for each row the number of its first child; the children of the next row follow.
 #[derive(Drop)]
 pub(crate) struct Rows {

@@ -8,14 +8,14 @@ ghost use Rattle.dns_spec.specs.Checks.{faults};
 ghost use Rattle.dns_spec.specs.Meaning.{most_records};
 ghost use Rattle.dns_spec.specs.ZonePrinted.{is_soa};
 ghost use Rattle.dns_zone.specs.ZoneForm.{IsBuilt, ReportsFaults};
-ghost use Rattle.dns_zone.specs.NodeForm.{zone_of_tree, IsZoneTree};
+ghost use Rattle.dns_zone.specs.NodeForm.{zone_of_tree, IsLentTree};
 
 use crate::entry::Entry;
 use crate::fault::BuildFault;
 use crate::faults::faults;
 use crate::ordered::ordered;
 use crate::store::Store;
-use crate::tree::{Rows, Tree, rows_of};
+use crate::tree::{LentTree, Rows, Tree, rows_of};
 use dns_master::Record;
 use dns_name::{Name, NameRef};
 use dns_rdata::{RType, Rdata};
@@ -34,11 +34,13 @@ impl Model for Zone {
 
     ghost Value = { ZoneContents };
 
-    ghost use Rattle.dns_zone.specs.NodeForm.{zone_of_tree, IsZoneTree};
+    ghost use Rattle.dns_zone.specs.NodeForm.{IsZoneTree};
 
-    ghost view = { λ z. zone_of_tree z.tree };
+    ghost view = { λ z. record { origin = z.tree.origin; records = z.tree.records.items } };
 
-    ghost invariant = { λ z. IsZoneTree z.tree };
+    ghost invariant = { λ z. IsZoneTree
+        (record { origin = z.tree.origin; records = z.tree.records.items })
+        z.tree.rows.items z.tree.bounds.items };
 }
 
 impl Zone {
@@ -108,11 +110,16 @@ impl Zone {
     }
 
     // Its names.
-    pub(crate) fn tree(&self) -> &Tree
-        ensures zone { zone_of_tree result.now ≡ self.now }
-        ensures tree { IsZoneTree result.now }
+    pub(crate) fn lent(&self) -> LentTree<'_>
+        ensures zone { zone_of_tree result ≡ self.now }
+        ensures tree { IsLentTree result }
     {
-        &self.tree
+        LentTree {
+            origin: &self.tree.origin,
+            records: self.tree.records.as_slice(),
+            rows: self.tree.rows.as_slice(),
+            bounds: self.tree.bounds.as_slice(),
+        }
     }
 
     // Its records, in canonical order.

@@ -9,8 +9,8 @@ use Rattle.dns_zone.proofs.AlikeKeys.{by_length, after_key}
 use Rattle.dns_zone.proofs.search.order.Goals as goal
 use Rattle.dns_zone.proofs.search.order.Goals.{then-count-le-KEY_OCTETS-via-then-count-le-KEY_OCTETS, then-count-le-KEY_OCTETS-via-else-count-le-KEY_OCTETS+then-label-le-KEY_OCTETS}
 
-pub returns-then-row-key : goal.returns-then-row-key
-returns-then-row-key c =
+pub returns-then-row-key-clause-order : goal.returns-then-row-key-clause-order
+returns-then-row-key-clause-order c =
     let row = c.args.row.now in
     let lower =
     first_lower (row_name c.args.records.now row) c.requires.row.lower in
@@ -18,8 +18,8 @@ returns-then-row-key c =
     subst (IsKey row.key) lower c.requires.row.key in
     c.cmp.ensures ∙ key_order row_key c.requires.key c.if-row-key.true
 
-pub returns-then-count-le-KEY_OCTETS : goal.returns-then-count-le-KEY_OCTETS
-returns-then-count-le-KEY_OCTETS c =
+pub returns-then-count-le-KEY_OCTETS-clause-order : goal.returns-then-count-le-KEY_OCTETS-clause-order
+returns-then-count-le-KEY_OCTETS-clause-order c =
     let row = c.args.row.now in
     let own = row_label c.args.records.now row in
     let label = map to_ascii_lowercase c.args.label.now in
@@ -40,8 +40,8 @@ returns-then-count-le-KEY_OCTETS c =
     ∙ ap₂ nat_cmp (c.from-count.ensures ∙ own_count) (sym count)
     ∙ by_length row_key c.requires.key short
 
-pub returns : goal.returns
-returns c =
+pub returns-clause-order : goal.returns-clause-order
+returns-clause-order c =
     let row = c.args.row.now in
     let own = row_label c.args.records.now row in
     let label = map to_ascii_lowercase c.args.label.now in

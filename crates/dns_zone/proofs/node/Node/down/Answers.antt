@@ -1,8 +1,7 @@
-use Rattle.std.proofs.Common.{◌≡◌, ◌+◌, ◌∷◌, ◌<◌, map, length, refl, true, ℕ, List, sym, ap, ap₂, ◌∙◌, subst}
+use Rattle.std.proofs.Common.{◌≡◌, ◌+◌, ◌∷◌, ◌<◌, map, length, refl, true, ℕ, List, sym, ap, ◌∙◌, subst}
 use Rattle.std.proofs.lemmas.Bool.{false≢true}
 use Rattle.std.specs.Char.{to_ascii_lowercase}
 use Rattle.dns_spec.specs.Names.{Octets, DomainName}
-use Rattle.dns_spec.specs.Records.{ResourceRecord}
 use Rattle.dns_spec.specs.Tree.{exists}
 use Rattle.dns_spec.proofs.Records.SortedOnce.{Each, Among}
 use Rattle.dns_zone.specs.Nodes.{ZoneNode}
@@ -15,30 +14,24 @@ use Rattle.dns_zone.proofs.node.Node.down.Goals as goal
 
 pub find-requires-clause-rows : goal.find-requires-clause-rows
 find-requires-clause-rows c =
-    let t = c.self.inside.tree.now in
+    let t = c.self.inside.tree in
     let k = c.self.inside.row.0 in
-    subst (λ (rs : List ResourceRecord). Each (λ (r : Row). IsRow rs r (row_name rs r))
-    c.kids_of-start.result.1.now) (sym c.as_slice.ensures.value)
-    (subst (Each (λ (r : Row). IsRow t.records.items r (row_name t.records.items r)))
-    (sym c.kids_of-start.ensures.kids) (kid_rows t k c.self.invariant))
+    subst (Each (λ (r : Row). IsRow t.records.now r (row_name t.records.now r)))
+    (sym c.kids_of-start.ensures.kids) (kid_rows t k c.self.invariant)
 
 pub returns-in_err-found-clause-child : goal.returns-in_err-found-clause-child
 returns-in_err-found-clause-child c =
-    let t = c.self.inside.tree.now in
+    let t = c.self.inside.tree in
     let k = c.self.inside.row.0 in
     let l = c.args.label in
-    let labels : map (row_label c.as_slice.result.now) c.kids_of-start.result.1.now ≡ map
-    (row_label t.records.items) (kids_at t.rows.items t.bounds.items k) =
-    ap₂ (λ (rs : List ResourceRecord) xs. map (row_label rs) xs) c.as_slice.ensures.value
-    c.kids_of-start.ensures.kids
-    in
+    let labels = ap (map (row_label t.records.now)) c.kids_of-start.ensures.kids in
     let asked = c.octets.result.now in
     let absent : exists c.args.self.now.zone (l ∷ c.args.self.now.name) ≡ true
     → Among (map to_ascii_lowercase asked)
-    (map (row_label c.as_slice.result.now) c.kids_of-start.result.1.now) =
+    (map (row_label t.records.now) c.kids_of-start.result.1.now) =
     λ h. subst (Among (map to_ascii_lowercase asked)) (sym labels)
     (subst (λ (x : Octets). Among x
-    (map (row_label t.records.items) (kids_at t.rows.items t.bounds.items k)))
+    (map (row_label t.records.now) (kids_at t.rows.now t.bounds.now k)))
     (ap (map to_ascii_lowercase) (sym c.octets.ensures.value))
     ((are_kids t k c.self.invariant).all l
     (ap (λ (v : ZoneNode). exists v.zone (l ∷ v.name)) c.self.view_is ∙ h)))
@@ -46,9 +39,9 @@ returns-in_err-found-clause-child c =
     rw c.from_residual.ensures
     (λ h. absurd (false≢true h), λ h. absurd (c.in_err-found.ensures.none refl (absent h)))
 
-module _ (c : goal.After-count_visit) where
+module _ (c : goal.After-result-1) where
   abbrev kids : List Row
-  kids = kids_at c.self.inside.tree.now.rows.items c.self.inside.tree.now.bounds.items c.self.inside.row.0
+  kids = kids_at c.self.inside.tree.rows.now c.self.inside.tree.bounds.now c.self.inside.row.0
 
   fits : c.in_ok-found.found < length kids
   fits =
@@ -56,20 +49,20 @@ module _ (c : goal.After-count_visit) where
       c.in_ok-found.ensures.found.0
 
   -- the label of the child that was found is the one that was asked for
-  label : row_label c.self.inside.tree.now.records.items (row_at kids c.in_ok-found.found)
+  label : row_label c.self.inside.tree.records.now (row_at kids c.in_ok-found.found)
       ≡ map to_ascii_lowercase c.args.label
   label =
-      sym (ap₂ (λ (rs : List ResourceRecord) (xs : List Row). row_label rs
-      (row_at xs c.in_ok-found.found)) c.as_slice.ensures.value c.kids_of-start.ensures.kids)
+      sym (ap (λ (xs : List Row). row_label c.self.inside.tree.records.now
+      (row_at xs c.in_ok-found.found)) c.kids_of-start.ensures.kids)
       ∙ c.in_ok-found.ensures.found.1
       ∙ ap (map to_ascii_lowercase) c.octets.ensures.value
 
 pub returns-clause-child : goal.returns-clause-child
 returns-clause-child c =
-    let t = c.self.inside.tree.now in
+    let t = c.self.inside.tree in
     let k = c.self.inside.row.0 in
     let l = c.args.label in
-    let n = row_name t.records.items (row_at t.rows.items k) in
+    let n = row_name t.records.now (row_at t.rows.now k) in
     let present : exists (zone_of_tree t) (l ∷ n) ≡ true =
     sym (child-exists (zone_of_tree t) l n (is_row t k c.self.invariant).lower)
     ∙ ap (λ (x : Octets). exists (zone_of_tree t) (x ∷ n)) (sym (label c))
@@ -81,13 +74,13 @@ returns-clause-child c =
 
 pub returns-clause-node : goal.returns-clause-node
 returns-clause-node c =
-    let t = c.self.inside.tree.now in
+    let t = c.self.inside.tree in
     let k = c.self.inside.row.0 in
     let i = c.in_ok-found.found in
     ap (λ (j : ℕ). node_at t (j + i)) c.kids_of-start.ensures.start
     ∙ ap (λ (n : DomainName). record { zone = zone_of_tree t; name = n })
     (kid_name t k c.self.invariant i (fits c)
-    ∙ ap (λ (x : Octets). x ∷ row_name t.records.items (row_at t.rows.items k)) (label c))
+    ∙ ap (λ (x : Octets). x ∷ row_name t.records.now (row_at t.rows.now k)) (label c))
     ∙ ap (λ (v : ZoneNode). record {
       zone = v.zone;
       name = map to_ascii_lowercase c.args.label ∷ v.name;

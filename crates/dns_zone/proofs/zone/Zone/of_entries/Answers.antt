@@ -10,11 +10,6 @@ use Rattle.dns_zone.specs.TreeForm.{IsTree}
 use Rattle.dns_zone.proofs.BuiltZone.{found_of_read, built}
 use Rattle.dns_zone.proofs.zone.Zone.of_entries.Goals as goal
 
-pub ordered-requires : goal.ordered-requires
-ordered-requires c =
-    let low = c.lent.ensures.value ∙ c.fold-origin.ensures in
-    ap folded low ∙ folded_folded c.args.origin.now ∙ sym low
-
 pub faults-requires-clause-lower : goal.faults-requires-clause-lower
 faults-requires-clause-lower c =
     let low = c.lent-2.ensures.value ∙ c.fold-origin.ensures in

@@ -1,7 +1,6 @@
 use Rattle.std.proofs.Common.{◌≡◌, ap, ◌∙◌, subst}
 use Rattle.dns_spec.specs.Names.{DomainName}
 use Rattle.dns_spec.specs.Records.{ZoneContents, first_serial, zone_serial}
-use Rattle.dns_zone.specs.NodeForm.{zone_of_tree}
 use Rattle.dns_zone.proofs.BuiltZone.{soas_at, serial_is}
 use Rattle.dns_zone.proofs.zone.Zone.serial.Goals as goal
 
@@ -11,5 +10,5 @@ returns c =
     c.serial_at.ensures ∙ ap (λ (o : DomainName). first_serial (soas_at o c.as_slice.result.now)) c.lent.ensures.value
     ∙ ap (λ xs. first_serial (soas_at c.self.inside.tree.origin xs)) c.as_slice.ensures.value in
     subst (λ (z : ZoneContents). c.serial_at.result ≡ zone_serial z) c.self.view_is
-    (serial_is (zone_of_tree c.self.inside.tree) c.serial_at.result c.self.invariant.built
+    (serial_is _ c.serial_at.result c.self.invariant.built
     at_origin)
