@@ -12,7 +12,7 @@ use Rattle.dns_name.proofs.WireLemmas.{labels_of_spelled, IsWireForm-wire}
 use Rattle.dns_name.specs.WireForm.{labels_of, IsWireForm}
 use Rattle.dns_wire.specs.Kept.{Kept, IsKept, HasPlace, SpellsName, NoneSpelled}
 use Rattle.dns_wire.specs.Writing.{name_before, IsAsked, asked_places, NotAsked, IsLastOf, new_places}
-use Rattle.dns_wire.proofs.Suffixes.{one_run, first_label, kept-root, Left, left_label}
+use Rattle.dns_wire.proofs.Suffixes.{one_run, first_label, kept-root}
 use Rattle.dns_wire.proofs.NameWritten.{kept_left, kept_right, kept_split, kept_sound, kept_complete, NewSuffix, is_name-suffix}
 
 -- what stands before the end of the name decides it
@@ -64,9 +64,6 @@ no_labels = refl
 pub asked_nothing : (head : Octets → ℕ) (b : Octets) → asked_places head b 0 ≡ []
 unfolding asked_places
 asked_nothing head b = ap (λ n. new_places head [] n 12) no_labels ∙ kept-root head [] 12
-
-pub is_asked_nothing : (b : Octets) → IsAsked b 0
-is_asked_nothing b = record { inside = omega arith; near = omega arith; name = λ h. absurd (omega (arith, h)) }
 
 -- where it stands after room for a header, all its suffixes have their places
 pub name_whole : (n : DomainName) (b o : Octets) (a : ℕ) → b ≡ (replicate 12 0 ++ wire n) ++ o → a ≡ 12 + length (wire n) → name_before b a ≡ wire n
@@ -293,9 +290,3 @@ last_root last root n front t l e ok whole long =
 pub two_octets : (l : Octets) (t : DomainName) → 2 ≤ length (wire (l ∷ t))
 two_octets l [] = omega (arith, length-append l (wire []))
 two_octets l (k ∷ t) = omega (arith, length-append l (wire (k ∷ t)))
-
--- what is left of a name after a label whose suffix has no place, of the question's or of another
-pub left_after : {head : Octets → ℕ} {b name rest others after : Octets} {h : ℕ} (a : ℕ) (ks : List Kept) (k : ℕ) → Left head b (asked_places head b a ++ ks) name rest → NotAsked b a rest
-    → NoneSpelled ks h b rest → h ≡ head rest → rest ≡ k ∷ others → (k ≡ 0 → ⊥) → k ≤ length others → after ≡ drop k others → Left head b (asked_places head b a ++ ks) name after
-left_after {head} {b} {name} {rest} a ks k left unasked none number first some fits cut =
-    left_label k left first some fits cut (none_of_both head b a (head rest) ks rest unasked (subst (λ j. NoneSpelled ks j b rest) number none))

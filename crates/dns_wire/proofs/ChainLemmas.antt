@@ -2,7 +2,7 @@
 use Rattle.std.proofs.Common.{◌≡◌, ap₂, ◌-◌, ◌≢◌, ℕ, zero, suc, ◌<◌, ◌≤◌, ◌==◌, Bool, true, false, cond, nat_le, List, [], ◌∷◌, ◌++◌, map, length, take, replicate, get_or, slice_get, slice_set, Option, Some, None, option_map, refl, sym, ap, ◌∙◌, subst, arith}
 use Rattle.std.proofs.lemmas.Option.{get_or_from_slice_get}
 use Rattle.std.proofs.lemmas.Bool.{false≢true, eqb-true, eq-eqb, leb-true, leb-false}
-use Rattle.std.proofs.lemmas.Option.{none-some, same_Some, slice_get_within, slice_get-map, slice_get-get_or}
+use Rattle.std.proofs.lemmas.Option.{none-some, same_Some, slice_get_within, slice_get-map}
 use Rattle.std.proofs.lemmas.List.{get_or-set_same, get_or-set_other, get_or-replicate, length-set, length-replicate, take-append-le, length-take-le}
 use Rattle.std.proofs.lemmas.Nat.{mod_below}
 use Rattle.std.proofs.Math.Seq.{take-append_seam, take-length}
@@ -261,10 +261,3 @@ kept_entry es k p h at = go (slice_get es k) refl (sym (slice_get-map kept_in es
     go : (o : Option Entry) → slice_get es k ≡ o → option_map kept_in o ≡ Some (record { place = p; number = h }) → (e : Entry) × (slice_get es k ≡ Some e) × (e.number ≡ h) × (e.place ≡ p)
     go None q f = absurd (none-some (record { place = p; number = h }) f)
     go (Some e) q f = let s = same_Some (kept_in e) (record { place = p; number = h }) f in (e, q, ap (λ (x : Kept). x.number) s, ap (λ (x : Kept). x.place) s)
-
--- an entry that is read is kept
-pub read_kept : (es xs : List Entry) (i : ℕ) (blank : Entry) → xs ≡ es → i < length xs → slice_get es i ≡ Some (get_or xs i blank)
-read_kept es xs i blank same inside = ap (λ ys. slice_get ys i) (sym same) ∙ slice_get-get_or xs i blank inside
-
-pub kept_read : (es xs : List Entry) (i : ℕ) (blank : Entry) → xs ≡ es → i < length xs → slice_get (map kept_in es) i ≡ Some (kept_in (get_or xs i blank))
-kept_read es xs i blank same inside = slice_get-map kept_in es i ∙ ap (option_map kept_in) (read_kept es xs i blank same inside)

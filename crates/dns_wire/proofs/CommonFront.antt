@@ -184,10 +184,6 @@ pub common_more : (k w : ℕ) (x y : Octets) → take k x ≡ take k y
 common_more k w x y alike more = take-add k w x ∙ ap₂ (λ u v. u ++ v) alike more
     ∙ sym (take-add k w y)
 
-pub one_more : (k o : ℕ) (x y : Octets) → slice_get x k ≡ Some o → slice_get y k ≡ Some o
-    → take 1 (drop k x) ≡ take 1 (drop k y)
-one_more k o x y at at' = ap (take 1) (drop_get x k o at) ∙ sym (ap (take 1) (drop_get y k o at'))
-
 -- a pointer where no run goes on
 pub not_pointed : {b o : Octets} {s k : ℕ} → PointedOn b s k o → (192 ≤ get_or b (s + k) 0
     → NoRunAt b s (s + k)) → ⊥

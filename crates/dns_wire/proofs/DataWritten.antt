@@ -1,5 +1,5 @@
 -- Data and records are written part by part: what is written and what is to come are the whole.
-use Rattle.std.proofs.Common.{◌≡◌, ◌↔◌, ℕ, ◌+◌, ◌<◌, ◌≤◌, Bool, true, false, List, [], ◌∷◌, ◌++◌, length, refl, sym, ap, ap₂, ◌∙◌, subst, arith, append_assoc, append-nil, length-append, lt_of_not-le}
+use Rattle.std.proofs.Common.{◌≡◌, ◌↔◌, ℕ, ◌+◌, ◌<◌, ◌≤◌, Bool, true, false, List, [], ◌∷◌, ◌++◌, length, refl, sym, ap, ap₂, ◌∙◌, subst, arith, append_assoc, append-nil, length-append}
 use Rattle.std.proofs.lemmas.Bool.{false≢true}
 use Rattle.std.specs.Bool.{OnTrue, OnFalse}
 use Rattle.dns_spec.specs.Names.{Octets, DomainName}
@@ -93,25 +93,9 @@ written_after {head} {limit} {ms} {ms'} {b} {b'} {b''} {ks} {laid} {laid'} {fits
 pub not_written : {head : Octets → ℕ} {limit : ℕ} {ms : List Placed} {b b' : Octets} {ks : List Kept} {laid : Laid} → limit < length (b ++ laid.written) → IsWritten head limit ms b laid false b' ks
 not_written past = record { exactly = (λ no. absurd (false≢true no), λ h. absurd (omega (arith, h, past))); written = tt; holds = tt }
 
-pub extends_same : {b b' : Octets} {ks ks' : List Kept} → b' ≡ b → ks' ≡ ks → Extends b ks b' ks'
-extends_same {b} {ks = ks} e f = record { more_octets = []; octets = e ∙ sym (append-nil b); more_places = []; places = f ∙ sym (append-nil ks) }
-
 -- the length of data, by writing it 10 octets further on
 measured_place : (b b' z : Octets) → b' ≡ b ++ z → length z ≡ 10 → length b' ≡ length b + 10
 measured_place b b' z e ten = ap length e ∙ length-append b z ∙ ap (λ k. length b + k) ten
-
-pub measured : {head : Octets → ℕ} {limit : ℕ} {ms : List Placed} {b' b'' : Octets} {ks : List Kept} (b : Octets) (ps : List Part) (z : Octets) → b' ≡ b ++ z → length z ≡ 10
-    → IsWritten head limit ms b' (data_laid ms (length b') ps) true b'' ks → length b'' ≡ length b + 10 + length (data_laid ms (length b + 10) ps).written
-measured {ms = ms} {b'} b ps z e ten done =
-    let at = measured_place b b' z e ten in
-    ap length done.written ∙ length-append b' (data_laid ms (length b') ps).written ∙ ap₂ (λ k p. k + length (data_laid ms p ps).written) at at
-
-pub unmeasured : {head : Octets → ℕ} {limit : ℕ} {ms : List Placed} {b' b'' : Octets} {ks : List Kept} (b : Octets) (ps : List Part) (z : Octets) → b' ≡ b ++ z → length z ≡ 10
-    → IsWritten head limit ms b' (data_laid ms (length b') ps) false b'' ks → limit < length b + (10 + length (data_laid ms (length b + 10) ps).written)
-unmeasured {limit = limit} {ms} {b'} b ps z e ten done =
-    let at = measured_place b b' z e ten in
-    let over : limit < length (b' ++ (data_laid ms (length b') ps).written) = lt_of_not-le (λ fits. false≢true (done.exactly.1 fits)) in
-    omega (arith, over, at, length-append b' (data_laid ms (length b') ps).written, ap (λ p. length (data_laid ms p ps).written) at)
 
 -- what follows an owner
 abbrev pub numbers_of : ℕ → ℕ → ℕ → Octets
@@ -176,7 +160,3 @@ record_past limit ms b n t ttl o past =
     let d = (data_laid (ms ++ (n, length b) ∷ []) (length b + length w + 10) (laid_parts t o)).written in
     let tail = record_tail (shown n t ttl o) d in
     omega (arith, past, length-shared_octets ms n, length-append b (w ++ tail), length-append w tail)
-
-pub on_true : {A : Type 0} (t : Bool) → A → OnTrue t A
-on_true true a = a
-on_true false a = tt

@@ -1,23 +1,22 @@
 -- A name laid out is one more earlier name: the message spells its suffixes, and the places kept answer for them.
-use Rattle.std.proofs.Common.{◌≡◌, ℕ, zero, suc, ◌+◌, ◌-◌, ◌<◌, ◌≤◌, Bool, true, false, cond, nat_le, ◌⊎◌, inl, inr, List, [], ◌∷◌, ◌++◌, length, take, drop, replicate, slice_get, Option, None, Some, refl, sym, ap, ap₂, ◌∙◌, subst, subst₂, arith, append_assoc, append-nil, length-append}
+use Rattle.std.proofs.Common.{◌≡◌, ℕ, zero, suc, ◌+◌, ◌-◌, ◌<◌, ◌≤◌, Bool, true, false, cond, nat_le, ◌⊎◌, inl, inr, List, [], ◌∷◌, ◌++◌, length, take, drop, replicate, slice_get, Option, None, Some, refl, sym, ap, ap₂, ◌∙◌, subst, arith, append_assoc, append-nil, length-append}
 use Rattle.std.proofs.lemmas.Bool.{and_parts, leb-true}
 use Rattle.std.proofs.lemmas.Option.{none-some, same_Some}
 use Rattle.std.proofs.lemmas.List.{length-take-le, take-append-le}
 use Rattle.std.proofs.Math.Seq.{take-append-add}
 use Rattle.std.specs.List.{list_all}
-use Rattle.std.specs.Bool.{OnTrue}
 use Rattle.dns_spec.specs.Names.{Octets, DomainName, wire, is_name, is_label}
 use Rattle.dns_spec.specs.Reading.{RunAt}
 use Rattle.dns_spec.specs.Reading.RunAt.{ends, goes_on, jumps}
-use Rattle.dns_spec.specs.Layout.{Placed, has_suffix, suffix_place, place_of, last_place, shared_place, shared_octets, cost, pointer}
+use Rattle.dns_spec.specs.Layout.{Placed, has_suffix, suffix_place, place_of, last_place, shared_place, shared_octets, cost}
 use Rattle.dns_spec.proofs.DomainNames.NameLaws.{is_name-tail}
 use Rattle.dns_spec.proofs.Messages.Places.{Stands}
 use Rattle.dns_spec.proofs.Layouts.LayoutSize.{length-shared_octets}
 use Rattle.dns_spec.proofs.Layouts.SameLayout.{begins_inside}
-use Rattle.dns_spec.proofs.Layouts.SharedNames.{suffix_from, suffix_to, place_again, place_pushed, shared_is, shared_to, shared_none, shared_whole, shared_pointed, shared_root, shared_alone, Known, known_more}
-use Rattle.dns_wire.specs.Kept.{Kept, IsKept, HasPlace, SpelledAt, SpellsName}
+use Rattle.dns_spec.proofs.Layouts.SharedNames.{suffix_from, suffix_to, place_again, place_pushed, shared_is, shared_to, shared_none, shared_whole, shared_pointed, shared_root, Known, known_more}
+use Rattle.dns_wire.specs.Kept.{Kept, IsKept}
 use Rattle.dns_wire.specs.Writing.{front_size, pointed_place, end_octets, new_places, Answers, Holds}
-use Rattle.dns_wire.proofs.Suffixes.{found, front-none, front-some, front-root, pointed-none, pointed-some, pointed-root, kept-none, kept-more, kept-some, kept-root}
+use Rattle.dns_wire.proofs.Suffixes.{front-none, front-some, front-root, pointed-none, pointed-some, pointed-root, kept-none, kept-more, kept-some, kept-root}
 
 -- a name is laid out as its front and its end
 front_short : (ms : List Placed) (n : DomainName) → front_size ms n < length (wire n)
@@ -50,28 +49,6 @@ pub cost_is : (ms : List Placed) (n : DomainName) → cost ms n ≡ front_size m
 cost_is ms n =
     sym (length-shared_octets ms n) ∙ ap length (name_laid ms n) ∙ length-append (take (front_size ms n) (wire n)) (end_octets (pointed_place ms n))
     ∙ ap (λ k. k + length (end_octets (pointed_place ms n))) (length-take-le (front_size ms n) (wire n) (let s = front_short ms n in omega (arith, s)))
-
--- a name that is found whole is laid out as a pointer, and nothing of it is kept
-pub record LaidAt (head : Octets → ℕ) (ms : List Placed) (n : DomainName) (p at : ℕ) : Type 0 where
-  pub cost : cost ms n ≡ length (pointer p)
-  pub octets : shared_octets ms n ≡ pointer p
-  pub kept : new_places head ms n at ≡ []
-
-pub laid_at : {head : Octets → ℕ} {ms : List Placed} {b : Octets} {ks : List Kept} {o : Octets} (n : DomainName) (p at : ℕ) → Holds head ms b ks
-    → HasPlace ks p → SpellsName b p o → o ≡ wire n → is_name n ≡ true → LaidAt head ms n p at
-laid_at {head} {ms} {b} {o = o} n p at holds kept there e ok =
-    let f = found n holds ok kept (subst (SpelledAt b p) e (there n e ok)) in
-    let octets : shared_octets ms n ≡ pointer p = ap (shared_octets ms) f.whole ∙ shared_pointed ms f.label f.labels p f.shared in
-    record {
-      cost = sym (length-shared_octets ms n) ∙ ap length octets;
-      octets = octets;
-      kept = ap (λ m. new_places head ms m at) f.whole ∙ kept-some head ms f.label f.labels at p f.shared;
-    }
-
--- a name with nothing before it is written whole
-pub front_alone : (n : DomainName) → front_size [] n + 1 ≡ length (wire n)
-front_alone [] = ap (λ k. k + 1) (front-root [])
-front_alone (l ∷ n) = let more = front_alone n in omega (arith, more, front-none [] l n refl, length-append l (wire n))
 
 -- what is read stays, whatever comes after
 get_more : (b x : Octets) (i o : ℕ) → slice_get b i ≡ Some o → slice_get (b ++ x) i ≡ Some o
@@ -274,14 +251,6 @@ module _ (head : Octets → ℕ) (ms : List Placed) (b : Octets) (ks : List Kept
               let at = f.2 in
               omega (arith, inside, at, length-append b (shared_octets ms n))
 
--- so does one that is laid out as a pointer, and no place comes
-pub holds_pointed : {head : Octets → ℕ} {ms : List Placed} {ks ks' : List Kept} (b b' : Octets) (n : DomainName) (p : ℕ) (fits : Bool) → Holds head ms b ks → is_name n ≡ true
-    → LaidAt head ms n p (length b) → OnTrue fits (b' ≡ b ++ shared_octets ms n) → ks' ≡ ks → OnTrue fits (Holds head (ms ++ (n, length b) ∷ []) b' ks')
-holds_pointed b b' n p false holds ok laid is places = tt
-holds_pointed {head} {ms} {ks} b b' n p true holds ok laid is places =
-    let none = ap (λ x. ks ++ x) laid.kept ∙ append-nil ks in
-    subst₂ (λ x y. Holds head (ms ++ (n, length b) ∷ []) x y) (sym is) (none ∙ sym places) (holds_name head ms b ks holds n ok)
-
 -- octets that are no name leave all as it is
 pub holds_octets : {head : Octets → ℕ} {ms : List Placed} {b : Octets} {ks : List Kept} (x : Octets) → Holds head ms b ks → Holds head ms (b ++ x) ks
 holds_octets {b = b} x holds = record {
@@ -299,6 +268,3 @@ holds_nothing head = record {
   after_header = omega arith;
   answers = record { complete = λ l n p e. absurd (none-some p e); sound = λ p h kept. absurd (none-some _ kept.1) };
 }
-
-pub cost_alone : (n : DomainName) → cost [] n ≡ length (wire n)
-cost_alone n = sym (length-shared_octets [] n) ∙ ap length (shared_alone n)

@@ -1,5 +1,5 @@
 -- A piece of data stands at a place, at most one, and what it is decides of the data.
-use Rattle.std.proofs.Common.{◌≡◌, ◌≢◌, ℕ, zero, suc, ◌+◌, ◌-◌, ◌<◌, ◌≤◌, true, ◌&&◌, not, nat_le, ◌==◌, List, [], ◌∷◌, ◌++◌, length, take, drop, get_or, slice_get, None, Some, refl, sym, ap, ◌∙◌, subst, arith, append_assoc, append-nil, add-zero}
+use Rattle.std.proofs.Common.{◌≡◌, ◌≢◌, ℕ, zero, suc, ◌+◌, ◌-◌, ◌<◌, ◌≤◌, true, ◌&&◌, not, nat_le, ◌==◌, List, [], ◌∷◌, ◌++◌, length, take, drop, get_or, slice_get, Some, refl, sym, ap, ◌∙◌, subst, arith, append_assoc, append-nil, add-zero}
 use Rattle.std.proofs.lemmas.Bool.{and_parts, and_from, leb-true, le-leb, ne_eqb, false≢true}
 use Rattle.std.proofs.lemmas.Option.{none-some, same_Some, cond_some, slice_get-get_or}
 use Rattle.std.proofs.lemmas.List.{length-take-le, length-drop, take-take, get_or-take, get_or-drop}
@@ -8,7 +8,6 @@ use Rattle.dns_spec.specs.Data.{width, Piece, fixed, domain, string, strings, an
 use Rattle.dns_spec.specs.Reading.{RunAt, NameAt, OctetsAt, PiecesAt}
 use Rattle.dns_spec.specs.Reading.RunAt.{ends, goes_on, jumps}
 use Rattle.dns_spec.proofs.Messages.OneMessage.{same_octets, same_names}
-use Rattle.dns_wire.specs.Labels.{NoNameAt}
 use Rattle.dns_wire.specs.Pieces.{PieceAt, IsPieceRead, NoPieceAt, NoPiecesAt, ArePiecesRead}
 
 -- the first of some pieces, and the others
@@ -78,10 +77,6 @@ none_of b p ps i e none d h =
     let c = first_of b p ps i e d h in
     none c.place c.front c.first (all_forward b ps c.place e c.rest c.others)
 
--- Reading begins with all pieces, takes one after another, and ends with none.
-pub pieces_begin : (b : Octets) (ps : List Piece) (i e : ℕ) → i ≤ e → ArePiecesRead b ps i e ps i []
-pieces_begin b ps i e inside = record { inside = inside; forth = λ rest h. h; back = λ d h. (d, refl, h) }
-
 pub piece_more : {b : Octets} {ps : List Piece} {i e j k : ℕ} {p : Piece} {left : List Piece} {so_far now : Octets}
     → ArePiecesRead b ps i e (p ∷ left) j so_far → IsPieceRead b p j e so_far now k → ArePiecesRead b ps i e left k now
 piece_more {b} {ps} {i} {e} {j} {k} {p} {left} {so_far} {now} reading read = record {
@@ -105,9 +100,6 @@ pieces_none {b} {ps} {i} {e} {j} {p} {left} reading none d h = let r = reading.b
 
 pub pieces_end : {b : Octets} {ps : List Piece} {i e j : ℕ} {so_far : Octets} → ArePiecesRead b ps i e [] j so_far → j ≡ e → PiecesAt b ps i e so_far
 pieces_end {b} {ps} {i} {e} {j} {so_far} reading end = subst (PiecesAt b ps i e) (append-nil so_far) (reading.forth [] (end, refl))
-
-pub pieces_too_short : {b : Octets} {ps : List Piece} {i e j : ℕ} {so_far : Octets} → ArePiecesRead b ps i e [] j so_far → j ≢ e → NoPiecesAt b ps i e
-pieces_too_short reading other d h = let r = reading.back d h in other r.2.0
 
 -- The octets of the data, from place i to place e, begin with a piece that is no name exactly where it stands there.
 abbrev pub own_of : Octets → ℕ → ℕ → Octets
@@ -214,15 +206,9 @@ module _ (b : Octets) (i e : ℕ) (ordered : i ≤ e) (within : e ≤ length b) 
       ((octets own, []), rw tests refl)
   begins anything j o other h inside = ((octets own, []), refl)
 
-  pub run_missing : (p : Piece) → p ≢ domain → piece_front p (own_of b i e) ≡ None → NoPieceAt b p i e
-  run_missing p other none j o h inside = let r = begins p j o other h inside in none-some r.0 (sym none ∙ r.1)
-
 -- a name that ends past the data
 pub long_name_none : (b : Octets) (i e j : ℕ) (n : DomainName) → NameAt b i n j → e < j → NoPieceAt b domain i e
 long_name_none b i e j n there past k o h inside = let s = same_names refl there h.1 in omega (arith, s.1)
-
-pub no_name_none : (b : Octets) (i e : ℕ) → NoNameAt b i → NoPieceAt b domain i e
-no_name_none b i e none j o h inside = none h.0 j h.1
 
 -- the piece that octets begin with, appended
 pub piece_read : (b : Octets) (p : Piece) (i e : ℕ) (part : Part) (rest lent old now : Octets) → i ≤ e → e ≤ length b → p ≢ domain

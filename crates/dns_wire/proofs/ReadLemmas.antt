@@ -58,10 +58,6 @@ one_record b i q r e f g h =
     let s = same_record b q r i i g.after_owner h.after_owner g.data_length h.data_length refl g.there h.there in
     (s.0, g.end ∙ ap₂ (λ y z. y + 10 + z) s.1 s.2 ∙ sym h.end)
 
--- Reading begins with none, and takes one after another.
-pub questions_begin : (b : Octets) (i : ℕ) → i ≤ length b → QuestionsRead b i [] i
-questions_begin b i within = record { within = within; forth = λ qs e h. h; back = λ ws e h few. (ws, refl, h) }
-
 first_question : (b : Octets) (i : ℕ) (q : MessageQuestion) (qs : List MessageQuestion) (e : ℕ) → QuestionsAt b i (q ∷ qs) e
     → (k : ℕ) × QuestionAt b i q k × QuestionsAt b k qs e
 first_question b i q qs e h = (h.0 + 4, record { after_name = h.0; name = h.1; qtype = h.2; qclass = h.3; end = refl }, h.4)

@@ -1,6 +1,5 @@
 -- What a run of labels has at a place decides how it goes on.
-use Rattle.std.proofs.Common.{◌≡◌, ℕ, ◌+◌, ◌-◌, ◌*◌, ◌<◌, ◌≤◌, true, IfSome, [], ◌∷◌, ◌++◌, length, take, drop, get_or, slice_get, Option, None, Some, refl, sym, ap, ap₂, ◌∙◌, subst, arith, append_assoc, append-nil, length-append}
-use Rattle.std.proofs.lemmas.Nat.{mul-add-lt}
+use Rattle.std.proofs.Common.{◌≡◌, ℕ, ◌+◌, ◌<◌, ◌≤◌, true, IfSome, [], ◌∷◌, ◌++◌, length, take, drop, get_or, slice_get, Option, None, Some, refl, sym, ap, ap₂, ◌∙◌, subst, arith, append_assoc, append-nil, length-append}
 use Rattle.std.proofs.lemmas.Option.{same_Some, slice_get_within, slice_get-get_or}
 use Rattle.std.proofs.lemmas.List.{length-take-le, length-drop}
 use Rattle.dns_spec.specs.Names.{Octets, DomainName, wire, is_name}
@@ -69,20 +68,6 @@ length-wire-front [] (l ∷ m) = omega arith
 length-wire-front (l ∷ n) m =
     let shorter = length-wire-front n m in
     omega (arith, length-append l (wire n), length-append l (wire (n ++ m)))
-
--- A name is read from its place on.
-pub reading_begins : (b : Octets) (at : ℕ) → at ≤ length b → IsReading b at [] at at None
-reading_begins b at within = record {
-  is_name = refl;
-  within = within;
-  end_within = tt;
-  forth = λ m e run. run;
-  back = λ w f run. (w, f, run, refl, refl);
-}
-
--- no name goes on, so that none is there
-pub nothing_read : {b : Octets} {at s i : ℕ} {n : DomainName} {end : Option ℕ} → IsReading b at n s i end → NoRunAt b s i → NoNameAt b at
-nothing_read reading none w f name = let r = reading.back w f name.0 in none r.0 r.1 r.2
 
 -- the end
 pub reading_ends : {b : Octets} {at s i : ℕ} {n : DomainName} {end : Option ℕ} → IsReading b at n s i end → slice_get b i ≡ Some 0
@@ -162,10 +147,3 @@ reading_jumps {b} {at} {s} {i} {p} {n} {end} reading there inside = record {
         let two : there.second ≡ pointer.second = same_Some there.second pointer.second (sym there.second_there ∙ pointer.second_there) in
         let same : place ≡ p = pointer.place ∙ ap₂ pointer_place (sym one) (sym two) ∙ sym there.place in
         (m, d, subst (λ x. RunAt b x x m d) same run, q, r ∙ ap (end_or end) is)
-
--- the measure falls: fewer octets are left, or the run began earlier
-pub falls_by_label : (s i j k : ℕ) → i < j → j ≤ k → s * (k + 1) + (k - j) < s * (k + 1) + (k - i)
-falls_by_label s i j k h l = omega arith
-
-pub falls_by_jump : (s p i k : ℕ) → p < s → p ≤ k → i ≤ k → p * (k + 1) + (k - p) < s * (k + 1) + (k - i)
-falls_by_jump s p i k h l m = omega (arith, mul-add-lt p (k + 1) (k - p) s h (omega arith))

@@ -1,5 +1,5 @@
 -- What is found for a suffix is where it is shared, and what is kept of a name is just what later names may share of it.
-use Rattle.std.proofs.Common.{◌≡◌, ℕ, zero, suc, ◌+◌, ◌-◌, ◌*◌, ◌<◌, ◌≤◌, Bool, true, false, cond, nat_le, List, [], ◌∷◌, ◌++◌, length, take, drop, get_or, Option, None, Some, refl, sym, ap, ap₂, ◌∙◌, subst, arith, append_assoc, append-nil, length-append, drop_at, take_at, le-leb}
+use Rattle.std.proofs.Common.{◌≡◌, ℕ, zero, suc, ◌+◌, ◌-◌, ◌*◌, ◌<◌, ◌≤◌, Bool, true, false, cond, nat_le, List, [], ◌∷◌, ◌++◌, length, take, drop, get_or, Option, None, Some, refl, sym, ap, ap₂, ◌∙◌, subst, arith, append_assoc, append-nil, length-append, drop_at, le-leb}
 use Rattle.std.proofs.lemmas.Bool.{leb-true}
 use Rattle.std.proofs.lemmas.Option.{same_Some}
 use Rattle.dns_spec.specs.Names.{Octets, DomainName, wire, is_name}
@@ -340,7 +340,3 @@ extends_again {b} {ks = ks} e f = record {
   more_places = e.more_places ++ f.more_places;
   places = f.places ∙ ap (λ z. z ++ f.more_places) e.places ∙ append_assoc ks e.more_places f.more_places;
 }
-
--- what was there is what is left when the rest is taken back
-pub taken_back : {A : Type 0} (xs ys zs : List A) → zs ≡ xs ++ ys → take (length xs) zs ≡ xs
-taken_back xs ys zs e = ap (take (length xs)) e ∙ take_at xs ys (length xs) refl

@@ -14,7 +14,7 @@ ghost use Rattle.dns_spec.specs.Laws.{IsAskable};
 
 use crate::message::{CLASS_IN, HEADER_OCTETS, QuestionRef};
 use crate::places::{Places, SuffixHash};
-use crate::suffix_number::{number_of, number_once};
+use crate::suffix_number::number_of;
 use arrayvec::ArrayVec;
 use byteorder::{BigEndian, ByteOrder};
 use dns_name::{NameRef, are_equal};
@@ -157,17 +157,13 @@ impl<const N: usize, const SIZE: usize> Room<N, SIZE> {
         ensures sound { IsSoundRoom self.new }
     {
         let message = self.octets.as_slice();
-        if let Some(place) = place_before(message, self.asked_end, name) {
-            return self.append(&pointer_octets(place), &[]);
-        }
-        let number = number_of(hash, name);
-        let shared = shared_suffix(&self.places, message, hash, name, number, self.asked_end);
+        let shared = shared_suffix(&self.places, message, hash, name, self.asked_end);
         let (front, _) = name.split_at(shared.front);
         let at = self.octets.len();
         if !self.append_end(front, shared.place) {
             return false;
         }
-        keep_suffixes(&mut self.places, hash, name, number, shared.front, at);
+        keep_suffixes(&mut self.places, hash, name, shared.front, at);
         true
     }
 
@@ -478,48 +474,33 @@ struct Shared {
     place: Option<u16>,
 }
 
-// The longest suffix of a name, in its wire form, that a pointer may stand for. The name itself is
-// no suffix of the question's.
+// The longest suffix of a name, in its wire form, that a pointer may stand for.
 fn shared_suffix<H: SuffixHash, const N: usize>(
     places: &Places<N>,
     message: &[u8],
     hash: &mut H,
     name: &[u8],
-    number: u32,
     asked_end: usize,
 ) -> Shared
-    requires number { number ≡ suffix_number (H.numbers hash.old) name.now }
     requires asked { IsAsked message.now asked_end }
-    requires unasked { NotAsked message.now asked_end name.now }
-    ensures front { (ms : List Placed) (n : DomainName)
+    ensures shared { (ms : List Placed) (n : DomainName)
         → Holds (suffix_number (H.numbers hash.old)) ms message.now
         (asked_places (suffix_number (H.numbers hash.old)) message.now asked_end ++ places.now)
-        → name.now ≡ wire n → IsTrue (is_name n) → result.front ≡ front_size ms n }
-    ensures place { (ms : List Placed) (n : DomainName)
-        → Holds (suffix_number (H.numbers hash.old)) ms message.now
-        (asked_places (suffix_number (H.numbers hash.old)) message.now asked_end ++ places.now)
-        → name.now ≡ wire n → IsTrue (is_name n) → result.place ≡ pointed_place ms n }
+        → name.now ≡ wire n → IsTrue (is_name n)
+        → (front_size ms n ≡ result.front) × (pointed_place ms n ≡ result.place) }
     ensures inside { result.front ≤ length name.now }
     ensures reached { IfSome result.place (λ place. place < 16384) }
     ensures same { H.numbers hash.new ≡ H.numbers hash.old }
 {
     let mut rest = name;
-    let mut known = Some(number);
     'suffixes: while let Some((_, after)) = after_first_label(rest) {
-        if let Some(place) = find_suffix(places, message, hash, rest, known) {
+        if let Some(place) = find_suffix(places, message, hash, rest, asked_end) {
             return Shared {
                 front: name.len() - rest.len(),
                 place: Some(place),
             };
         }
         rest = after;
-        known = None;
-        if let Some(place) = place_before(message, asked_end, rest) {
-            return Shared {
-                front: name.len() - rest.len(),
-                place: Some(place),
-            };
-        }
     }
     Shared {
         front: name.len() - rest.len(),
@@ -527,28 +508,33 @@ fn shared_suffix<H: SuffixHash, const N: usize>(
     }
 }
 
-// A place that is kept and at which the message spells a suffix. Nothing is hashed where none is
-// kept.
+// A place at which the message spells a suffix: one in the name of the question, or one that is
+// kept. Nothing is hashed where none is kept.
 fn find_suffix<H: SuffixHash, const N: usize>(
     places: &Places<N>,
     message: &[u8],
     hash: &mut H,
     suffix: &[u8],
-    known: Option<u32>,
+    asked_end: usize,
 ) -> Option<u16>
-    requires { IfSome known (λ n. n ≡ suffix_number (H.numbers hash.old) suffix.now) }
-    ensures kept { IfSome result (λ place. HasPlace places.now place) }
+    requires { IsAsked message.now asked_end }
+    ensures kept { IfSome result (λ place. HasPlace
+        (asked_places (suffix_number (H.numbers hash.old)) message.now asked_end ++ places.now)
+        place) }
     ensures spelled { IfSome result (λ place. SpellsName message.now place suffix.now) }
     ensures reached { IfSome result (λ place. place < 16384) }
-    ensures none { IsNone result
-        → NoneSpelled places.now (suffix_number (H.numbers hash.old) suffix.now)
-        message.now suffix.now }
+    ensures none { IsNone result → NoneSpelled
+        (asked_places (suffix_number (H.numbers hash.old)) message.now asked_end ++ places.now)
+        (suffix_number (H.numbers hash.old) suffix.now) message.now suffix.now }
     ensures same { H.numbers hash.new ≡ H.numbers hash.old }
 {
+    if let Some(place) = place_before(message, asked_end, suffix) {
+        return Some(place);
+    }
     if places.is_empty() {
         return None;
     }
-    let number = number_once(hash, suffix, known);
+    let number = number_of(hash, suffix);
     places.find(number, message, suffix)
 }
 
@@ -624,11 +610,9 @@ fn keep_suffixes<H: SuffixHash, const N: usize>(
     places: &mut Places<N>,
     hash: &mut H,
     name: &[u8],
-    number: u32,
     front: usize,
     at: usize,
 )
-    requires number { number ≡ suffix_number (H.numbers hash.old) name.now }
     requires short { at + front < 2 ^ 16 }
     requires room { min (at + front) 16384 ≤ 2 * N }
     requires few { 2 * length places.old ≤ at }
@@ -646,17 +630,14 @@ fn keep_suffixes<H: SuffixHash, const N: usize>(
     }
     let mut rest = name;
     let mut place = at;
-    let mut known = Some(number);
     'suffixes: while let Some((length, after)) = after_first_label(rest) {
         let next = place + 1 + length;
         if next > at + front || place > LAST_PLACE {
             return;
         }
-        let number = number_once(hash, rest, known);
-        places.insert(place as u16, number);
+        places.insert(place as u16, number_of(hash, rest));
         place = next;
         rest = after;
-        known = None;
     }
 }
 

@@ -1,5 +1,5 @@
 //! The number by which the places of a suffix are told from those of others, and chosen.
-ghost use Rattle.std.specs.Prelude.{◌≡◌, ◌<◌, ◌≤◌, ◌^◌, IfSome, length, take, drop, ◌+◌};
+ghost use Rattle.std.specs.Prelude.{◌≡◌, ◌<◌, ◌≤◌, ◌^◌, length, take, drop, ◌+◌};
 ghost use Rattle.std.specs.Int.{from_le_bytes, w64};
 ghost use Rattle.dns_wire.specs.SuffixNumbers.{suffix_number, octets_number, few_number, mixed};
 
@@ -17,18 +17,6 @@ pub(crate) fn number_of<H: SuffixHash>(hash: &mut H, suffix: &[u8]) -> u32
     let head = u32::from(hash.head(suffix) / 256);
     let length = (suffix.len() % 256) as u32;
     octets_number(suffix) * 1024 + length * 4 + head
-}
-
-/// The same, where it may be known already.
-pub(crate) fn number_once<H: SuffixHash>(hash: &mut H, suffix: &[u8], known: Option<u32>) -> u32
-    requires { IfSome known (λ n. n ≡ suffix_number (H.numbers hash.old) suffix.now) }
-    ensures value { result ≡ suffix_number (H.numbers hash.old) suffix.now }
-    ensures same { H.numbers hash.new ≡ H.numbers hash.old }
-{
-    match known {
-        Some(number) => number,
-        None => number_of(hash, suffix),
-    }
 }
 
 // A number of 22 bits for which all octets count, eight at a time: the last ones first, then the

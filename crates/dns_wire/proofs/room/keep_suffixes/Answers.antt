@@ -1,4 +1,4 @@
-use Rattle.std.proofs.Common.{◌≡◌, ◌∙◌, IfSome, refl, sym, ap, subst}
+use Rattle.std.proofs.Common.{◌∙◌, refl, sym, ap}
 use Rattle.dns_wire.proofs.Suffixes.{grows_none, grows_more, keep_begins, keep_label, keep_root, keep_high, keep_past, keep_none}
 use Rattle.dns_wire.specs.SuffixNumbers.{suffix_number}
 use Rattle.dns_wire.proofs.room.keep_suffixes.Goals.{then-next-at-via-then-next-at, then-next-at-via-else-next-at+then-place-gt-LAST_PLACE}
@@ -15,20 +15,18 @@ pub suffixes-init : goal.suffixes-init
 suffixes-init g c = record {
   keep = keep_begins (suffix_number (g.H.SuffixHash.numbers c.args.hash.now)) c.args.places.now c.args.name.now c.args.front c.args.at c.requires.few;
   grows = grows_none c.args.places.now;
-  known = c.requires.number;
   same = refl;
 }
 
 pub suffixes-preserved : goal.suffixes-preserved
 suffixes-preserved g c =
     let a = c.in-Some.ensures.some in
-    let number = c.number_once-number.ensures.value ∙ ap (λ f. suffix_number f c.suffixes.rest.now) c.suffixes.invariant.same in
-    let more = keep_label c.in-Some.length c.number_once-number.result c.suffixes.invariant.keep a.first a.some a.fits a.cut c.if-next-at.false c.if-place-gt-LAST_PLACE.false number in
+    let number = c.number_of.ensures.value ∙ ap (λ f. suffix_number f c.suffixes.rest.now) c.suffixes.invariant.same in
+    let more = keep_label c.in-Some.length c.number_of.result c.suffixes.invariant.keep a.first a.some a.fits a.cut c.if-next-at.false c.if-place-gt-LAST_PLACE.false number in
     record {
       keep = rw c.insert.ensures more;
       grows = grows_more _ c.suffixes.invariant.grows c.insert.ensures;
-      known = tt;
-      same = c.number_once-number.ensures.same ∙ c.suffixes.invariant.same;
+      same = c.number_of.ensures.same ∙ c.suffixes.invariant.same;
     }
 
 pub returns-then-next-at-clause-kept : goal.returns-then-next-at-clause-kept
@@ -41,8 +39,3 @@ returns-then-next-at-clause-kept g c = λ ms n e ok front.
 
 pub returns-clause-kept : goal.returns-clause-kept
 returns-clause-kept g c = λ ms n e ok front. keep_root c.suffixes.invariant.keep (c.in_default.ensures.root refl) ms n e ok front
-
-pub number_once-number-requires : goal.number_once-number-requires
-number_once-number-requires g c =
-    let i = c.suffixes.invariant in
-    subst (λ h. IfSome c.suffixes.known (λ n. n ≡ suffix_number h c.suffixes.rest.now)) (sym i.same) i.known

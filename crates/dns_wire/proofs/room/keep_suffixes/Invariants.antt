@@ -1,4 +1,4 @@
-use Rattle.std.proofs.Common.{IfSome, ◌≡◌, length}
+use Rattle.std.proofs.Common.{◌≡◌, length}
 use Rattle.dns_wire.specs.Writing.{Grows}
 use Rattle.dns_wire.proofs.Suffixes.{Keep}
 use Rattle.dns_wire.specs.SuffixNumbers.{suffix_number}
@@ -9,7 +9,6 @@ abbrev pub invariant-suffixes : goal.invariant-suffixes
 invariant-suffixes g l = record {
   keep : Keep (suffix_number (g.H.SuffixHash.numbers l.initial.hash)) l.initial.places l.places l.name l.rest l.front l.at l.place;
   grows : Grows l.initial.places l.places;
-  known : IfSome l.known (λ n. n ≡ suffix_number (g.H.SuffixHash.numbers l.initial.hash) l.rest);
   same : g.H.SuffixHash.numbers l.hash ≡ g.H.SuffixHash.numbers l.initial.hash;
 }
 
