@@ -25,10 +25,6 @@ module _ (z : ZoneContents) (q : DomainName) (t : ℕ) where
   unfolding outcome chain_outcome chain
   rcode-is = refl
 
-  pub referral-is : (outcome z q t).referral ≡ (chain_outcome z t 16 [] q).referral
-  unfolding outcome chain_outcome chain
-  referral-is = refl
-
   no-answers : (front : List Item) (x : Option DomainName) (y : Option (List ResourceRecord)) (b : Bool) → (length front == 0) ≡ not b
       → not (is_some (outcome_by z t x y).referral && length (front ++ (outcome_by z t x y).answers) == 0) ≡ not (is_some (outcome_by z t x y).referral && not b)
   no-answers front (Some c) y b e = ap not (ap (λ (is : List Item). length is == 0) (append-nil front) ∙ e)
@@ -136,9 +132,6 @@ module _ (z : ZoneContents) (q : DomainName) (t : ℕ) where
   end-costs : TargetCosts z (chain_outcome z t 16 [] q)
   unfolding chain_outcome outcome_at chain
   end-costs = let s = last_sought z q t in costs z t (cut_of z s) (found z s)
-
-  abbrev all_targets : List DomainName
-  all_targets = targets (outcome z q t)
 
   targets-end : targets (outcome z q t) ≡ targets (chain_outcome z t 16 [] q)
   unfolding chain_outcome chain

@@ -17,7 +17,7 @@ use Rattle.dns_answer.specs.DraftForm.{State, Holds}
 use Rattle.dns_answer.specs.Walks.{Took}
 use Rattle.dns_answer.specs.Ending.{ending_targets, others_by}
 use Rattle.dns_answer.specs.Chain.{chain_items, chain_required, chain_outcome, chain_nodes, chain_misses, aliases_of, names_from}
-use Rattle.dns_answer.specs.Seeking.{SeeksFrom, Seeks, Followed, TookFrom}
+use Rattle.dns_answer.specs.Seeking.{SeeksFrom, Followed, TookFrom}
 use Rattle.dns_answer.specs.Replies.{IsReply, Answers, Costs}
 use Rattle.dns_answer.specs.declared.ending.Verdict.{Verdict}
 use Rattle.dns_answer.proofs.Offering.{Offers-is}
@@ -69,7 +69,7 @@ module _ (z : ZoneContents) (h : Header) (q : MessageQuestion) where
       go true b f e more = ap (λ x. not (not x)) (more refl) ∙ ap (λ x. not (x && not f)) e
       go false b f e more = ap (λ x. not (x && not f)) e
 
-  answers : (w w' : State) (v : Verdict) (led aa : Bool) (head : Header) → SeeksFrom w w' z q.qtype 16 [] q.qname v → Followed z q.qtype q.qname v led
+  answers : (w w' : State) (v : Verdict) (led aa : Bool) (head : Header) → SeeksFrom w w' z q.qtype [] q.qname v → Followed z q.qtype q.qname v led
       → aa ≡ not (v.is_referral && not led) → head ≡ reply_head h aa v.is_truncated (code_of v.rcode) → Answers z h q w w' head
   answers w w' v led aa head seeks followed authority is_head = record {
     offers = Offers-is w w' _ _ (sym (chain-all z q.qname q.qtype)) seeks.offers;
@@ -82,13 +82,12 @@ module _ (z : ZoneContents) (h : Header) (q : MessageQuestion) where
 
   -- So they are where the zone and the question are stated by other names.
   pub answers-found : (z1 : ZoneContents) (n : DomainName) (t : ℕ) (w w' : State) (v : Verdict) (led aa : Bool) (head : Header) → z1 ≡ z → n ≡ q.qname → t ≡ q.qtype
-      → Seeks w w' z1 t 16 (n ∷ []) n v → Followed z1 t n v led → aa ≡ not (v.is_referral && not led)
+      → SeeksFrom w w' z1 t [] n v → Followed z1 t n v led → aa ≡ not (v.is_referral && not led)
       → head ≡ reply_head h aa v.is_truncated (code_of v.rcode) → Answers z h q w w' head
   answers-found z1 n t w w' v led aa head same_zone same_name same_type seeks followed authority is_head =
-      let found = seeks [] (λ p. refl) in
-      let from : SeeksFrom w w' z q.qtype 16 [] q.qname v =
-      subst (λ y. SeeksFrom w w' y q.qtype 16 [] q.qname v) same_zone
-      (subst (λ m. SeeksFrom w w' z1 q.qtype 16 [] m v) same_name (subst (λ u. SeeksFrom w w' z1 u 16 [] n v) same_type found))
+      let from : SeeksFrom w w' z q.qtype [] q.qname v =
+      subst (λ y. SeeksFrom w w' y q.qtype [] q.qname v) same_zone
+      (subst (λ m. SeeksFrom w w' z1 q.qtype [] m v) same_name (subst (λ u. SeeksFrom w w' z1 u [] n v) same_type seeks))
       in
       let then : Followed z q.qtype q.qname v led =
       subst (λ y. Followed y q.qtype q.qname v led) same_zone
@@ -115,13 +114,13 @@ module _ (z : ZoneContents) (h : Header) (q : MessageQuestion) where
 
 -- What the search for the question's name took is no more than an answer may take.
 pub answer-costs : (h : Header) (q : MessageQuestion) (n : DomainName) (t : ℕ) (s s1 s' : Walk) → is_name q.qname ≡ true → n ≡ q.qname → t ≡ q.qtype
-    → s.visits ≡ 0 → s.comparisons ≡ 0 → s1.visits ≡ s.visits + 1 → s1.comparisons ≡ s.comparisons → s1.zone ≡ s.zone → TookFrom s1 s' t 16 (n ∷ []) n → Costs (answered h q) s s'
+    → s.visits ≡ 0 → s.comparisons ≡ 0 → s1.visits ≡ s.visits + 1 → s1.comparisons ≡ s.comparisons → s1.zone ≡ s.zone → TookFrom s1.zone s1 s' t [] n → Costs (answered h q) s s'
 answer-costs h q n t s s1 s' name same_name same_type visits comparisons one_visit same_count zone took =
     let z = s.zone in
     let there : Took s1 s' (chain_nodes z q.qtype 16 [] q.qname) (chain_misses z q.qtype 16 [] q.qname) =
     subst (λ y. Took s1 s' (chain_nodes y q.qtype 16 [] q.qname) (chain_misses y q.qtype 16 [] q.qname)) zone
     (subst (λ m. Took s1 s' (chain_nodes s1.zone q.qtype 16 [] m) (chain_misses s1.zone q.qtype 16 [] m)) same_name
-    (subst (λ u. Took s1 s' (chain_nodes s1.zone u 16 [] n) (chain_misses s1.zone u 16 [] n)) same_type (took [] (λ p. refl))))
+    (subst (λ u. Took s1 s' (chain_nodes s1.zone u 16 [] n) (chain_misses s1.zone u 16 [] n)) same_type took))
     in
     let fits = visits-fit z q.qname q.qtype s1 s' _ (omega (arith, visits, one_visit)) there in
     let few = few_nodes z q.qname q.qtype name in

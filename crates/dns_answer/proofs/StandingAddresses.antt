@@ -29,14 +29,8 @@ stands-item : (s : Section) (n : DomainName) (t : ℕ) (rs : List ResourceRecord
 stands-item s n t rs = ap (list_any (is_at n t)) (item_records s rs)
 
 -- names that are the same
-same-turned : (n m : DomainName) → same n m ≡ true → same m n ≡ true
-same-turned n m e = same-from m n (sym (same-is n m e))
-
 same-joined : (r n m : DomainName) → same r n ≡ true → same r m ≡ true → same n m ≡ true
 same-joined r n m e f = same-from n m (sym (same-is r n e) ∙ same-is r m f)
-
-pub any-same : (n m : DomainName) (ms : List DomainName) → same n m ≡ true → list_any (same n) ms ≡ list_any (same m) ms
-any-same n m ms e = ap (λ f. list_any (λ x. names_equal f (folded x)) ms) (same-is n m e)
 
 stands-same : (n m : DomainName) (t : ℕ) (is : List Item) → same n m ≡ true → stands m t is ≡ stands n t is
 stands-same n m t is e = ap (λ f. list_any (λ (r : ResourceRecord). names_equal (folded r.owner) f && r.rtype == t) (records_of is)) (sym (same-is n m e))

@@ -1,5 +1,5 @@
 -- The targets of a set, one after the other, and what was offered for those before.
-use Rattle.std.proofs.Common.{◌≡◌, ℕ, zero, suc, ◌+◌, ◌*◌, ◌-◌, ◌<◌, ◌≤◌, Bool, true, false, cond, ◌||◌, ◌&&◌, ◌⊎◌, inl, inr, not, List, [], ◌∷◌, ◌++◌, map, sum, length, take, drop, get_or, Option, None, Some, refl, sym, ap, ◌∙◌, arith, add-one, append_assoc, append-nil, length-append, subst}
+use Rattle.std.proofs.Common.{◌≡◌, ℕ, zero, suc, ◌+◌, ◌*◌, ◌-◌, ◌<◌, ◌≤◌, Bool, true, false, cond, ◌||◌, ◌&&◌, ◌⊎◌, inl, inr, not, List, [], ◌∷◌, ◌++◌, map, sum, length, take, drop, get_or, Option, None, Some, refl, sym, ap, ap₂, ◌∙◌, arith, add-one, append_assoc, append-nil, length-append, subst}
 use Rattle.std.proofs.Math.Seq.{take-suc}
 use Rattle.std.proofs.lemmas.Bool.{false≢true, false_from_ne_true, and_parts, leb-true}
 use Rattle.std.proofs.lemmas.List.{take-append-drop}
@@ -7,7 +7,7 @@ use Rattle.std.proofs.lemmas.List.Elements.{filter-append, filter_map-append}
 use Rattle.std.proofs.lemmas.List.Folds.{list_all-append, list_any-append}
 use Rattle.std.specs.Option.{option_to_list}
 use Rattle.std.specs.List.{list_all, list_any, filter, filter_map, cons_option}
-use Rattle.dns_spec.specs.Names.{Octets, DomainName, folded, same, at_or_below}
+use Rattle.dns_spec.specs.Names.{Octets, DomainName, folded, names_equal, same, at_or_below}
 use Rattle.dns_spec.specs.Data.{target, type_a, type_aaaa}
 use Rattle.dns_spec.specs.Records.{ResourceRecord, ZoneContents, at, of_type}
 use Rattle.dns_spec.specs.Sets.{RecordSet, set_of}
@@ -226,10 +226,6 @@ pub item-none : (s : Section) (rs : List ResourceRecord) → set_of rs ≡ None 
 item-none s [] e = refl
 item-none s (r ∷ rs) e = absurd (cc)
 
-pub item-some : (s : Section) (rs : List ResourceRecord) (set : RecordSet) → set_of rs ≡ Some set → item s rs ≡ record { section = s; records = rs } ∷ []
-item-some s [] set e = absurd (cc)
-item-some s (r ∷ rs) set e = refl
-
 -- a zone has no records outside
 owner_inside : (z : ZoneContents) → IsBuilt z → (r : ResourceRecord) → Among r z.records → at_or_below r.owner z.origin ≡ true
 owner_inside z kept r m =
@@ -319,3 +315,7 @@ Took-nothing s = record { zone = refl; from = omega arith; visits = omega arith;
 -- a name at or below another has no fewer labels
 pub longer-below : (n a : DomainName) → at_or_below n a ≡ true → length a ≤ length n
 longer-below n a h = leb-true (length a) (length n) (and_parts (nat_le (length a) (length n)) (same (drop (length n - length a) n) a) h).0
+
+-- names in lower case are the same where they are equal
+pub same-lower : (n m : DomainName) → folded n ≡ n → folded m ≡ m → names_equal n m ≡ same n m
+same-lower n m low kept = sym (ap₂ names_equal low kept)

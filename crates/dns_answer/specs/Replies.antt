@@ -1,7 +1,7 @@
 -- What a reader learns here: how a question is judged, when a reply was put, and what it may take.
-use Rattle.std.specs.Prelude.{◌≡◌, ◌↔◌, ℕ, ◌+◌, ◌*◌, ◌≤◌, true, length, take, Option, None, Some, IsTrue, IsNone, IfSome}
+use Rattle.std.specs.Prelude.{◌≡◌, ◌↔◌, ℕ, ◌*◌, ◌≤◌, length, take, Option, None, Some, IsTrue, IsNone, IfSome}
 use Rattle.std.specs.Option.{option_map}
-use Rattle.dns_spec.specs.Names.{Octets, at_or_below}
+use Rattle.dns_spec.specs.Names.{Octets}
 use Rattle.dns_spec.specs.Records.{ZoneContents}
 use Rattle.dns_spec.specs.Reading.{Header, MessageQuestion, Spells}
 use Rattle.dns_spec.specs.Query.{is_ignored}
@@ -12,15 +12,15 @@ use Rattle.dns_zone.specs.Nodes.{Walk}
 use Rattle.dns_wire.specs.QueryForm.{code_of}
 use Rattle.dns_answer.specs.Draft.{empty_draft}
 use Rattle.dns_answer.specs.DraftForm.{State, Holds, Offers}
+use Rattle.dns_answer.specs.Walks.{IsBelow}
 use Rattle.dns_answer.specs.declared.reply.Judged.{Judged}
 use Rattle.dns_answer.specs.declared.reply.Judged.TheVariants.{Refused, Answered}
 
--- a question is refused with an RCODE, or its name is so many labels below the origin
+-- a question is refused with an RCODE, or its name is sought from the origin
 abbrev pub JudgedAs : ZoneContents → MessageQuestion → Judged → Type 0
 JudgedAs z q (Refused rcode) = refusal z q ≡ Some (code_of rcode)
-JudgedAs z q (Answered depth) =
-    (refusal z q ≡ None) × (at_or_below q.qname z.origin ≡ true)
-    × (length q.qname ≡ length z.origin + depth) × (depth ≤ 127)
+JudgedAs z q (Answered sought) =
+    (refusal z q ≡ None) × (sought.name ≡ q.qname) × IsBelow sought z.origin
 
 -- The octets at the front of `out` are the reply that a decision makes, with the longest beginning
 -- of the sets that fits.

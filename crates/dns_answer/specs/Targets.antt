@@ -12,7 +12,8 @@ use Rattle.dns_answer.specs.declared.addresses.Side.{Side}
 use Rattle.dns_answer.specs.declared.addresses.Side.TheVariants.{All, Inside, Outside}
 use Rattle.dns_answer.specs.declared.addresses.Start.{Start}
 use Rattle.dns_answer.specs.declared.addresses.Start.TheVariants.{NotMeant, Elsewhere, Node}
-use Rattle.dns_answer.specs.Walks.{IsStart}
+use Rattle.dns_answer.specs.Walks.{IsStart, IsBelow}
+use Rattle.dns_answer.specs.declared.sought.Sought.{Sought}
 use Rattle.dns_zone.specs.Nodes.{ZoneNode}
 
 -- the targets of a set
@@ -39,21 +40,20 @@ IsSide z All = ⊤
 IsSide z (Inside cut node) = IsCutNode z cut.now node.now
 IsSide z (Outside cut) = ⊤
 
--- a target that is meant and in the zone is sought from this node, so many labels below it
+-- a target that is meant and in the zone is sought from this node
 pub record IsSoughtFrom (z : ZoneContents) (side : Side) (m : DomainName) (node : ZoneNode)
-    (depth : ℕ) : Type 0 where
+    (sought : Sought) : Type 0 where
+  pub name : sought.name ≡ m
   pub meant : side_takes side m ≡ true
   pub inside : at_or_below m z.origin ≡ true
   pub start : IsStart z node
-  pub below : at_or_below m node.name ≡ true
-  pub labels : length m ≡ length node.name + depth
-  pub fewer : depth + length z.origin ≤ length m
-  pub few : length m ≤ length z.origin + 127
+  pub below : IsBelow sought node.name
+  pub fewer : sought.depth + length z.origin ≤ length m
 
 abbrev pub SoughtFrom : ZoneContents → Side → DomainName → Start → Type 0
 SoughtFrom z side m NotMeant = side_takes side m ≡ false
 SoughtFrom z side m Elsewhere = (side_takes side m ≡ true) × (at_or_below m z.origin ≡ false)
-SoughtFrom z side m (Node node depth) = IsSoughtFrom z side m node.now depth
+SoughtFrom z side m (Node node sought) = IsSoughtFrom z side m node.now sought
 
 -- a target, if there is one, passes a test
 abbrev pub takes_target : (DomainName → Bool) → Option DomainName → Bool

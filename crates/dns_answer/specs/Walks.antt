@@ -1,9 +1,9 @@
 -- What a reader learns here: where the way down to a name ends, what is found for it, and what
 -- that took.
-use Rattle.std.specs.Prelude.{◌≡◌, ℕ, ◌+◌, ◌*◌, ◌≤◌, Bool, true, false, if◌then◌else◌}
+use Rattle.std.specs.Prelude.{◌≡◌, ℕ, ◌+◌, ◌*◌, ◌≤◌, Bool, true, false, length, if◌then◌else◌}
 use Rattle.std.specs.Prelude.{Option, None, Some}
 use Rattle.std.specs.Option.{unwrap_or}
-use Rattle.dns_spec.specs.Names.{DomainName, folded}
+use Rattle.dns_spec.specs.Names.{DomainName, folded, at_or_below}
 use Rattle.dns_spec.specs.Records.{ZoneContents, at, with_owner}
 use Rattle.dns_spec.specs.Tree.{exists, cut_of, closest_encloser, found}
 use Rattle.dns_zone.specs.Nodes.{Walk, ZoneNode, IsNode}
@@ -11,8 +11,9 @@ use Rattle.dns_answer.specs.declared.lookup.Way.{Way}
 use Rattle.dns_answer.specs.declared.lookup.Way.TheVariants as ways
 use Rattle.dns_answer.specs.declared.lookup.Found.{Found}
 use Rattle.dns_answer.specs.declared.lookup.Found.TheVariants as finds
-use Rattle.dns_answer.specs.declared.lookup.Reached.{Reached}
-use Rattle.dns_answer.specs.declared.lookup.Reached.TheVariants as reaches
+use Rattle.dns_answer.specs.declared.lookup.Cuts.{Cuts}
+use Rattle.dns_answer.specs.declared.lookup.Cuts.TheVariants.{End, Pass}
+use Rattle.dns_answer.specs.declared.sought.Sought.{Sought}
 
 -- the node of a name
 abbrev pub node_of : ZoneContents → DomainName → ZoneNode
@@ -27,60 +28,61 @@ pub record IsApex (z : ZoneContents) (apex : ZoneNode) : Type 0 where
   pub node : apex ≡ node_of z z.origin
   pub exists : IsNode z z.origin
 
+-- the name is so many labels below another one
+pub record IsBelow (s : Sought) (ancestor : DomainName) : Type 0 where
+  pub below : at_or_below s.name ancestor ≡ true
+  pub labels : length s.name ≡ length ancestor + s.depth
+  pub few : length s.name ≤ 127
+
 -- a node from which the way down to a name begins
 pub record IsStart (z : ZoneContents) (start : ZoneNode) : Type 0 where
   pub zone : start.zone ≡ z
   pub exists : IsNode z start.name
 
--- no cut is on the way, and the name exists
-pub record IsThere (z : ZoneContents) (n : DomainName) (node : Option ZoneNode) : Type 0 where
-  pub no_cut : cut_of z n ≡ None
-  pub stands : exists z n ≡ true
-  pub at_name : node_or (node_of z z.origin) node ≡ node_of z (folded n)
+abbrev pub ends_at_cuts : Cuts → Bool
+ends_at_cuts End = true
+ends_at_cuts Pass = false
 
--- no cut is on the way, and the name does not exist
-pub record IsMissing (z : ZoneContents) (n : DomainName) (node : Option ZoneNode) : Type 0 where
-  pub no_cut : cut_of z n ≡ None
+-- the name exists, and no cut is on the way, where the way would end at one
+pub record IsThere (z : ZoneContents) (start : ZoneNode) (ends : Bool) (n : DomainName)
+    (node : Option ZoneNode) : Type 0 where
+  pub no_cut : ends ≡ true → cut_of z n ≡ None
+  pub stands : exists z n ≡ true
+  pub at_name : node_or start node ≡ node_of z (folded n)
+
+-- the name does not exist, and no cut is on the way
+pub record IsMissing (z : ZoneContents) (start : ZoneNode) (ends : Bool) (n : DomainName)
+    (node : Option ZoneNode) : Type 0 where
+  pub no_cut : ends ≡ true → cut_of z n ≡ None
   pub missing : exists z n ≡ false
-  pub encloser : closest_encloser z n ≡ Some (node_or (node_of z z.origin) node).name
-  pub zone : (node_or (node_of z z.origin) node).zone ≡ z
-  pub lower : folded (node_or (node_of z z.origin) node).name
-      ≡ (node_or (node_of z z.origin) node).name
+  pub encloser : closest_encloser z n ≡ Some (node_or start node).name
+  pub zone : (node_or start node).zone ≡ z
+  pub lower : folded (node_or start node).name ≡ (node_or start node).name
 
 -- RFC 1034 4.3.2 step 3b: the cut at or above the name
 pub record IsBelowCut (z : ZoneContents) (n : DomainName) (node : ZoneNode) : Type 0 where
   pub cut : cut_of z n ≡ Some node.name
   pub zone : node.zone ≡ z
 
-abbrev pub WalkedTo : ZoneContents → DomainName → Way → Type 0
-WalkedTo z n (ways.Cut node) = IsBelowCut z n node
-WalkedTo z n (ways.Name node) = IsThere z n node
-WalkedTo z n (ways.Encloser node) = IsMissing z n node
+abbrev pub WalkedTo : ZoneContents → ZoneNode → Bool → DomainName → Way → Type 0
+WalkedTo z start ends n (ways.Cut node) = (ends ≡ true) × IsBelowCut z n node
+WalkedTo z start ends n (ways.Name node) = IsThere z start ends n node
+WalkedTo z start ends n (ways.Encloser node) = IsMissing z start ends n node
 
 -- what is found for the name
 pub record IsNothing (z : ZoneContents) (n : DomainName) : Type 0 where
   pub no_cut : cut_of z n ≡ None
   pub none : found z n ≡ None
 
-pub record AreRecords (z : ZoneContents) (n : DomainName) (node : Option ZoneNode) : Type 0 where
+pub record AreRecords (z : ZoneContents) (n : DomainName) (node : ZoneNode) : Type 0 where
   pub no_cut : cut_of z n ≡ None
-  pub zone : (node_or (node_of z z.origin) node).zone ≡ z
-  pub records : found z n ≡ Some (with_owner n (at z (node_or (node_of z z.origin) node).name))
+  pub zone : node.zone ≡ z
+  pub records : found z n ≡ Some (with_owner n (at z node.name))
 
-abbrev pub FoundAs : ZoneContents → DomainName → Found → Type 0
-FoundAs z n (finds.Cut node) = IsBelowCut z n node
-FoundAs z n finds.Nothing = IsNothing z n
-FoundAs z n (finds.Records node) = AreRecords z n node
-
--- the name itself, below a cut too; or the node where the way began
-pub record IsReached (z : ZoneContents) (start : ZoneNode) (n : DomainName)
-    (node : Option ZoneNode) : Type 0 where
-  pub stands : exists z n ≡ true
-  pub at_name : node_or start node ≡ node_of z (folded n)
-
-abbrev pub ReachedAs : ZoneContents → ZoneNode → DomainName → Reached → Type 0
-ReachedAs z start n (reaches.Name node) = IsReached z start n node
-ReachedAs z start n reaches.Missing = exists z n ≡ false
+abbrev pub FoundAs : ZoneContents → ZoneNode → DomainName → Found → Type 0
+FoundAs z apex n (finds.Cut node) = IsBelowCut z n node
+FoundAs z apex n finds.Nothing = IsNothing z n
+FoundAs z apex n (finds.Records node) = AreRecords z n (node_or apex node)
 
 -- a walk that may still be handed so many nodes, and make 17 comparisons for each
 pub record HasRoom (s : Walk) (nodes : ℕ) : Type 0 where
@@ -99,10 +101,6 @@ abbrev pub missed : Way → ℕ
 missed (ways.Cut c) = 0
 missed (ways.Name n) = 0
 missed (ways.Encloser n) = 1
-
-abbrev pub missed_name : Reached → ℕ
-missed_name (reaches.Name n) = 0
-missed_name reaches.Missing = 1
 
 -- what a way took: a node less where a child was missing
 pub record TookWay (s s' : Walk) (nodes misses : ℕ) : Type 0 where

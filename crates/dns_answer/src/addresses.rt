@@ -7,13 +7,13 @@ ghost use Rattle.dns_spec.specs.Answer.{item};
 ghost use Rattle.dns_spec.specs.Records.{rrset};
 ghost use Rattle.dns_spec.specs.Layout.{additional};
 ghost use Rattle.dns_spec.specs.Sets.{HasValidData};
-ghost use Rattle.dns_answer.specs.Walks.{IsApex, IsStart, HasRoom, Took};
+ghost use Rattle.dns_answer.specs.Walks.{IsApex, IsBelow, IsStart, HasRoom, Took};
 ghost use Rattle.dns_answer.specs.DraftForm.{Offers};
 ghost use Rattle.dns_answer.specs.Targets.{addresses_of, IsSide, SoughtFrom, side_items, side_nodes, side_takes, takes_target, set_targets, targets_of_first, target_items, target_nodes, target_misses};
 
 use crate::draft::Draft;
-use crate::lookup::{Reached, or_apex, reach};
-use crate::names::depth_below;
+use crate::lookup::{Cuts, Way, or_start, walk};
+use crate::sought::Sought;
 use dns_name::NameRef;
 use dns_rdata::{RType, SetView};
 use dns_wire::Section;
@@ -32,28 +32,28 @@ pub(crate) enum Side<'c, 'n, 'z> {
 }
 
 // From where a target is sought.
-#[derive(Clone, Copy)]
+#[derive(Drop)]
 enum Start<'c, 'z> {
     // It is not meant.
     NotMeant,
     // It is not in the zone.
     Elsewhere,
-    // From this node, so many labels below it.
-    Node(&'c Node<'z>, usize),
+    // From this node.
+    Node(&'c Node<'z>, Sought<'z>),
 }
 
 impl<'c, 'z> Side<'c, '_, 'z> {
     // From where the target is sought, if it is meant.
     #[inline(always)]
-    fn start(self, target: &NameRef<'_>, origin: &NameRef<'_>, apex: &'c Node<'z>) -> Start<'c, 'z>
+    fn start(self, target: &NameRef<'z>, origin: &NameRef<'_>, apex: &'c Node<'z>) -> Start<'c, 'z>
         requires apex { IsApex apex.now.zone apex.now }
         requires origin { origin.now ≡ apex.now.zone.origin }
         requires side { IsSide apex.now.zone self }
         ensures { SoughtFrom apex.now.zone self.entry target.now result }
     {
         match self {
-            Side::Inside(cut, node) => match depth_below(target, cut) {
-                Some(depth) => return Start::Node(node, depth),
+            Side::Inside(cut, node) => match Sought::below(target, cut) {
+                Some(sought) => return Start::Node(node, sought),
                 None => return Start::NotMeant,
             },
             Side::Outside(cut) => {
@@ -63,8 +63,8 @@ impl<'c, 'z> Side<'c, '_, 'z> {
             }
             Side::All => {}
         }
-        match depth_below(target, origin) {
-            Some(depth) => Start::Node(apex, depth),
+        match Sought::below(target, origin) {
+            Some(sought) => Start::Node(apex, sought),
             None => Start::Elsewhere,
         }
     }
@@ -134,13 +134,13 @@ fn offer_target<'z, const N: usize, const SIZE: usize>(
     let Some(target) = set.target(i) else {
         return true;
     };
-    let (start, depth) = match side.start(&target, &steps.origin().lent(), apex) {
+    let (start, sought) = match side.start(&target, &steps.origin().lent(), apex) {
         Start::NotMeant => return false,
         Start::Elsewhere => return true,
-        Start::Node(start, depth) => (start, depth),
+        Start::Node(start, sought) => (start, sought),
     };
     if !stood_before(set, i, &target) {
-        offer_address(&target, depth, start, steps, draft);
+        offer_address(&sought, start, steps, draft);
     }
     true
 }
@@ -165,27 +165,26 @@ fn stood_before(set: &RecordSet<'_>, count: usize, target: &NameRef<'_>) -> bool
 // Offers the addresses of one name, in lower case: its A set, then its AAAA set, below a cut too,
 // never by a wildcard.
 fn offer_address<'z, const N: usize, const SIZE: usize>(
-    target: &NameRef<'_>,
-    depth: usize,
+    target: &Sought<'_>,
     start: &Node<'z>,
     steps: &mut Steps<'z>,
     draft: &mut Draft<N, SIZE>,
 )
     requires start { IsStart steps.old.zone start.now }
-    requires below { IsTrue (at_or_below target.now start.now.name) }
-    requires depth { length target.now ≡ length start.now.name + depth }
-    requires lower { folded target.now ≡ target.now }
-    requires room { HasRoom steps.old (depth + 1) }
-    ensures offers { Offers draft.old draft.new (addresses_of steps.old.zone target.now) }
-    ensures took { Took steps.old steps.new depth 1 }
+    requires below { IsBelow target.now start.now.name }
+    requires lower { folded target.now.name ≡ target.now.name }
+    requires room { HasRoom steps.old (target.now.depth + 1) }
+    ensures offers { Offers draft.old draft.new (addresses_of steps.old.zone target.now.name) }
+    ensures took { Took steps.old steps.new target.now.depth 1 }
 {
-    let node = match reach(target.octets(), depth, start, steps) {
-        Reached::Missing => return,
-        Reached::Name(node) => node,
+    let node = match walk(target, start, Cuts::Pass, steps) {
+        Way::Cut(_) => return,
+        Way::Encloser(_) => return,
+        Way::Name(node) => node,
     };
-    let node = or_apex(&node, &*start);
-    offer_type(node, RType::A, target, draft);
-    offer_type(node, RType::AAAA, target, draft);
+    let node = or_start(&node, &*start);
+    offer_type(node, RType::A, &target.name, draft);
+    offer_type(node, RType::AAAA, &target.name, draft);
 }
 
 // Offers the set of a type at a node, if there is one.

@@ -1,68 +1,35 @@
 //! The names sought, one after the other (RFC 1034 4.3.2 step 3a).
-ghost use Rattle.std.specs.Prelude.{◌≡◌, ◌+◌, ◌*◌, ◌≤◌, ◌<◌, ◌⊎◌, [], ◌∷◌, length, true, false, IsTrue, IfSome, MatchOption};
+ghost use Rattle.std.specs.Prelude.{◌≡◌, ◌+◌, ◌*◌, ◌≤◌, ◌<◌, ◌⊎◌, [], ◌∷◌, length, drop, All, true, false, IsTrue, IfSome, MatchOption};
 ghost use Rattle.std.specs.List.{list_any};
-ghost use Rattle.dns_spec.specs.Names.{folded, names_equal, same, at_or_below};
+ghost use Rattle.dns_spec.specs.Names.{folded, names_equal, same};
 ghost use Rattle.dns_spec.specs.Data.{type_cname};
 ghost use Rattle.dns_spec.specs.Records.{at, of_type};
 ghost use Rattle.dns_spec.specs.Sets.{set_of};
 ghost use Rattle.dns_spec.specs.Answer.{follows_alias};
 ghost use Rattle.dns_zone.specs.Nodes.{IsSetOf};
-ghost use Rattle.dns_answer.specs.Walks.{IsApex, HasRoom};
-ghost use Rattle.dns_answer.specs.Seeking.{Seeks, TookFrom, Followed, SoughtAs, IsShown, NextIs, AreKept, names_of};
+ghost use Rattle.dns_answer.specs.Walks.{IsApex, IsBelow, HasRoom};
+ghost use Rattle.dns_answer.specs.Seeking.{SeeksFrom, TookFrom, Followed, SoughtAs, IsShown, NextIs, names_of, aliases_left};
 
 use crate::draft::Draft;
 use crate::ending::{QTYPE_ANY, Verdict, asked_set, deny, end_with, ended, refer};
-use crate::lookup::{Found, look_up, or_apex};
-use crate::names::depth_below;
+use crate::lookup::{Found, look_up, or_start};
+use crate::sought::Sought;
 use arrayvec::ArrayVec;
-use dns_name::{Name, NameRef};
+use dns_name::NameRef;
 use dns_rdata::{RType, SetView};
 use dns_wire::{Rcode, Section};
 use dns_zone::{Node, RecordSet, Steps};
 
-// The question's name and 16 targets: a limit of this project.
-const MOST_SOUGHT: usize = 17;
+// So many aliases are followed: a limit of this project.
+const MOST_ALIASES: usize = 16;
 
 /// What seeking one name comes to.
 #[derive(Drop)]
-pub(crate) enum Sought<'z> {
+pub(crate) enum Next<'z> {
     /// It is the last one sought.
     Last(Verdict),
-    /// Its alias leads to this name, so many labels below the origin.
-    Alias(NameRef<'z>, usize),
-}
-
-/// The names that were sought, that of the question first.
-#[derive(Clone, Copy)]
-pub(crate) enum Earlier<'e, 'q, 'z> {
-    /// The question's.
-    First(&'e NameRef<'q>),
-    /// The question's, and the target of its alias.
-    Second(&'e NameRef<'q>, &'e NameRef<'z>),
-    /// More of them, in lower case, so that two are the same only where they are equal.
-    Others(&'e [Name]),
-}
-
-impl Earlier<'_, '_, '_> {
-    // Whether a name, in lower case, is among them.
-    fn has(self, name: &NameRef<'_>) -> bool
-        requires kept { AreKept self }
-        requires lower { folded name.now ≡ name.now }
-        ensures { result ≡ list_any (same name.now) (names_of self.entry) }
-    {
-        match self {
-            Earlier::First(first) => name.same(first),
-            Earlier::Second(first, second) => name.same(first) || name.same(second),
-            Earlier::Others(names) => is_among(name, names),
-        }
-    }
-}
-
-// Whether a name is among others, octet by octet.
-fn is_among(name: &NameRef<'_>, names: &[Name]) -> bool
-    ensures { result ≡ list_any (names_equal name.now) names.now }
-{
-    names.iter().any(|other| *name == other.lent())
+    /// Its alias leads to this name.
+    Alias(Sought<'z>),
 }
 
 /// What seeking the name of a question comes to.
@@ -73,169 +40,75 @@ pub(crate) struct Ended {
     pub(crate) is_led_on: bool,
 }
 
-/// Seeks the name of a question, `depth` labels below the origin, and after it the targets of
-/// aliases: offers the sets of the aliases, and those that the last name ends with.
-pub(crate) fn seek<'z, const N: usize, const SIZE: usize>(
-    name: &NameRef<'_>,
-    depth: usize,
+/// Seeks the name of a question, and after it the targets of aliases: offers the sets of the
+/// aliases, and those that the last name ends with.
+pub(crate) fn seek<'q, 'z: 'q, const N: usize, const SIZE: usize>(
+    first: Sought<'q>,
     qtype: u16,
     apex: &Node<'z>,
     steps: &mut Steps<'z>,
     draft: &mut Draft<N, SIZE>,
 ) -> Ended
     requires apex { IsApex steps.old.zone apex.now }
-    requires below { IsTrue (at_or_below name.now steps.old.zone.origin) }
-    requires depth { length name.now ≡ length steps.old.zone.origin + depth }
-    requires few { depth ≤ 127 }
+    requires below { IsBelow first steps.old.zone.origin }
     requires room { HasRoom steps.old (129 * (16 + 129)) }
-    ensures seeks { Seeks draft.old draft.new steps.old.zone qtype 16 (name.now ∷ []) name.now
+    ensures seeks { SeeksFrom draft.old draft.new steps.old.zone qtype [] first.entry.name
         result.verdict }
-    ensures took { TookFrom steps.old steps.new qtype 16 (name.now ∷ []) name.now }
-    ensures followed { Followed steps.old.zone qtype name.now result.verdict result.is_led_on }
+    ensures took { TookFrom steps.old.zone steps.old steps.new qtype [] first.entry.name }
+    ensures followed { Followed steps.old.zone qtype first.entry.name result.verdict
+        result.is_led_on }
 {
-    match seek_one(
-        name,
-        depth,
-        qtype,
-        MOST_SOUGHT - 1,
-        Earlier::First(name),
-        apex,
-        steps,
-        draft,
-    ) {
-        Sought::Last(verdict) => Ended {
-            verdict,
-            is_led_on: false,
-        },
-        Sought::Alias(target, below) => Ended {
-            verdict: seek_target(name, &target, below, qtype, apex, steps, draft),
-            is_led_on: true,
-        },
-    }
-}
-
-// Seeks the target of the first alias, `depth` labels below the origin, and after it those of the
-// others. It stands out of line, since most answers follow no alias and need no room for the names
-// that were sought.
-#[inline(never)]
-fn seek_target<'z, const N: usize, const SIZE: usize>(
-    first: &NameRef<'_>,
-    target: &NameRef<'z>,
-    depth: usize,
-    qtype: u16,
-    apex: &Node<'z>,
-    steps: &mut Steps<'z>,
-    draft: &mut Draft<N, SIZE>,
-) -> Verdict
-    requires apex { IsApex steps.old.zone apex.now }
-    requires below { IsTrue (at_or_below target.now steps.old.zone.origin) }
-    requires depth { length target.now ≡ length steps.old.zone.origin + depth }
-    requires few { depth ≤ 127 }
-    requires room { HasRoom steps.old (129 * (15 + 129)) }
-    ensures seeks { Seeks draft.old draft.new steps.old.zone qtype 15 (first.now ∷ target.now ∷ [])
-        target.now result }
-    ensures took { TookFrom steps.old steps.new qtype 15 (first.now ∷ target.now ∷ [])
-        target.now }
-{
-    match seek_one(
-        target,
-        depth,
-        qtype,
-        MOST_SOUGHT - 2,
-        Earlier::Second(first, target),
-        apex,
-        steps,
-        draft,
-    ) {
-        Sought::Last(verdict) => verdict,
-        Sought::Alias(next, below) => {
-            seek_rest(first, target, next, below, qtype, apex, steps, draft)
-        }
-    }
-}
-
-// Seeks the target of the second alias, `depth` labels below the origin, and after it those of the
-// others. Few answers follow as many, and need room for all names that may be sought.
-#[inline(never)]
-fn seek_rest<'z, const N: usize, const SIZE: usize>(
-    first: &NameRef<'_>,
-    second: &NameRef<'_>,
-    target: NameRef<'z>,
-    depth: usize,
-    qtype: u16,
-    apex: &Node<'z>,
-    steps: &mut Steps<'z>,
-    draft: &mut Draft<N, SIZE>,
-) -> Verdict
-    requires apex { IsApex steps.old.zone apex.now }
-    requires below { IsTrue (at_or_below target steps.old.zone.origin) }
-    requires depth { length target ≡ length steps.old.zone.origin + depth }
-    requires few { depth ≤ 127 }
-    requires room { HasRoom steps.old (129 * (14 + 129)) }
-    ensures seeks { Seeks draft.old draft.new steps.old.zone qtype 14
-        (first.now ∷ second.now ∷ target.entry ∷ []) target.entry result }
-    ensures took { TookFrom steps.old steps.new qtype 14
-        (first.now ∷ second.now ∷ target.entry ∷ []) target.entry }
-{
-    let mut sought: ArrayVec<Name, MOST_SOUGHT> = ArrayVec::new();
-    sought.push(first.to_name().fold());
-    sought.push(second.to_name().fold());
-    sought.push(target.to_name().fold());
-    let mut name = target;
-    let mut depth = depth;
-    let mut more = MOST_SOUGHT - 3;
+    let mut earlier: ArrayVec<Sought<'q>, MOST_ALIASES> = ArrayVec::new();
+    let mut sought = first;
     'names: loop {
-        let earlier = Earlier::Others(sought.as_slice());
-        match seek_one(&name, depth, qtype, more, earlier, apex, steps, draft) {
-            Sought::Last(verdict) => return verdict,
-            Sought::Alias(target, below) => {
-                sought.push(target.to_name().fold());
-                name = target;
-                depth = below;
-                more -= 1;
+        match seek_one(&sought, qtype, earlier.as_slice(), apex, steps, draft) {
+            Next::Last(verdict) => {
+                return Ended {
+                    verdict,
+                    is_led_on: !earlier.is_empty(),
+                };
+            }
+            Next::Alias(target) => {
+                earlier.push(sought);
+                sought = target;
             }
         }
     }
 }
 
 // Seeks one name: offers the set of its alias, or the sets that it ends an answer with.
-#[inline(always)]
 fn seek_one<'z, const N: usize, const SIZE: usize>(
-    name: &NameRef<'_>,
-    depth: usize,
+    sought: &Sought<'_>,
     qtype: u16,
-    more: usize,
-    sought: Earlier<'_, '_, '_>,
+    earlier: &[Sought<'_>],
     apex: &Node<'z>,
     steps: &mut Steps<'z>,
     draft: &mut Draft<N, SIZE>,
-) -> Sought<'z>
+) -> Next<'z>
     requires apex { IsApex steps.old.zone apex.now }
-    requires below { IsTrue (at_or_below name.now steps.old.zone.origin) }
-    requires depth { length name.now ≡ length steps.old.zone.origin + depth }
-    requires few { depth ≤ 127 }
-    requires room { HasRoom steps.old (129 * (more + 129)) }
-    requires kept { AreKept sought }
-    ensures { SoughtAs draft.old draft.new steps.old steps.new qtype more (names_of sought.entry)
-        name.now result }
+    requires below { IsBelow sought.now steps.old.zone.origin }
+    requires room { HasRoom steps.old (129 * (aliases_left (names_of earlier.now) + 129)) }
+    requires lower { All (λ s. folded s.name ≡ s.name) (drop 1 earlier.now) }
+    ensures { SoughtAs draft.old draft.new steps.old steps.new qtype (names_of earlier.now)
+        sought.now.name result }
 {
-    let node = match look_up(name, depth, apex, steps) {
-        Found::Cut(cut) => return Sought::Last(refer(&cut, apex, steps, draft)),
-        Found::Nothing => return Sought::Last(deny(Rcode::NameError, apex, steps, draft)),
+    let node = match look_up(sought, apex, steps) {
+        Found::Cut(cut) => return Next::Last(refer(&cut, apex, steps, draft)),
+        Found::Nothing => return Next::Last(deny(Rcode::NameError, apex, steps, draft)),
         Found::Records(node) => node,
     };
-    let node = or_apex(&node, &*apex);
+    let node = or_start(&node, &*apex);
     let Some((set, is_alias)) = shown_set(node, qtype) else {
-        return Sought::Last(deny(Rcode::NoError, apex, steps, draft));
+        return Next::Last(deny(Rcode::NoError, apex, steps, draft));
     };
-    draft.offer(Section::Answer, name, set.ttl(), &set);
+    draft.offer(Section::Answer, &sought.name, set.ttl(), &set);
     if !is_alias {
-        return Sought::Last(end_with(&set, apex, steps, draft));
+        return Next::Last(end_with(&set, apex, steps, draft));
     }
-    let Some((target, depth)) = next_sought(&set, more, sought, &steps.origin().lent()) else {
-        return Sought::Last(ended(Rcode::NoError, draft));
+    let Some(target) = next_sought(&set, sought, earlier, &steps.origin().lent()) else {
+        return Next::Last(ended(Rcode::NoError, draft));
     };
-    Sought::Alias(target, depth)
+    Next::Alias(target)
 }
 
 // The set that an answer shows of the records at a node, and whether it is an alias, which leads
@@ -267,30 +140,44 @@ fn alias_at<'z>(node: &Node<'z>, qtype: u16) -> Option<RecordSet<'z>>
     node.set(RType::CNAME)
 }
 
-// The name that is sought after an alias, and how many labels it has below the origin: the target,
-// where more may be sought and it is at or below the origin and was not sought yet.
-#[inline(always)]
+// The name that is sought after an alias: its target, where more may be sought and it is at or below
+// the origin and was not sought yet.
 fn next_sought<'z>(
     alias: &RecordSet<'z>,
-    more: usize,
-    sought: Earlier<'_, '_, '_>,
+    sought: &Sought<'_>,
+    earlier: &[Sought<'_>],
     origin: &NameRef<'_>,
-) -> Option<(NameRef<'z>, usize)>
+) -> Option<Sought<'z>>
     requires some { 0 < length alias.now.rdata }
-    requires kept { AreKept sought }
-    ensures next { NextIs alias.now more (names_of sought.entry) origin.now result }
+    requires lower { All (λ s. folded s.name ≡ s.name) (drop 1 earlier.now) }
+    ensures { NextIs alias.now (sought.now.name ∷ names_of earlier.now) origin.now result }
 {
-    if more == 0 {
+    if earlier.len() >= MOST_ALIASES {
         return None;
     }
-    let Some(target) = alias.target(0) else {
-        return None;
-    };
-    let Some(depth) = depth_below(&target, origin) else {
-        return None;
-    };
-    if sought.has(&target) {
+    let next = Sought::below(&alias.target(0)?, origin)?;
+    if next.name.same(&sought.name) || is_among(&next.name, earlier) {
         return None;
     }
-    Some((target, depth))
+    Some(next)
+}
+
+// Whether a name in lower case was sought before. All names but the first are targets, in lower case
+// too, so that those are the same only where they are equal.
+fn is_among(name: &NameRef<'_>, earlier: &[Sought<'_>]) -> bool
+    requires name { folded name.now ≡ name.now }
+    requires lower { All (λ s. folded s.name ≡ s.name) (drop 1 earlier.now) }
+    ensures { result ≡ list_any (λ s. same name.now s.name) earlier.now }
+{
+    let Some((first, targets)) = earlier.split_first() else {
+        return false;
+    };
+    name.same(&first.name) || has_equal(targets, name)
+}
+
+// Whether a name is one of others, octet by octet.
+fn has_equal(names: &[Sought<'_>], name: &NameRef<'_>) -> bool
+    ensures { result ≡ list_any (λ s. names_equal name.now s.name) names.now }
+{
+    names.iter().any(|other| *name == other.name)
 }

@@ -7,8 +7,8 @@ mod chain;
 mod draft;
 mod ending;
 mod lookup;
-mod names;
 mod reply;
+mod sought;
 
 pub use draft::Draft;
 pub use reply::{Limit, TcpDraft, UdpDraft, respond, respond_in};

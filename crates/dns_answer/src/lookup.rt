@@ -1,28 +1,37 @@
 //! What a zone has for a name (RFC 1034 4.3.2 step 3).
-ghost use Rattle.std.specs.Prelude.{◌≡◌, ℕ, ◌+◌, ◌*◌, ◌-◌, ◌≤◌, ◌<◌, ◌∷◌, length, drop, get_or, IsTrue, IsSome, IfSome, IsNone, MatchOption, true, false, is_some, []};
-ghost use Rattle.dns_spec.specs.Names.{Octets, DomainName, at_or_below, folded};
+ghost use Rattle.std.specs.Prelude.{◌≡◌, ◌+◌, ◌≤◌, ◌<◌, ◌∷◌, ◌&&◌, length, drop, get_or, IsTrue, MatchOption, true, false, is_some};
+ghost use Rattle.dns_spec.specs.Data.{type_ns};
+ghost use Rattle.dns_spec.specs.Records.{rrset};
+ghost use Rattle.dns_spec.specs.Sets.{set_of};
 ghost use Rattle.dns_spec.specs.Tree.{exists, asterisk};
 ghost use Rattle.dns_name.specs.WireForm.{labels_of, IsWireForm};
-ghost use Rattle.dns_zone.specs.Nodes.{ZoneNode, IsNode};
 ghost use Rattle.dns_answer.specs.Starts.{BeginsAt, AreStarts};
-ghost use Rattle.dns_answer.specs.Walks.{IsApex, IsStart, node_or, WalkedTo, FoundAs, ReachedAs, HasRoom, Took, TookWay, TookChild, missed, missed_name};
+ghost use Rattle.dns_answer.specs.Walks.{IsApex, IsBelow, IsStart, node_or, ends_at_cuts, WalkedTo, FoundAs, HasRoom, Took, TookWay, TookChild, missed};
 
-use dns_name::{Label, NameRef, first_label};
+use crate::sought::Sought;
+use dns_name::{Label, first_label};
 use dns_rdata::RType;
 use dns_zone::{Node, Steps};
 
 // A name has at most so many labels, since each has two octets or more on the wire.
 const MOST_LABELS: usize = 127;
 
-/// Where the way from the apex down to a name ends.
+/// Where the way from a node down to a name ends.
 #[derive(Drop)]
 pub(crate) enum Way<'z> {
     /// At the first cut on the way.
     Cut(Node<'z>),
-    /// At the name. `None` is the apex.
+    /// At the name. `None` is the node where it began.
     Name(Option<Node<'z>>),
-    /// At the closest encloser of a name that does not exist. `None` is the apex.
+    /// At the closest encloser of a name that does not exist. `None` is the node where it began.
     Encloser(Option<Node<'z>>),
+}
+
+/// Whether a way ends at a cut, or goes on below it.
+#[derive(Clone, Copy)]
+pub(crate) enum Cuts {
+    End,
+    Pass,
 }
 
 /// What is found for a name.
@@ -36,47 +45,32 @@ pub(crate) enum Found<'z> {
     Records(Option<Node<'z>>),
 }
 
-/// Where the way from a node down to a name ends that cuts do not end.
-#[derive(Drop)]
-pub(crate) enum Reached<'z> {
-    /// At the name. `None` is the node where it began.
-    Name(Option<Node<'z>>),
-    /// The name does not exist.
-    Missing,
-}
-
-/// What is found for a name at or below the origin, `depth` labels below it.
+/// What is found for a name at or below the origin.
 #[inline(always)]
-pub(crate) fn look_up<'z>(
-    name: &NameRef<'_>,
-    depth: usize,
-    apex: &Node<'z>,
-    steps: &mut Steps<'z>,
-) -> Found<'z>
+pub(crate) fn look_up<'z>(sought: &Sought<'_>, apex: &Node<'z>, steps: &mut Steps<'z>) -> Found<'z>
     requires apex { IsApex steps.old.zone apex.now }
-    requires below { IsTrue (at_or_below name.now steps.old.zone.origin) }
-    requires depth { length name.now ≡ length steps.old.zone.origin + depth }
-    requires room { HasRoom steps.old (depth + 1) }
-    ensures found { FoundAs steps.old.zone name.now result }
-    ensures took { Took steps.old steps.new depth 2 }
+    requires below { IsBelow sought.now steps.old.zone.origin }
+    requires room { HasRoom steps.old (sought.now.depth + 1) }
+    ensures found { FoundAs steps.old.zone apex.now sought.now.name result }
+    ensures took { Took steps.old steps.new sought.now.depth 2 }
 {
-    match walk(name.octets(), depth, apex, steps) {
+    match walk(sought, apex, Cuts::End, steps) {
         Way::Cut(node) => Found::Cut(node),
         Way::Name(node) => Found::Records(node),
-        Way::Encloser(node) => match wildcard_below(or_apex(&node, &*apex), steps) {
+        Way::Encloser(node) => match wildcard_below(or_start(&node, &*apex), steps) {
             Some(node) => Found::Records(Some(node)),
             None => Found::Nothing,
         },
     }
 }
 
-// The node, or the apex where there is none.
-pub(crate) fn or_apex<'a, 'z>(node: &'a Option<Node<'z>>, apex: &'a Node<'z>) -> &'a Node<'z>
-    ensures { result.now ≡ node_or apex.now node.now }
+/// The node, or the one where the way began.
+pub(crate) fn or_start<'a, 'z>(node: &'a Option<Node<'z>>, start: &'a Node<'z>) -> &'a Node<'z>
+    ensures { result.now ≡ node_or start.now node.now }
 {
     match node {
         Some(node) => node,
-        None => apex,
+        None => start,
     }
 }
 
@@ -96,39 +90,49 @@ fn wildcard_below<'z>(encloser: &Node<'z>, steps: &mut Steps<'z>) -> Option<Node
     encloser.down(label, steps)
 }
 
-// The way from the apex down to a name, up to the first cut on it (RFC 1034 4.3.2 step 3b). The
-// labels are taken from the right.
+/// The way from a node down to a name (RFC 1034 4.3.2 step 3b). The labels are taken from the
+/// right.
 #[inline(always)]
-fn walk<'z>(octets: &[u8], depth: usize, apex: &Node<'z>, steps: &mut Steps<'z>) -> Way<'z>
-    requires form { IsWireForm octets.now }
-    requires apex { IsApex steps.old.zone apex.now }
-    requires below { IsTrue (at_or_below (labels_of octets.now) steps.old.zone.origin) }
-    requires depth { length (labels_of octets.now) ≡ length steps.old.zone.origin + depth }
-    requires room { HasRoom steps.old depth }
-    ensures way { WalkedTo steps.old.zone (labels_of octets.now) result }
-    ensures took { TookWay steps.old steps.new depth (missed result) }
+pub(crate) fn walk<'z>(
+    sought: &Sought<'_>,
+    start: &Node<'z>,
+    cuts: Cuts,
+    steps: &mut Steps<'z>,
+) -> Way<'z>
+    requires start { IsStart steps.old.zone start.now }
+    requires apex { IsTrue (ends_at_cuts cuts) → start.now.name ≡ steps.old.zone.origin }
+    requires below { IsBelow sought.now start.now.name }
+    requires room { HasRoom steps.old sought.now.depth }
+    ensures way { WalkedTo steps.old.zone start.now (ends_at_cuts cuts) sought.now.name result }
+    ensures took { TookWay steps.old steps.new sought.now.depth (missed result) }
 {
-    if depth == 0 {
-        return Way::Name(None);
-    }
+    let octets = sought.name.octets();
     let mut starts = [0; MOST_LABELS];
-    put_starts(octets, depth, &mut starts);
-    let mut before = depth - 1;
-    let Some(mut node) = apex.down(label_after(octets, &starts, before), steps) else {
-        return Way::Encloser(None);
-    };
-    'labels: loop {
-        if node.set(RType::NS).is_some() {
-            return Way::Cut(node);
-        }
-        if before == 0 {
-            return Way::Name(Some(node));
-        }
-        before -= 1;
-        let Some(child) = node.down(label_after(octets, &starts, before), steps) else {
-            return Way::Encloser(Some(node));
+    put_starts(octets, sought.depth, &mut starts);
+    let mut node = None;
+    let mut before = sought.depth;
+    'labels: while before > 0 {
+        let label = label_after(octets, &starts, before - 1);
+        let Some(child) = or_start(&node, &*start).down(label, steps) else {
+            return Way::Encloser(node);
         };
-        node = child;
+        if is_end(&child, cuts) {
+            return Way::Cut(child);
+        }
+        node = Some(child);
+        before -= 1;
+    }
+    Way::Name(node)
+}
+
+// Whether a way ends at a node since that is a cut.
+fn is_end(node: &Node<'_>, cuts: Cuts) -> bool
+    ensures { result ≡ (ends_at_cuts cuts
+        && is_some (set_of (rrset node.now.zone node.now.name type_ns))) }
+{
+    match cuts {
+        Cuts::End => node.set(RType::NS).is_some(),
+        Cuts::Pass => false,
     }
 }
 
@@ -159,39 +163,4 @@ fn label_after<'a>(octets: &'a [u8], starts: &[u8], count: usize) -> Label<'a>
         unreachable!();
     };
     label
-}
-
-/// The node of a name at or below that of another node, `depth` labels below it, below a cut too.
-#[inline(always)]
-pub(crate) fn reach<'z>(
-    octets: &[u8],
-    depth: usize,
-    start: &Node<'z>,
-    steps: &mut Steps<'z>,
-) -> Reached<'z>
-    requires form { IsWireForm octets.now }
-    requires start { IsStart steps.old.zone start.now }
-    requires below { IsTrue (at_or_below (labels_of octets.now) start.now.name) }
-    requires depth { length (labels_of octets.now) ≡ length start.now.name + depth }
-    requires room { HasRoom steps.old (depth + 1) }
-    ensures reached { ReachedAs steps.old.zone start.now (labels_of octets.now) result }
-    ensures took { Took steps.old steps.new depth (missed_name result) }
-{
-    if depth == 0 {
-        return Reached::Name(None);
-    }
-    let mut starts = [0; MOST_LABELS];
-    put_starts(octets, depth, &mut starts);
-    let mut before = depth - 1;
-    let Some(mut node) = start.down(label_after(octets, &starts, before), steps) else {
-        return Reached::Missing;
-    };
-    'labels: while 0 < before {
-        before -= 1;
-        let Some(child) = node.down(label_after(octets, &starts, before), steps) else {
-            return Reached::Missing;
-        };
-        node = child;
-    }
-    Reached::Name(Some(node))
 }

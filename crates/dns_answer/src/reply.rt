@@ -9,11 +9,12 @@ ghost use Rattle.dns_spec.specs.Layout.{layout};
 ghost use Rattle.dns_spec.specs.Reply.{answered, decide, decide_question, is_meta_type, refusal, reply, reply_message, octets_of};
 ghost use Rattle.dns_answer.specs.DraftForm.{blank};
 ghost use Rattle.dns_answer.specs.Limits.{limit_of};
+ghost use Rattle.dns_answer.specs.Walks.{IsBelow};
 ghost use Rattle.dns_answer.specs.Replies.{JudgedAs, IsReply, Answers, Costs, Responds, visits_for, names_for, comparisons_for};
 
 use crate::chain::{Ended, seek};
 use crate::draft::Draft;
-use crate::names::depth_below;
+use crate::sought::Sought;
 use dns_name::Name;
 use dns_wire::{CLASS_IN, Head, QueryRef, QuestionRef, Rcode, lent_query};
 use dns_zone::Steps;
@@ -142,11 +143,11 @@ fn respond_with<const N: usize, const SIZE: usize>(
 }
 
 // Puts the reply to a query: a refusal, or an answer.
-fn put_reply<'z, const N: usize, const SIZE: usize>(
+fn put_reply<'q, 'z: 'q, const N: usize, const SIZE: usize>(
     steps: &mut Steps<'z>,
     origin: &Name,
     head: &Head,
-    question: &QuestionRef<'_>,
+    question: &QuestionRef<'q>,
     draft: &mut Draft<N, SIZE>,
     out: &mut [u8],
 ) -> usize
@@ -169,19 +170,19 @@ fn put_reply<'z, const N: usize, const SIZE: usize>(
             draft,
             out,
         ),
-        Judged::Answered(depth) => put_answer(steps, head, question, depth, draft, out),
+        Judged::Answered(sought) => put_answer(steps, head, question, sought, draft, out),
     }
 }
 
-// Whether a question is answered, and how many labels its name has below the origin.
-#[derive(Clone, Copy)]
-enum Judged {
+// Whether a question is answered, and then the name that is sought.
+#[derive(Drop)]
+enum Judged<'q> {
     Refused(Rcode),
-    Answered(usize),
+    Answered(Sought<'q>),
 }
 
 // A question is judged by its class, then its type, then its name.
-fn judge(question: &QuestionRef<'_>, origin: &Name) -> Judged
+fn judge<'q>(question: &QuestionRef<'q>, origin: &Name) -> Judged<'q>
     ensures { (z : ZoneContents) → z.origin ≡ origin.now → JudgedAs z question.now result }
 {
     if question.qclass != CLASS_IN {
@@ -190,9 +191,9 @@ fn judge(question: &QuestionRef<'_>, origin: &Name) -> Judged
     if is_meta_type(question.qtype) {
         return Judged::Refused(Rcode::NotImplemented);
     }
-    match depth_below(&question.name, &origin.lent()) {
+    match Sought::below(&question.name, &origin.lent()) {
         None => Judged::Refused(Rcode::Refused),
-        Some(depth) => Judged::Answered(depth),
+        Some(sought) => Judged::Answered(sought),
     }
 }
 
@@ -219,56 +220,47 @@ fn put_refusal<const N: usize, const SIZE: usize>(
     draft.finish(head, out)
 }
 
-// Puts the answer to a question whose name is `depth` labels below the origin.
-fn put_answer<'z, const N: usize, const SIZE: usize>(
+// Puts the answer to a question, whose name is sought.
+fn put_answer<'q, 'z: 'q, const N: usize, const SIZE: usize>(
     steps: &mut Steps<'z>,
     head: &Head,
-    question: &QuestionRef<'_>,
-    depth: usize,
+    question: &QuestionRef<'q>,
+    sought: Sought<'q>,
     draft: &mut Draft<N, SIZE>,
     out: &mut [u8],
 ) -> usize
     requires blank { draft.old ≡ blank SIZE }
     requires visits { steps.old.visits ≡ 0 }
     requires comparisons { steps.old.comparisons ≡ 0 }
-    requires below { IsTrue (at_or_below question.now.qname steps.old.zone.origin) }
-    requires depth { length question.now.qname ≡ length steps.old.zone.origin + depth }
-    requires few { depth ≤ 127 }
+    requires asked { sought.name ≡ question.now.qname }
+    requires below { IsBelow sought steps.old.zone.origin }
     requires out { length out.old ≡ SIZE }
     ensures reply { IsReply steps.old.zone SIZE (answered head.now question.now) result out.new }
     ensures costs { Costs (answered head.now question.now) steps.old steps.new }
 {
     draft.begin(Some(question));
-    let head = offer_answer(head, question, depth, steps, draft);
+    let head = offer_answer(head, question, sought, steps, draft);
     draft.finish(head, out)
 }
 
 // Offers all sets that answer a question, and answers the header of the reply.
-fn offer_answer<'z, const N: usize, const SIZE: usize>(
+fn offer_answer<'q, 'z: 'q, const N: usize, const SIZE: usize>(
     head: &Head,
-    question: &QuestionRef<'_>,
-    depth: usize,
+    question: &QuestionRef<'q>,
+    sought: Sought<'q>,
     steps: &mut Steps<'z>,
     draft: &mut Draft<N, SIZE>,
 ) -> Head
     requires visits { steps.old.visits ≡ 0 }
     requires comparisons { steps.old.comparisons ≡ 0 }
-    requires below { IsTrue (at_or_below question.now.qname steps.old.zone.origin) }
-    requires depth { length question.now.qname ≡ length steps.old.zone.origin + depth }
-    requires few { depth ≤ 127 }
+    requires asked { sought.name ≡ question.now.qname }
+    requires below { IsBelow sought steps.old.zone.origin }
     requires name { IsTrue (is_name question.now.qname) }
     ensures answers { Answers steps.old.zone head.now question.now draft.old draft.new result }
     ensures costs { Costs (answered head.now question.now) steps.old steps.new }
 {
     let apex = steps.apex();
-    let Ended { verdict, is_led_on } = seek(
-        &question.name,
-        depth,
-        question.qtype,
-        &apex,
-        steps,
-        draft,
-    );
+    let Ended { verdict, is_led_on } = seek(sought, question.qtype, &apex, steps, draft);
     // The server speaks for the zone, unless all that it answers is a referral (RFC 1035 4.1.1).
     let only_refers = verdict.is_referral && !is_led_on;
     head.reply(!only_refers, verdict.is_truncated, verdict.rcode)

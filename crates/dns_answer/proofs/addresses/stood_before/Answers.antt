@@ -2,8 +2,7 @@ use Rattle.std.proofs.Common.{◌≡◌, ◌||◌, refl, sym, ap, ◌∙◌, ari
 use Rattle.std.specs.List.{list_any}
 use Rattle.dns_spec.specs.Names.{same}
 use Rattle.dns_answer.specs.Targets.{targets_of_first}
-use Rattle.dns_answer.proofs.TargetLaws.{stood-some, stood-other}
-use Rattle.dns_answer.proofs.SeekSteps.{same-lower}
+use Rattle.dns_answer.proofs.TargetLaws.{stood-some, stood-other, same-lower}
 use Rattle.dns_answer.proofs.addresses.stood_before.Goals as goal
 use Rattle.dns_answer.proofs.addresses.stood_before.Goals.{in-Some+else-eq, in_default}
 

@@ -1,37 +1,35 @@
-use Rattle.std.proofs.Common.{ap, ◌∙◌, subst}
-use Rattle.dns_zone.specs.Nodes.{ZoneNode}
-use Rattle.dns_name.proofs.WireLemmas.{IsWireForm-wire, labels_of_spelled}
-use Rattle.dns_answer.specs.Walks.{IsThere, IsMissing, IsBelowCut, node_or}
+use Rattle.std.proofs.Common.{◌≡◌, ◌∷◌, true, false, ap, sym, subst}
+use Rattle.dns_spec.specs.Tree.{exists, asterisk}
+use Rattle.dns_zone.specs.Nodes.{ZoneNode, IsNode}
+use Rattle.dns_answer.specs.Walks.{IsBelow}
 use Rattle.dns_answer.proofs.WaySteps.{records-there, records-by_wildcard, nothing-there}
 use Rattle.dns_answer.proofs.lookup.look_up.Goals as goal
 
-pub walk-requires-clause-form : goal.walk-requires-clause-form
-walk-requires-clause-form c = IsWireForm-wire _ _ c.octets.ensures.value c.octets.ensures.is_name
+pub walk-requires-clause-start : goal.walk-requires-clause-start
+walk-requires-clause-start c =
+    let apex = c.requires.apex in
+    record {
+      zone = ap (λ (v : ZoneNode). v.zone) apex.node;
+      exists = subst (IsNode c.args.steps.now.zone) (ap (λ (v : ZoneNode). v.name) (sym apex.node)) apex.exists;
+    }
+
+pub walk-requires-clause-apex : goal.walk-requires-clause-apex
+walk-requires-clause-apex c = λ _. ap (λ (v : ZoneNode). v.name) c.requires.apex.node
 
 pub walk-requires-clause-below : goal.walk-requires-clause-below
-walk-requires-clause-below c = rw (labels_of_spelled c.octets.result.now c.args.name.now c.octets.ensures.value c.octets.ensures.is_name) c.requires.below
-
-pub walk-requires-clause-depth : goal.walk-requires-clause-depth
-walk-requires-clause-depth c = rw (labels_of_spelled c.octets.result.now c.args.name.now c.octets.ensures.value c.octets.ensures.is_name) c.requires.depth
+walk-requires-clause-below c = subst (IsBelow c.args.sought.now) (ap (λ (v : ZoneNode). v.name) (sym c.requires.apex.node)) c.requires.below
 
 pub returns-in-Cut-clause-found : goal.returns-in-Cut-clause-found
-returns-in-Cut-clause-found c =
-    let spelled = labels_of_spelled c.octets.result.now c.args.name.now c.octets.ensures.value c.octets.ensures.is_name in
-    subst (λ n. IsBelowCut c.args.steps.now.zone n c.in-Cut.node) spelled c.in-Cut.ensures.way
+returns-in-Cut-clause-found c = c.in-Cut.ensures.way.1
 
 pub returns-in-Name-clause-found : goal.returns-in-Name-clause-found
-returns-in-Name-clause-found c =
-    let spelled = labels_of_spelled c.octets.result.now c.args.name.now c.octets.ensures.value c.octets.ensures.is_name in
-    records-there _ _ _ (subst (λ n. IsThere c.args.steps.now.zone n c.in-Name.node) spelled c.in-Name.ensures.way)
+returns-in-Name-clause-found c = records-there _ _ _ _ c.in-Name.ensures.way
 
 pub returns-in-Some-clause-found : goal.returns-in-Some-clause-found
 returns-in-Some-clause-found c =
-    let spelled = labels_of_spelled c.octets.result.now c.args.name.now c.octets.ensures.value c.octets.ensures.is_name in
-    records-by_wildcard c.args.steps.now.zone c.args.name.now c.in-Encloser.node c.or_apex.result.now _ (subst (λ n. IsMissing c.args.steps.now.zone n c.in-Encloser.node) spelled c.in-Encloser.ensures.way)
-    (c.or_apex.ensures ∙ ap (λ (a : ZoneNode). node_or a c.in-Encloser.node) c.requires.apex.node) c.in-Some.ensures.node.0 c.in-Some.ensures.node.1
+    let w = subst (λ (e : ZoneNode). (exists e.zone (asterisk ∷ e.name) ≡ true) × (c.in-Some.node ≡ record { zone = e.zone; name = asterisk ∷ e.name })) c.or_start.ensures c.in-Some.ensures.node in
+    records-by_wildcard _ _ _ _ c.in-Encloser.ensures.way c.in-Some.node w.0 w.1
 
 pub returns-in-None-clause-found : goal.returns-in-None-clause-found
 returns-in-None-clause-found c =
-    let spelled = labels_of_spelled c.octets.result.now c.args.name.now c.octets.ensures.value c.octets.ensures.is_name in
-    nothing-there c.args.steps.now.zone c.args.name.now c.in-Encloser.node c.or_apex.result.now (subst (λ n. IsMissing c.args.steps.now.zone n c.in-Encloser.node) spelled c.in-Encloser.ensures.way)
-    (c.or_apex.ensures ∙ ap (λ (a : ZoneNode). node_or a c.in-Encloser.node) c.requires.apex.node) c.in-None.ensures.node
+    nothing-there _ _ _ _ c.in-Encloser.ensures.way (subst (λ (e : ZoneNode). exists e.zone (asterisk ∷ e.name) ≡ false) c.or_start.ensures c.in-None.ensures.node)

@@ -1,128 +1,86 @@
-use Rattle.std.proofs.Common.{◌≡◌, ◌+◌, ◌-◌, ◌≤◌, length, drop, refl, sym, ap, ◌∙◌, subst, arith, None, Some}
-use Rattle.std.proofs.lemmas.Bool.{false≢true}
+use Rattle.std.proofs.Common.{◌-◌, length, refl, sym, ap, ◌∙◌, subst, arith, Some}
+use Rattle.std.proofs.lemmas.Bool.{false≢true, and_parts}
 use Rattle.std.specs.Option.{is_some}
-use Rattle.dns_spec.proofs.DomainNames.NameLaws.{length-is_name}
-use Rattle.dns_spec.specs.Names.{Octets}
-use Rattle.dns_name.specs.WireForm.{labels_of, IsWireForm}
-use Rattle.dns_answer.specs.Walks.{IsThere, IsMissing}
-use Rattle.dns_answer.proofs.WaySteps.{there-at_origin, missing-child}
-use Rattle.dns_answer.proofs.LongWays.{cut-next, there-next, zone-next, cut-whole, missing-whole, under-drop, there-above}
+use Rattle.dns_spec.specs.Data.{type_ns}
+use Rattle.dns_spec.specs.Records.{rrset}
+use Rattle.dns_spec.specs.Sets.{set_of}
+use Rattle.dns_name.proofs.WireLemmas.{IsWireForm-wire, labels_of_spelled}
+use Rattle.dns_answer.specs.Walks.{IsThere, IsMissing, IsBelowCut, ends_at_cuts}
+use Rattle.dns_answer.proofs.WaySteps.{missing-child, cut-at_child, there-at_child}
+use Rattle.dns_answer.proofs.LongWays.{cut-whole, missing-whole, there-above, under-origin, label-before}
 use Rattle.dns_answer.proofs.lookup.walk.Goals as goal
 
-pub returns-then-depth-eq0-clause-way : goal.returns-then-depth-eq0-clause-way
-returns-then-depth-eq0-clause-way c = there-at_origin _ _ c.requires.apex.exists c.requires.below (omega (arith, c.requires.depth, c.if-depth-eq0.true))
+pub put_starts-requires-clause-form : goal.put_starts-requires-clause-form
+put_starts-requires-clause-form c = IsWireForm-wire _ _ c.octets-octets.ensures.value c.octets-octets.ensures.is_name
+
+pub put_starts-requires-clause-labels : goal.put_starts-requires-clause-labels
+put_starts-requires-clause-labels c =
+    let octets = c.octets-octets.ensures in
+    omega (arith, ap length (labels_of_spelled _ _ octets.value octets.is_name), c.requires.below.labels)
+
+pub labels-init : goal.labels-init
+labels-init c = record {
+  there = there-above c.args.steps.now.zone c.args.start.now (ends_at_cuts c.args.cuts) c.args.sought.now c.requires.start c.requires.apex c.requires.below;
+  fewer = omega arith;
+  zone = refl;
+  from = omega arith;
+  visits = omega arith;
+  comparisons = omega arith;
+}
+
+pub label_after-label-requires-clause-inside : goal.label_after-label-requires-clause-inside
+label_after-label-requires-clause-inside c =
+    let octets = c.octets-octets.ensures in
+    omega (arith, ap length (labels_of_spelled _ _ octets.value octets.is_name), c.requires.below.labels, c.labels.invariant.fewer, c.labels-test.true)
 
 pub returns-in_default-clause-way : goal.returns-in_default-clause-way
 returns-in_default-clause-way c =
     let z = c.args.steps.now.zone in
-    let n = labels_of c.args.octets.now in
-    let above = there-above z n (c.args.depth - 1 + 1) c.args.depth c.requires.apex.exists c.requires.below c.requires.depth (omega (arith, c.if-depth-eq0.false)) in
-    missing-whole z (c.args.depth - 1) n None
-    (subst (λ m. IsMissing z m None) (sym c.label_after.ensures)
-    (missing-child z _ _ None c.args.apex.now above c.requires.apex.node (λ there. false≢true (c.in_default.ensures.child.1 there))))
+    let start = c.args.start.now in
+    let ends = ends_at_cuts c.args.cuts in
+    let n = c.args.sought.now.name in
+    let octets = c.octets-octets.ensures in
+    let label = label-before n _ c.label_after-label.result c.labels.before (labels_of_spelled _ _ octets.value octets.is_name) c.labels-test.true c.label_after-label.ensures in
+    missing-whole z start ends (c.labels.before - 1) n c.labels.node
+    (subst (λ m. IsMissing z start ends m c.labels.node) (sym label)
+    (missing-child z start ends _ _ c.labels.node c.or_start.result.now c.labels.invariant.there c.or_start.ensures (λ there. false≢true (c.in_default.ensures.child.1 there))))
 
-pub labels-init : goal.labels-init
-labels-init c =
+pub returns-then-is_end-clause-way : goal.returns-then-is_end-clause-way
+returns-then-is_end-clause-way c =
     let z = c.args.steps.now.zone in
-    let n = labels_of c.args.octets.now in
-    record {
-      next = record {
-        label = c.label_after.result;
-        rest = drop (c.args.depth - 1 + 1) n;
-        is = c.label_after.ensures;
-        above = None;
-        at_node = c.args.apex.now;
-        there = there-above z n (c.args.depth - 1 + 1) c.args.depth c.requires.apex.exists c.requires.below c.requires.depth (omega (arith, c.if-depth-eq0.false));
-        under = under-drop (c.args.depth - 1 + 1) n z.origin c.requires.below (omega (arith, c.requires.depth, c.if-depth-eq0.false));
-        at = c.requires.apex.node;
-        child = c.in-Some.ensures.node;
-        stands = c.in-Some.ensures.child.0 refl;
-      };
-      fewer = omega (arith, c.if-depth-eq0.false);
-      zone = c.in-Some.ensures.same_zone;
-      from = omega (arith, c.in-Some.ensures.visits);
-      visits = omega (arith, c.in-Some.ensures.visits, c.if-depth-eq0.false);
-      comparisons = omega (arith, c.in-Some.ensures.visits, c.in-Some.ensures.bound);
-    }
-
-pub returns-then-is_some-clause-way : goal.returns-then-is_some-clause-way
-returns-then-is_some-clause-way c =
-    let z = c.args.steps.now.zone in
-    let n = labels_of c.args.octets.now in
-    cut-whole z c.labels.before n c.labels.node (cut-next z (drop c.labels.before n) c.labels.node c.labels.invariant.next (sym (ap is_some c.set.ensures.set) ∙ sym c.if-is_some.ensures))
-
-pub returns-then-before-eq0-clause-way : goal.returns-then-before-eq0-clause-way
-returns-then-before-eq0-clause-way c =
-    let z = c.args.steps.now.zone in
-    let n = labels_of c.args.octets.now in
-    subst (λ k. IsThere z (drop k n) (Some c.labels.node)) c.if-before-eq0.true
-    (there-next z (drop c.labels.before n) c.labels.node c.labels.invariant.next (sym (ap is_some c.set.ensures.set) ∙ sym c.if-is_some.ensures))
-
-pub down-requires-in-labels-clause-zone : goal.down-requires-in-labels-clause-zone
-down-requires-in-labels-clause-zone c = c.labels.invariant.zone ∙ sym (zone-next _ _ _ c.labels.invariant.next)
-
-pub returns-in_default-down-clause-way : goal.returns-in_default-down-clause-way
-returns-in_default-down-clause-way c =
-    let z = c.args.steps.now.zone in
-    let n = labels_of c.args.octets.now in
-    let again : c.labels.before ≡ c.labels.before - 1 + 1 = omega (arith, c.if-before-eq0.false) in
-    let at_node = there-next z (drop c.labels.before n) c.labels.node c.labels.invariant.next (sym (ap is_some c.set.ensures.set) ∙ sym c.if-is_some.ensures) in
-    let above = subst (λ k. IsThere z (drop k n) (Some c.labels.node)) again at_node in
-    missing-whole z (c.labels.before - 1) n (Some c.labels.node)
-    (subst (λ m. IsMissing z m (Some c.labels.node)) (sym c.label_after-in-labels.ensures)
-    (missing-child z _ _ (Some c.labels.node) c.labels.node above refl (λ there. false≢true (c.in_default-down.ensures.child.1 there))))
+    let start = c.args.start.now in
+    let ends = ends_at_cuts c.args.cuts in
+    let n = c.args.sought.now.name in
+    let child = c.in-Some.child in
+    let inv = c.labels.invariant in
+    let octets = c.octets-octets.ensures in
+    let label = label-before n _ c.label_after-label.result c.labels.before (labels_of_spelled _ _ octets.value octets.is_name) c.labels-test.true c.label_after-label.ensures in
+    let both = and_parts ends (is_some (set_of (rrset child.zone child.name type_ns))) (sym c.is_end.ensures ∙ c.if-is_end.true) in
+    let under = under-origin z start ends c.args.sought.now c.labels.before c.requires.apex c.requires.below inv.fewer in (
+      both.0,
+      cut-whole z (c.labels.before - 1) n child
+          (subst (λ m. IsBelowCut z m child) (sym label)
+          (cut-at_child z start ends _ _ c.labels.node c.or_start.result.now child inv.there under c.or_start.ensures c.in-Some.ensures.node both.0 both.1)),
+    )
 
 pub labels-preserved : goal.labels-preserved
 labels-preserved c =
     let z = c.args.steps.now.zone in
-    let n = labels_of c.args.octets.now in
+    let start = c.args.start.now in
+    let ends = ends_at_cuts c.args.cuts in
+    let n = c.args.sought.now.name in
+    let child = c.in-Some.child in
     let inv = c.labels.invariant in
-    let again : c.labels.before ≡ c.labels.before - 1 + 1 = omega (arith, c.if-before-eq0.false) in
-    let at_node = there-next z (drop c.labels.before n) c.labels.node inv.next (sym (ap is_some c.set.ensures.set) ∙ sym c.if-is_some.ensures) in
+    let down = c.in-Some.ensures in
+    let octets = c.octets-octets.ensures in
+    let label = label-before n _ c.label_after-label.result c.labels.before (labels_of_spelled _ _ octets.value octets.is_name) c.labels-test.true c.label_after-label.ensures in
+    let under = under-origin z start ends c.args.sought.now c.labels.before c.requires.apex c.requires.below inv.fewer in
     record {
-      next = record {
-        label = c.label_after-in-labels.result;
-        rest = drop (c.labels.before - 1 + 1) n;
-        is = c.label_after-in-labels.ensures;
-        above = Some c.labels.node;
-        at_node = c.labels.node;
-        there = subst (λ k. IsThere z (drop k n) (Some c.labels.node)) again at_node;
-        under = under-drop (c.labels.before - 1 + 1) n z.origin c.requires.below (omega (arith, c.requires.depth, inv.fewer));
-        at = refl;
-        child = c.in-Some-down.ensures.node;
-        stands = c.in-Some-down.ensures.child.0 refl;
-      };
+      there = subst (λ m. IsThere z start ends m (Some child)) (sym label)
+          (there-at_child z start ends _ _ c.labels.node c.or_start.result.now child inv.there under c.or_start.ensures down.node (down.child.0 refl) (sym c.is_end.ensures ∙ c.if-is_end.false));
       fewer = omega (arith, inv.fewer);
-      zone = c.in-Some-down.ensures.same_zone ∙ inv.zone;
-      from = omega (arith, c.in-Some-down.ensures.visits, inv.from);
-      visits = omega (arith, c.in-Some-down.ensures.visits, inv.visits, c.if-before-eq0.false);
-      comparisons = omega (arith, c.in-Some-down.ensures.visits, c.in-Some-down.ensures.bound, inv.comparisons);
+      zone = down.same_zone ∙ inv.zone;
+      from = omega (arith, down.visits, inv.from);
+      visits = omega (arith, down.visits, inv.visits, c.labels-test.true);
+      comparisons = omega (arith, down.visits, down.bound, inv.comparisons);
     }
-
--- a name has as many labels as there are places
-few : (octets : Octets) → IsWireForm octets → length (labels_of octets) ≤ 127
-few octets form = length-is_name (labels_of octets) form.is_name
-
-pub put_starts-requires-clause-room : goal.put_starts-requires-clause-room
-put_starts-requires-clause-room c =
-    omega (arith, c.requires.depth, few c.args.octets.now c.requires.form)
-
-pub label_after-requires-clause-known : goal.label_after-requires-clause-known
-label_after-requires-clause-known c =
-    omega (
-      arith,
-      c.put_starts.ensures.room,
-      c.requires.depth,
-      c.if-depth-eq0.false,
-      few c.args.octets.now c.requires.form,
-    )
-
-pub label_after-requires-in-labels-clause-known : goal.label_after-requires-in-labels-clause-known
-label_after-requires-in-labels-clause-known c =
-    omega (
-      arith,
-      c.put_starts.ensures.room,
-      c.requires.depth,
-      c.labels.invariant.fewer,
-      few c.args.octets.now c.requires.form,
-    )

@@ -9,7 +9,7 @@ offer_answer-head-requires g c = (
   search rules,
   (
     c.requires.visits,
-    (c.requires.comparisons, (c.requires.below, (c.requires.depth, (c.requires.few, c.begin.ensures.draft.askable.qname)))),
+    (c.requires.comparisons, (c.requires.asked, (c.requires.below, c.begin.ensures.draft.askable.qname))),
   ),
 )
 

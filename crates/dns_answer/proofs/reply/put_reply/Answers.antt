@@ -6,7 +6,7 @@ use Rattle.dns_answer.proofs.reply.put_reply.Goals as goal
 pub put_answer-requires : goal.put_answer-requires
 put_answer-requires g c =
     let judged = c.in-Answered.ensures c.args.steps.now.zone (sym c.requires.origin) in
-    (search rules, (c.requires.blank, (c.requires.visits, (c.requires.comparisons, (judged.1, (judged.2, (judged.3, c.requires.out)))))))
+    (search rules, (c.requires.blank, (c.requires.visits, (c.requires.comparisons, (judged.1, (judged.2, c.requires.out))))))
 
 pub returns-in-Answered-clause-costs : goal.returns-in-Answered-clause-costs
 returns-in-Answered-clause-costs g c =

@@ -1,0 +1,50 @@
+//! Names that are sought, each from a name above it.
+ghost use Rattle.std.specs.Prelude.{◌≡◌, ◌≤◌, length, false, true, MatchOption};
+ghost use Rattle.dns_spec.specs.Names.{at_or_below};
+ghost use Rattle.dns_answer.specs.Walks.{IsBelow};
+
+use dns_name::{NameRef, first_label};
+
+/// A name, and how many labels it has below the one from which it is sought.
+#[derive(Drop)]
+pub(crate) struct Sought<'n> {
+    pub(crate) name: NameRef<'n>,
+    pub(crate) depth: usize,
+}
+
+impl Default for Sought<'_> {
+    /// The root, from itself.
+    fn default() -> Self {
+        Sought {
+            name: NameRef::new(&[0]),
+            depth: 0,
+        }
+    }
+}
+
+impl<'n> Sought<'n> {
+    /// A name that is sought from another one; `None` where it is not at or below it.
+    pub(crate) fn below(name: &NameRef<'n>, ancestor: &NameRef<'_>) -> Option<Sought<'n>>
+        ensures { MatchOption result (at_or_below name.now ancestor.now ≡ false)
+            (λ sought. (sought.name ≡ name.now) × IsBelow sought ancestor.now) }
+    {
+        let least = ancestor.octets().len();
+        let octets = name.octets();
+        let mut suffix = octets;
+        let mut depth = 0;
+        'labels: while suffix.len() > least {
+            let Some((_, rest)) = first_label(suffix) else {
+                return None;
+            };
+            suffix = rest;
+            depth += 1;
+        }
+        if !NameRef::new(suffix).same(ancestor) {
+            return None;
+        }
+        Some(Sought {
+            name: NameRef::new(octets),
+            depth,
+        })
+    }
+}
