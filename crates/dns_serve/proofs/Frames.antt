@@ -1,12 +1,11 @@
 -- Octets that are not a whole frame, and a message in its frame, by the parts in which they are read.
-use Rattle.std.proofs.Common.{◌≡◌, ℕ, zero, suc, ◌+◌, ◌-◌, ◌*◌, ◌^◌, ◌<◌, ◌≤◌, min, Bool, true, false, cond, nat_le, ◌⊎◌, inl, inr, List, [], ◌∷◌, ◌++◌, length, take, drop, replicate, All, Option, None, Some, refl, sym, ap, ap₂, ◌∙◌, subst, arith, append_assoc, append-nil, length-append}
+use Rattle.std.proofs.Common.{◌≡◌, ℕ, ◌+◌, ◌-◌, ◌*◌, ◌^◌, ◌<◌, ◌≤◌, min, Bool, true, false, cond, ◌⊎◌, inl, inr, [], ◌∷◌, ◌++◌, length, take, drop, replicate, Option, None, Some, refl, sym, ap, ◌∙◌, arith, append_assoc, append-nil, length-append}
 use Rattle.std.proofs.lemmas.Bool.{cases_lt, leb-true}
 use Rattle.std.proofs.lemmas.List.{take_all, take-append-le}
-use Rattle.std.proofs.lemmas.List.Elements.{All-head}
 use Rattle.dns_spec.specs.Names.{Octets}
 use Rattle.dns_spec.specs.Query.{field16}
 use Rattle.dns_spec.specs.Layout.{octets16}
-use Rattle.dns_spec.specs.Stream.{frame, has_frame, first_frame, IsCutFrame}
+use Rattle.dns_spec.specs.Stream.{has_frame, first_frame, IsCutFrame}
 use Rattle.dns_spec.proofs.Streams.StreamFrames.{two_octets, two_again, length_zeros}
 
 -- the octets begin with no whole frame, since its length says more

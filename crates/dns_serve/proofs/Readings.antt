@@ -1,5 +1,5 @@
 -- What calls of a source give together.
-use Rattle.std.proofs.Common.{◌≡◌, ℕ, ◌+◌, ◌-◌, ◌*◌, ◌^◌, ◌<◌, ◌≤◌, min, All, List, [], ◌∷◌, ◌++◌, slice_index, length, take, Option, Some, Ok, Err, subst, sym, ap, ap₂, ◌∙◌, arith, length-append}
+use Rattle.std.proofs.Common.{◌≡◌, ℕ, ◌+◌, ◌-◌, ◌*◌, ◌^◌, ◌<◌, ◌≤◌, min, All, [], ◌∷◌, ◌++◌, slice_index, length, take, Option, Err, subst, sym, ap, ap₂, ◌∙◌, arith, length-append}
 use Rattle.std.proofs.Math.Seq.{take-append-add}
 use Rattle.std.specs.Io.KnownBytes.{Consumes}
 use Rattle.std.proofs.lemmas.List.Elements.{All-head}
@@ -9,7 +9,7 @@ use Rattle.dns_spec.proofs.Replies.WritableItems.{each_from_all}
 use Rattle.std.proofs.KnownBytes.{Consumes-trans}
 use Rattle.dns_spec.specs.Names.{Octets}
 use Rattle.dns_spec.specs.Layout.{octets16}
-use Rattle.dns_serve.specs.Reads.{Passed, Gives, GivesSome, GivesFewer, GivesBeginning, GivesPart, GivesPartOfBody, GivesMessage, GivesBody, MessageRead, LengthRead, BodyRead}
+use Rattle.dns_serve.specs.Reads.{Passed, Gives, GivesSome, GivesFewer, GivesBeginning, GivesPart, GivesPartOfBody, GivesMessage, GivesBody, MessageRead, BodyRead}
 use Rattle.dns_serve.specs.declared.fault.StreamFault.{StreamFault}
 use Rattle.dns_serve.specs.declared.fault.StreamFault.TheVariants.{SourceFailed, SinkFailed, Cut}
 use Rattle.dns_serve.proofs.Frames.{no_frame_short, cut_first, no_frame_inside, cut_inside, kept_front}
@@ -106,15 +106,11 @@ number_again (x ∷ y ∷ []) n low two value =
 number_again (x ∷ y ∷ z ∷ zs) n low two value = absurd (omega (arith, two))
 
 -- why a message did not come after its length
-body_fault_by : (a b c : Option Octets) (n : ℕ) (buf : Octets) (fault : StreamFault) → (n < 2 ^ 16) × Consumes a b (octets16 n)
+pub body_fault : (a b c : Option Octets) (n : ℕ) (buf : Octets) (fault : StreamFault) → n < 2 ^ 16 → Consumes a b (octets16 n)
     → BodyRead b c n buf (Err fault) → MessageRead a c buf (Err fault)
-body_fault_by a b c n buf SourceFailed l f = beginning_after a b c n l.0 l.1 f
-body_fault_by a b c n buf SinkFailed l f = f
-body_fault_by a b c n buf Cut l f = part_after a b c n l.0 l.1 f
-
-pub body_fault : (a b c : Option Octets) (read : Option ℕ) (n : ℕ) (buf : Octets) (fault : StreamFault) → read ≡ Some n → LengthRead a b (Ok read)
-    → BodyRead b c n buf (Err fault) → MessageRead a c buf (Err fault)
-body_fault a b c read n buf fault e l f = body_fault_by a b c n buf fault (subst (λ o. LengthRead a b (Ok o)) e l) f
+body_fault a b c n buf SourceFailed h l f = beginning_after a b c n h l f
+body_fault a b c n buf SinkFailed h l f = f
+body_fault a b c n buf Cut h l f = part_after a b c n h l f
 
 -- what is kept of a message came whole, and then all of the rest, or too little
 pub body_came : (a b c : Option Octets) (count kept first skipped : ℕ) (buf others : Octets) → kept ≡ min count 512 → length buf ≡ kept → kept ≤ first

@@ -1,5 +1,5 @@
 -- What a session has done, message by message.
-use Rattle.std.proofs.Common.{◌≡◌, ℕ, zero, suc, ◌+◌, ◌-◌, ◌^◌, ◌<◌, ◌≤◌, ◌⊎◌, inl, inr, All, List, [], ◌∷◌, ◌++◌, length, take, Option, Some, None, Result, Ok, Err, Bool, true, false, refl, sym, ap, ◌∙◌, subst, arith, append_assoc, append-nil, length-append}
+use Rattle.std.proofs.Common.{◌≡◌, ℕ, zero, suc, ◌+◌, ◌-◌, ◌^◌, ◌<◌, ◌≤◌, ◌⊎◌, inl, inr, All, List, [], ◌∷◌, ◌++◌, length, take, Option, Some, None, Ok, Err, refl, sym, ap, ◌∙◌, subst, arith, append_assoc, append-nil, length-append}
 use Rattle.std.specs.List.{flat_map}
 use Rattle.std.proofs.lemmas.Grind.{flat_map-append}
 use Rattle.std.proofs.lemmas.List.Elements.{All-append}
@@ -11,8 +11,8 @@ use Rattle.dns_spec.specs.Stream.{frame, frames, first_frame, reply_frame, repli
 use Rattle.dns_spec.proofs.Streams.StreamFrames.{frames_again}
 use Rattle.dns_spec.proofs.Replies.FirstOctets.{first_octets_answer}
 use Rattle.dns_name.specs.Counted.{AppendsBeginning}
-use Rattle.dns_serve.specs.Reads.{MessageRead, GivesMessage, GivesNothing, GivesBeginning, GivesPart}
-use Rattle.dns_serve.specs.Streams.{Session, AreFrames, HasServed, WasCut, WasBroken, WasRefused, SessionOf, HasAnswered, HasBegun, StepOf, reply_over_tcp}
+use Rattle.dns_serve.specs.Reads.{MessageRead, GivesMessage, GivesNothing}
+use Rattle.dns_serve.specs.Streams.{Session, AreFrames, HasServed, WasRefused, SessionOf, HasAnswered, HasBegun, reply_over_tcp}
 use Rattle.dns_serve.specs.declared.fault.StreamFault.{StreamFault}
 use Rattle.dns_serve.specs.declared.fault.StreamFault.TheVariants.{SourceFailed, SinkFailed, Cut}
 
@@ -46,6 +46,9 @@ begun z a b c d buf read kept piece e m is (n, h, w) =
       taken = n;
       written = subst (λ r. Appends c d (take n (reply_frame r))) (reply_of_kept z piece g.message (is ∙ g.kept_is)) w;
     }
+
+pub nothing_read : (a b : Option Octets) (buf : Octets) (read : Option ℕ) → read ≡ None → MessageRead a b buf (Ok read) → GivesNothing a b
+nothing_read a b buf read e m = subst (λ o. MessageRead a b buf (Ok o)) e m
 
 -- So many messages were read, and their replies written.
 pub record Done (reply : Octets → Option Octets) (s : Session) (n : ℕ) : Type 0 where
@@ -129,33 +132,46 @@ served_most reply most n a b x y d e = record {
   over = inl e;
 }
 
-pub served_all : (reply : Octets → Option Octets) (most n : ℕ) (a b c x y z : Option Octets) → Done reply (session a b x y) n → n < most
-    → GivesNothing b c × Appends y z [] → HasServed reply most (session a c x z) n
-served_all reply most n a b c x y z d h (g, w) =
+pub served_all : (reply : Octets → Option Octets) (most n : ℕ) (a b c x y : Option Octets) → Done reply (session a b x y) n → n < most
+    → GivesNothing b c → HasServed reply most (session a c x y) n
+served_all reply most n a b c x y d h g =
     let read = Consumes-trans a b c _ _ d.read g.consumed in record {
       messages = d.messages;
       are_frames = frames_of_known a c most d.messages [] d.short read (inr (omega (arith, d.count, h), nil_has_none, g.over));
       count = d.count;
       read = subst (Consumes a c) (append-nil (flat_map frame d.messages)) read;
-      written = subst (Appends x z) (append-nil (replies reply d.messages)) (Appends-trans x y z _ _ d.written w);
+      written = d.written;
       over = inr g.over;
     }
 
-unchanged : (x y z : Option Octets) (text : Octets) → Appends x y text → Appends y z [] → Appends x z text
-unchanged x y z text h w = subst (Appends x z) (append-nil text) (Appends-trans x y z text [] h w)
-
--- the next message could not be read, or its reply not be written
-pub failed : (reply : Octets → Option Octets) (most n : ℕ) (a b c x y z : Option Octets) (fault : StreamFault) → Done reply (session a b x y) n → n < most
-    → StepOf reply (session b c y z) (Err fault) → SessionOf reply most (session a c x z) (Err fault)
-failed reply most n a b c x y z SourceFailed d h (g, w) = record {
+-- the next message could not be read
+pub unread : (reply : Octets → Option Octets) (most n : ℕ) (a b c x y : Option Octets) (buf : Octets) (fault : StreamFault) → Done reply (session a b x y) n → n < most
+    → MessageRead b c buf (Err fault) → SessionOf reply most (session a c x y) (Err fault)
+unread reply most n a b c x y buf SourceFailed d h g = record {
   messages = d.messages;
   given = flat_map frame d.messages ++ g.given;
   are_frames = frames_by most d.messages g.given d.short (inr (omega (arith, d.count, h), g.no_frame));
   fewer = omega (arith, d.count, h);
   read = Consumes-trans a b c _ _ d.read g.consumed;
-  written = unchanged x y z _ d.written w;
+  written = d.written;
 }
-failed reply most n a b c x y z SinkFailed d h b' = record {
+unread reply most n a b c x y buf SinkFailed d h g = absurd g
+unread reply most n a b c x y buf Cut d h g =
+    let read = Consumes-trans a b c _ _ d.read g.consumed in record {
+      messages = d.messages;
+      part = g.part;
+      are_frames = frames_of_known a c most d.messages g.part d.short read (inr (omega (arith, d.count, h), g.no_frame, g.over));
+      fewer = omega (arith, d.count, h);
+      read = read;
+      cut = g.cut;
+      over = g.over;
+      written = d.written;
+    }
+
+-- its reply could not be written
+pub unwritten : (reply : Octets → Option Octets) (most n : ℕ) (a b c x y z : Option Octets) → Done reply (session a b x y) n → n < most
+    → HasBegun reply (session b c y z) → WasRefused reply most (session a c x z)
+unwritten reply most n a b c x y z d h b' = record {
   earlier = d.messages;
   message = b'.message;
   taken = b'.taken;
@@ -166,20 +182,3 @@ failed reply most n a b c x y z SinkFailed d h b' = record {
   read = subst (Consumes a c) (sym (frames_of d.messages b'.message)) (Consumes-trans a b c _ _ d.read b'.read);
   written = Appends-trans x y z _ _ d.written b'.written;
 }
-failed reply most n a b c x y z Cut d h (g, w) =
-    let read = Consumes-trans a b c _ _ d.read g.consumed in record {
-      messages = d.messages;
-      part = g.part;
-      are_frames = frames_of_known a c most d.messages g.part d.short read (inr (omega (arith, d.count, h), g.no_frame, g.over));
-      fewer = omega (arith, d.count, h);
-      read = read;
-      cut = g.cut;
-      over = g.over;
-      written = unchanged x y z _ d.written w;
-    }
-
-pub next_answered : (reply : Octets → Option Octets) (s : Session) (more : Bool) → more ≡ true → StepOf reply s (Ok more) → HasAnswered reply s
-next_answered reply s more e h = subst (λ b. StepOf reply s (Ok b)) e h
-
-pub next_none : (reply : Octets → Option Octets) (s : Session) (more : Bool) → more ≡ false → StepOf reply s (Ok more) → GivesNothing s.unread s.left × Appends s.held s.holds []
-next_none reply s more e h = subst (λ b. StepOf reply s (Ok b)) e h

@@ -1,10 +1,9 @@
 -- What a reader learns here: what a source gives to a reader that asks for so many octets, in one
 -- call or more.
-use Rattle.std.specs.Prelude.{◌≡◌, ℕ, ◌≤◌, ◌<◌, [], ◌++◌, ◌^◌, length, take}
+use Rattle.std.specs.Prelude.{◌≡◌, ℕ, ◌≤◌, ◌<◌, [], ◌^◌, length, take}
 use Rattle.std.specs.Prelude.{Option, None, Some, Result, Ok, Err}
 use Rattle.std.specs.Io.KnownBytes.{Consumes, IsAtEnd}
 use Rattle.dns_spec.specs.Names.{Octets}
-use Rattle.dns_spec.specs.Layout.{octets16}
 use Rattle.dns_spec.specs.Stream.{frame, first_frame, IsCutFrame}
 use Rattle.dns_serve.specs.declared.fault.StreamFault.{StreamFault}
 use Rattle.dns_serve.specs.declared.fault.StreamFault.TheVariants.{SourceFailed, SinkFailed, Cut}
@@ -69,14 +68,6 @@ MessageRead old new buf (Ok (Some n)) = GivesMessage old new (take n buf)
 MessageRead old new buf (Err SourceFailed) = GivesBeginning old new
 MessageRead old new buf (Err SinkFailed) = ⊥
 MessageRead old new buf (Err Cut) = GivesPart old new
-
--- what was read where the length of a message is due
-abbrev pub LengthRead : Option Octets → Option Octets → Result (Option ℕ) StreamFault → Type 0
-LengthRead old new (Ok None) = GivesNothing old new
-LengthRead old new (Ok (Some n)) = (n < 2 ^ 16) × Consumes old new (octets16 n)
-LengthRead old new (Err SourceFailed) = GivesBeginning old new
-LengthRead old new (Err SinkFailed) = ⊥
-LengthRead old new (Err Cut) = GivesPart old new
 
 -- a message of so many octets, of which the first 512 are kept
 pub record GivesBody (old new : Option Octets) (count : ℕ) (kept : Octets) : Type 0 where

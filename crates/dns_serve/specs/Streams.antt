@@ -1,15 +1,13 @@
 -- What a reader learns here: what a session over a stream has read and written, where it ends and
 -- where it fails.
 use Rattle.std.specs.Prelude.{⊤, ◌≡◌, ℕ, ◌+◌, ◌≤◌, ◌<◌, ◌^◌, ◌⊎◌, List, [], ◌∷◌, ◌++◌, length, take}
-use Rattle.std.specs.Prelude.{MatchOption, Option, Result, Ok, Err, Bool, true, false}
+use Rattle.std.specs.Prelude.{MatchOption, Option, Result, Ok, Err}
 use Rattle.std.specs.List.{flat_map}
 use Rattle.std.specs.Io.KnownBytes.{Appends, Consumes, IsAtEnd}
 use Rattle.dns_spec.specs.Names.{Octets}
 use Rattle.dns_spec.specs.Records.{ZoneContents}
 use Rattle.dns_spec.specs.Reply.{octets_of}
-use Rattle.dns_spec.specs.Stream.{frame, frames, after_frames, IsCutFrame, reply_frame, replies}
-use Rattle.dns_name.specs.Counted.{Counted}
-use Rattle.dns_serve.specs.Reads.{GivesNothing, GivesBeginning, GivesPart}
+use Rattle.dns_spec.specs.Stream.{frame, frames, IsCutFrame, reply_frame, replies}
 use Rattle.dns_serve.specs.declared.fault.StreamFault.{StreamFault}
 use Rattle.dns_serve.specs.declared.fault.StreamFault.TheVariants.{SourceFailed, SinkFailed, Cut}
 
@@ -108,12 +106,3 @@ pub record HasBegun (reply : Octets → Option Octets) (s : Session) : Type 0 wh
   pub read : Consumes s.unread s.left (frame message)
   pub taken : ℕ
   pub written : Appends s.held s.holds (take taken (reply_frame (reply message)))
-
--- what the next message of a session has done: its source was at its end (false), it was answered
--- (true), or it failed
-abbrev pub StepOf : (Octets → Option Octets) → Session → Result Bool StreamFault → Type 0
-StepOf reply s (Ok false) = GivesNothing s.unread s.left × Appends s.held s.holds []
-StepOf reply s (Ok true) = HasAnswered reply s
-StepOf reply s (Err SourceFailed) = GivesBeginning s.unread s.left × Appends s.held s.holds []
-StepOf reply s (Err SinkFailed) = HasBegun reply s
-StepOf reply s (Err Cut) = GivesPart s.unread s.left × Appends s.held s.holds []

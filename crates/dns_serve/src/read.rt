@@ -1,5 +1,5 @@
 //! Octets of a source, as many as are asked for, however few a call gives.
-ghost use Rattle.std.specs.Prelude.{◌≡◌, ◌-◌, ◌^◌, ◌<◌, length, take, IfOk, OnErr};
+ghost use Rattle.std.specs.Prelude.{◌≡◌, ◌-◌, ◌^◌, ◌<◌, length, take, All, IfOk, OnErr};
 ghost use Rattle.dns_name.specs.Counted.{failures_after};
 ghost use Rattle.dns_serve.specs.Reads.{Gives, GivesSome, GivesFewer};
 
@@ -15,6 +15,7 @@ pub(crate) fn read_full<R: Read>(
     ensures ok { IfOk result (λ count.
         Gives (R.remaining source.old.device) (R.remaining source.new.device)
         (length buf.new) count (take count buf.new)) }
+    ensures low { IfOk result (λ _. All (λ o. o < 256) buf.new) }
     ensures err { OnErr result (GivesFewer (R.remaining source.old.device)
         (R.remaining source.new.device) (length buf.new)) }
     ensures counted { source.new.failures ≡ failures_after source.old.failures result }

@@ -4,8 +4,8 @@ ghost use Rattle.std.specs.Prelude.{◌≡◌, ℕ, ◌+◌, ◌-◌, ◌^◌, �
 ghost use Rattle.dns_name.specs.Counted.{Writes};
 ghost use Rattle.dns_spec.specs.Layout.{octets16};
 ghost use Rattle.dns_spec.specs.Stream.{reply_frame};
-ghost use Rattle.dns_serve.specs.Reads.{MessageRead, LengthRead, BodyRead};
-ghost use Rattle.dns_serve.specs.Streams.{SessionOf, StepOf, reply_over_tcp, source_failures_after, sink_failures_after};
+ghost use Rattle.dns_serve.specs.Reads.{MessageRead, BodyRead};
+ghost use Rattle.dns_serve.specs.Streams.{SessionOf, reply_over_tcp, source_failures_after, sink_failures_after};
 
 use crate::fault::StreamFault;
 use crate::read::{read_full, skip};
@@ -103,44 +103,18 @@ pub fn serve_stream_in<R: Read, W: Write>(
 {
     let mut served = 0;
     'messages: while served < most {
-        if !serve_message(zone, source, sink, room)? {
+        let Some(kept) = read_message(source, &mut room.message, &mut room.reply)? else {
             break;
-        }
+        };
+        let (message, _) = room.message.split_at(kept);
+        write_reply(zone, message, sink, &mut room.draft, &mut room.reply)?;
         served += 1;
     }
     Ok(served)
 }
 
-// Reads a message and writes its reply: false at the end of the source.
-fn serve_message<R: Read, W: Write>(
-    zone: &Zone,
-    source: &mut Tally<R>,
-    sink: &mut Tally<W>,
-    room: &mut StreamRoom,
-) -> Result<bool, StreamFault>
-    requires source { source.old.failures < 2 ^ 64 - 1 }
-    requires sink { sink.old.failures < 2 ^ 64 - 1 }
-    ensures step { StepOf (reply_over_tcp zone.now)
-        (record {
-          unread = R.remaining source.old.device;
-          left = R.remaining source.new.device;
-          held = W.contents sink.old.device;
-          holds = W.contents sink.new.device;
-        })
-        result }
-    ensures source { source.new.failures ≡ source_failures_after source.old.failures result }
-    ensures sink { sink.new.failures ≡ sink_failures_after sink.old.failures result }
-{
-    let Some(kept) = read_message(source, &mut room.message, &mut room.reply)? else {
-        return Ok(false);
-    };
-    let (message, _) = room.message.split_at(kept);
-    write_reply(zone, message, sink, &mut room.draft, &mut room.reply)?;
-    Ok(true)
-}
-
-// Reads a message after its length, and answers how many of its octets are kept: its first 512, at
-// the front of `message`.
+// Reads a message after its length, and answers how many of its octets are kept, at the front of
+// `message`; `None` at the end of the source.
 fn read_message<R: Read>(
     source: &mut Tally<R>,
     message: &mut [u8],
@@ -155,32 +129,15 @@ fn read_message<R: Read>(
     ensures source { source.new.failures ≡ source_failures_after source.old.failures result }
 {
     let mut length = [0; 2];
-    let Some(count) = read_length(source, &mut length)? else {
-        return Ok(None);
-    };
-    let kept = read_body(source, message, room, count)?;
-    Ok(Some(kept))
-}
-
-// Reads the length of a message, or `None` at the end of the source. `room` is for its two octets.
-fn read_length<R: Read>(
-    source: &mut Tally<R>,
-    room: &mut [u8],
-) -> Result<Option<usize>, StreamFault>
-    requires source { source.old.failures < 2 ^ 64 - 1 }
-    requires room { length room.old ≡ 2 }
-    ensures read { LengthRead (R.remaining source.old.device) (R.remaining source.new.device)
-        result }
-    ensures source { source.new.failures ≡ source_failures_after source.old.failures result }
-{
-    let count = read_full(source, room)?;
-    if count == 0 {
+    let came = read_full(source, &mut length)?;
+    if came == 0 {
         return Ok(None);
     }
-    if count < 2 {
+    if came < 2 {
         return Err(StreamFault::Cut);
     }
-    Ok(Some(message_length(room)))
+    let kept = read_body(source, message, room, message_length(&length))?;
+    Ok(Some(kept))
 }
 
 fn message_length(octets: &[u8]) -> usize

@@ -5,7 +5,7 @@ ghost use Rattle.dns_serve.specs.Turns.{TurnOf};
 
 use crate::datagrams::Datagrams;
 use crate::fault::TurnFault;
-use dns_answer::{UdpDraft, respond_in};
+use dns_answer::{Limit, respond};
 use dns_zone::{Steps, Zone};
 
 // The octets that are kept of a datagram, and those that a reply has at most.
@@ -35,8 +35,7 @@ pub fn udp_turn<D: Datagrams>(zone: &Zone, device: &mut D) -> Result<bool, TurnF
     let (datagram, _) = room.split_at(count);
     let mut out = [0; MOST_OCTETS];
     let mut steps = Steps::new(zone);
-    let mut draft = UdpDraft::new();
-    let Some(len) = respond_in(&mut steps, datagram, &mut draft, &mut out) else {
+    let Some(len) = respond(&mut steps, datagram, Limit::Udp, &mut out) else {
         return Ok(false);
     };
     let (reply, _) = out.split_at(len);

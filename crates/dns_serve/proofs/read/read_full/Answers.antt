@@ -1,4 +1,5 @@
-use Rattle.std.proofs.Common.{rules, ◌≡◌, ◌∙◌, sym, ap, length-append, arith, subst, length, take}
+use Rattle.std.proofs.Common.{rules, ◌<◌, sym, arith, subst}
+use Rattle.std.proofs.lemmas.Grind.{get_or_default_zero}
 use Rattle.std.specs.Io.KnownBytes.{Consumes}
 use Rattle.dns_serve.proofs.Readings.{came_after}
 use Rattle.dns_serve.proofs.read.read_full.Goals as goal
@@ -10,6 +11,19 @@ calls-preserved g c =
     let r = c.in_ok-came.ensures in record {
       within = search rules;
       room = search rules;
+      low = λ k d h. subst (λ o. o < 256) (sym (get_or_default_zero _ k d h)) (omega (arith, c.type_inv.buf k));
       consumed = came_after _ _ _ _ _ _ _ s.front_len (subst (Consumes _ _) (sym s.front) i.consumed) r.bytes.0;
       counted = search rules;
     }
+
+pub calls-init : goal.calls-init
+calls-init g c = record {
+  within = search rules;
+  room = search rules;
+  low = λ k d h. subst (λ o. o < 256) (sym (get_or_default_zero _ k d h)) (omega (arith, c.type_inv.buf k));
+  consumed = search rules;
+  counted = search rules;
+}
+
+pub returns-then-came-eq0-clause-low : goal.returns-then-came-eq0-clause-low
+returns-then-came-eq0-clause-low g c = λ k d h. subst (λ o. o < 256) (sym (get_or_default_zero _ k d h)) (omega (arith, c.type_inv.buf k))

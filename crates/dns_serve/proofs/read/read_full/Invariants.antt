@@ -1,4 +1,4 @@
-use Rattle.std.proofs.Common.{length, ◌-◌, ◌≡◌, ◌≤◌, take, ℕ}
+use Rattle.std.proofs.Common.{length, ◌-◌, ◌≡◌, ◌≤◌, ◌<◌, All, take}
 use Rattle.std.specs.Io.KnownBytes.{Consumes}
 use Rattle.dns_serve.proofs.read.read_full.Given as goal
 
@@ -7,6 +7,7 @@ abbrev pub invariant-calls : goal.invariant-calls
 invariant-calls g l = record {
   within : l.count ≤ length l.buf;
   room : length l.buf ≡ length l.initial.buf;
+  low : All (λ o. o < 256) l.buf;
   consumed : Consumes (g.R.Read.remaining l.initial.source.device) (g.R.Read.remaining l.source.device) (take l.count l.buf);
   counted : l.source.failures ≡ l.initial.source.failures;
 }

@@ -1,4 +1,4 @@
-use Rattle.std.proofs.Common.{rules, ◌≡◌, ◌∙◌, sym, ap, arith, subst, length, take}
+use Rattle.std.proofs.Common.{rules, sym}
 use Rattle.dns_serve.proofs.Readings.{passed_after}
 use Rattle.dns_serve.proofs.read.skip.Goals as goal
 

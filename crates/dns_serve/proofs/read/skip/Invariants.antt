@@ -1,4 +1,4 @@
-use Rattle.std.proofs.Common.{length, ◌-◌, ◌≡◌, ◌≤◌, ◌<◌, ℕ}
+use Rattle.std.proofs.Common.{length, ◌-◌, ◌≡◌, ◌≤◌, ◌<◌}
 use Rattle.dns_serve.specs.Reads.{Passed}
 use Rattle.dns_serve.proofs.read.skip.Given as goal
 

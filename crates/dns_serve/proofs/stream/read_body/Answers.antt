@@ -1,4 +1,4 @@
-use Rattle.std.proofs.Common.{rules, arith, ◌∙◌}
+use Rattle.std.proofs.Common.{arith, ◌∙◌}
 use Rattle.std.proofs.lemmas.Result.{err_from_is_err_and}
 use Rattle.dns_serve.proofs.Readings.{fewer_after, body_came, body_cut}
 use Rattle.dns_serve.proofs.stream.read_body.Goals as goal
