@@ -1,6 +1,8 @@
 mod LateDash
-mod ReportLines
+mod LineParts
 mod CheckedZone
+mod PrintedLines
 pub mod LineDigits
+pub mod KeptLines
 pub mod LineRuns
 pub mod LineReads

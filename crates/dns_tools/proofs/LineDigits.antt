@@ -1,5 +1,5 @@
 -- The digits of a line, as the library of hexadecimal digits reads and writes them and as the definitions do.
-use Rattle.std.proofs.Common.{◌≡◌, ℕ, suc, ◌+◌, ◌*◌, ◌/◌, ◌%◌, ◌<◌, ◌==◌, if◌then◌else◌, Bool, true, false, ◌&&◌, ◌⊎◌, inl, inr, List, [], ◌∷◌, ◌++◌, length, take, slice_index, Option, Some, None, Result, Ok, Err, refl, sym, ap, ap₂, ◌∙◌, arith}
+use Rattle.std.proofs.Common.{◌≡◌, ℕ, zero, suc, ◌+◌, ◌*◌, ◌/◌, ◌%◌, ◌<◌, ◌==◌, if◌then◌else◌, Bool, true, false, ◌&&◌, ◌⊎◌, inl, inr, List, [], ◌∷◌, ◌++◌, length, take, slice_index, Option, Some, None, Result, Ok, Err, refl, sym, ap, ap₂, ◌∙◌, arith}
 use Rattle.std.specs.Prelude.{IsErr}
 use Rattle.std.specs.Char.{is_ascii_hexdigit, digit_value, digit_char}
 use Rattle.std.specs.Option.{option_map}
@@ -10,6 +10,7 @@ use Rattle.hex.specs.declared.error.FromHexError.{FromHexError}
 use Rattle.hex.proofs.HexLemmas.{length-encode_with}
 use Rattle.hex.proofs.Pairs.{cons_byte}
 use Rattle.dns_spec.specs.Names.{Octets}
+use Rattle.dns_spec.specs.Layout.{octets16}
 use Rattle.dns_spec.specs.DataText.{hex_octets}
 use Rattle.dns_spec.specs.WrittenText.{hex_text}
 
@@ -51,6 +52,15 @@ digits_written (o ∷ d) small =
     let here : o < 256 = small 0 in
     let after = digits_written d (λ i. small (suc i)) in
     rw (lower_digit (o / 16) (omega (arith, here)), lower_digit (o % 16) (omega arith), after) refl
+
+two_bytes : (a b : ℕ) → a < 256 → b < 256 → IsBytes (a ∷ b ∷ [])
+two_bytes a b h k zero = h
+two_bytes a b h k (suc zero) = k
+two_bytes a b h k (suc (suc i)) = omega arith
+
+-- 16 bits in four digits
+pub digits16 : (n : ℕ) → encode_lower (octets16 n) ≡ hex_text (octets16 n)
+digits16 n = digits_written (octets16 n) (two_bytes (n / 256 % 256) (n % 256) (omega arith) (omega arith))
 
 -- what is read, without the reason where it is nothing
 abbrev said : Result (List ℕ) FromHexError → Option Octets

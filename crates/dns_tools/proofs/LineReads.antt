@@ -11,10 +11,12 @@ use Rattle.dns_spec.specs.Lines.{lines, line_ends, ended_lines, message_answer, 
 use Rattle.dns_name.specs.Counted.{AppendsBeginning}
 use Rattle.dns_name.proofs.WritesLemmas.{beginning_of_second}
 use Rattle.dns_serve.specs.Streams.{Session}
-use Rattle.dns_tools.specs.Exchanges.{Kept, EndsLine, IsFresh, Progress, Begun, IsInput, LinesAnswered, HasAnsweredLines, HasAnsweredEnded, HasBegunAnswers, kept_message}
+use Rattle.dns_tools.specs.Exchanges.{Kept, EndsLine, IsFresh, Progress, Begun, IsInput, LinesAnswered, HasAnsweredLines, HasAnsweredEnded, HasBegunAnswers}
+use Rattle.dns_tools.specs.KeptLine.{kept_message}
+use Rattle.dns_tools.proofs.KeptLines.{line_alone, lines_nil, kept_says}
 use Rattle.dns_tools.specs.declared.fault.Stop.{Stop}
 use Rattle.dns_tools.specs.declared.fault.Stop.TheVariants.{Source, Sink}
-use Rattle.dns_tools.proofs.LineRuns.{line_alone, lines_nil, kept_says, one_answer, one_flag, begun_flush, progress_none, progress_flush}
+use Rattle.dns_tools.proofs.LineRuns.{one_answer, one_flag, begun_flush, progress_none, progress_flush}
 
 -- so much was read, and so many octets more may be
 pub record Reading (reply : Octets → Option Octets) (a b x y : Option Octets) (left : ℕ) (k : Kept) : Type 0 where
@@ -48,10 +50,10 @@ empty_front front line e none = elim (cases_lt (length front) 131070) [
   | inr large ↦ absurd (omega (arith, none, ap length e, length-take-le 131070 front large))
 ]
 
-pub finished_empty : (reply : Octets → Option Octets) (x y : Option Octets) (input : Octets) (k : Kept) → length k.line ≡ 0 → Progress reply x y input k → Finished reply x y input k
+pub finished_empty : (reply : Octets → Option Octets) (x y : Option Octets) (input : Octets) (k : Kept) → length k.line.front ≡ 0 → Progress reply x y input k → Finished reply x y input k
 finished_empty reply x y input k none p =
     let all : lines input ≡ p.ended =
-    whole_lines reply x y input k p ∙ ap (λ z. p.ended ++ lines z) (empty_front p.front k.line p.kept none) ∙ ap (λ z. p.ended ++ z) lines_nil ∙ append-nil p.ended
+    whole_lines reply x y input k p ∙ ap (λ z. p.ended ++ lines z) (empty_front p.front k.line.front (ap (λ l. l.front) p.kept) none) ∙ ap (λ z. p.ended ++ z) lines_nil ∙ append-nil p.ended
     in
     record {
       sent = p.sent;
@@ -64,18 +66,18 @@ some_front : (front line : Octets) → line ≡ take 131070 front → length lin
 some_front [] line e some = absurd (some (ap length e))
 some_front (o ∷ front) line e some = λ h. omega (arith, h)
 
-pub finished_line : (reply : Octets → Option Octets) (x y z : Option Octets) (input : Octets) (k n : Kept) → length k.line ≢ 0 → EndsLine reply y z k n
+pub finished_line : (reply : Octets → Option Octets) (x y z : Option Octets) (input : Octets) (k n : Kept) → length k.line.front ≢ 0 → EndsLine reply y z k n
     → Progress reply x y input k → Finished reply x z input n
 finished_line reply x y z input k n some e p =
-    let says = kept_says p.front k.line k.is_overlong p.kept p.overlong in
+    let says = kept_says p.front k.line p.kept in
     let all : lines input ≡ p.ended ++ p.front ∷ [] =
-    whole_lines reply x y input k p ∙ ap (λ l. p.ended ++ l) (front_lines p.front p.none_ended (some_front p.front k.line p.kept some))
+    whole_lines reply x y input k p ∙ ap (λ l. p.ended ++ l) (front_lines p.front p.none_ended (some_front p.front k.line.front (ap (λ l. l.front) p.kept) some))
     in
     record {
       sent = p.sent ++ e.passed.gone;
       written = Appends-trans x y z p.sent e.passed.gone p.written e.passed.written;
       answered = append_assoc p.sent e.passed.gone n.answers ∙ ap (λ a. p.sent ++ a) e.passed.rest
-          ∙ sym (append_assoc p.sent k.answers (message_answer reply (kept_message k.line k.is_overlong)))
+          ∙ sym (append_assoc p.sent k.answers (message_answer reply (kept_message k.line)))
           ∙ ap₂ ◌++◌ p.answered (ap (message_answer reply) says) ∙ sym (one_answer reply p.ended p.front) ∙ ap (line_answers reply) (sym all);
       passes_is = e.passes ∙ ap₂ ◌&&◌ p.passes_is (ap is_some says) ∙ sym (one_flag p.ended p.front) ∙ ap are_messages (sym all);
     }
@@ -139,16 +141,16 @@ reading_none reply a x k fresh = record {
   given = [];
   count = refl;
   read = Consumes-nil a;
-  progress = progress_none reply x k fresh.line fresh.overlong fresh.answers fresh.passes;
+  progress = progress_none reply x k fresh;
 }
 
 pub reading_flush : (reply : Octets → Option Octets) (a b x y z : Option Octets) (left : ℕ) (k n : Kept) → Appends y z k.answers → n.answers ≡ []
-    → n.line ≡ k.line → n.is_overlong ≡ k.is_overlong → n.passes ≡ k.passes → Reading reply a b x y left k → Reading reply a b x z left n
-reading_flush reply a b x y z left k n written answers line overlong passes r = record {
+    → n.line ≡ k.line → n.passes ≡ k.passes → Reading reply a b x y left k → Reading reply a b x z left n
+reading_flush reply a b x y z left k n written answers line passes r = record {
   given = r.given;
   count = r.count;
   read = r.read;
-  progress = progress_flush reply x y z r.given k n written answers line overlong passes r.progress;
+  progress = progress_flush reply x y z r.given k n written answers line passes r.progress;
 }
 
 -- octets that were read are taken
@@ -224,10 +226,10 @@ all_given r s a b c x y left k task none end reading =
 -- a read gave nothing more, once the answers that were due were written
 pub all_flushed : (r s : Octets → Option Octets) (a b c x y z : Option Octets) (left count : ℕ) (buf : Octets) (k n : Kept) → s ≡ r
     → Consumes b c (take count buf) → count ≡ 0 → IsAtEnd c → Appends y z k.answers → n.answers ≡ [] → n.line ≡ k.line
-    → n.is_overlong ≡ k.is_overlong → n.passes ≡ k.passes → Reading r a b x y left k → AllRead r s a c x z n
-all_flushed r s a b c x y z left count buf k n task more none end written answers line overlong passes reading =
+    → n.passes ≡ k.passes → Reading r a b x y left k → AllRead r s a c x z n
+all_flushed r s a b c x y z left count buf k n task more none end written answers line passes reading =
     all_given r s a b c x z left n task (subst (λ m. Consumes b c (take m buf)) none more) end
-    (reading_flush r a b x y z left k n written answers line overlong passes reading)
+    (reading_flush r a b x y z left k n written answers line passes reading)
 
 -- the last answers were written, or a beginning of them
 pub all_answered : (r s : Octets → Option Octets) (a b x y z : Option Octets) (k : Kept) (passes : Bool)

@@ -1,128 +1,52 @@
 -- How a run over lines goes on, octet by octet.
-use Rattle.std.proofs.Common.{◌≡◌, ◌≢◌, ℕ, ◌+◌, ◌<◌, ◌≤◌, ◌==◌, ◌/◌, ◌%◌, if◌then◌else◌, nat_lt, Bool, true, false, ◌&&◌, inl, inr, List, [], ◌∷◌, ◌++◌, length, take, drop, Option, Some, refl, sym, ap, ap₂, ◌∙◌, subst, arith, append_assoc, append-nil, length-append, filter}
+use Rattle.std.proofs.Common.{◌≡◌, ◌≢◌, ℕ, ◌+◌, ◌==◌, ◌/◌, ◌%◌, Bool, true, false, ◌&&◌, List, [], ◌∷◌, ◌++◌, length, take, drop, Option, Some, refl, sym, ap, ap₂, ◌∙◌, subst, arith, append_assoc, append-nil, length-append}
 use Rattle.std.specs.Option.{is_some}
-use Rattle.std.proofs.lemmas.Bool.{cases_lt, le-leb, lt-leb, lt-ltb, le-ltb, ne_eqb, eqb-true}
-use Rattle.std.proofs.lemmas.List.{take_all, take-append-le, take-append-drop, length-take-le}
-use Rattle.std.proofs.lemmas.List.Elements.{filter-append}
+use Rattle.std.proofs.lemmas.Bool.{eqb-true}
+use Rattle.std.proofs.lemmas.List.{take-append-drop}
 use Rattle.std.proofs.lemmas.List.Folds.{list_all-append}
 use Rattle.std.proofs.lemmas.Grind.{flat_map-append}
 use Rattle.std.specs.Io.KnownBytes.{Appends}
 use Rattle.std.proofs.KnownBytes.{Appends-trans, Appends-nil}
 use Rattle.dns_spec.specs.Names.{Octets}
-use Rattle.dns_spec.specs.DataText.{hex_octets}
-use Rattle.dns_spec.specs.Lines.{lines, line_ends, line_message, reply_line, message_answer, line_answers, are_messages}
+use Rattle.dns_spec.specs.Lines.{lines, line_message, reply_line, message_answer, line_answers, are_messages}
 use Rattle.std.specs.Char.{digit_char}
 use Rattle.dns_spec.specs.WrittenText.{hex_text}
 use Rattle.dns_name.specs.Counted.{AppendsBeginning}
 use Rattle.dns_name.proofs.WritesLemmas.{beginning_of_first, beginning_of_second}
-use Rattle.dns_tools.specs.Exchanges.{Kept, KeepsOctet, EndsLine, Progress, Begun, Passes, kept_message}
-
-pub ends_append : (x y : Octets) → line_ends (x ++ y) ≡ line_ends x + line_ends y
-ends_append x y = ap length (filter-append (λ o. o == 10) x y) ∙ length-append (filter (λ o. o == 10) x) (filter (λ o. o == 10) y)
-
--- an octet that ends no line
-ends_one : (o : ℕ) → o ≢ 10 → line_ends (o ∷ []) ≡ 0
-ends_one o other = rw (ne_eqb o 10 other) refl
-
-ends_head : (o : ℕ) (x : Octets) → line_ends (o ∷ x) ≡ 0 → (o == 10) ≡ false
-ends_head o x e = by_cases (o == 10) refl e
-  where
-    by_cases : (b : Bool) → (o == 10) ≡ b → length (if b then o ∷ filter (λ o. o == 10) x else filter (λ o. o == 10) x) ≡ 0 → (o == 10) ≡ false
-    by_cases true is e = absurd (omega (arith, e))
-    by_cases false is e = is
-
-ends_tail : (o : ℕ) (x : Octets) → line_ends (o ∷ x) ≡ 0 → line_ends x ≡ 0
-ends_tail o x e = rw (ends_head o x e) at e
-
--- a line, and those after it
-line_then : (front y : Octets) → line_ends front ≡ 0 → lines (front ++ 10 ∷ y) ≡ front ∷ lines y
-unfolding lines
-line_then [] y e = refl
-line_then (o ∷ front) y e = rw (ends_head o front e, line_then front y (ends_tail o front e)) refl
-
--- a line that nothing ends
-pub line_alone : (o : ℕ) (front : Octets) → line_ends (o ∷ front) ≡ 0 → lines (o ∷ front) ≡ (o ∷ front) ∷ []
-unfolding lines
-line_alone o [] e = rw (ends_head o [] e) refl
-line_alone o (p ∷ front) e = rw (ends_head o (p ∷ front) e, line_alone p front (ends_tail o (p ∷ front) e)) refl
-
-pub lines_nil : lines [] ≡ []
-unfolding lines
-lines_nil = refl
+use Rattle.dns_tools.specs.KeptLine.{KeptLine, kept_message, KeepsOctet}
+use Rattle.dns_tools.specs.Exchanges.{Kept, IsFresh, EndsLine, Progress, Begun, Passes}
+use Rattle.dns_tools.proofs.KeptLines.{ends_append, ends_one, line_then, keeps_kept, kept_says}
 
 -- nothing was read yet
-pub progress_none : (reply : Octets → Option Octets) (held : Option Octets) (k : Kept) → k.line ≡ [] → k.is_overlong ≡ false → k.answers ≡ [] → k.passes ≡ true
-    → Progress reply held held [] k
-progress_none reply held k line over answers passes = record {
+pub progress_none : (reply : Octets → Option Octets) (held : Option Octets) (k : Kept) → IsFresh k → Progress reply held held [] k
+progress_none reply held k fresh = record {
   ended = [];
   front = [];
   sent = [];
   same = λ y. refl;
   none_ended = refl;
   count = refl;
-  kept = line;
-  overlong = over;
+  kept = fresh.line;
   written = Appends-nil held;
-  answered = answers;
-  passes_is = passes;
+  answered = fresh.answers;
+  passes_is = fresh.passes;
 }
 
-kept_front : (front : Octets) → length (take 131070 front) < 131070 → length front < 131070
-kept_front front h = elim (cases_lt (length front) 131070) [
-  | inl small ↦ small
-  | inr large ↦ absurd (omega (arith, h, length-take-le 131070 front large))
-]
-
-keeps_line : (front line : Octets) (o : ℕ) → line ≡ take 131070 front → length line < 131070 → line ++ o ∷ [] ≡ take 131070 (front ++ o ∷ [])
-keeps_line front line o e h =
-    let small = kept_front front (subst (λ l. length l < 131070) e h) in
-    ap (λ l. l ++ o ∷ []) (e ∙ take_all 131070 front (omega (arith, small)))
-    ∙ sym (take_all 131070 (front ++ o ∷ []) (omega (arith, small, length-append front (o ∷ []))))
-
-keeps_flag : (front line : Octets) (o : ℕ) → line ≡ take 131070 front → length line < 131070 → nat_lt 131070 (length front) ≡ nat_lt 131070 (length (front ++ o ∷ []))
-keeps_flag front line o e h =
-    let small = kept_front front (subst (λ l. length l < 131070) e h) in
-    le-ltb 131070 (length front) (omega (arith, small))
-    ∙ sym (le-ltb 131070 (length (front ++ o ∷ [])) (omega (arith, small, length-append front (o ∷ []))))
-
-full_front : (front line : Octets) → line ≡ take 131070 front → 131070 ≤ length line → 131070 ≤ length front
-full_front front line e h = elim (cases_lt (length front) 131070) [
-  | inl small ↦ absurd (omega (arith, small, h, ap length (e ∙ take_all 131070 front (omega (arith, small)))))
-  | inr large ↦ large
-]
-
 -- the next octet is of the line that goes on
-pub progress_keep : (reply : Octets → Option Octets) (held holds : Option Octets) (x : Octets) (k n : Kept) (o : ℕ) → o ≢ 10 → KeepsOctet k n o
-    → Progress reply held holds x k → Progress reply held holds (x ++ o ∷ []) n
-progress_keep reply held holds x k n o other keeps p = record {
+pub progress_keep : (reply : Octets → Option Octets) (held holds : Option Octets) (x : Octets) (k n : Kept) (o : ℕ) → o ≢ 10 → KeepsOctet k.line n.line o
+    → n.answers ≡ k.answers → n.passes ≡ k.passes → Progress reply held holds x k → Progress reply held holds (x ++ o ∷ []) n
+progress_keep reply held holds x k n o other keeps answers passes p = record {
   ended = p.ended;
   front = p.front ++ o ∷ [];
   sent = p.sent;
   same = λ y. ap lines (append_assoc x (o ∷ []) y) ∙ p.same (o ∷ y) ∙ ap (λ z. p.ended ++ lines z) (sym (append_assoc p.front (o ∷ []) y));
   none_ended = ends_append p.front (o ∷ []) ∙ omega (arith, p.none_ended, ends_one o other);
   count = p.count ∙ omega (arith, ends_append x (o ∷ []), ends_one o other);
-  kept = elim (cases_lt (length k.line) 131070) [
-    | inl room ↦ (keeps.line room).0 ∙ keeps_line p.front k.line o p.kept room
-    | inr full ↦ (keeps.full full).0 ∙ p.kept ∙ sym (take-append-le 131070 p.front (o ∷ []) (full_front p.front k.line p.kept full))
-  ];
-  overlong = elim (cases_lt (length k.line) 131070) [
-    | inl room ↦ (keeps.line room).1 ∙ p.overlong ∙ keeps_flag p.front k.line o p.kept room
-    | inr full ↦ (keeps.full full).1
-        ∙ sym (lt-ltb 131070 (length (p.front ++ o ∷ [])) (omega (arith, full_front p.front k.line p.kept full, length-append p.front (o ∷ []))))
-  ];
+  kept = keeps_kept p.front k.line n.line o p.kept keeps;
   written = p.written;
-  answered = ap (λ a. p.sent ++ a) keeps.answers ∙ p.answered;
-  passes_is = keeps.passes ∙ p.passes_is;
+  answered = ap (λ a. p.sent ++ a) answers ∙ p.answered;
+  passes_is = passes ∙ p.passes_is;
 }
-
--- what is kept of a line says which message it is
-pub kept_says : (front line : Octets) (is_overlong : Bool) → line ≡ take 131070 front → is_overlong ≡ nat_lt 131070 (length front)
-    → kept_message line is_overlong ≡ line_message front
-kept_says front line is_overlong e over = elim (cases_lt 131070 (length front)) [
-  | inl long ↦ rw (over, lt-ltb 131070 (length front) long, lt-leb (length front) 131070 long) refl
-  | inr short ↦ rw (over, le-ltb 131070 (length front) short, le-leb (length front) 131070 short)
-      (ap hex_octets (e ∙ take_all 131070 front short))
-]
 
 pub one_answer : (reply : Octets → Option Octets) (ended : List Octets) (front : Octets)
     → line_answers reply (ended ++ front ∷ []) ≡ line_answers reply ended ++ message_answer reply (line_message front)
@@ -142,7 +66,7 @@ one_flag ended front =
 pub progress_end : (reply : Octets → Option Octets) (held old new : Option Octets) (x : Octets) (k n : Kept) → EndsLine reply old new k n
     → Progress reply held old x k → Progress reply held new (x ++ 10 ∷ []) n
 progress_end reply held old new x k n e p =
-    let says = kept_says p.front k.line k.is_overlong p.kept p.overlong in
+    let says = kept_says p.front k.line p.kept in
     record {
       ended = p.ended ++ p.front ∷ [];
       front = [];
@@ -152,18 +76,17 @@ progress_end reply held old new x k n e p =
       none_ended = refl;
       count = length-append p.ended (p.front ∷ []) ∙ ap (λ c. c + 1) p.count ∙ sym (ends_append x (10 ∷ []));
       kept = e.line;
-      overlong = e.overlong;
       written = Appends-trans held old new p.sent e.passed.gone p.written e.passed.written;
       answered = append_assoc p.sent e.passed.gone n.answers ∙ ap (λ a. p.sent ++ a) e.passed.rest
-          ∙ sym (append_assoc p.sent k.answers (message_answer reply (kept_message k.line k.is_overlong)))
+          ∙ sym (append_assoc p.sent k.answers (message_answer reply (kept_message k.line)))
           ∙ ap₂ ◌++◌ p.answered (ap (message_answer reply) says) ∙ sym (one_answer reply p.ended p.front);
       passes_is = e.passes ∙ ap₂ ◌&&◌ p.passes_is (ap is_some says) ∙ sym (one_flag p.ended p.front);
     }
 
 -- the answers that are due were written
 pub progress_flush : (reply : Octets → Option Octets) (held old new : Option Octets) (x : Octets) (k n : Kept) → Appends old new k.answers
-    → n.answers ≡ [] → n.line ≡ k.line → n.is_overlong ≡ k.is_overlong → n.passes ≡ k.passes → Progress reply held old x k → Progress reply held new x n
-progress_flush reply held old new x k n written answers line overlong passes p = record {
+    → n.answers ≡ [] → n.line ≡ k.line → n.passes ≡ k.passes → Progress reply held old x k → Progress reply held new x n
+progress_flush reply held old new x k n written answers line passes p = record {
   ended = p.ended;
   front = p.front;
   sent = p.sent ++ k.answers;
@@ -171,7 +94,6 @@ progress_flush reply held old new x k n written answers line overlong passes p =
   none_ended = p.none_ended;
   count = p.count;
   kept = line ∙ p.kept;
-  overlong = overlong ∙ p.overlong;
   written = Appends-trans held old new p.sent k.answers p.written written;
   answered = ap (λ a. (p.sent ++ k.answers) ++ a) answers ∙ append-nil (p.sent ++ k.answers) ∙ p.answered;
   passes_is = passes ∙ p.passes_is;
@@ -192,9 +114,9 @@ pub begun_more : (reply : Octets → Option Octets) (held new : Option Octets) (
 begun_more reply held new x more b = λ y. subst (λ z. AppendsBeginning held new (line_answers reply (lines z))) (sym (append_assoc x more y)) (b (more ++ y))
 
 -- the answer to a line that is a message
-pub answered_by : (reply : Octets → Option Octets) (line m old new : Octets) (o : Option Octets) → hex_octets line ≡ Some m → o ≡ reply m → new ≡ old ++ reply_line o
-    → new ≡ old ++ message_answer reply (hex_octets line)
-answered_by reply line m old new o is gives e =
+pub answered_by : (reply : Octets → Option Octets) (l : KeptLine) (m old new : Octets) (o : Option Octets) → kept_message l ≡ Some m → o ≡ reply m → new ≡ old ++ reply_line o
+    → new ≡ old ++ message_answer reply (kept_message l)
+answered_by reply l m old new o is gives e =
     e ∙ ap (λ r. old ++ reply_line r) gives ∙ ap (λ h. old ++ message_answer reply h) (sym is)
 
 pub hex_more : (x y : Octets) → hex_text (x ++ y) ≡ hex_text x ++ hex_text y

@@ -2,8 +2,10 @@
 -- answers.
 use Rattle.std.specs.Prelude.{⊤, ◌≡◌, Bool, MatchOption, Option, Result, Ok, Err}
 use Rattle.std.specs.Io.KnownBytes.{Appends}
-use Rattle.dns_spec.specs.Names.{Octets, DomainName}
-use Rattle.dns_spec.specs.Report.{Options, Report, Reports}
+use Rattle.dns_spec.specs.Names.{Octets, DomainName, folded}
+use Rattle.dns_spec.specs.Meaning.{Meaning}
+use Rattle.dns_spec.specs.Report.{Options, Report, Reports, report_of_meaning}
+use Rattle.dns_master.specs.SourceForm.{Decides}
 use Rattle.dns_name.specs.Counted.{AppendsBeginning}
 use Rattle.dns_tools.specs.declared.check.Flags.{Flags}
 use Rattle.dns_tools.specs.declared.fault.Stop.{Stop}
@@ -18,6 +20,11 @@ options_of flags = record { is_quiet = flags.quiet; is_printing = flags.print }
 abbrev pub ReportsOn : Option Octets → DomainName → Options → Report → Type 0
 ReportsOn known o options report = MatchOption known ⊤ (λ x. Reports o x options report)
 
+-- The octets that a source has given decide the report: it is that of what they mean.
+abbrev pub DecidesReport : Option Octets → Option Octets → DomainName → Options → Report → Type 0
+DecidesReport known left o options report =
+    (m : Meaning) × Decides known left (folded o) m × (report ≡ report_of_meaning options o m)
+
 -- what was written of a report after what the sink had, and what was answered
 abbrev pub WrittenAs : Report → Result Bool Stop → Option Octets → Option Octets → Type 0
 WrittenAs report (Ok passes) old new = (report.passes ≡ passes) × Appends old new report.output
@@ -25,13 +32,20 @@ WrittenAs report (Err Sink) old new = AppendsBeginning old new report.output
 WrittenAs report (Err Memory) old new = ⊥
 WrittenAs report (Err Source) old new = ⊥
 
--- What a check has written and answered: the report of the file, or a beginning of it where the
--- sink failed; and nothing where there was no memory or where the source failed.
-abbrev pub CheckedAs : Option Octets → DomainName → Options → Result Bool Stop
+-- What a run has written and answered: such a report, or a beginning of it where the sink failed;
+-- and nothing where there was no memory or where the source failed.
+abbrev pub ReportedAs : (Report → Type 0) → Result Bool Stop → Option Octets → Option Octets
+    → Type 0
+ReportedAs Is (Ok passes) old new =
+    (report : Report) × Is report × WrittenAs report (Ok passes) old new
+ReportedAs Is (Err Sink) old new =
+    (report : Report) × Is report × WrittenAs report (Err Sink) old new
+ReportedAs Is (Err Memory) old new = new ≡ old
+ReportedAs Is (Err Source) old new = new ≡ old
+
+-- The same of a check: the report of the file, which the octets that were read decide.
+abbrev pub CheckedAs : Option Octets → Option Octets → DomainName → Options → Result Bool Stop
     → Option Octets → Option Octets → Type 0
-CheckedAs known o options (Ok passes) old new =
-    (report : Report) × ReportsOn known o options report × WrittenAs report (Ok passes) old new
-CheckedAs known o options (Err Sink) old new =
-    (report : Report) × ReportsOn known o options report × WrittenAs report (Err Sink) old new
-CheckedAs known o options (Err Memory) old new = new ≡ old
-CheckedAs known o options (Err Source) old new = new ≡ old
+CheckedAs known left o options =
+    ReportedAs (λ report. ReportsOn known o options report
+    × DecidesReport known left o options report)

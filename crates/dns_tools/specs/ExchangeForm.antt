@@ -5,7 +5,7 @@ use Rattle.dns_tools.specs.Exchanges.{Kept, kept_as, reply_within}
 use Rattle.dns_tools.specs.declared.once.Exchange.{Exchange}
 
 abbrev pub kept_of : Exchange → Kept
-kept_of e = kept_as e.line.items e.is_overlong e.answers.items e.are_all_messages
+kept_of e = kept_as e.line e.answers.items e.are_all_messages
 
 abbrev pub reply_of : Exchange → Octets → Option Octets
 reply_of e = reply_within e.limit e.zone.now

@@ -1,11 +1,10 @@
 -- What a reader learns here: what a run over lines has read and written, at its end and on its way.
-use Rattle.std.specs.Prelude.{⊤, ◌≡◌, ℕ, ◌^◌, ◌-◌, ◌<◌, ◌≤◌, Bool, false, true, ◌&&◌}
-use Rattle.std.specs.Prelude.{List, [], ◌∷◌, ◌++◌, length, take, nat_lt, if◌then◌else◌}
-use Rattle.std.specs.Prelude.{MatchOption, Option, None, Result, Ok, Err}
+use Rattle.std.specs.Prelude.{⊤, ◌≡◌, ◌^◌, ◌-◌, ◌<◌, Bool, true, ◌&&◌}
+use Rattle.std.specs.Prelude.{List, [], ◌++◌, length, take}
+use Rattle.std.specs.Prelude.{MatchOption, Option, Result, Ok, Err}
 use Rattle.std.specs.Option.{is_some}
 use Rattle.std.specs.Io.KnownBytes.{Appends, Consumes}
 use Rattle.dns_spec.specs.Names.{Octets}
-use Rattle.dns_spec.specs.DataText.{hex_octets}
 use Rattle.dns_spec.specs.Records.{ZoneContents}
 use Rattle.dns_spec.specs.Reply.{octets_of}
 use Rattle.dns_spec.specs.Lines.{lines, line_ends, ended_lines}
@@ -14,6 +13,7 @@ use Rattle.dns_name.specs.Counted.{AppendsBeginning}
 use Rattle.dns_answer.specs.declared.reply.Limit.{Limit}
 use Rattle.dns_answer.specs.Limits.{limit_of}
 use Rattle.dns_serve.specs.Streams.{Session}
+use Rattle.dns_tools.specs.KeptLine.{KeptLine, no_line, kept_line, kept_message}
 use Rattle.dns_tools.specs.declared.fault.Stop.{Stop}
 use Rattle.dns_tools.specs.declared.fault.Stop.TheVariants.{Memory, Source, Sink}
 
@@ -54,40 +54,21 @@ LinesAnswered reply s (Err Source) = HasAnsweredEnded reply s
 LinesAnswered reply s (Err Sink) = HasBegunAnswers reply s
 LinesAnswered reply s (Err Memory) = (s.left ≡ s.unread) × (s.holds ≡ s.held)
 
--- the message of a line of which so much is kept
-abbrev pub kept_message : Octets → Bool → Option Octets
-kept_message line is_overlong = if is_overlong then None else hex_octets line
-
 -- What was kept of an input so far: a beginning of the line that goes on, the answers that are not
 -- written, and whether all lines that are ended are messages.
 pub record Kept : Type 0 where
-  pub line : Octets
-  pub is_overlong : Bool
+  pub line : KeptLine
   pub answers : Octets
   pub passes : Bool
 
-abbrev pub kept_as : Octets → Bool → Octets → Bool → Kept
-kept_as line is_overlong answers passes = record {
-  line = line;
-  is_overlong = is_overlong;
-  answers = answers;
-  passes = passes;
-}
+abbrev pub kept_as : KeptLine → Octets → Bool → Kept
+kept_as line answers passes = record { line = line; answers = answers; passes = passes }
 
 -- nothing was read
 pub record IsFresh (k : Kept) : Type 0 where
-  pub line : k.line ≡ []
-  pub overlong : k.is_overlong ≡ false
+  pub line : k.line ≡ no_line
   pub answers : k.answers ≡ []
   pub passes : k.passes ≡ true
-
--- The next octet of a line is kept, as long as the line may be a message.
-pub record KeepsOctet (old new : Kept) (o : ℕ) : Type 0 where
-  pub line : length old.line < 131070
-      → (new.line ≡ old.line ++ o ∷ []) × (new.is_overlong ≡ old.is_overlong)
-  pub full : 131070 ≤ length old.line → (new.line ≡ old.line) × (new.is_overlong ≡ true)
-  pub answers : new.answers ≡ old.answers
-  pub passes : new.passes ≡ old.passes
 
 -- The lines that are ended in the input so far are answered, and the front of the next is kept.
 pub record Progress (reply : Octets → Option Octets) (held holds : Option Octets) (x : Octets)
@@ -98,8 +79,7 @@ pub record Progress (reply : Octets → Option Octets) (held holds : Option Octe
   pub same : (y : Octets) → lines (x ++ y) ≡ ended ++ lines (front ++ y)
   pub none_ended : line_ends front ≡ 0
   pub count : length ended ≡ line_ends x
-  pub kept : k.line ≡ take 131070 front
-  pub overlong : k.is_overlong ≡ nat_lt 131070 (length front)
+  pub kept : k.line ≡ kept_line front
   pub written : Appends held holds sent
   pub answered : sent ++ k.answers ≡ line_answers reply ended
   pub passes_is : k.passes ≡ are_messages ended
@@ -118,8 +98,6 @@ pub record Passes (old new : Option Octets) (due due_now text : Octets) : Type 0
 -- A line was ended, and is answered.
 pub record EndsLine (reply : Octets → Option Octets) (old new : Option Octets) (k n : Kept)
     : Type 0 where
-  pub passed : Passes old new k.answers n.answers
-      (message_answer reply (kept_message k.line k.is_overlong))
-  pub line : n.line ≡ []
-  pub overlong : n.is_overlong ≡ false
-  pub passes : n.passes ≡ (k.passes && is_some (kept_message k.line k.is_overlong))
+  pub passed : Passes old new k.answers n.answers (message_answer reply (kept_message k.line))
+  pub line : n.line ≡ no_line
+  pub passes : n.passes ≡ (k.passes && is_some (kept_message k.line))

@@ -6,5 +6,9 @@ pub mod Words
 pub mod Checked
 pub mod Sockets
 pub mod Turns
+pub mod KeptLine
+pub mod FirstLine
+pub mod Printed
+pub mod Parts
 pub mod Exchanges
 pub mod ExchangeForm

@@ -5,9 +5,9 @@ use Rattle.std.specs.List.{flat_map}
 use Rattle.dns_spec.specs.Names.{Octets, DomainName, folded}
 use Rattle.dns_spec.specs.Records.{ResourceRecord, ZoneContents, zone_of, ordered_zone}
 use Rattle.dns_spec.specs.Checks.{faults}
-use Rattle.dns_spec.specs.Meaning.{records, fault_at}
+use Rattle.dns_spec.specs.Meaning.{Meaning, records, fault_at}
 use Rattle.dns_spec.specs.Report.{line_report, fault_report}
-use Rattle.dns_master.specs.SourceForm.{GivesMeaning}
+use Rattle.dns_master.specs.SourceForm.{GivesMeaning, Decides}
 use Rattle.dns_master.specs.declared.fault.ReadCode.{ReadCode}
 use Rattle.dns_master.specs.declared.fault.ReadCode.TheVariants.{SourceFailed, NoMemory}
 use Rattle.dns_master.specs.declared.fault.ReadFault.{ReadFault}
@@ -18,19 +18,25 @@ use Rattle.dns_tools.specs.declared.load.Refusal.TheVariants.{File, Zone}
 use Rattle.dns_tools.specs.declared.load.LoadFault.{LoadFault}
 use Rattle.dns_tools.specs.declared.load.LoadFault.TheVariants.{Refused, Stopped}
 
+-- the octets of a source mean this to their end, and those that it has given decide it
+pub record IsRead (known left : Option Octets) (o : DomainName) (m : Meaning) : Type 0 where
+  pub means : GivesMeaning known (folded o) m
+  pub decides : Decides known left (folded o) m
+
 -- What was loaded for an origin from a file, where its octets are known: the zone of the records
 -- that they mean, which has no fault; else the faults of that zone, one at least, or the fault that
 -- the octets mean. Nothing is said of memory and of a failing source.
-abbrev pub LoadedAs : Option Octets → DomainName → Result ZoneContents LoadFault → Type 0
-LoadedAs known o (Ok zone) =
-    (rs : List ResourceRecord) × GivesMeaning known (folded o) (records rs)
+abbrev pub LoadedAs : Option Octets → Option Octets → DomainName → Result ZoneContents LoadFault
+    → Type 0
+LoadedAs known left o (Ok zone) =
+    (rs : List ResourceRecord) × IsRead known left o (records rs)
     × (faults (zone_of (folded o) rs) ≡ []) × (zone ≡ ordered_zone (folded o) rs)
-LoadedAs known o (Err (Refused (Zone found))) =
-    (rs : List ResourceRecord) × GivesMeaning known (folded o) (records rs)
+LoadedAs known left o (Err (Refused (Zone found))) =
+    (rs : List ResourceRecord) × IsRead known left o (records rs)
     × (found.items ≡ faults (zone_of (folded o) rs)) × (faults (zone_of (folded o) rs) ≢ [])
-LoadedAs known o (Err (Refused (File fault))) =
-    GivesMeaning known (folded o) (fault_at (fault_of fault.code) fault.line)
-LoadedAs known o (Err (Stopped stop)) = ⊤
+LoadedAs known left o (Err (Refused (File fault))) =
+    IsRead known left o (fault_at (fault_of fault.code) fault.line)
+LoadedAs known left o (Err (Stopped stop)) = ⊤
 
 -- what a fault of a file is to a loader, by its code
 abbrev pub fault_by_code : ReadFault → ReadCode → LoadFault

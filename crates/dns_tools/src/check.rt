@@ -1,16 +1,15 @@
 //! The checker of zone files.
-ghost use Rattle.std.specs.Prelude.{◌≡◌, ◌<◌, ◌-◌, ◌^◌, ◌&&◌, not};
-ghost use Rattle.std.specs.List.{flat_map};
-ghost use Rattle.dns_spec.specs.Report.{line_report, fault_report, failing, passing};
-ghost use Rattle.dns_master.specs.Codes.{fault_of};
+ghost use Rattle.std.specs.Prelude.{◌≡◌, ◌<◌, ◌-◌, ◌^◌};
+ghost use Rattle.dns_spec.specs.Report.{failing, passing};
 ghost use Rattle.dns_tools.specs.Checked.{options_of, WrittenAs, CheckedAs};
+ghost use Rattle.dns_tools.specs.Load.{refusal_report};
 ghost use Rattle.dns_tools.specs.Stops.{source_failures_after, sink_failures_after};
 
 use crate::fault::Stop;
-use crate::report::{write_check_faults, write_loaded, write_read_fault};
-use dns_master::{ReadCode, ReadFault};
+use crate::load::{LoadFault, Refusal, load, write_refusal};
+use crate::report::write_loaded;
 use dns_name::{Name, Tally};
-use dns_zone::{BuildFault, CheckFault, Store, Zone, print};
+use dns_zone::{Zone, print};
 use std::alloc::Global;
 use std::io::{Read, Write};
 
@@ -40,60 +39,34 @@ pub fn check_zone<R: Read, W: Write>(
 ) -> Result<bool, Stop>
     requires source { source.old.failures < 2 ^ 64 - 1 }
     requires sink { sink.old.failures < 2 ^ 64 - 1 }
-    ensures report { CheckedAs (R.remaining source.old.device) origin.now (options_of flags) result
-        (W.contents sink.old.device) (W.contents sink.new.device) }
+    ensures report { CheckedAs (R.remaining source.old.device) (R.remaining source.new.device)
+        origin.now (options_of flags) result (W.contents sink.old.device)
+        (W.contents sink.new.device) }
     ensures source { source.new.failures ≡ source_failures_after source.old.failures result }
     ensures sink { sink.new.failures ≡ sink_failures_after sink.old.failures result }
 {
-    let origin = origin.fold();
-    let records = match Store::read(alloc, &origin, source) {
-        Ok(records) => records,
-        Err(fault) => {
-            return match fault.code {
-                ReadCode::SourceFailed => Err(Stop::Source),
-                ReadCode::NoMemory => Err(Stop::Memory),
-                _ => report_read_fault(flags, &fault, sink),
-            };
-        }
-    };
-    match records.build(alloc, &origin) {
+    match load(alloc, origin, source) {
         Ok(zone) => report_zone(flags, &zone, sink),
-        Err(BuildFault::Faults(faults)) => report_check_faults(flags, faults.as_slice(), sink),
-        Err(BuildFault::NoMemory) => Err(Stop::Memory),
+        Err(LoadFault::Refused(refusal)) => report_refusal(flags, &refusal, sink),
+        // A load writes nothing: else it stopped for want of memory.
+        Err(LoadFault::Stopped(Stop::Source)) => Err(Stop::Source),
+        Err(LoadFault::Stopped(_)) => Err(Stop::Memory),
     }
 }
 
-// Reports the fault of a file.
-fn report_read_fault<W: Write>(
+// Reports the fault of a file, or those of its zone.
+fn report_refusal<W: Write>(
     flags: Flags,
-    fault: &ReadFault,
+    refusal: &Refusal,
     sink: &mut Tally<W>,
 ) -> Result<bool, Stop>
     requires { sink.old.failures < 2 ^ 64 - 1 }
-    ensures written { WrittenAs
-        (failing (options_of flags) (line_report (fault_of fault.now.code) fault.now.line))
-        result (W.contents sink.old.device) (W.contents sink.new.device) }
+    ensures written { WrittenAs (failing (options_of flags) (refusal_report refusal.now)) result
+        (W.contents sink.old.device) (W.contents sink.new.device) }
     ensures sink { sink.new.failures ≡ sink_failures_after sink.old.failures result }
 {
-    if !is_silent(flags) {
-        write_read_fault(fault, sink)?;
-    }
-    Ok(false)
-}
-
-// Reports the faults of a zone.
-fn report_check_faults<W: Write>(
-    flags: Flags,
-    faults: &[CheckFault],
-    sink: &mut Tally<W>,
-) -> Result<bool, Stop>
-    requires { sink.old.failures < 2 ^ 64 - 1 }
-    ensures written { WrittenAs (failing (options_of flags) (flat_map fault_report faults.now))
-        result (W.contents sink.old.device) (W.contents sink.new.device) }
-    ensures sink { sink.new.failures ≡ sink_failures_after sink.old.failures result }
-{
-    if !is_silent(flags) {
-        write_check_faults(faults, sink)?;
+    if flags.print || !flags.quiet {
+        write_refusal(refusal, sink)?;
     }
     Ok(false)
 }
@@ -111,11 +84,4 @@ fn report_zone<W: Write>(flags: Flags, zone: &Zone, sink: &mut Tally<W>) -> Resu
         write_loaded(zone, sink)?;
     }
     Ok(true)
-}
-
-// Whether no fault is reported.
-fn is_silent(flags: Flags) -> bool
-    ensures { result ≡ (flags.quiet && not flags.print) }
-{
-    flags.quiet && !flags.print
 }

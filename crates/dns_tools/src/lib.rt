@@ -5,10 +5,12 @@
 mod check;
 mod fault;
 mod host;
+mod line;
 mod listen;
 mod load;
 mod message;
 mod once;
+mod parts;
 mod peer;
 mod report;
 mod socket;

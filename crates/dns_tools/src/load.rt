@@ -49,7 +49,8 @@ impl From<ReadFault> for LoadFault {
 pub fn load<R: Read>(alloc: Global, origin: &Name, source: &mut Tally<R>) -> Result<Zone, LoadFault>
     requires { source.old.failures < 2 ^ 64 - 1 }
     ensures counted { source.new.failures ≡ failures_after_load source.old.failures result }
-    ensures meaning { LoadedAs (R.remaining source.old.device) origin.now result }
+    ensures meaning { LoadedAs (R.remaining source.old.device) (R.remaining source.new.device)
+        origin.now result }
 {
     let origin = origin.fold();
     let records = Store::read(alloc, &origin, source)?;

@@ -2,42 +2,35 @@
 ghost use Rattle.std.specs.Prelude.{◌≡◌, ◌≢◌, ◌+◌, ◌-◌, ◌*◌, ◌^◌, ◌<◌, ◌≤◌, ◌++◌, ◌∷◌, ◌&&◌};
 ghost use Rattle.std.specs.Prelude.{[], false, length, codes, take, vec_len, vec_capacity, Option};
 ghost use Rattle.std.specs.Prelude.{Some, Ok, Err, OnOk, OnErr, IfOk, IfErr, IfSome, IfNone, IsErr};
-ghost use Rattle.hex.specs.Hex.{decode_of};
 ghost use Rattle.std.specs.Bool.{OnTrue, OnFalse};
 ghost use Rattle.std.specs.Option.{is_some, option_map};
 ghost use Rattle.std.specs.Io.KnownBytes.{Appends};
-ghost use Rattle.dns_spec.specs.DataText.{hex_octets};
 ghost use Rattle.dns_spec.specs.Names.{Octets};
 ghost use Rattle.dns_spec.specs.WrittenText.{hex_text};
 ghost use Rattle.dns_spec.specs.Lines.{are_messages, line_answers, lines};
 ghost use Rattle.dns_spec.specs.Lines.{message_answer, reply_line};
-ghost use Rattle.dns_tools.specs.Exchanges.{Begun, EndsLine, IsFresh, KeepsOctet, LinesAnswered};
-ghost use Rattle.dns_tools.specs.Exchanges.{Passes, Progress, kept_message, reply_within};
+ghost use Rattle.dns_tools.specs.Exchanges.{Begun, EndsLine, IsFresh, LinesAnswered, Passes};
+ghost use Rattle.dns_tools.specs.Exchanges.{Progress, reply_within};
+ghost use Rattle.dns_tools.specs.KeptLine.{kept_message};
 ghost use Rattle.dns_name.specs.Counted.{AppendsBeginning, failures_after};
 ghost use Rattle.dns_tools.specs.Stops.{source_failures_after, sink_failures_after};
 ghost use Rattle.dns_answer.specs.Limits.{limit_of};
-ghost use Rattle.dns_tools.specs.declared.once.TheConstants.{MOST_DIGITS, MOST_OCTETS};
+ghost use Rattle.dns_tools.specs.declared.line.TheConstants.{MOST_OCTETS};
 ghost use Rattle.dns_tools.specs.declared.once.TheConstants.{MOST_ANSWER, ANSWERS, DIGITS};
 
 use crate::fault::Stop;
+use crate::line::{Line, MOST_OCTETS, PIECE};
 use dns_answer::{Limit, TcpDraft, UdpDraft, respond_in};
 use dns_name::{SinkFailed, Tally};
 use dns_zone::{Steps, Zone};
 use std::alloc::{AllocError, Global};
 use std::io::{Read, Write};
 
-/// The octets of the greatest message, and their digits.
-pub(crate) const MOST_OCTETS: usize = 65_535;
-
-pub(crate) const MOST_DIGITS: usize = 131_070;
-
 // The digits of the greatest reply, and the end of their line.
 const MOST_ANSWER: usize = 131_071;
 
-// How many octets of answers are gathered before they are written, and how many are read at once.
+// How many octets of answers are gathered before they are written.
 const ANSWERS: usize = 262_144;
-
-pub(crate) const PIECE: usize = 65_536;
 
 // How many digits are spelled at once.
 const DIGITS: usize = 128;
@@ -87,17 +80,14 @@ pub fn run_once<R: Read, W: Write>(
 struct Exchange<'z> {
     zone: &'z Zone,
     limit: Limit,
-    // What is kept of the line that goes on.
-    line: Vec<u8>,
-    is_overlong: bool,
+    // The line that goes on.
+    line: Line,
     // Where a line is spelled as octets.
     datagram: Vec<u8>,
     reply: Vec<u8>,
     drafts: Drafts,
     answers: Vec<u8>,
     are_all_messages: bool,
-    ghost line_fits: { vec_len line ≤ MOST_DIGITS },
-    ghost line_room: { MOST_DIGITS ≤ vec_capacity line },
     ghost datagram_room: { vec_len datagram ≡ MOST_OCTETS },
     ghost reply_room: { vec_len reply ≡ limit_of limit },
     ghost answers_fit: { vec_len answers ≤ ANSWERS },
@@ -114,8 +104,7 @@ impl<'z> Exchange<'z> {
         Ok(Exchange {
             zone,
             limit,
-            line: Vec::with_capacity(alloc, MOST_DIGITS)?,
-            is_overlong: false,
+            line: Line::new(alloc)?,
             datagram: vec![in alloc; 0; MOST_OCTETS]?,
             reply: vec![in alloc; 0; limit.octets()]?,
             drafts: Drafts::new(alloc)?,
@@ -232,20 +221,8 @@ impl<'z> Exchange<'z> {
         if octet == b'\n' {
             return self.end_line(sink);
         }
-        self.keep(octet);
+        self.line.keep(octet);
         Ok(())
-    }
-
-    // Keeps the next octet of the line, as long as the line may be a message.
-    fn keep(&mut self, octet: u8)
-        ensures kept { KeepsOctet (kept_of self.old) (kept_of self.new) octet }
-        ensures task { reply_of self.new ≡ reply_of self.old }
-    {
-        if self.line.len() < MOST_DIGITS {
-            self.line.push_reserved(octet);
-        } else {
-            self.is_overlong = true;
-        }
     }
 
     // Answers the line that has ended, and begins the next.
@@ -261,7 +238,6 @@ impl<'z> Exchange<'z> {
         self.make_room(sink)?;
         self.answer_line();
         self.line.clear();
-        self.is_overlong = false;
         Ok(())
     }
 
@@ -274,8 +250,7 @@ impl<'z> Exchange<'z> {
             (W.contents sink.new.device) self.old.answers.items self.new.answers.items []) }
         ensures begun { OnErr result (AppendsBeginning (W.contents sink.old.device)
             (W.contents sink.new.device) self.old.answers.items) }
-        ensures line { self.new.line.items ≡ self.old.line.items }
-        ensures overlong { self.new.is_overlong ≡ self.old.is_overlong }
+        ensures line { self.new.line ≡ self.old.line }
         ensures passes { self.new.are_all_messages ≡ self.old.are_all_messages }
         ensures task { reply_of self.new ≡ reply_of self.old }
     {
@@ -290,23 +265,18 @@ impl<'z> Exchange<'z> {
         requires { vec_len self.old.answers + MOST_ANSWER ≤ ANSWERS }
         ensures answers { self.new.answers.items ≡ self.old.answers.items
             ++ message_answer (reply_of self.old)
-            (kept_message self.old.line.items self.old.is_overlong) }
+            (kept_message self.old.line) }
         ensures passes { self.new.are_all_messages ≡ (self.old.are_all_messages
-            && is_some (kept_message self.old.line.items self.old.is_overlong)) }
+            && is_some (kept_message self.old.line)) }
         ensures task { reply_of self.new ≡ reply_of self.old }
     {
-        if self.is_overlong {
-            self.refuse_line();
-            return;
-        }
-        let line = self.line.as_slice();
         let datagram = self.datagram.as_mut_slice();
         let reply = self.reply.as_mut_slice();
         if !answer(
             self.zone,
             self.limit,
             &mut self.drafts,
-            line,
+            &self.line,
             datagram,
             reply,
             &mut self.answers,
@@ -336,8 +306,7 @@ impl<'z> Exchange<'z> {
             (W.contents sink.new.device) self.old.answers.items) }
         ensures begun { OnErr result (AppendsBeginning (W.contents sink.old.device)
             (W.contents sink.new.device) self.old.answers.items) }
-        ensures line { self.new.line.items ≡ self.old.line.items }
-        ensures overlong { self.new.is_overlong ≡ self.old.is_overlong }
+        ensures line { self.new.line ≡ self.old.line }
         ensures passes { self.new.are_all_messages ≡ self.old.are_all_messages }
         ensures task { reply_of self.new ≡ reply_of self.old }
     {
@@ -390,22 +359,22 @@ fn answer(
     zone: &Zone,
     limit: Limit,
     drafts: &mut Drafts,
-    line: &[u8],
+    line: &Line,
     datagram: &mut [u8],
     reply: &mut [u8],
     answers: &mut Vec<u8>,
 ) -> bool
-    requires line { length line.now ≤ 2 * length datagram.old + 1 }
+    requires datagram { length datagram.old ≡ MOST_OCTETS }
     requires reply { length reply.old ≡ limit_of limit }
     requires room { vec_len answers.old + MOST_ANSWER ≤ vec_capacity answers.old }
     ensures len { vec_len answers.new ≤ vec_len answers.old + MOST_ANSWER }
     ensures capacity { vec_capacity answers.old ≤ vec_capacity answers.new }
-    ensures message { result ≡ is_some (hex_octets line.now) }
+    ensures message { result ≡ is_some (kept_message line.now) }
     ensures answered { OnTrue result (answers.new.items ≡ answers.old.items
-        ++ message_answer (reply_within limit zone.now) (hex_octets line.now)) }
+        ++ message_answer (reply_within limit zone.now) (kept_message line.now)) }
     ensures refused { OnFalse result (answers.new ≡ answers.old) }
 {
-    let Some(len) = octets_of(line, datagram) else {
+    let Some(len) = line.spell(datagram) else {
         return false;
     };
     match drafts.respond(zone, limit, &datagram[..len], reply) {
@@ -413,19 +382,6 @@ fn answer(
         None => put(answers, b"none\n"),
     }
     true
-}
-
-/// Spells the octets of a message in front of the buffer, and answers how many they are. `None` for
-/// other lines.
-pub(crate) fn octets_of(line: &[u8], datagram: &mut [u8]) -> Option<usize>
-    requires { length line.now ≤ 2 * length datagram.old + 1 }
-    ensures some { IfSome result (λ len. decode_of line.now ≡ Ok (take len datagram.new)) }
-    ensures within { IfSome result (λ len. len ≤ length datagram.new) }
-    ensures none { IfNone result (IsErr (decode_of line.now)) }
-{
-    let len = line.len() / 2;
-    hex::decode_to_slice(line, &mut datagram[..len]).ok()?;
-    Some(len)
 }
 
 // Adds a line with the digits of a reply.

@@ -1,5 +1,12 @@
-use Rattle.std.proofs.Common.{◌≡◌}
+use Rattle.std.proofs.Common.{◌≡◌, drop}
+use Rattle.std.specs.List.{flat_map}
+use Rattle.dns_spec.specs.MessageLines.{section_line}
+use Rattle.dns_name.proofs.WritesLemmas.{Written}
 use Rattle.dns_tools.proofs.message.write_records.Given as goal
 
+-- the lines that are left are still to be written
 abbrev pub invariant-records : goal.invariant-records
-invariant-records g l = l.sink.failures ≡ l.initial.sink.failures
+invariant-records g l = record {
+  written : Written (g.W.Write.contents l.initial.sink.device) (g.W.Write.contents l.sink.device) (flat_map (section_line l.section) l.records) (flat_map (section_line l.section) (drop l.record-index l.records));
+  counted : l.sink.failures ≡ l.initial.sink.failures;
+}

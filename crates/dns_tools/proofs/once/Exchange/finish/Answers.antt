@@ -1,4 +1,4 @@
-use Rattle.std.proofs.Common.{arith, ◌≡◌, ◌≢◌, ◌∙◌, length, sym, vec_len}
+use Rattle.std.proofs.Common.{◌∙◌, length, sym}
 use Rattle.std.proofs.lemmas.Bool.{eqb-true, eqb-false}
 use Rattle.dns_name.proofs.Results.{OnOk-map, OnErr-map, IfOk-map, OnErr-always}
 use Rattle.dns_tools.proofs.LineRuns.{begun_flush}
@@ -7,22 +7,19 @@ use Rattle.dns_tools.proofs.once.Exchange.finish.Goals as goal
 
 pub returns-then-is_empty-clause-written : goal.returns-then-is_empty-clause-written
 returns-then-is_empty-clause-written g c = λ held x p.
-    let none : vec_len c.args.self.now.line ≡ 0 = eqb-true (vec_len c.args.self.now.line) 0 (sym c.is_empty.ensures ∙ c.if-is_empty.true) in
-    let empty : length c.args.self.now.line.items ≡ 0 = omega (arith, none, c.args.self.now.line.ok.0) in
+    let empty = eqb-true (length c.args.self.now.line.front) 0 (sym c.is_empty.ensures ∙ c.if-is_empty.true) in
     let f = finished_empty _ held _ x _ empty p in
     OnOk-map c.conclude.result (λ w. finished_written _ held _ _ x _ f w) c.conclude.ensures.written
 
 pub returns-then-is_empty-clause-passes : goal.returns-then-is_empty-clause-passes
 returns-then-is_empty-clause-passes g c = λ held x p.
-    let none : vec_len c.args.self.now.line ≡ 0 = eqb-true (vec_len c.args.self.now.line) 0 (sym c.is_empty.ensures ∙ c.if-is_empty.true) in
-    let empty : length c.args.self.now.line.items ≡ 0 = omega (arith, none, c.args.self.now.line.ok.0) in
+    let empty = eqb-true (length c.args.self.now.line.front) 0 (sym c.is_empty.ensures ∙ c.if-is_empty.true) in
     let f = finished_empty _ held _ x _ empty p in
     IfOk-map c.conclude.result (λ passes same. same ∙ f.passes_is) c.conclude.ensures.passes
 
 pub returns-then-is_empty-clause-begun : goal.returns-then-is_empty-clause-begun
 returns-then-is_empty-clause-begun g c = λ held x p.
-    let none : vec_len c.args.self.now.line ≡ 0 = eqb-true (vec_len c.args.self.now.line) 0 (sym c.is_empty.ensures ∙ c.if-is_empty.true) in
-    let empty : length c.args.self.now.line.items ≡ 0 = omega (arith, none, c.args.self.now.line.ok.0) in
+    let empty = eqb-true (length c.args.self.now.line.front) 0 (sym c.is_empty.ensures ∙ c.if-is_empty.true) in
     let f = finished_empty _ held _ x _ empty p in
     OnErr-map c.conclude.result (λ b. finished_begun _ held _ _ x _ f b) c.conclude.ensures.begun
 
@@ -32,21 +29,18 @@ returns-in_err-end_line-clause-begun g c = λ held x p.
 
 pub returns-clause-written : goal.returns-clause-written
 returns-clause-written g c = λ held x p.
-    let some : vec_len c.args.self.now.line ≢ 0 = eqb-false (vec_len c.args.self.now.line) 0 (sym c.is_empty.ensures ∙ c.if-is_empty.false) in
-    let full : length c.args.self.now.line.items ≢ 0 = λ e. some (omega (arith, e, c.args.self.now.line.ok.0)) in
+    let full = eqb-false (length c.args.self.now.line.front) 0 (sym c.is_empty.ensures ∙ c.if-is_empty.false) in
     let f = finished_line _ held _ _ x _ _ full c.in_ok-end_line.ensures.ended p in
     OnOk-map c.conclude-2.result (λ w. finished_written _ held _ _ x _ f w) c.conclude-2.ensures.written
 
 pub returns-clause-passes : goal.returns-clause-passes
 returns-clause-passes g c = λ held x p.
-    let some : vec_len c.args.self.now.line ≢ 0 = eqb-false (vec_len c.args.self.now.line) 0 (sym c.is_empty.ensures ∙ c.if-is_empty.false) in
-    let full : length c.args.self.now.line.items ≢ 0 = λ e. some (omega (arith, e, c.args.self.now.line.ok.0)) in
+    let full = eqb-false (length c.args.self.now.line.front) 0 (sym c.is_empty.ensures ∙ c.if-is_empty.false) in
     let f = finished_line _ held _ _ x _ _ full c.in_ok-end_line.ensures.ended p in
     IfOk-map c.conclude-2.result (λ passes same. same ∙ f.passes_is) c.conclude-2.ensures.passes
 
 pub returns-clause-begun : goal.returns-clause-begun
 returns-clause-begun g c = λ held x p.
-    let some : vec_len c.args.self.now.line ≢ 0 = eqb-false (vec_len c.args.self.now.line) 0 (sym c.is_empty.ensures ∙ c.if-is_empty.false) in
-    let full : length c.args.self.now.line.items ≢ 0 = λ e. some (omega (arith, e, c.args.self.now.line.ok.0)) in
+    let full = eqb-false (length c.args.self.now.line.front) 0 (sym c.is_empty.ensures ∙ c.if-is_empty.false) in
     let f = finished_line _ held _ _ x _ _ full c.in_ok-end_line.ensures.ended p in
     OnErr-map c.conclude-2.result (λ b. finished_begun _ held _ _ x _ f b) c.conclude-2.ensures.begun

@@ -18,7 +18,7 @@ returns-in_err-count-clause-lines g c =
     let e = c.in_ok-flush.ensures in
     source_stopped _ _ c.from_residual-in_err-count.result c.from_residual-in_err-count.ensures.1
     (reading_failed _ _ _ _ _ _ c.pieces.left _ e.none (omega (arith, c.pieces-test.true)) c.in_err-count.ensures.bytes
-    (reading_flush _ _ _ _ _ _ _ _ _ e.written e.none e.line e.overlong e.passes c.pieces.invariant.reading))
+    (reading_flush _ _ _ _ _ _ _ _ _ e.written e.none e.line e.passes c.pieces.invariant.reading))
 
 pub returns-in_err-take-clause-lines : goal.returns-in_err-take-clause-lines
 returns-in_err-take-clause-lines g c =
@@ -29,7 +29,7 @@ returns-in_err-take-clause-lines g c =
     (taking_begun _ _ _ _ _ _ _ _ c.pieces.left c.in_ok-count.count _ _ _ (e.task ∙ c.pieces.invariant.task)
     (take-append-le c.in_ok-count.count c.read.new.buf _ bound.0) (sym bound.1) within
     c.in_ok-count.ensures.bytes.0 c.in_err-take.ensures.begun
-    (reading_flush _ _ _ _ _ _ _ _ _ e.written e.none e.line e.overlong e.passes c.pieces.invariant.reading))
+    (reading_flush _ _ _ _ _ _ _ _ _ e.written e.none e.line e.passes c.pieces.invariant.reading))
 
 pub pieces-preserved : goal.pieces-preserved
 pieces-preserved g c = record {
@@ -43,7 +43,7 @@ pieces-preserved g c = record {
       reading_take _ _ _ _ _ _ _ _ c.pieces.left c.in_ok-count.count _ _ _ _ (e.task ∙ c.pieces.invariant.task)
       (take-append-le c.in_ok-count.count c.read.new.buf _ bound.0) (sym bound.1) within
       c.in_ok-count.ensures.bytes.0 c.in_ok-take.ensures.taken
-      (reading_flush _ _ _ _ _ _ _ _ _ e.written e.none e.line e.overlong e.passes c.pieces.invariant.reading);
+      (reading_flush _ _ _ _ _ _ _ _ _ e.written e.none e.line e.passes c.pieces.invariant.reading);
 }
 
 pub returns-in_err-finish-clause-lines : goal.returns-in_err-finish-clause-lines
@@ -53,7 +53,7 @@ returns-in_err-finish-clause-lines g c =
       | then-pieces-test+in_ok-flush+in_ok-count+then-count-eq0 w ↦
           let e = w.in_ok-flush.ensures in
           let some : 0 < length w.read.new.buf = search rules in
-          rw (w.self-is, w.source-is, w.sink-is) (all_flushed _ _ _ _ _ _ _ _ c.pieces.left _ _ _ _ (e.task ∙ c.pieces.invariant.task) w.in_ok-count.ensures.bytes.0 w.if-count-eq0.true (w.in_ok-count.ensures.bytes.1 w.if-count-eq0.true some) e.written e.none e.line e.overlong e.passes c.pieces.invariant.reading)
+          rw (w.self-is, w.source-is, w.sink-is) (all_flushed _ _ _ _ _ _ _ _ c.pieces.left _ _ _ _ (e.task ∙ c.pieces.invariant.task) w.in_ok-count.ensures.bytes.0 w.if-count-eq0.true (w.in_ok-count.ensures.bytes.1 w.if-count-eq0.true some) e.written e.none e.line e.passes c.pieces.invariant.reading)
     ] in
     sink_stopped _ _ c.from_residual-in_err-finish.result c.from_residual-in_err-finish.ensures.1
     (all_begun _ _ _ _ _ _ _ _ c.in_err-finish.ensures.begun all)
@@ -65,6 +65,6 @@ returns-clause-lines g c =
       | then-pieces-test+in_ok-flush+in_ok-count+then-count-eq0 w ↦
           let e = w.in_ok-flush.ensures in
           let some : 0 < length w.read.new.buf = search rules in
-          rw (w.self-is, w.source-is, w.sink-is) (all_flushed _ _ _ _ _ _ _ _ c.pieces.left _ _ _ _ (e.task ∙ c.pieces.invariant.task) w.in_ok-count.ensures.bytes.0 w.if-count-eq0.true (w.in_ok-count.ensures.bytes.1 w.if-count-eq0.true some) e.written e.none e.line e.overlong e.passes c.pieces.invariant.reading)
+          rw (w.self-is, w.source-is, w.sink-is) (all_flushed _ _ _ _ _ _ _ _ c.pieces.left _ _ _ _ (e.task ∙ c.pieces.invariant.task) w.in_ok-count.ensures.bytes.0 w.if-count-eq0.true (w.in_ok-count.ensures.bytes.1 w.if-count-eq0.true some) e.written e.none e.line e.passes c.pieces.invariant.reading)
     ] in
     all_answered _ _ _ _ _ _ _ _ _ c.in_ok-finish.ensures.written c.in_ok-finish.ensures.passes all

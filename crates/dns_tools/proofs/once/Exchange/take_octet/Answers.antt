@@ -1,3 +1,4 @@
+use Rattle.std.proofs.Common.{refl}
 use Rattle.dns_name.proofs.Results.{OnOk-map}
 use Rattle.dns_tools.proofs.LineRuns.{ended_octet, progress_keep}
 use Rattle.dns_tools.proofs.once.Exchange.take_octet.Goals as goal
@@ -7,4 +8,4 @@ returns-then-octet-eq10-clause-taken g c = λ held x p.
     OnOk-map c.end_line.result (λ e. ended_octet _ held _ _ x _ _ c.args.octet c.if-octet-eq10.true e p) c.end_line.ensures.ended
 
 pub returns-clause-taken : goal.returns-clause-taken
-returns-clause-taken g c = λ held x p. progress_keep _ held _ x _ _ c.args.octet c.if-octet-eq10.false c.keep.ensures.kept p
+returns-clause-taken g c = λ held x p. progress_keep _ held _ x _ _ c.args.octet c.if-octet-eq10.false c.keep.ensures refl refl p

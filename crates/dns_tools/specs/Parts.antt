@@ -1,0 +1,28 @@
+-- What a reader learns here: what is written for the parts of a line.
+use Rattle.std.specs.Prelude.{List, decimal}
+use Rattle.std.specs.List.{flat_map}
+use Rattle.dns_spec.specs.Names.{Octets}
+use Rattle.dns_spec.specs.NameText.{name_text}
+use Rattle.dns_spec.specs.TypeText.{type_text}
+use Rattle.dns_spec.specs.WrittenText.{hex_text, data_text}
+use Rattle.dns_spec.specs.Report.{two_digits, bare_name_text}
+use Rattle.dns_spec.specs.Layout.{octets16}
+use Rattle.dns_spec.specs.MessageLines.{class_text}
+use Rattle.dns_wire.specs.Read.{data_type}
+use Rattle.dns_tools.specs.declared.parts.Part.{Part}
+use Rattle.dns_tools.specs.declared.parts.Part.TheVariants.{Text, Number, Hex, Code, Name, BareName, Class, TypeName, Data}
+
+abbrev pub part_text : Part → Octets
+part_text (Text text) = text.now
+part_text (Number number) = decimal number
+part_text (Hex number) = hex_text (octets16 number)
+part_text (Code code) = two_digits code
+part_text (Name name) = name_text name.now
+part_text (BareName name) = bare_name_text name.now
+part_text (Class class) = class_text class
+part_text (TypeName rtype) = type_text rtype.0
+part_text (Data r) = data_text (data_type r.now.rtype r.now.rclass) r.now.rdata
+
+-- one after another
+abbrev pub parts_text : List Part → Octets
+parts_text = flat_map part_text

@@ -1,0 +1,36 @@
+-- What a reader learns here: what a printer of a message has read and written, by its answer.
+use Rattle.std.specs.Prelude.{◌≡◌, ◌≢◌, ℕ, Bool, false, ◌++◌, codes, decimal, Result, Ok, Err}
+use Rattle.dns_spec.specs.Names.{Octets}
+use Rattle.dns_spec.specs.Report.{Report}
+use Rattle.dns_spec.specs.MessageLines.{PrintsInput}
+use Rattle.dns_wire.specs.WireFault.{fault_code}
+use Rattle.dns_wire.specs.declared.fault.WireFault.{WireFault}
+use Rattle.dns_wire.specs.declared.fault.WireFault.TheVariants.{NoMemory}
+use Rattle.dns_serve.specs.Streams.{Session}
+use Rattle.dns_tools.specs.declared.fault.Stop.{Stop}
+use Rattle.dns_tools.specs.declared.fault.Stop.TheVariants.{Memory, Source, Sink}
+use Rattle.dns_tools.specs.Checked.{ReportedAs}
+use Rattle.dns_tools.specs.FirstLine.{HasReadFront, HasReadLine}
+
+-- the line of a fault
+abbrev pub fault_line : ℕ → Octets
+fault_line n = codes "fault " ++ decimal n ++ codes "\n"
+
+-- what is printed of octets that are no message, by their fault
+abbrev pub IsFaultReport : WireFault → Report → Type 0
+IsFaultReport fault report =
+    (fault ≢ NoMemory)
+    × (report ≡ record { output = fault_line (fault_code fault); passes = false })
+
+-- The first line of an input was read, and what is printed of that input was written, or a
+-- beginning of it.
+pub record HasPrinted (s : Session) (result : Result Bool Stop) : Type 0 where
+  pub input : Octets
+  pub read : HasReadLine s.unread s.left input
+  pub written : ReportedAs (PrintsInput input) result s.held s.holds
+
+abbrev pub PrintedAs : Session → Result Bool Stop → Type 0
+PrintedAs s (Ok passes) = HasPrinted s (Ok passes)
+PrintedAs s (Err Sink) = HasPrinted s (Err Sink)
+PrintedAs s (Err Source) = HasReadFront s.unread s.left × (s.holds ≡ s.held)
+PrintedAs s (Err Memory) = s.holds ≡ s.held
