@@ -4,7 +4,8 @@ use Rattle.std.proofs.lemmas.Bool.{le-leb, leb-true, false≢true}
 use Rattle.std.specs.Bool.{OnTrue, OnFalse}
 use Rattle.dns_spec.specs.Names.{Octets}
 use Rattle.dns_spec.specs.Reading.{MessageQuestion}
-use Rattle.dns_spec.specs.Layout.{Item, size}
+use Rattle.dns_spec.specs.Layout.{Item}
+use Rattle.dns_spec.specs.LayoutSize.{size}
 use Rattle.dns_wire.specs.Draft as wire
 use Rattle.dns_wire.specs.Draft.{IsDraft}
 use Rattle.dns_wire.specs.QuickNumbers.{quick_number}

@@ -4,7 +4,8 @@ use Rattle.dns_spec.specs.Names.{Octets, DomainName, is_name}
 use Rattle.dns_spec.specs.Records.{ZoneContents}
 use Rattle.dns_spec.specs.Reading.{Header, MessageQuestion}
 use Rattle.dns_spec.specs.Query.{reply_head}
-use Rattle.dns_spec.specs.Layout.{Item, layout, size}
+use Rattle.dns_spec.specs.Layout.{Item, layout}
+use Rattle.dns_spec.specs.LayoutSize.{size}
 use Rattle.dns_spec.specs.Answer.{Outcome, outcome, items, is_authoritative, follows_alias, alias_set, has_any}
 use Rattle.dns_spec.specs.Reply.{kept, truncated, answered, keep_longest}
 use Rattle.dns_spec.proofs.Replies.FewItems.{few_nodes}

@@ -8,10 +8,9 @@ use Rattle.dns_spec.specs.Names.{Octets}
 use Rattle.dns_spec.specs.Records.{ResourceRecord, ZoneContents}
 use Rattle.dns_spec.specs.Reading.{MessageQuestion, Spells, format_error, not_implemented}
 use Rattle.dns_spec.specs.Query.{field16, opcode, head_of, refusal_head, counts_are_one_question, question_at, is_ignored, QueryRead, absent, refused_with, query, query_or_error, query_read}
-use Rattle.dns_spec.specs.Layout.{layout}
 use Rattle.dns_spec.specs.Laws.{IsWritable}
 use Rattle.dns_spec.specs.ZonePrinted.{IsReadRecord}
-use Rattle.dns_spec.specs.Reply.{Decision, decide_query, decide, Reply, reply_of, keep_longest, reply_with, reply, octets_by, reply_message, octets_of}
+use Rattle.dns_spec.specs.Reply.{Decision, decide_query, decide, Reply, reply_of, keep_longest, reply_with, reply, reply_octets, reply_message, octets_of}
 use Rattle.dns_spec.proofs.Replies.ReplySpelled.{reply_spells}
 use Rattle.dns_zone.specs.Nodes.{Walk}
 use Rattle.dns_zone.specs.ZoneForm.{IsBuilt}
@@ -47,9 +46,9 @@ module _ (d : Octets) (y : QueryRead) (read : y ≡ query_read d) where
   stated e len = (λ h. absurd (true≢false h), λ h. sym h ∙ ignored-by ∙ e)
 
   -- the octets and the decision
-  pub octets-by : (z : ZoneContents) (limit : ℕ) → option_map (octets_by layout) (reply_of (keep_longest z limit) z (decide_query z y)) ≡ octets_of z d limit
+  pub octets-by : (z : ZoneContents) (limit : ℕ) → option_map reply_octets (reply_of (keep_longest z limit) z (decide_query z y)) ≡ octets_of z d limit
   unfolding octets_of reply reply_with decide
-  octets-by z limit = ap (λ x. option_map (octets_by layout) (reply_of (keep_longest z limit) z (decide_query z x))) read
+  octets-by z limit = ap (λ x. option_map reply_octets (reply_of (keep_longest z limit) z (decide_query z x))) read
 
   pub costs-by : (z : ZoneContents) (s s' : Walk) → Costs (decide_query z y) s s' → Costs (decide z d) s s'
   unfolding decide
@@ -65,10 +64,10 @@ pub spelled : (z : ZoneContents) (d sent : Octets) (limit : ℕ) → IsBuilt z �
 unfolding octets_of
 spelled z d sent limit built low from upto e = go (reply z d limit) refl e
   where
-    go : (x : Option Reply) → reply z d limit ≡ x → Some sent ≡ option_map (octets_by layout) x → IfSome x (λ r. Spells sent (reply_message r))
+    go : (x : Option Reply) → reply z d limit ≡ x → Some sent ≡ option_map reply_octets x → IfSome x (λ r. Spells sent (reply_message r))
     go None is e = tt
     go (Some r) is e =
-        let same : sent ≡ octets_by layout r = cc in
+        let same : sent ≡ reply_octets r = cc in
         subst (λ b. Spells b (reply_message r)) (sym same)
         (reply_spells z d limit r (All-weaker IsReadRecord IsWritable writable z.records built.each) low from upto is)
 
@@ -83,7 +82,7 @@ nothing-taken x s visits comparisons = record {
 
 module _ (d : Octets) (y : QueryRead) (read : y ≡ query_read d) (s s' : Walk) (limit : ℕ) where
   -- no reply is owed
-  pub unanswered : (out : Octets) → is_absent y ≡ true → option_map (octets_by layout) (reply_of (keep_longest s.zone limit) s.zone (decide_query s.zone y)) ≡ None
+  pub unanswered : (out : Octets) → is_absent y ≡ true → option_map reply_octets (reply_of (keep_longest s.zone limit) s.zone (decide_query s.zone y)) ≡ None
       → Costs (decide_query s.zone y) s s' → Responds s s' d limit None out
   unanswered out missing none costs =
       let c = costs-by d y read s.zone s s' costs in

@@ -2,7 +2,8 @@
 use Rattle.std.specs.Prelude.{ℕ, Bool, true, false, List, [], ◌∷◌, ◌++◌, nat_le, if◌then◌else◌}
 use Rattle.std.specs.Prelude.{Some}
 use Rattle.dns_spec.specs.Reading.{MessageQuestion}
-use Rattle.dns_spec.specs.Layout.{Item, size}
+use Rattle.dns_spec.specs.Layout.{Item}
+use Rattle.dns_spec.specs.LayoutSize.{size}
 
 -- A reply to a question while sets are offered to it: the sets that it has, and whether one did
 -- not fit, after which none is tried.

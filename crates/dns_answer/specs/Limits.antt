@@ -1,9 +1,10 @@
 -- What a reader learns here: how many octets a reply may have.
 use Rattle.std.specs.Prelude.{ℕ}
+use Rattle.dns_spec.specs.Query.{most_over_udp, most_over_tcp}
 use Rattle.dns_answer.specs.declared.reply.Limit.{Limit}
 use Rattle.dns_answer.specs.declared.reply.Limit.TheVariants.{Udp, Tcp}
 
 -- RFC 1035 4.2.1 and 4.2.2
 abbrev pub limit_of : Limit → ℕ
-limit_of Udp = 512
-limit_of Tcp = 65535
+limit_of Udp = most_over_udp
+limit_of Tcp = most_over_tcp

@@ -5,9 +5,8 @@ use Rattle.dns_spec.specs.Names.{Octets}
 use Rattle.dns_spec.specs.Records.{ZoneContents}
 use Rattle.dns_spec.specs.Reading.{Header, MessageQuestion, Spells}
 use Rattle.dns_spec.specs.Query.{is_ignored}
-use Rattle.dns_spec.specs.Layout.{layout}
 use Rattle.dns_spec.specs.Answer.{items, most_visits, names_looked_up, most_comparisons}
-use Rattle.dns_spec.specs.Reply.{Decision, silence, header_alone, question_alone, answered, refusal, answer_with, reply_of, keep_longest, octets_by, decide, reply, reply_message, octets_of}
+use Rattle.dns_spec.specs.Reply.{Decision, silence, header_alone, question_alone, answered, refusal, answer_with, reply_of, keep_longest, reply_octets, decide, reply, reply_message, octets_of}
 use Rattle.dns_zone.specs.Nodes.{Walk}
 use Rattle.dns_wire.specs.QueryForm.{code_of}
 use Rattle.dns_answer.specs.Draft.{empty_draft}
@@ -27,7 +26,7 @@ JudgedAs z q (Answered sought) =
 pub record IsReply (z : ZoneContents) (limit : ℕ) (x : Decision) (len : ℕ) (out : Octets)
     : Type 0 where
   pub octets : Some (take len out)
-      ≡ option_map (octets_by layout) (reply_of (keep_longest z limit) z x)
+      ≡ option_map reply_octets (reply_of (keep_longest z limit) z x)
   pub within : len ≤ length out
 
 -- All sets of an answer are offered, and this is the header of the reply that keeps what fits of

@@ -3,7 +3,8 @@ ghost use Rattle.std.specs.Prelude.{◌≡◌, ℕ, ◌*◌, ◌≤◌, List, []
 ghost use Rattle.std.specs.Prelude.{Option, length, min, take};
 ghost use Rattle.std.specs.Option.{option_copied};
 ghost use Rattle.dns_spec.specs.Reading.{MessageQuestion};
-ghost use Rattle.dns_spec.specs.Layout.{Item, layout, size};
+ghost use Rattle.dns_spec.specs.Layout.{Item, layout};
+ghost use Rattle.dns_spec.specs.LayoutSize.{size};
 ghost use Rattle.dns_wire.specs.Draft.{IsDraft, item_of};
 ghost use Rattle.dns_wire.specs.QuickNumbers.{quick_number};
 ghost use Rattle.dns_answer.specs.DraftForm.{Offers, blank};

@@ -9,7 +9,7 @@ use Rattle.std.proofs.lemmas.List.Sums.{prefix_len-le-length}
 use Rattle.dns_spec.specs.Names.{Octets}
 use Rattle.dns_spec.specs.ZoneText.{escape_left, unit_left, run_length}
 use Rattle.dns_spec.proofs.NameTexts.Escapes.{counted_escape, escape-counted}
-use Rattle.dns_spec.specs.ZoneText.{is_word_octet, is_string_octet}
+use Rattle.dns_spec.specs.DataText.{is_word_octet, is_string_octet}
 use Rattle.dns_master.specs.TokenForm.{by_itself, plain_length}
 use Rattle.dns_master.specs.declared.run.Run.{Run}
 use Rattle.dns_master.specs.declared.run.Run.TheVariants.{Word as WordRun, String as StringRun}
@@ -78,12 +78,12 @@ module _ (by : ℕ → Bool) where
       let others : run_length by (counted_escape text) text ≡ counted_escape text + run_length by 0 (drop (counted_escape text) text) =
       skipped (counted_escape text) text fits in
       let all : run_length by 0 (o ∷ text) ≡ 1 + run_length by (counted_escape text) text =
-      by_unit o text (Some (counted_escape text)) (unit_of o text e ∙ ap (λ k. if k == 0 then None else Some k) (escape-counted text) ∙ rw h refl) in
+      by_unit o text (Some (counted_escape text)) (unit_of o text e ∙ escape-counted text ∙ rw h refl) in
       omega (arith, others, all)
 
   -- a backslash that begins no escape
   pub run-no_escape : (o : ℕ) (text : Octets) → (o == 92) ≡ true → (counted_escape text == 0) ≡ true → run_length by 0 (o ∷ text) ≡ 0
-  run-no_escape o text e h = by_unit o text None (unit_of o text e ∙ ap (λ k. if k == 0 then None else Some k) (escape-counted text) ∙ rw h refl)
+  run-no_escape o text e h = by_unit o text None (unit_of o text e ∙ escape-counted text ∙ rw h refl)
 
   pub run-none : (text : Octets) → length text ≡ 0 → run_length by 0 text ≡ 0
   unfolding run_length

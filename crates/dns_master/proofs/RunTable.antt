@@ -2,7 +2,7 @@
 use Rattle.std.proofs.Common.{◌≡◌, ℕ, zero, suc, ◌<◌, Bool, true, false, ◌&&◌, ◌==◌, not, refl, subst, arith, inl, inr}
 use Rattle.std.specs.Prelude.{slice_index_or}
 use Rattle.std.proofs.lemmas.Bool.{false≢true, and_parts, eqb-true, cases_Bool, eqb-false}
-use Rattle.dns_spec.specs.ZoneText.{is_word_octet, is_string_octet}
+use Rattle.dns_spec.specs.DataText.{is_word_octet, is_string_octet}
 use Rattle.dns_master.specs.declared.run.TheConstants.{RUNS_WITH}
 
 abbrev all_below : (ℕ → Bool) → ℕ → Bool

@@ -3,7 +3,8 @@ use Rattle.std.specs.Prelude.{◌≡◌, ℕ, Bool, not, Option, Some, None}
 use Rattle.std.specs.List.{position_or_len}
 use Rattle.std.specs.Borrow.{Bor}
 use Rattle.dns_spec.specs.Names.{Octets}
-use Rattle.dns_spec.specs.ZoneText.{blank, comment, word, quoted_string, opening, closing, line_end, is_word_octet, is_string_octet}
+use Rattle.dns_spec.specs.ZoneText.{blank, comment, word, quoted_string, opening, closing, line_end}
+use Rattle.dns_spec.specs.DataText.{is_word_octet, is_string_octet}
 use Rattle.dns_spec.specs.ZoneText as text
 use Rattle.dns_master.specs.declared.run.Run.{Run}
 use Rattle.dns_master.specs.declared.run.Run.TheVariants.{Word as WordRun, String as StringRun}

@@ -1,7 +1,8 @@
 //! Runs of octets: how far a word, a string, a blank or a comment goes (RFC 1035 5.1).
 ghost use Rattle.std.specs.Prelude.{◌≡◌, ◌==◌, ◌≤◌, true, not, length, take, drop};
 ghost use Rattle.std.specs.List.{list_all, prefix_len, position};
-ghost use Rattle.dns_spec.specs.ZoneText.{is_blank, is_word_octet, is_string_octet, run_length};
+ghost use Rattle.dns_spec.specs.ZoneText.{is_blank, run_length};
+ghost use Rattle.dns_spec.specs.DataText.{is_word_octet, is_string_octet};
 ghost use Rattle.dns_spec.proofs.NameTexts.Escapes.{counted_digits, counted_escape};
 ghost use Rattle.dns_master.specs.TokenForm.{by_itself, plain_length};
 

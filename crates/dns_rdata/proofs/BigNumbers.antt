@@ -31,10 +31,3 @@ pub number_in_last : (xs : Octets) (k : ℕ) → 4 ≤ k → k ≤ length xs
 number_in_last xs k some long =
     let last = drop (length xs - k) xs in
     ap (big_number 4) (from_place xs (length xs - k)) ∙ big_number-four last (omega (arith, some, long, length-drop (length xs - k) xs))
-
--- the number that the last four octets spell
-pub last_number : (xs : Octets) → 4 ≤ length xs
-    → big_number 4 (take (length xs - (length xs - 4)) (drop (length xs - 4) xs)) ≡ number_of (drop (length xs - 4) xs)
-last_number xs long =
-    number_in_last xs 4 (omega arith) long
-    ∙ ap number_of (take_all 4 (drop (length xs - 4) xs) (omega (arith, long, length-drop (length xs - 4) xs)))

@@ -4,6 +4,7 @@ use Rattle.std.specs.Prelude.{◌≡◌, ℕ, ◌≤◌, ◌<◌, [], ◌^◌, l
 use Rattle.std.specs.Prelude.{Option, None, Some, Result, Ok, Err}
 use Rattle.std.specs.Io.KnownBytes.{Consumes, IsAtEnd}
 use Rattle.dns_spec.specs.Names.{Octets}
+use Rattle.dns_spec.specs.Query.{most_over_udp}
 use Rattle.dns_spec.specs.Stream.{frame, first_frame, IsCutFrame}
 use Rattle.dns_serve.specs.declared.fault.StreamFault.{StreamFault}
 use Rattle.dns_serve.specs.declared.fault.StreamFault.TheVariants.{SourceFailed, SinkFailed, Cut}
@@ -38,7 +39,7 @@ pub record GivesMessage (old new : Option Octets) (kept : Octets) : Type 0 where
   pub message : Octets
   pub consumed : Consumes old new (frame message)
   pub short : length message < 2 ^ 16
-  pub kept_is : kept ≡ take 512 message
+  pub kept_is : kept ≡ take most_over_udp message
 
 -- nothing, since the source is at its end
 pub record GivesNothing (old new : Option Octets) : Type 0 where
@@ -74,7 +75,7 @@ pub record GivesBody (old new : Option Octets) (count : ℕ) (kept : Octets) : T
   pub message : Octets
   pub consumed : Consumes old new message
   pub count_is : length message ≡ count
-  pub kept_is : kept ≡ take 512 message
+  pub kept_is : kept ≡ take most_over_udp message
 
 -- a message of which too little came, up to the end of the source
 pub record GivesPartOfBody (old new : Option Octets) (count : ℕ) : Type 0 where

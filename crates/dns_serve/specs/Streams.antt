@@ -6,6 +6,7 @@ use Rattle.std.specs.List.{flat_map}
 use Rattle.std.specs.Io.KnownBytes.{Appends, Consumes, IsAtEnd}
 use Rattle.dns_spec.specs.Names.{Octets}
 use Rattle.dns_spec.specs.Records.{ZoneContents}
+use Rattle.dns_spec.specs.Query.{most_over_tcp}
 use Rattle.dns_spec.specs.Reply.{octets_of}
 use Rattle.dns_spec.specs.Stream.{frame, frames, IsCutFrame, reply_frame, replies}
 use Rattle.dns_serve.specs.declared.fault.StreamFault.{StreamFault}
@@ -13,7 +14,7 @@ use Rattle.dns_serve.specs.declared.fault.StreamFault.TheVariants.{SourceFailed,
 
 -- the reply of a zone over TCP, where a reply has at most 65,535 octets (RFC 1035 4.2.2)
 abbrev pub reply_over_tcp : ZoneContents → Octets → Option Octets
-reply_over_tcp z m = octets_of z m 65535
+reply_over_tcp z m = octets_of z m most_over_tcp
 
 -- A session: what its source has still to give and what its sink holds, before and after, where
 -- those are known.

@@ -5,6 +5,7 @@ use Rattle.std.specs.Prelude.{Option, None, Some, Result, Ok, Err, Bool, true}
 use Rattle.std.specs.Option.{is_some}
 use Rattle.dns_spec.specs.Names.{Octets}
 use Rattle.dns_spec.specs.Records.{ZoneContents}
+use Rattle.dns_spec.specs.Query.{most_over_udp}
 use Rattle.dns_spec.specs.Reply.{octets_of}
 use Rattle.dns_serve.specs.declared.fault.TurnFault.{TurnFault}
 use Rattle.dns_serve.specs.declared.fault.TurnFault.TheVariants.{ReceiveFailed, SendFailed}
@@ -24,8 +25,8 @@ KeepsAll old new = Grows old new []
 pub record IsHanded (old new : Option (List Octets)) (n : ℕ) (buf : Octets) : Type 0 where
   pub datagram : Octets
   pub handed : Grows old new (datagram ∷ [])
-  pub kept : take n buf ≡ take 512 datagram
-  pub within : n ≤ 512
+  pub kept : take n buf ≡ take most_over_udp datagram
+  pub within : n ≤ most_over_udp
 
 abbrev pub Hands : {E : Type 0} → Option (List Octets) → Option (List Octets) → Result ℕ E → Octets
     → Type 0
@@ -40,7 +41,7 @@ Sends old new (Err e) reply = ⊤
 
 -- the reply of a zone over UDP, where a reply has at most 512 octets (RFC 1035 4.2.1)
 abbrev pub reply_over_udp : ZoneContents → Octets → Option Octets
-reply_over_udp z d = octets_of z d 512
+reply_over_udp z d = octets_of z d most_over_udp
 
 abbrev pub one_or_none : Option Octets → List Octets
 one_or_none None = []

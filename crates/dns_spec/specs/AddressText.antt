@@ -23,6 +23,7 @@ pub record SaysIpv4 (text d : Octets) : Type 0 where
 abbrev pub is_group : Octets → Bool
 is_group text = nat_lt 0 (length text) && nat_le (length text) 4 && list_all is_ascii_hexdigit text
 
+-- the numbers of texts that are all groups
 abbrev pub group_values : List Octets → Option (List ℕ)
 group_values [] = Some []
 group_values (text ∷ texts) =
@@ -42,6 +43,7 @@ around_gap (c ∷ d ∷ text) =
     if c == 58 && d == 58 then Some ([], text)
     else option_map (λ r. (c ∷ r.0, r.1)) (around_gap (d ∷ text))
 
+-- groups, where they are eight
 abbrev pub eight_groups : List ℕ → Option (List ℕ)
 eight_groups gs = if length gs == 8 then Some gs else None
 
@@ -67,9 +69,11 @@ ipv6_groups text = groups_by text (around_gap text)
 abbrev pub ipv6_octets : Octets → Option Octets
 ipv6_octets text = option_map (flat_map (bytes_high_first 2)) (ipv6_groups text)
 
+-- the text spells the octets of an address
 abbrev pub SaysIpv6 : Octets → Octets → Type 0
 SaysIpv6 text d = ipv6_octets text ≡ Some d
 
+-- the groups of an address
 abbrev pub groups_of : Octets → List ℕ
 groups_of [] = []
 groups_of (h ∷ []) = []

@@ -46,10 +46,15 @@ chain_from z zero sought s = s ∷ []
 chain_from z (suc k) sought s =
     s ∷ elim (next_sought z (s ∷ sought) s) [ None ↦ [] | Some m ↦ chain_from z k (s ∷ sought) m ]
 
--- The names sought, the question's first. At most 16 aliases are followed, a limit of this project.
-unfoldable pub chain : ZoneContents → DomainName → ℕ → List DomainName
-chain z q t = if follows_alias t then chain_from z 16 [] q else q ∷ []
+-- a limit of this project: at most so many aliases are followed
+abbrev pub most_aliases : ℕ
+most_aliases = 16
 
+-- The names sought, the question's first.
+unfoldable pub chain : ZoneContents → DomainName → ℕ → List DomainName
+chain z q t = if follows_alias t then chain_from z most_aliases [] q else q ∷ []
+
+-- the last of names, or s where there are none
 abbrev pub last_of : DomainName → List DomainName → DomainName
 last_of s [] = s
 last_of s (m ∷ ms) = last_of m ms
@@ -97,9 +102,11 @@ abbrev pub negative : ZoneContents → ℕ → Outcome
 negative z rcode =
     record { rcode = rcode; referral = None; answers = []; authorities = negative_soa z }
 
+-- an answer of these sets
 abbrev pub positive : List Item → Outcome
 positive sets = record { rcode = no_error; referral = None; answers = sets; authorities = [] }
 
+-- there are some
 abbrev pub has_any : {X : Type 0} → List X → Bool
 has_any [] = false
 has_any (x ∷ xs) = true
@@ -116,6 +123,7 @@ outcome_by z t None (Some rs) =
     else if has_any (asked_records t rs) then positive (item answer (asked_records t rs))
     else negative z no_error
 
+-- the outcome for the last name sought
 unfoldable pub outcome_at : ZoneContents → ℕ → DomainName → Outcome
 outcome_at z t s = outcome_by z t (cut_of z s) (found z s)
 
@@ -134,12 +142,14 @@ is_authoritative o = not (is_some o.referral && length o.answers == 0)
 abbrev pub has_target_type : ResourceRecord → Bool
 has_target_type r = r.rtype == type_ns || r.rtype == type_mx || r.rtype == type_srv
 
+-- the targets of the records in sets
 abbrev pub targets_of : List Item → List DomainName
 targets_of items =
     filter_map (λ (r : ResourceRecord). if has_target_type r then target r.rtype r.rdata else None)
     (records_of items)
 
--- the targets of a referral's NS set, at or below the cut and not
+-- RFC 9471 section 2: the targets of a referral's NS set that are at or below the cut, whose
+-- addresses are its glue, and those that are not
 abbrev pub targets_inside : Outcome → List DomainName
 targets_inside o =
     flat_map (λ c. filter (λ m. at_or_below m c) (targets_of o.authorities))
@@ -151,7 +161,7 @@ targets_outside o =
     (option_to_list o.referral)
 
 -- The targets, in order. Of a referral those at or below the cut come first: without their
--- addresses the asker gets no further (RFC 1034 4.3.2 step 3b).
+-- addresses the asker gets no further (RFC 1034 4.3.2 step 3b, RFC 9471 section 3.1).
 abbrev pub targets : Outcome → List DomainName
 targets o = targets_of o.answers ++ targets_inside o ++ targets_outside o
 
@@ -186,7 +196,7 @@ items z q t =
     main_items o ++ extra z (main_items o) (targets o)
 
 -- The sets that a reply may not leave out: answer, authority, and the glue of a referral (RFC 2181
--- section 9, RFC 9471). All sets begin with them, since the aliases before a referral have no
+-- section 9, RFC 9471 section 3.1). All sets begin with them, since the aliases before a referral have no
 -- targets.
 unfoldable pub required_items : ZoneContents → DomainName → ℕ → List Item
 required_items z q t =
@@ -212,9 +222,15 @@ most_visits z q t =
 abbrev pub names_looked_up : ZoneContents → DomainName → ℕ → ℕ
 names_looked_up z q t = length (chain z q t) + length (targets (outcome z q t))
 
--- The most labels that it compares with a label asked for, where it visits so many nodes: 17 for
--- each child that it finds, for each that it does not, at most two for a name of the chain and one
--- for a target. A node has at most 100,000 children.
+-- the most labels that a binary search among the children of a node compares with one asked for: a
+-- node has at most 100,000 children, fewer than 2 ^ 17
+abbrev pub most_of_a_search : ℕ
+most_of_a_search = 17
+
+-- The most labels that it compares with labels asked for, where it visits so many nodes: those of a
+-- search for each child that it finds, and for each that it does not, which are at most two for a
+-- name of the chain and one for a target.
 abbrev pub most_comparisons : ZoneContents → DomainName → ℕ → ℕ → ℕ
 most_comparisons z q t visits =
-    17 * (visits + 2 * length (chain z q t) + length (targets (outcome z q t)))
+    most_of_a_search
+    * (visits + 2 * length (chain z q t) + length (targets (outcome z q t)))

@@ -16,6 +16,7 @@ use Rattle.dns_spec.specs.Tree.{is_cut, without_first, asterisk}
 abbrev pub Check : Type 0
 Check = ZoneContents → DomainName → Bool
 
+-- the name is the origin
 abbrev pub is_origin : Check
 is_origin z n = same n z.origin
 
@@ -43,9 +44,11 @@ has_target z n type test =
 abbrev pub at_or_below_cut : Check
 at_or_below_cut z n = list_any (is_cut z) (suffixes n)
 
+-- the same below a cut
 abbrev pub below_cut : Check
 below_cut z n = list_any (is_cut z) (without_first (suffixes n))
 
+-- the name owns an address
 abbrev pub has_address : Check
 has_address z n = owns z n type_a || owns z n type_aaaa
 
@@ -115,12 +118,20 @@ first_is_asterisk (l ∷ n) = octets_equal l asterisk
 abbrev pub wildcard_ns : Check
 wildcard_ns z n = first_is_asterisk n && owns z n type_ns
 
--- limits of this project: 64 records in an RRset, 32 RRsets at a name
-abbrev pub large_set : Check
-large_set z n = list_any (λ (r : ResourceRecord). nat_lt 64 (count z n r.rtype)) (at z n)
+-- limits of this project: how many records an RRset has at most, and how many RRsets a name
+abbrev pub most_of_a_set : ℕ
+most_of_a_set = 64
 
+abbrev pub most_sets : ℕ
+most_sets = 32
+
+-- an RRset has more records
+abbrev pub large_set : Check
+large_set z n = list_any (λ (r : ResourceRecord). nat_lt most_of_a_set (count z n r.rtype)) (at z n)
+
+-- the name has more RRsets
 abbrev pub many_sets : Check
-many_sets z n = nat_lt 32 (length (types_of (at z n)))
+many_sets z n = nat_lt most_sets (length (types_of (at z n)))
 
 -- the checks by their codes, Z01 to Z15
 abbrev pub checks : List (ℕ × Check)
@@ -139,6 +150,7 @@ pub record Fault : Type 0 where
   pub owner : DomainName
   pub code : ℕ
 
+-- the faults of a name
 abbrev pub faults_at : ZoneContents → DomainName → List Fault
 faults_at z n = map (λ c. record { owner = n; code = c.0 }) (filter (λ c. c.1 z n) checks)
 

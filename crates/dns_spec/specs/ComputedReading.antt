@@ -4,7 +4,7 @@
 use Rattle.std.specs.Prelude.{ℕ, zero, suc, ◌+◌, ◌-◌, ◌&&◌, true, false, List, [], ◌∷◌, ◌++◌, length, take, drop, nat_lt, nat_le, ◌==◌, slice_get, if◌then◌else◌}
 use Rattle.std.specs.Prelude.{Option, None, Some}
 use Rattle.std.specs.Option.{option_map, option_and_then}
-use Rattle.dns_spec.specs.Names.{Octets, DomainName, wire, is_name}
+use Rattle.dns_spec.specs.Names.{Octets, DomainName, wire, is_name, with_label}
 use Rattle.dns_spec.specs.Data.{class_in, width, Piece, fixed, domain, string, strings, anything, pieces_of, are_strings, number_of}
 use Rattle.dns_spec.specs.Reading.{pointer_place, MessageQuestion, MessageRecord, DnsMessage}
 
@@ -31,9 +31,6 @@ step_of b i (Some o) =
 -- a name, and the place after its own octets
 abbrev pub SpelledName : Type 0
 SpelledName = DomainName × ℕ
-
-abbrev pub with_label : Octets → SpelledName → SpelledName
-with_label l (n, e) = (l ∷ n, e)
 
 -- A pointer is lawful to a place after the header and before its run. `earlier` has what the runs
 -- begun before that spell.

@@ -41,6 +41,7 @@ type_srv = 33
 abbrev pub qtype_any : ℕ
 qtype_any = 255
 
+-- RFC 1035 3.2.4: the class of all that is served
 abbrev pub class_in : ℕ
 class_in = 1
 
@@ -128,12 +129,14 @@ type_table =
 abbrev pub other_type : TypeRow
 other_type = record { number = 0; mnemonic = []; pieces = anything ∷ []; compresses = false }
 
+-- the row of a type in the table, where it has one; else that of other types
 abbrev pub row_of : ℕ → Option TypeRow
 row_of t = find (λ (row : TypeRow). row.number == t) type_table
 
 abbrev pub type_row : ℕ → TypeRow
 type_row t = unwrap_or (row_of t) other_type
 
+-- the pieces of its data, and whether names in it take part in compression
 abbrev pub pieces_of : ℕ → List Piece
 pieces_of t = (type_row t).pieces
 
@@ -145,6 +148,7 @@ pub data Part : Type 0 where
   octets : Octets → Part
   name : DomainName → Part
 
+-- the octets of a part, and those of parts one after the other
 abbrev pub part_octets : Part → Octets
 part_octets (octets o) = o
 part_octets (name n) = wire n
@@ -164,10 +168,12 @@ are_strings (suc k) (o ∷ os) = are_strings k os
 abbrev pub octets_front : ℕ → Octets → Option (Part × Octets)
 octets_front k os = if nat_le k (length os) then Some (octets (take k os), drop k os) else None
 
+-- the string that octets begin with, after its length
 abbrev pub string_front : Octets → Option (Part × Octets)
 string_front [] = None
 string_front (k ∷ os) = octets_front (suc k) (k ∷ os)
 
+-- all octets, where they are one string or more
 abbrev pub strings_front : Octets → Option (Part × Octets)
 strings_front os = if not (length os == 0) && are_strings 0 os then Some (octets os, []) else None
 
@@ -224,10 +230,13 @@ abbrev pub number_of : Octets → ℕ
 number_of [] = 0
 number_of (o ∷ os) = o * 256 ^ length os + number_of os
 
--- RFC 1035 3.3.13: SERIAL, the first of the five numbers that end an SOA
-abbrev pub soa_serial : Octets → ℕ
-soa_serial d = number_of (take 4 (drop (length d - 20) d))
+-- RFC 1035 3.3.13: five numbers of 32 bits end the data of an SOA, SERIAL, REFRESH, RETRY, EXPIRE
+-- and MINIMUM; this is number k of them, counted from 0
+abbrev pub soa_number : ℕ → Octets → ℕ
+soa_number k d = number_of (take 4 (drop (length d - 4 * (5 - k)) d))
 
--- RFC 1035 3.3.13: MINIMUM, the last 32 bits of an SOA
+abbrev pub soa_serial : Octets → ℕ
+soa_serial = soa_number 0
+
 abbrev pub soa_minimum : Octets → ℕ
-soa_minimum d = number_of (drop (length d - 4) d)
+soa_minimum = soa_number 4

@@ -4,11 +4,11 @@ use Rattle.std.specs.Prelude.{◌≡◌, ℕ, ◌+◌, ◌*◌, ◌%◌, ◌^◌
 use Rattle.std.specs.Prelude.{Option, None, Some}
 use Rattle.std.specs.Bool.{MatchBool}
 use Rattle.std.specs.Option.{option_map}
-use Rattle.std.specs.List.{list_all, flat_map}
+use Rattle.std.specs.List.{list_all, list_any, flat_map}
 use Rattle.std.specs.Int.{bytes_high_first}
-use Rattle.std.specs.Char.{is_ascii_hexdigit, digit_value}
+use Rattle.std.specs.Char.{is_ascii_hexdigit, is_ascii_graphic, digit_value}
 use Rattle.dns_spec.specs.Names.{Octets, DomainName, wire, octets_equal}
-use Rattle.dns_spec.specs.NameText.{SpellsOctet, SpellsName}
+use Rattle.dns_spec.specs.NameText.{is_printable, SpellsOctet, SpellsName}
 use Rattle.dns_spec.specs.Data.{numbers, ipv4, ipv6, Piece, fixed, domain, string, strings, anything, TypeRow, row_of, Valid, lower_case}
 use Rattle.dns_spec.specs.AddressText.{SaysIpv4, SaysIpv6}
 
@@ -17,6 +17,14 @@ use Rattle.dns_spec.specs.AddressText.{SaysIpv4, SaysIpv6}
 pub record Word : Type 0 where
   pub raw : Octets
   pub is_quoted : Bool
+
+-- what stands in a word by itself: it neither ends the word nor escapes another octet
+abbrev pub is_word_octet : ℕ → Bool
+is_word_octet o = is_ascii_graphic o && not (list_any (λ s. o == s) (codes "\"();\\"))
+
+-- what stands in a quoted string by itself
+abbrev pub is_string_octet : ℕ → Bool
+is_string_octet o = (is_printable o || o == 9) && not (list_any (λ s. o == s) (codes "\"\\"))
 
 -- A number of so many octets in decimal, without zeros in front (in this product).
 abbrev pub SaysNumber : ℕ → Octets → Octets → Type 0
@@ -50,6 +58,7 @@ pub data WordForm : Type 0 where
   name_word : WordForm
   string_word : WordForm
 
+-- the text spells data of the form, a name relative to the origin
 abbrev pub SaysForm : WordForm → DomainName → Octets → Octets → Type 0
 SaysForm (number_word k) origin text d = SaysNumber k text d
 SaysForm ipv4_word origin text d = SaysIpv4 text d
@@ -65,6 +74,7 @@ may_be_quoted ipv6_word = false
 may_be_quoted name_word = false
 may_be_quoted string_word = true
 
+-- the word spells data of the form
 pub record SaysWord (form : WordForm) (origin : DomainName) (w : Word) (d : Octets) : Type 0 where
   pub quotes : IsTrue (may_be_quoted form || not w.is_quoted)
   pub said : SaysForm form origin w.raw d
@@ -110,6 +120,7 @@ hex_octets (h ∷ l ∷ text) =
 abbrev pub is_hex_word : Word → Bool
 is_hex_word w = not w.is_quoted && nat_lt 0 (length w.raw) && length w.raw % 2 == 0
 
+-- such words spell octets, two digits each
 abbrev pub SaysHex : List Word → Octets → Type 0
 SaysHex ws d =
     IsTrue (list_all is_hex_word ws) × (hex_octets (flat_map (λ (w : Word). w.raw) ws) ≡ Some d)

@@ -1,13 +1,21 @@
--- What a reader learns here: on what terms the laws of layouts hold.
+-- What a reader learns here: words that only laws use, of beginnings of a text and of layouts.
 use Rattle.std.specs.Prelude.{◌≡◌, ℕ, ◌<◌, ◌^◌, Bool, true, ◌&&◌, List, [], ◌∷◌, nat_le, IsTrue, IfSome}
 use Rattle.std.specs.Prelude.{Option}
 use Rattle.std.specs.List.{list_all}
-use Rattle.dns_spec.specs.Names.{DomainName, is_name}
+use Rattle.dns_spec.specs.Names.{Octets, DomainName, is_name}
 use Rattle.dns_spec.specs.Data.{Valid}
+use Rattle.dns_spec.specs.ZoneText.{Extent, Entry, EntriesOf}
 use Rattle.dns_spec.specs.Records.{ResourceRecord}
+use Rattle.dns_spec.specs.Meaning.{Meaning, EntriesMean}
 use Rattle.dns_spec.specs.Sets.{RecordSet, records_at}
 use Rattle.dns_spec.specs.Reading.{Header, MessageQuestion}
 use Rattle.dns_spec.specs.Layout.{Section, answer, authority, additional, Item}
+
+-- What octets mean after the entries before them. They are all that is left of a text, or a
+-- beginning of it, which is read as one that goes on.
+abbrev pub OctetsMean : DomainName → List Entry → Extent → Octets → Meaning → Type 0
+OctetsMean o earlier extent octets m =
+    (es : List Entry) × EntriesOf extent octets es × EntriesMean o earlier es m
 
 -- RFC 1035 4.1: the sections in the order of a message
 abbrev pub section_rank : Section → ℕ

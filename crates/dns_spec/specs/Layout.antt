@@ -1,6 +1,6 @@
--- What a reader learns here: how a reply is laid out in octets, which suffix of a name is shared
--- with an earlier name and by which place, and the size of a layout, added up without writing it.
-use Rattle.std.specs.Prelude.{ℕ, zero, suc, ◌+◌, ◌-◌, ◌*◌, Bool, true, false, ◌&&◌, List, [], ◌∷◌, ◌++◌, map, length, nat_le, if◌then◌else◌}
+-- What a reader learns here: how a reply is laid out in octets, and which suffix of a name is shared
+-- with an earlier name and by which place.
+use Rattle.std.specs.Prelude.{ℕ, ◌+◌, ◌-◌, ◌*◌, Bool, true, false, ◌&&◌, List, [], ◌∷◌, ◌++◌, map, length, nat_le, if◌then◌else◌}
 use Rattle.std.specs.Prelude.{Option, None, Some}
 use Rattle.std.specs.Option.{option_to_list}
 use Rattle.std.specs.List.{filter, flat_map}
@@ -28,6 +28,7 @@ pub record Item : Type 0 where
   pub section : Section
   pub records : List ResourceRecord
 
+-- two sections are the same
 abbrev pub is_section : Section → Section → Bool
 is_section answer answer = true
 is_section authority authority = true
@@ -67,6 +68,11 @@ place_of (m ∷ ms) s = if has_suffix m.0 s then Some (suffix_place m s) else pl
 abbrev pub last_place : ℕ
 last_place = 16383
 
+-- up to so many octets, a pointer reaches every place
+abbrev pub reach : ℕ
+reach = 1 + last_place
+
+-- a place, where a pointer reaches it
 abbrev pub reached : Option ℕ → Option ℕ
 reached None = None
 reached (Some p) = if nat_le p last_place then Some p else None
@@ -86,12 +92,6 @@ shared_octets ms (l ∷ n) =
       | Some p ↦ pointer p
     ]
 
--- its length: the octets of the labels before that suffix and 2, or all of them
-unfoldable pub cost : List Placed → DomainName → ℕ
-cost ms [] = 1
-cost ms (l ∷ n) =
-    elim (shared_place ms (l ∷ n)) [ None ↦ 1 + length l + cost ms n | Some p ↦ 2 ]
-
 -- What is laid out: its octets, and the names in it with their places.
 pub record Laid : Type 0 where
   pub written : Octets
@@ -109,6 +109,7 @@ data_laid ms p (name n ∷ ps) =
     let w = shared_octets ms n in
     laid_front w ((n, p) ∷ []) (data_laid (ms ++ (n, p) ∷ []) (p + length w) ps)
 
+-- the runs and names of a record that a writer sees
 abbrev pub parts_of : ResourceRecord → List Part
 parts_of r = laid_parts r.rtype r.rdata
 
@@ -163,46 +164,6 @@ unfoldable pub layout : Header → Option MessageQuestion → List Item → Octe
 layout h q items =
     reply_header h q items ++ asked_octets q
     ++ records_octets (asked_placed q) (12 + length (asked_octets q)) (records_of items)
-
--- the size of data from place p on, after earlier names
-unfoldable pub data_size : List Placed → ℕ → List Part → ℕ
-data_size ms p [] = 0
-data_size ms p (octets o ∷ ps) = length o + data_size ms (p + length o) ps
-data_size ms p (name n ∷ ps) = cost ms n + data_size (ms ++ (n, p) ∷ []) (p + cost ms n) ps
-
--- the names in it with their places
-abbrev pub data_names : List Placed → ℕ → List Part → List Placed
-data_names ms p [] = []
-data_names ms p (octets o ∷ ps) = data_names ms (p + length o) ps
-data_names ms p (name n ∷ ps) = (n, p) ∷ data_names (ms ++ (n, p) ∷ []) (p + cost ms n) ps
-
--- the size of a record from place p on, and its names with their places
-abbrev pub record_size : List Placed → ℕ → ResourceRecord → ℕ
-record_size ms p r =
-    let owner = cost ms r.owner in
-    owner + 10 + data_size (ms ++ (r.owner, p) ∷ []) (p + owner + 10) (parts_of r)
-
-abbrev pub record_names : List Placed → ℕ → ResourceRecord → List Placed
-record_names ms p r =
-    (r.owner, p) ∷ data_names (ms ++ (r.owner, p) ∷ []) (p + cost ms r.owner + 10) (parts_of r)
-
--- the size of records from place p on
-unfoldable pub records_size : List Placed → ℕ → List ResourceRecord → ℕ
-records_size ms p [] = 0
-records_size ms p (r ∷ rs) =
-    let k = record_size ms p r in
-    k + records_size (ms ++ record_names ms p r) (p + k) rs
-
--- the length of the layout, added up without writing
-unfoldable pub size : Option MessageQuestion → List Item → ℕ
-size q items =
-    let from = 12 + length (asked_octets q) in
-    from + records_size (asked_placed q) from (records_of items)
-
--- the greatest k up to n that passes the test, or 0
-abbrev pub greatest : (ℕ → Bool) → ℕ → ℕ
-greatest test zero = 0
-greatest test (suc k) = if test (suc k) then suc k else greatest test k
 
 -- The message that a layout spells.
 abbrev pub message_record : ResourceRecord → MessageRecord

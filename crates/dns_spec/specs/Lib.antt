@@ -19,6 +19,7 @@ pub mod Reading
 pub mod ComputedReading
 pub mod Query
 pub mod Layout
+pub mod LayoutSize
 pub mod Sharing
 pub mod UnboundedLayout
 pub mod Answer

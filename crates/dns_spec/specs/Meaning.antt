@@ -15,7 +15,7 @@ use Rattle.dns_spec.specs.TypeText.{text_in_lower_case, NamesType}
 use Rattle.dns_spec.specs.DataText.{Word, Says}
 use Rattle.dns_spec.specs.Records.{ResourceRecord}
 use Rattle.dns_spec.specs.FileFaults.{FileFault, unknown_directive, directive_words, bad_owner, no_owner, bad_ttl, other_class, bad_type, no_ttl, bad_data, too_many_records}
-use Rattle.dns_spec.specs.ZoneText.{Extent, extent_of, most_octets, Entry, EntriesOf, begins_with, is_line_end, begins_blank, entry_words, lexical_fault}
+use Rattle.dns_spec.specs.ZoneText.{Entry, Entries, begins_with, is_line_end, begins_blank, entry_words, lexical_fault}
 
 -- RFC 2181 section 8: a TTL is at most 2^31 - 1 seconds
 abbrev pub most_ttl : ℕ
@@ -48,9 +48,11 @@ pub data EntryKind : Type 0 where
   owned : Word → List Word → EntryKind
   unowned : List Word → EntryKind
 
+-- an unquoted word that begins with `$`
 abbrev pub is_directive : Word → Bool
 is_directive w = not w.is_quoted && begins_with 36 w.raw
 
+-- by whether the entry begins with a blank, and by its words
 abbrev pub kind_by_words : Bool → List Word → EntryKind
 kind_by_words blank [] = no_words
 kind_by_words blank (w ∷ ws) =
@@ -75,6 +77,7 @@ pub record Fields : Type 0 where
 abbrev pub is_ttl_word : Word → Bool
 is_ttl_word w = not w.is_quoted && list_any is_ascii_digit (take 1 w.raw)
 
+-- the word is this text, in any case
 abbrev pub is_word : Octets → Octets → Bool
 is_word text raw = octets_equal (text_in_lower_case raw) text
 
@@ -85,9 +88,11 @@ is_class_word w =
     && (list_any (λ c. is_word c w.raw) (codes "in" ∷ codes "ch" ∷ codes "cs" ∷ codes "hs" ∷ [])
     || is_word (codes "class") (take 5 w.raw))
 
+-- the word names the class IN
 abbrev pub is_class_in : Word → Bool
 is_class_in w = is_word (codes "in") w.raw || is_word (codes "class1") w.raw
 
+-- the fields among the words after a TTL, among those after a class, and among all
 abbrev pub class_after : Word → List Word → Fields
 class_after ttl [] = record { ttl = Some ttl; class = None; others = [] }
 class_after ttl (w ∷ ws) =
@@ -107,8 +112,7 @@ fields (w ∷ ws) =
     else if is_class_word w then ttl_after w ws
     else record { ttl = None; class = None; others = w ∷ ws }
 
--- the first word of a directive of this name; below it, the word that states an owner, and the one
--- that states a TTL
+-- the first word of a directive of this name
 abbrev pub directive_word : Octets → EntryKind → Option Word
 directive_word name no_words = None
 directive_word name (directive n []) = None
@@ -116,18 +120,21 @@ directive_word name (directive n (w ∷ ws)) = if octets_equal n name then Some 
 directive_word name (owned w ws) = None
 directive_word name (unowned ws) = None
 
+-- the word that states an owner
 abbrev pub owner_word : EntryKind → Option Word
 owner_word no_words = None
 owner_word (directive n ws) = None
 owner_word (owned w ws) = Some w
 owner_word (unowned ws) = None
 
+-- the word that states a TTL
 abbrev pub ttl_word : EntryKind → Option Word
 ttl_word no_words = None
 ttl_word (directive n ws) = None
 ttl_word (owned w ws) = (fields ws).ttl
 ttl_word (unowned ws) = (fields ws).ttl
 
+-- the entry is a record
 abbrev pub is_record : Entry → Bool
 is_record e = elim (kind_of e) [
   | no_words ↦ false
@@ -136,6 +143,7 @@ is_record e = elim (kind_of e) [
   | unowned ws ↦ true
 ]
 
+-- such a word in the nearest entry that has one
 abbrev pub nearest : (EntryKind → Option Word) → List Entry → Option Word
 nearest word_of [] = None
 nearest word_of (e ∷ earlier) = option_or (word_of (kind_of e)) (nearest word_of earlier)
@@ -171,6 +179,7 @@ ttl_in_force earlier stated =
     option_or stated
     (option_or (nearest (directive_word (codes "$ttl")) earlier) (nearest ttl_word earlier))
 
+-- the TTL in force is n
 abbrev pub TtlIs : List Entry → Option Word → ℕ → Type 0
 TtlIs earlier stated n = MatchOption (ttl_in_force earlier stated) ⊥ (λ w. TtlSays w n)
 
@@ -203,10 +212,12 @@ pub record IsRecord (o : DomainName) (earlier : List Entry) (Owner : DomainName 
 abbrev pub IsNoTtl : Option Word → Type 0
 IsNoTtl stated = MatchOption stated ⊥ (λ w. Nothing (TtlSays w))
 
+-- a class is stated that is not IN
 abbrev pub is_other_class : Option Word → Bool
 is_other_class None = false
 is_other_class (Some w) = not (is_class_in w)
 
+-- as many records as a text may have stand before
 abbrev pub are_too_many : List Entry → Bool
 are_too_many earlier = nat_le most_records (length (filter is_record earlier))
 
@@ -225,6 +236,7 @@ record_faults o earlier owner_fault Owner f =
     ∷ (too_many_records, IsTrue (are_too_many earlier))
     ∷ []
 
+-- what a record gives: its fault, or itself
 abbrev pub RecordGives : DomainName → List Entry → FileFault → (DomainName → Type 0) → Fields
     → EntryMeaning → Type 0
 RecordGives o earlier owner_fault Owner f =
@@ -252,6 +264,7 @@ DirectiveGives o earlier name ws given =
     (DirectiveSays (λ n w. TtlSays w n) ws given)
     (given ≡ faulty unknown_directive))
 
+-- what an entry gives by its kind
 abbrev pub KindGives : DomainName → List Entry → EntryKind → EntryMeaning → Type 0
 KindGives o earlier no_words given = given ≡ gives []
 KindGives o earlier (directive name ws) given = DirectiveGives o earlier name ws given
@@ -271,6 +284,7 @@ pub data Meaning : Type 0 where
   records : List ResourceRecord → Meaning
   fault_at : FileFault → ℕ → Meaning
 
+-- records before what entries mean that follow
 abbrev pub after : List ResourceRecord → Meaning → Meaning
 after rs (records more) = records (rs ++ more)
 after rs (fault_at fault line) = fault_at fault line
@@ -289,12 +303,7 @@ EntriesMean o earlier (e ∷ es) m =
       | gives rs ↦ (later : Meaning) × EntriesMean o (e ∷ earlier) es later × (m ≡ after rs later)
     ]
 
--- What octets mean after the entries before them. They are all that is left of a text, or a
--- beginning of it, which is read as one that goes on.
-abbrev pub OctetsMean : DomainName → List Entry → Extent → Octets → Meaning → Type 0
-OctetsMean o earlier extent octets m =
-    (es : List Entry) × EntriesOf extent octets es × EntriesMean o earlier es m
-
--- What a text means as the file of a zone with this origin (RFC 1035 section 5).
+-- What a text means as the file of a zone with this origin (RFC 1035 section 5): what its entries
+-- mean.
 abbrev pub Means : DomainName → Octets → Meaning → Type 0
-Means o text m = OctetsMean o [] (extent_of text) (take most_octets text) m
+Means o text m = (es : List Entry) × Entries text es × EntriesMean o [] es m

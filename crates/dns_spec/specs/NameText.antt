@@ -19,6 +19,7 @@ SpellsOctet (e ∷ a ∷ b ∷ c ∷ []) x =
     × (three_digits_value a b c ≡ x) × (x < 256)
 SpellsOctet _ x = ⊥
 
+-- a graphic octet or a space
 abbrev pub is_printable : ℕ → Bool
 is_printable o = nat_le 32 o && nat_le o 126
 
@@ -69,6 +70,7 @@ pub record SpellsName (origin : DomainName) (word : Octets) (n : DomainName) : T
 abbrev pub is_special : ℕ → Bool
 is_special x = list_any (λ s. x == s) (codes "\"$().;@\\")
 
+-- the three decimal digits of an octet
 abbrev pub three_digits : ℕ → Octets
 three_digits x = (48 + x / 100) ∷ (48 + x / 10 % 10) ∷ (48 + x % 10) ∷ []
 
@@ -78,6 +80,7 @@ octet_text x =
     if is_special x then 92 ∷ x ∷ []
     else (if is_ascii_graphic x then x ∷ [] else 92 ∷ three_digits x)
 
+-- the text of a label
 abbrev pub label_text : Octets → Octets
 label_text = flat_map octet_text
 

@@ -11,6 +11,7 @@ use Rattle.std.specs.Ordering.{nat_cmp}
 use Rattle.std.specs.declared.cmp.Ordering.{Ordering}
 use Rattle.std.specs.Char.{to_ascii_lowercase}
 
+-- octets, as a program has them
 abbrev pub Octets : Type 0
 Octets = List ℕ
 
@@ -55,6 +56,7 @@ last_labels k n = drop (length n - k) n
 abbrev pub at_or_below : DomainName → DomainName → Bool
 at_or_below n a = nat_le (length a) (length n) && same (last_labels (length a) n) a
 
+-- the same, where n has more labels than a
 abbrev pub below : DomainName → DomainName → Bool
 below n a = nat_lt (length a) (length n) && at_or_below n a
 
@@ -71,11 +73,12 @@ label_order = slice_cmp nat_cmp
 abbrev pub name_order : DomainName → DomainName → Ordering
 name_order n m = slice_cmp label_order (reverse (folded n)) (reverse (folded m))
 
+-- a label in front of a name that was read, where reading goes on after it
+abbrev pub with_label : {X : Type 0} → Octets → DomainName × X → DomainName × X
+with_label l (n, after) = (l ∷ n, after)
+
 -- RFC 1035 3.1: the labels that octets begin with, of which there are fewer than k, and the octets
 -- after the root's 0
-abbrev pub with_label : Octets → DomainName × Octets → DomainName × Octets
-with_label l (n, rest) = (l ∷ n, rest)
-
 unfoldable pub labels_from : ℕ → Octets → Option (DomainName × Octets)
 labels_from zero os = None
 labels_from (suc k) [] = None

@@ -7,6 +7,13 @@ use Rattle.dns_spec.specs.Data.{number_of}
 use Rattle.dns_spec.specs.Reading.{Header, MessageQuestion, format_error, not_implemented}
 use Rattle.dns_spec.specs.ComputedReading.{name_at}
 
+-- RFC 1035 4.2.1 and 4.2.2: a message has at most so many octets over UDP, and over TCP
+abbrev pub most_over_udp : ℕ
+most_over_udp = 512
+
+abbrev pub most_over_tcp : ℕ
+most_over_tcp = 65535
+
 -- the 16 bits at a place
 abbrev pub field16 : Octets → ℕ → ℕ
 field16 d i = number_of (take 2 (drop i d))
@@ -21,6 +28,7 @@ opcode flags = flags / 2 ^ 11 % 2 ^ 4
 abbrev pub recursion_desired : ℕ → ℕ
 recursion_desired flags = flags / 2 ^ 8 % 2
 
+-- a bit as a number
 abbrev pub bit : Bool → ℕ
 bit b = if b then 1 else 0
 
@@ -48,6 +56,7 @@ question_of d (n, e) =
     if length d == e + 4
     then Some (record { qname = n; qtype = field16 d e; qclass = field16 d (e + 2) }) else None
 
+-- the question after the header
 unfoldable pub question_at : Octets → Option MessageQuestion
 question_at d = elim (name_at d 12) [ None ↦ None | Some r ↦ question_of d r ]
 
@@ -68,6 +77,7 @@ pub data QueryRead : Type 0 where
   refused_with : Header → QueryRead
   query : Header → MessageQuestion → QueryRead
 
+-- a query by its question; without one it is refused
 abbrev pub query_or_error : Header → Option MessageQuestion → QueryRead
 query_or_error h None = refused_with (refusal_head h format_error)
 query_or_error h (Some q) = query h q

@@ -51,7 +51,7 @@ not_implemented = 4
 abbrev pub refused : ℕ
 refused = 5
 
--- RFC 1035 4.1.2
+-- RFC 1035 4.1.2: a question of a message
 pub record MessageQuestion : Type 0 where
   pub qname : DomainName
   pub qtype : ℕ

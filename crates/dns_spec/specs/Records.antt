@@ -68,6 +68,7 @@ ordered_zone o rs =
 abbrev pub at : ZoneContents → DomainName → List ResourceRecord
 at z n = filter (λ (r : ResourceRecord). same r.owner n) z.records
 
+-- those of a type, by data octets
 abbrev pub of_type : ℕ → List ResourceRecord → List ResourceRecord
 of_type t rs = sort_by data_order (filter (λ (r : ResourceRecord). r.rtype == t) rs)
 
@@ -79,9 +80,11 @@ rrset z n t = of_type t (at z n)
 abbrev pub owns : ZoneContents → DomainName → ℕ → Bool
 owns z n t = list_any (λ (r : ResourceRecord). same r.owner n && r.rtype == t) z.records
 
+-- records with another owner
 abbrev pub with_owner : DomainName → List ResourceRecord → List ResourceRecord
 with_owner n = map (λ (r : ResourceRecord). record r { owner = n })
 
+-- the SERIAL of the first of SOA records
 abbrev pub first_serial : List ResourceRecord → ℕ
 first_serial [] = 0
 first_serial (r ∷ rs) = soa_serial r.rdata

@@ -1,6 +1,6 @@
 -- What a reader learns here: what is made of a datagram, step by step, and the reply: its header,
 -- its question, and the longest beginning of RRsets that fits.
-use Rattle.std.specs.Prelude.{ℕ, Bool, ◌&&◌, ◌||◌, not, List, [], ◌∷◌, ◌++◌, length, take, nat_lt, nat_le, ◌==◌, if◌then◌else◌}
+use Rattle.std.specs.Prelude.{ℕ, zero, suc, Bool, ◌&&◌, ◌||◌, not, List, [], ◌∷◌, ◌++◌, length, take, nat_lt, nat_le, ◌==◌, if◌then◌else◌}
 use Rattle.std.specs.Prelude.{Option, None, Some}
 use Rattle.std.specs.Option.{option_map}
 use Rattle.dns_spec.specs.Names.{Octets, at_or_below}
@@ -8,11 +8,18 @@ use Rattle.dns_spec.specs.Data.{class_in}
 use Rattle.dns_spec.specs.Records.{ZoneContents}
 use Rattle.dns_spec.specs.Reading.{Header, MessageQuestion, DnsMessage, not_implemented, refused}
 use Rattle.dns_spec.specs.Query.{reply_head, refusal_head, QueryRead, absent, refused_with, query, query_read}
-use Rattle.dns_spec.specs.Layout.{Item, layout, size, message_of, greatest}
+use Rattle.dns_spec.specs.Layout.{Item, layout, message_of}
+use Rattle.dns_spec.specs.LayoutSize.{size}
 use Rattle.dns_spec.specs.Answer.{outcome, items, required_items, is_authoritative}
 
--- What is kept of a list of sets: the longest beginning whose size is at most the limit, and no set
--- where there is none, as where the limit has no room for the question.
+-- the greatest k up to n that passes the test, or 0
+abbrev pub greatest : (ℕ → Bool) → ℕ → ℕ
+greatest test zero = 0
+greatest test (suc k) = if test (suc k) then suc k else greatest test k
+
+-- RFC 2181 section 9: an RRset is sent whole or not at all. What is kept of a list of sets: the
+-- longest beginning whose size is at most the limit. Where there is none, as where the limit has no
+-- room for the question (below 271 octets), no set is kept, and what is sent is past the limit.
 abbrev pub kept : (List Item → ℕ) → ℕ → List Item → List Item
 kept size_of limit sets =
     take (greatest (λ k. nat_le (size_of (take k sets)) limit) (length sets)) sets
@@ -25,8 +32,8 @@ fitting size_of limit front (i ∷ is) =
     let next = front ++ i ∷ [] in
     if nat_le (size_of next) limit then fitting size_of limit next is else front
 
--- RFC 1035 4.1.1, RFC 2181 section 9: TC is set where a set that may not be left out is missing, and
--- not for one that adds to the answer only.
+-- RFC 2181 section 9, RFC 9471 section 3.1: TC (RFC 1035 4.1.1) is set where a set that may not be
+-- left out is missing, such as glue that fits no more, and not for one that adds to the answer only.
 abbrev pub truncated : ZoneContents → MessageQuestion → List Item → Bool
 truncated z q sets = nat_lt (length sets) (length (required_items z q.qname q.qtype))
 
@@ -51,6 +58,7 @@ refusal z q =
     else if not (at_or_below q.qname z.origin) then Some refused
     else None
 
+-- what is made of a question, of a query, and of a datagram
 abbrev pub decide_question : Header → MessageQuestion → Option ℕ → Decision
 decide_question h q None = answered h q
 decide_question h q (Some rcode) = question_alone (refusal_head h rcode) q
@@ -94,18 +102,19 @@ reply_with keep z d = reply_of keep z (decide z d)
 abbrev pub keep_longest : ZoneContents → ℕ → MessageQuestion → List Item
 keep_longest z limit q = kept (size (Some q)) limit (items z q.qname q.qtype)
 
+-- the reply to a datagram within a limit, or none
 unfoldable pub reply : ZoneContents → Octets → ℕ → Option Reply
 reply z d limit = reply_with (keep_longest z limit) z d
 
--- the octets of a reply, by a layout of its question and sets
-abbrev pub octets_by : (Header → Option MessageQuestion → List Item → Octets) → Reply → Octets
-octets_by lay r = lay r.header r.question r.sets
+-- the octets of a reply: the layout of its question and sets
+abbrev pub reply_octets : Reply → Octets
+reply_octets r = layout r.header r.question r.sets
 
 -- the message that a reply is
 abbrev pub reply_message : Reply → DnsMessage
 reply_message r = message_of r.header r.question r.sets
 
--- The octets of the reply to a datagram, or none. They are at most so many, where the limit is 271
--- or more: then each question has room.
+-- The octets of the reply to a datagram, or none. Where the limit is 271 or more, so that every
+-- question has room, they are at most so many; below that, a question may be longer than the limit.
 unfoldable pub octets_of : ZoneContents → Octets → ℕ → Option Octets
-octets_of z d limit = option_map (octets_by layout) (reply z d limit)
+octets_of z d limit = option_map reply_octets (reply z d limit)

@@ -16,11 +16,12 @@ exists z n = list_any (λ (r : ResourceRecord). at_or_below r.owner n) z.records
 abbrev pub is_cut : ZoneContents → DomainName → Bool
 is_cut z n = below n z.origin && owns z n type_ns
 
--- the names above a name, the nearest first, in lower case as the names of a zone are
+-- a list without its first
 abbrev pub without_first : {X : Type 0} → List X → List X
 without_first [] = []
 without_first (x ∷ xs) = xs
 
+-- the names above a name, the nearest first, in lower case as the names of a zone are
 abbrev pub ancestors : DomainName → List DomainName
 ancestors n = without_first (suffixes (folded n))
 

@@ -8,6 +8,7 @@ use Rattle.std.specs.Fmt.{decimal}
 use Rattle.dns_spec.specs.Names.{Octets, octets_equal}
 use Rattle.dns_spec.specs.Data.{TypeRow, type_table, row_of}
 
+-- a text with its ASCII letters in lower case
 abbrev pub text_in_lower_case : Octets → Octets
 text_in_lower_case = map to_ascii_lowercase
 

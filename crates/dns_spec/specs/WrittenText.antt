@@ -1,14 +1,15 @@
 -- What a reader learns here: how the data of a record is written, word by word.
 use Rattle.std.specs.Prelude.{ℕ, zero, suc, ◌+◌, ◌/◌, ◌%◌, Bool, ◌&&◌, ◌||◌, not, true, false, List, [], ◌∷◌, ◌++◌, map, length, take, drop, nat_lt, nat_le, ◌==◌, if◌then◌else◌, codes, decimal}
 use Rattle.std.specs.Prelude.{Option, None, Some}
-use Rattle.std.specs.List.{flat_map, join_with_byte, list_any}
+use Rattle.std.specs.List.{flat_map, join_with_byte}
 use Rattle.std.specs.Char.{digit_char, is_ascii_graphic}
 use Rattle.dns_spec.specs.Names.{Octets, DomainName, name_of}
 use Rattle.dns_spec.specs.Data.{number_of}
 use Rattle.dns_spec.specs.NameText.{three_digits, name_text}
 use Rattle.dns_spec.specs.AddressText.{ipv4_text, ipv6_text}
-use Rattle.dns_spec.specs.DataText.{Word, WordForm, number_word, ipv4_word, ipv6_word, name_word, string_word, forms_of}
+use Rattle.dns_spec.specs.DataText.{Word, is_word_octet, is_string_octet, WordForm, number_word, ipv4_word, ipv6_word, name_word, string_word, forms_of}
 
+-- a word without quotation marks
 abbrev pub plain : Octets → Word
 plain text = record { raw = text; is_quoted = false }
 
@@ -20,6 +21,7 @@ string_octet_text o =
     else if nat_le 32 o && nat_le o 126 then o ∷ []
     else 92 ∷ three_digits o
 
+-- the octets of a string as a word in quotation marks
 abbrev pub quoted : Octets → Word
 quoted s = record { raw = flat_map string_octet_text s; is_quoted = true }
 
@@ -27,6 +29,7 @@ quoted s = record { raw = flat_map string_octet_text s; is_quoted = true }
 abbrev pub word_text : Word → Octets
 word_text w = if w.is_quoted then 34 ∷ (w.raw ++ 34 ∷ []) else w.raw
 
+-- a string as it stands in the text
 abbrev pub string_text : Octets → Octets
 string_text s = word_text (quoted s)
 
@@ -48,6 +51,7 @@ abbrev pub name_front : Option (DomainName × Octets) → Word × Octets
 name_front None = (plain [], [])
 name_front (Some (n, d)) = (plain (name_text n), d)
 
+-- the same by the form of the word
 abbrev pub word_front : WordForm → Octets → Word × Octets
 word_front (number_word k) d = (plain (decimal (number_of (take k d))), drop k d)
 word_front ipv4_word d = (plain (ipv4_text (take 4 d)), drop 4 d)
@@ -56,6 +60,7 @@ word_front name_word d = name_front (name_of d)
 word_front string_word [] = (quoted [], [])
 word_front string_word (k ∷ d) = (quoted (take k d), drop k d)
 
+-- the words of these forms, one after the other
 abbrev pub form_words : List WordForm → Octets → List Word
 form_words [] d = []
 form_words (f ∷ fs) d = (word_front f d).0 ∷ form_words fs (word_front f d).1
@@ -67,6 +72,7 @@ string_count k [] = 0
 string_count zero (k ∷ d) = 1 + string_count k d
 string_count (suc k) (o ∷ d) = string_count k d
 
+-- the words of data by its forms, where its type has a mnemonic
 abbrev pub words_by : Option (List WordForm) → Octets → List Word
 words_by None d = unknown_words d
 words_by (Some fs) d = form_words fs d
@@ -91,17 +97,12 @@ is_unbroken p (c ∷ d ∷ text) =
       | false ↦ p c && is_unbroken p (d ∷ text)
     ]
 
--- RFC 1035 5.1: octets that by themselves neither end a word out of quotation marks nor escape
--- another
-abbrev pub is_bare : ℕ → Bool
-is_bare c = is_ascii_graphic c && not (list_any (λ s. c == s) (codes "\"();\\"))
-
--- the same in quotation marks
+-- what is written in a quoted string by itself: no tab
 abbrev pub is_quotable : ℕ → Bool
-is_quotable c = nat_le 32 c && nat_le c 126 && not (list_any (λ s. c == s) (codes "\"\\"))
+is_quotable c = not (c == 9) && is_string_octet c
 
 -- Nothing in the text of a word ends it. Whether its escapes are escapes is not asked here.
 abbrev pub stands_alone : Word → Bool
 stands_alone w =
     if w.is_quoted then is_unbroken is_quotable w.raw
-    else nat_lt 0 (length w.raw) && is_unbroken is_bare w.raw
+    else nat_lt 0 (length w.raw) && is_unbroken is_word_octet w.raw

@@ -1,14 +1,14 @@
 -- What a reader learns here: of which tokens the text of a zone file is made, which entries it has,
 -- and where it is at fault before any word of it is read.
-use Rattle.std.specs.Prelude.{◌≡◌, ℕ, zero, suc, ◌+◌, ◌-◌, Bool, true, false, ◌&&◌, ◌||◌, not, List, [], ◌∷◌, length, take, drop, nat_lt, ◌==◌, if◌then◌else◌, codes, fold}
+use Rattle.std.specs.Prelude.{◌≡◌, ℕ, zero, suc, ◌+◌, ◌-◌, Bool, true, false, ◌&&◌, ◌||◌, not, List, [], ◌∷◌, length, take, drop, nat_lt, ◌==◌, if◌then◌else◌, fold}
 use Rattle.std.specs.Prelude.{Option, None, Some}
-use Rattle.std.specs.Option.{unwrap_or}
+use Rattle.std.specs.Option.{option_map, unwrap_or}
 use Rattle.std.specs.Bool.{xor}
-use Rattle.std.specs.List.{list_any, prefix_len, filter_map}
-use Rattle.std.specs.Char.{is_ascii_graphic, is_ascii_digit}
+use Rattle.std.specs.List.{prefix_len, filter_map}
+use Rattle.std.specs.Char.{is_ascii_digit}
 use Rattle.dns_spec.specs.Names.{Octets}
-use Rattle.dns_spec.specs.NameText.{is_printable, escape_front}
-use Rattle.dns_spec.specs.DataText.{Word}
+use Rattle.dns_spec.specs.NameText.{escape_front}
+use Rattle.dns_spec.specs.DataText.{Word, is_word_octet, is_string_octet}
 use Rattle.dns_spec.specs.FileFaults.{FileFault, bad_octet, bad_escape, unended_string, bad_parenthesis, too_long}
 
 -- A text has at most so many octets (in this product).
@@ -26,23 +26,13 @@ pub data Token : Type 0 where
   closing : Token
   line_end : Token
 
+-- a space or a tab
 abbrev pub is_blank : ℕ → Bool
 is_blank o = o == 32 || o == 9
 
--- what stands in a word by itself
-abbrev pub is_word_octet : ℕ → Bool
-is_word_octet o = is_ascii_graphic o && not (list_any (λ s. o == s) (codes "\"();\\"))
-
--- what stands in a quoted string by itself
-abbrev pub is_string_octet : ℕ → Bool
-is_string_octet o = (is_printable o || o == 9) && not (list_any (λ s. o == s) (codes "\"\\"))
-
--- how many octets after the backslash at hand belong to its escape, 0 where it begins none
-abbrev pub escape_length : Octets → ℕ
-escape_length text = elim (escape_front text) [ None ↦ 0 | Some r ↦ length text - length r.1 ]
-
+-- how many octets after the backslash at hand belong to its escape, where it begins one
 abbrev pub escape_left : Octets → Option ℕ
-escape_left text = if escape_length text == 0 then None else Some (escape_length text)
+escape_left text = option_map (λ r. length text - length r.1) (escape_front text)
 
 -- Whether an octet goes on with a word or a string, which has such octets and escapes, and then how
 -- many octets of its escape are still to come.
@@ -74,6 +64,7 @@ closed raw (o ∷ text) = if o == 34 then Some (quoted_string raw, text) else No
 abbrev pub quoted_front : Octets → Option (Token × Octets)
 quoted_front text = closed (take (string_length text) text) (drop (string_length text) text)
 
+-- the word that a text begins with, and the text after it
 abbrev pub unquoted_front : Octets → Option (Token × Octets)
 unquoted_front text =
     if word_length text == 0 then None
@@ -115,6 +106,7 @@ parenthesis opening = Some true
 parenthesis closing = Some false
 parenthesis line_end = None
 
+-- LF, or CR LF, which ends an entry outside parentheses
 abbrev pub is_line_end : Token → Bool
 is_line_end blank = false
 is_line_end comment = false
@@ -128,6 +120,7 @@ is_line_end line_end = true
 abbrev pub open_after : Bool → Token → Bool
 open_after was_open p = unwrap_or (parenthesis p) was_open
 
+-- a token before the first of the lists
 abbrev pub before_first : Token → List (List Token) → List (List Token)
 before_first p [] = []
 before_first p (e ∷ es) = (p ∷ e) ∷ es
@@ -147,12 +140,15 @@ abbrev pub take_turns : Bool → List Bool → Bool
 take_turns is_open [] = true
 take_turns is_open (opens ∷ marks) = xor opens is_open && take_turns opens marks
 
+-- the parentheses among tokens
 abbrev pub parentheses : List Token → List Bool
 parentheses = filter_map parenthesis
 
+-- a parenthesis is open after the tokens
 abbrev pub is_open_at_end : List Token → Bool
 is_open_at_end ps = fold open_after false ps
 
+-- the text begins with LF or CR LF
 abbrev pub begins_line_end : Octets → Bool
 begins_line_end [] = false
 begins_line_end (o ∷ []) = o == 10
@@ -166,6 +162,7 @@ is_cut_short (o ∷ a ∷ []) = o == 92 && is_ascii_digit a
 is_cut_short (o ∷ a ∷ b ∷ []) = o == 92 && is_ascii_digit a && is_ascii_digit b
 is_cut_short (o ∷ a ∷ b ∷ c ∷ text) = false
 
+-- the first octet is x
 abbrev pub begins_with : ℕ → Octets → Bool
 begins_with x [] = false
 begins_with x (o ∷ text) = o == x
@@ -175,6 +172,7 @@ pub data Extent : Type 0 where
   whole_text : Extent
   beginning : Extent
 
+-- by whether the text goes on
 abbrev pub extent_by : Bool → Extent
 extent_by goes_on = if goes_on then beginning else whole_text
 
@@ -189,6 +187,7 @@ pub data EntryStop : Type 0 where
   in_string : Octets → EntryStop
   in_token : Octets → EntryStop
 
+-- what stops at a place where no token begins
 abbrev pub stop_at : Octets → EntryStop
 stop_at [] = text_over
 stop_at (o ∷ text) =
@@ -223,9 +222,11 @@ pub record Entry : Type 0 where
   pub tokens : List Token
   pub end_fault : Option FileFault
 
+-- an entry that its line end ends
 abbrev pub ended : List Token → Entry
 ended ps = record { tokens = ps; end_fault = None }
 
+-- an entry that the rest ends, where no token begins
 abbrev pub unended : Extent → Octets → List Token → Entry
 unended extent rest ps =
     record { tokens = ps; end_fault = stop_fault extent (is_open_at_end ps) (stop_at rest) }
@@ -255,6 +256,7 @@ abbrev pub lexical_fault : Entry → Option FileFault
 lexical_fault e =
     if take_turns false (parentheses e.tokens) then e.end_fault else Some bad_parenthesis
 
+-- the word of a token, where it is one
 abbrev pub word_of : Token → Option Word
 word_of blank = None
 word_of comment = None
@@ -268,6 +270,7 @@ word_of line_end = None
 abbrev pub entry_words : Entry → List Word
 entry_words e = filter_map word_of e.tokens
 
+-- the token is a blank
 abbrev pub is_blank_token : Token → Bool
 is_blank_token blank = true
 is_blank_token comment = false

@@ -9,7 +9,7 @@ ghost use Rattle.dns_spec.specs.TypeText.{NamesType, type_text};
 ghost use Rattle.dns_spec.specs.DataText.{Word, Says};
 ghost use Rattle.dns_spec.specs.WrittenText.{written_words, stands_alone};
 
-/// What is written for a type names it (RFC 3597 5).
+/// What is written for a type of 16 bits names it (RFC 3597 5).
 pub fn type_text_names_its_type()
     ensures { (t : ℕ) → t < 65536 → NamesType (type_text t) t }
 {}
@@ -24,26 +24,26 @@ pub fn joined_parts_are_the_data()
     ensures { (t : ℕ) (d : Octets) → joined (parts t d) ≡ d }
 {}
 
-/// Data in lower case is data of the type.
+/// Valid data in lower case is valid data of the type too.
 pub fn lowered_data_is_valid()
     ensures { (t : ℕ) (d : Octets) → Valid t d → Valid t (lower_case t d) }
 {}
 
-/// Lowering twice is lowering once.
+/// Lowering valid data twice is lowering it once.
 pub fn lowering_twice_is_lowering_once()
     ensures { (t : ℕ) (d : Octets) → Valid t d → lower_case t (lower_case t d) ≡ lower_case t d }
 {}
 
-/// The words that are written for valid data say that data again, with its names in lower case,
-/// whatever the origin (RFC 1035 5.1, RFC 3597 5).
+/// The words that are written for valid data of octets below 256 say that data again, with its
+/// names in lower case, whatever the origin (RFC 1035 5.1, RFC 3597 5).
 pub fn written_data_is_said_again()
     ensures { (t : ℕ) (origin : DomainName) (d : Octets) → All (λ o. o < 256) d → Valid t d
         → Says t (written_words t d) origin (lower_case t d) }
 {}
 
-/// Nothing in a word that is written for valid data ends the word (RFC 1035 5.1): its octets are
-/// printable, a word out of quotation marks has one octet or more, and each octet that would end
-/// the word has a backslash before it.
+/// Nothing in a word that is written for valid data of octets below 256 ends the word (RFC 1035
+/// 5.1): its octets are printable, a word out of quotation marks has one octet or more, and each
+/// octet that would end the word has a backslash before it.
 pub fn written_words_stand_alone()
     ensures { (t : ℕ) (d : Octets) → All (λ o. o < 256) d → Valid t d
         → IsTrue (list_all stands_alone (written_words t d)) }

@@ -2,7 +2,8 @@
 
 ghost use Rattle.std.specs.Prelude.{◌≡◌, ℕ, List, ◌<◌, ◌≤◌, ◌⊎◌, ◌↔◌, All, Option, length};
 ghost use Rattle.dns_spec.specs.Reading.{Header, MessageQuestion, Spells};
-ghost use Rattle.dns_spec.specs.Layout.{Item, records_of, layout, size, message_of};
+ghost use Rattle.dns_spec.specs.Layout.{reach, Item, records_of, layout, message_of};
+ghost use Rattle.dns_spec.specs.LayoutSize.{size};
 ghost use Rattle.dns_spec.specs.Sharing.{Sharing};
 ghost use Rattle.dns_spec.specs.UnboundedLayout.{unbounded_layout, unbounded_size};
 ghost use Rattle.dns_spec.specs.Laws.{IsWritable, HasRoom};
@@ -13,8 +14,10 @@ pub fn layout_has_its_size()
         → length (layout h q items) ≡ size q items }
 {}
 
-/// The layout, in which names share suffixes, spells its message, with a question or without, as
-/// long as it has at most 65,535 octets (RFC 1035 4.1.4).
+/// The layout, in which names share suffixes, spells its message, with a question or without, where
+/// header and question fit their fields and the sets stand in the order of their sections
+/// (`HasRoom`), the records fit theirs (`IsWritable`), and it has at most 65,535 octets (RFC 1035
+/// 4.1.4).
 pub fn layout_is_spelled()
     ensures { (h : Header) (q : Option MessageQuestion) (items : List Item) → HasRoom h q items
         → All IsWritable (records_of items) → size q items ≤ 65535
@@ -23,9 +26,9 @@ pub fn layout_is_spelled()
 
 /// Where the layout has at most 16,384 octets, or the one without bound has, they are the same.
 /// Else both are longer.
-pub fn layout_is_without_bound_up_to_16384_octets()
+pub fn layout_is_without_bound_within_reach()
     ensures { (h : Header) (q : Option MessageQuestion) (items : List Item)
-        → (size q items ≤ 16384) ⊎ (unbounded_size q items ≤ 16384)
+        → (size q items ≤ reach) ⊎ (unbounded_size q items ≤ reach)
         → (layout h q items ≡ unbounded_layout h q items)
         × (size q items ≡ unbounded_size q items) }
 {}
@@ -46,13 +49,13 @@ pub fn size_is_possible()
 /// places that no pointer reaches.
 pub fn size_is_the_least()
     ensures { (q : Option MessageQuestion) (items : List Item) (z : ℕ)
-        → Sharing q items z → z ≤ 16384
+        → Sharing q items z → z ≤ reach
         → size q items ≤ z }
 {}
 
 /// So the layout is past a limit of at most 16,384 octets exactly where every size that sharing
 /// allows is.
 pub fn layout_is_past_a_limit_where_all_sizes_are()
-    ensures { (q : Option MessageQuestion) (items : List Item) (limit : ℕ) → limit ≤ 16384
+    ensures { (q : Option MessageQuestion) (items : List Item) (limit : ℕ) → limit ≤ reach
         → (limit < size q items) ↔ ((z : ℕ) → Sharing q items z → limit < z) }
 {}

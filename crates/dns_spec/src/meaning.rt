@@ -4,7 +4,8 @@ ghost use Rattle.std.specs.Prelude.{◌≡◌, ◌≢◌, ◌≤◌, ◌++◌, �
 ghost use Rattle.dns_spec.specs.Names.{Octets, DomainName};
 ghost use Rattle.dns_spec.specs.FileFaults.{FileFault, too_long};
 ghost use Rattle.dns_spec.specs.ZoneText.{most_octets, Extent, beginning, Entry};
-ghost use Rattle.dns_spec.specs.Meaning.{Meaning, Nothing, fault_at, OctetsMean, Means};
+ghost use Rattle.dns_spec.specs.Meaning.{Meaning, Nothing, fault_at, Means};
+ghost use Rattle.dns_spec.specs.Laws.{OctetsMean};
 
 /// A text means one thing: its records, or one fault (RFC 1035 section 5).
 pub fn text_has_one_meaning()

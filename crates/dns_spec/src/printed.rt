@@ -11,7 +11,8 @@ ghost use Rattle.dns_spec.specs.Report.{Options, Report, Reports, zone_report};
 ghost use Rattle.dns_spec.specs.ZonePrinted.{IsReadRecord, HasZoneType, record_line, printed_records, zone_text};
 
 /// The text that is printed for records means these records, in the order in which they stand,
-/// whatever the origin (RFC 1035 section 5).
+/// whatever the origin (RFC 1035 section 5). They are such as are read (`IsReadRecord`), of types
+/// that zones have, at most 100,000, and their text has at most 16,777,216 octets.
 pub fn printed_records_are_read_back()
     ensures { (o : DomainName) (rs : List ResourceRecord) → All IsReadRecord rs
         → All HasZoneType rs → length rs ≤ most_records
@@ -19,7 +20,7 @@ pub fn printed_records_are_read_back()
         → Means o (flat_map record_line rs) (records rs) }
 {}
 
-/// The canonical text of a zone means the zone's records, up to their order.
+/// The canonical text of a zone means the zone's records, up to their order, on the same terms.
 pub fn zone_text_means_the_zone()
     ensures { (z : ZoneContents) (o : DomainName) → All IsReadRecord z.records
         → All HasZoneType z.records → length z.records ≤ most_records
@@ -36,8 +37,8 @@ pub fn order_of_records_changes_no_report()
 
 /// Lists that hold the same records, in another order and with duplicates or without, make one
 /// zone: in canonical order they are one list, with one canonical text and one report (RFC 2181
-/// section 5, RFC 4034 section 6). The records are such as are read, in lower case; it is enough
-/// that those of one list are.
+/// section 5, RFC 4034 section 6). The records are such as are read, of any type and however many;
+/// it is enough that those of one list are.
 pub fn one_zone_has_one_text()
     ensures { (options : Options) (o : DomainName) (rs ss : List ResourceRecord)
         → All IsReadRecord rs → HoldSameRecords rs ss
@@ -65,8 +66,9 @@ pub fn records_of_a_text_are_as_read()
         → All IsReadRecord rs × All HasZoneType rs × (length rs ≤ most_records) }
 {}
 
-/// The canonical text of the zone that a file means is itself a file of that zone: it has the
-/// file's report, whatever is asked for. So it has the same faults, or it passes as that zone.
+/// The canonical text of the zone that a file means is itself a file of that zone, where it has at
+/// most 16,777,216 octets, and those of the origin are below 256: it has the file's report,
+/// whatever is asked for. So it has the same faults, or it passes as that zone.
 pub fn canonical_text_has_the_report_of_its_file()
     ensures { (o : DomainName) (t : Octets) (rs : List ResourceRecord) → All (All (λ x. x < 256)) o
         → Means (folded o) t (records rs)
@@ -75,7 +77,8 @@ pub fn canonical_text_has_the_report_of_its_file()
 {}
 
 /// Printing twice is printing once: what is printed of a file whose zone passes is a file that
-/// passes, of which that same text is printed.
+/// passes, of which that same text is printed. It has at most 16,777,216 octets, and those of the
+/// origin are below 256.
 pub fn printing_twice_is_printing_once()
     ensures { (o : DomainName) (t : Octets) (options : Options) (report : Report)
         → All (All (λ x. x < 256)) o → Reports o t options report
@@ -84,8 +87,8 @@ pub fn printing_twice_is_printing_once()
 {}
 
 /// Zones with one canonical text hold the same records, each equally often. Their records are such
-/// as are read, of types that zones have, and few and short enough to be read again. The text names
-/// no origin, so it doesn't give that.
+/// as are read, of types that zones have, at most 100,000 in each, and the text has at most
+/// 16,777,216 octets. The text names no origin, so it doesn't give that.
 pub fn zones_with_one_text_hold_the_same_records()
     ensures { (y z : ZoneContents) → All IsReadRecord y.records → All HasZoneType y.records
         → length y.records ≤ most_records

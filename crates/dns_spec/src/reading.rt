@@ -20,8 +20,8 @@ pub fn place_spells_one_name()
         → (n ≡ m) × (e ≡ f) }
 {}
 
-/// A question ends at most 271 octets from the beginning of its message: 12 of the header, 255 of
-/// its name, 4 of its type and class (RFC 1035 4.1.2).
+/// A datagram that has exactly one question after its header has at most 271 octets: 12 of the
+/// header, 255 of the name, 4 of type and class (RFC 1035 4.1.2).
 pub fn question_ends_by_octet_271()
     ensures { (d : Octets) (q : MessageQuestion) → question_at d ≡ Some q → length d ≤ 271 }
 {}

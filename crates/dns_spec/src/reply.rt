@@ -1,36 +1,39 @@
 //! Laws of replies: their octets are the message that they are, and what is kept is the longest
 //! beginning that fits.
 
-ghost use Rattle.std.specs.Prelude.{◌≡◌, ℕ, List, [], ◌++◌, ◌*◌, ◌<◌, ◌≤◌, All, IsTrue, Option, Some, length, take};
+ghost use Rattle.std.specs.Prelude.{◌≡◌, ℕ, List, [], ◌++◌, ◌+◌, ◌*◌, ◌<◌, ◌≤◌, All, IsTrue, Option, Some, length, take};
 ghost use Rattle.dns_spec.specs.Names.{Octets, DomainName, folded, is_name};
 ghost use Rattle.dns_spec.specs.Records.{ResourceRecord, ZoneContents};
-ghost use Rattle.dns_spec.specs.Checks.{Passes};
+ghost use Rattle.dns_spec.specs.Checks.{most_of_a_set, Passes};
 ghost use Rattle.dns_spec.specs.Reading.{MessageQuestion, Spells};
-ghost use Rattle.dns_spec.specs.Answer.{chain, outcome, targets, items, required_items, most_visits, names_looked_up};
-ghost use Rattle.dns_spec.specs.Layout.{Item, layout, size};
-ghost use Rattle.dns_spec.specs.Reply.{Reply, kept, fitting, reply, reply_with, octets_by, octets_of, reply_message};
-ghost use Rattle.dns_spec.specs.Query.{query_read};
+ghost use Rattle.dns_spec.specs.Answer.{most_aliases, chain, outcome, targets, items, required_items, most_visits, names_looked_up};
+ghost use Rattle.dns_spec.specs.Layout.{Item, layout};
+ghost use Rattle.dns_spec.specs.LayoutSize.{size};
+ghost use Rattle.dns_spec.specs.Reply.{Reply, kept, fitting, reply, reply_with, reply_octets, octets_of, reply_message};
+ghost use Rattle.dns_spec.specs.Query.{most_over_udp, query_read};
 ghost use Rattle.dns_spec.specs.Laws.{IsWritable, IsSetAt};
 
 /// The octets of a reply spell the message that the reply is, over every zone whose records fit a
-/// message, for every datagram and every limit from 271 to 65,535 octets (RFC 1035 4.1).
+/// message (`IsWritable`), for every datagram of octets below 256 and every limit from 271 to
+/// 65,535 octets (RFC 1035 4.1).
 pub fn reply_is_spelled()
     ensures { (z : ZoneContents) (d : Octets) (limit : ℕ) (r : Reply) → All IsWritable z.records
         → All (λ o. o < 256) d
         → 271 ≤ limit → limit ≤ 65535
-        → reply z d limit ≡ Some r → Spells (octets_by layout r) (reply_message r) }
+        → reply z d limit ≡ Some r → Spells (reply_octets r) (reply_message r) }
 {}
 
-/// The octets of a reply are at most its limit, where that has room for a question.
+/// The octets of a reply are at most its limit, where that is 271 or more, so that it has room for
+/// every question.
 pub fn reply_is_within_its_limit()
     ensures { (z : ZoneContents) (d : Octets) (limit : ℕ) (r : Reply) → 271 ≤ limit
-        → reply z d limit ≡ Some r → length (octets_by layout r) ≤ limit }
+        → reply z d limit ≡ Some r → length (reply_octets r) ≤ limit }
 {}
 
-/// The names sought for a question are at most 17: its own, and the targets of 16 aliases (a limit
-/// of this project).
-pub fn chains_have_at_most_17_names()
-    ensures { (z : ZoneContents) (q : DomainName) (t : ℕ) → length (chain z q t) ≤ 17 }
+/// The names sought for a question are at most 17: its own, and those to which at most 16 aliases
+/// lead (a limit of this project).
+pub fn chains_have_few_names()
+    ensures { (z : ZoneContents) (q : DomainName) (t : ℕ) → length (chain z q t) ≤ 1 + most_aliases }
 {}
 
 /// The sets of a reply begin with those that it may not leave out (RFC 1035 4.1.1).
@@ -49,23 +52,23 @@ pub fn items_are_record_sets()
 
 /// An answer has at most 64 targets, over every zone that passes and whose names are in lower case:
 /// they are those of one set, and a set has at most 64 records (a limit of this project).
-pub fn answers_have_at_most_64_targets()
+pub fn answers_have_few_targets()
     ensures { (z : ZoneContents) → folded z.origin ≡ z.origin
         → All (λ (r : ResourceRecord). folded r.owner ≡ r.owner) z.records → Passes z
-        → (q : DomainName) (t : ℕ) → length (targets (outcome z q t)) ≤ 64 }
+        → (q : DomainName) (t : ℕ) → length (targets (outcome z q t)) ≤ most_of_a_set }
 {}
 
-/// So an answer has at most 146 sets: those of 17 aliases, the one that ends it, and two for each
-/// target.
-pub fn answers_have_at_most_146_sets()
+/// So an answer has at most 146 sets, over such a zone: those of 17 aliases, the one that ends it,
+/// and two for each target.
+pub fn answers_have_few_sets()
     ensures { (z : ZoneContents) → folded z.origin ≡ z.origin
         → All (λ (r : ResourceRecord). folded r.owner ≡ r.owner) z.records → Passes z
-        → (q : DomainName) (t : ℕ) → length (items z q t) ≤ 146 }
+        → (q : DomainName) (t : ℕ) → length (items z q t) ≤ 2 + most_aliases + 2 * most_of_a_set }
 {}
 
-/// An answer visits at most 128 nodes for each name that it looks up: a name has at most 127 labels
-/// (RFC 1035 2.3.4).
-pub fn answers_visit_at_most_128_nodes_a_name()
+/// An answer to a question for a lawful name visits at most 128 nodes for each name that it looks
+/// up: a name has at most 127 labels (RFC 1035 2.3.4).
+pub fn answers_visit_few_nodes()
     ensures { (z : ZoneContents) (q : DomainName) (t : ℕ) → IsTrue (is_name q)
         → most_visits z q t ≤ 128 * names_looked_up z q t }
 {}
@@ -98,24 +101,24 @@ pub fn kept_sets_stop_at_the_first_that_does_not_fit()
 
 /// What a datagram is as a query depends on its first 512 octets alone: a question ends by octet
 /// 271.
-pub fn first_512_octets_are_read()
-    ensures { (d : Octets) → query_read d ≡ query_read (take 512 d) }
+pub fn first_octets_are_read()
+    ensures { (d : Octets) → query_read d ≡ query_read (take most_over_udp d) }
 {}
 
 /// So does the reply.
-pub fn first_512_octets_decide()
+pub fn first_octets_decide()
     ensures { (z : ZoneContents) (keep : MessageQuestion → List Item) (d : Octets)
-        → reply_with keep z d ≡ reply_with keep z (take 512 d) }
+        → reply_with keep z d ≡ reply_with keep z (take most_over_udp d) }
 {}
 
 /// So do its header, its question and its sets, whatever the limit: the message that it spells.
-pub fn first_512_octets_give_the_message()
+pub fn first_octets_give_the_message()
     ensures { (z : ZoneContents) (d : Octets) (limit : ℕ)
-        → reply z d limit ≡ reply z (take 512 d) limit }
+        → reply z d limit ≡ reply z (take most_over_udp d) limit }
 {}
 
 /// And so do its octets, whatever their limit.
-pub fn first_512_octets_give_the_octets()
+pub fn first_octets_give_the_octets()
     ensures { (z : ZoneContents) (d : Octets) (limit : ℕ)
-        → octets_of z d limit ≡ octets_of z (take 512 d) limit }
+        → octets_of z d limit ≡ octets_of z (take most_over_udp d) limit }
 {}

@@ -5,14 +5,15 @@ ghost use Rattle.std.specs.List.{flat_map};
 ghost use Rattle.dns_spec.specs.Names.{Octets};
 ghost use Rattle.dns_spec.specs.Stream.{frame, frames, after_frames, IsCutFrame};
 
-/// A stream is the frames of its messages, and the octets after them.
+/// A stream of octets below 256 is the frames of its messages, however many are taken, and the
+/// octets after them.
 pub fn stream_is_its_frames_and_the_rest()
     ensures { (k : ℕ) (x : Octets) → All (λ o. o < 256) x
         → flat_map frame (frames k x) ++ after_frames k x ≡ x }
 {}
 
-/// Where a stream has fewer messages than are asked for, what is left of it is empty, or a frame
-/// that was cut.
+/// Where such a stream has fewer messages than are asked for, what is left of it is empty, or a
+/// frame that was cut.
 pub fn rest_is_empty_or_cut()
     ensures { (k : ℕ) (x : Octets) → All (λ o. o < 256) x → length (frames k x) < k
         → (after_frames k x ≡ []) ⊎ IsCutFrame (after_frames k x) }

@@ -4,7 +4,8 @@ ghost use Rattle.std.specs.Prelude.{◌≡◌, ℕ, ◌<◌, ◌++◌, ◌∷◌
 ghost use Rattle.dns_spec.specs.Names.{Octets, DomainName, is_name};
 ghost use Rattle.dns_spec.specs.NameText.{name_text, SpellsName, SpellsOctet, escape_front};
 
-/// What is written for a name is read back as that name, whatever the origin (RFC 1035 5.1).
+/// What is written for a name of octets below 256 is read back as that name, whatever the origin
+/// (RFC 1035 5.1).
 pub fn written_name_is_read_back()
     ensures { (origin n : DomainName) → All (All (λ o. o < 256)) n → IsTrue (is_name n)
         → SpellsName origin (name_text n) n }

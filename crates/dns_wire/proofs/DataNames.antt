@@ -4,7 +4,8 @@ use Rattle.std.proofs.lemmas.Bool.{false≢true, and_parts, leb-true}
 use Rattle.std.specs.Bool.{OnTrue}
 use Rattle.dns_spec.specs.Names.{Octets, DomainName, wire, is_name, name_of}
 use Rattle.dns_spec.specs.Data.{Piece, domain, fixed, numbers, type_mx, Part, octets, name, piece_front, cut, pieces_of, parts, laid_parts, compresses, valid}
-use Rattle.dns_spec.specs.Layout.{Placed, Laid, laid_front, shared_octets, cost, data_laid}
+use Rattle.dns_spec.specs.Layout.{Placed, Laid, laid_front, shared_octets, data_laid}
+use Rattle.dns_spec.specs.LayoutSize.{cost}
 use Rattle.dns_spec.proofs.DomainNames.WireNames.{name_read}
 use Rattle.dns_spec.proofs.Layouts.LayoutSize.{length-shared_octets}
 use Rattle.dns_wire.specs.Kept.{Kept}

@@ -4,7 +4,8 @@ use Rattle.std.proofs.lemmas.Bool.{false≢true}
 use Rattle.std.specs.Bool.{OnTrue, OnFalse}
 use Rattle.dns_spec.specs.Names.{Octets, DomainName}
 use Rattle.dns_spec.specs.Data.{class_in, Part, octets, name, laid_parts}
-use Rattle.dns_spec.specs.Layout.{Placed, Laid, laid_front, octets16, octets32, shared_octets, cost, data_laid, record_laid, record_tail}
+use Rattle.dns_spec.specs.Layout.{Placed, Laid, laid_front, octets16, octets32, shared_octets, data_laid, record_laid, record_tail}
+use Rattle.dns_spec.specs.LayoutSize.{cost}
 use Rattle.dns_spec.proofs.Layouts.LayoutSize.{length-shared_octets, length-record_tail}
 use Rattle.dns_wire.specs.Kept.{Kept}
 use Rattle.dns_wire.specs.Writing.{Holds, IsWritten, Extends, shown, tail_laid}

@@ -10,7 +10,8 @@ use Rattle.dns_spec.specs.Sets.{RecordSet, records_at}
 use Rattle.std.specs.Option.{option_to_list}
 use Rattle.dns_spec.specs.Reading.{Header, MessageQuestion, Spells}
 use Rattle.dns_spec.specs.Layout as Layout
-use Rattle.dns_spec.specs.Layout.{Item, Placed, Laid, laid_front, record_laid, records_octets, records_of, in_section, is_section, asked_octets, asked_placed, answer, authority, additional, size, records_size, layout, header_octets, reply_header, message_of}
+use Rattle.dns_spec.specs.Layout.{Item, Placed, Laid, laid_front, record_laid, records_octets, records_of, in_section, is_section, asked_octets, asked_placed, answer, authority, additional, layout, header_octets, reply_header, message_of}
+use Rattle.dns_spec.specs.LayoutSize.{size, records_size}
 use Rattle.dns_spec.specs.Sharing.{Sharing}
 use Rattle.dns_spec.specs.Laws.{IsWritable, IsAskable, sections_in_order}
 use Rattle.dns_spec.proofs.Layouts.SharedLayout.{layout_spells}

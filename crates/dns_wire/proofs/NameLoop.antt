@@ -6,8 +6,8 @@ use Rattle.std.proofs.lemmas.Option.{slice_get-get_or, slice_get_past}
 use Rattle.std.specs.Prelude.{slice_get, ◌⊎◌}
 use Rattle.std.proofs.Common.{inl, inr}
 use Rattle.std.specs.Option.{option_map, option_and_then}
-use Rattle.dns_spec.specs.Names.{Octets, DomainName, wire, is_name}
-use Rattle.dns_spec.specs.ComputedReading.{name_at, name_if_short, with_label}
+use Rattle.dns_spec.specs.Names.{Octets, DomainName, wire, is_name, with_label}
+use Rattle.dns_spec.specs.ComputedReading.{name_at, name_if_short}
 use Rattle.dns_spec.proofs.DomainNames.NameLaws.{IsName-is_name}
 use Rattle.dns_spec.proofs.Messages.NameReading.{run12, run12_missing, run12_root, run12_label, run12_label_past, run12_high, name_at_12}
 

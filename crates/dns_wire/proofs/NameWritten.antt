@@ -8,7 +8,8 @@ use Rattle.std.specs.List.{list_all}
 use Rattle.dns_spec.specs.Names.{Octets, DomainName, wire, is_name, is_label}
 use Rattle.dns_spec.specs.Reading.{RunAt}
 use Rattle.dns_spec.specs.Reading.RunAt.{ends, goes_on, jumps}
-use Rattle.dns_spec.specs.Layout.{Placed, has_suffix, suffix_place, place_of, last_place, shared_place, shared_octets, cost}
+use Rattle.dns_spec.specs.Layout.{Placed, has_suffix, suffix_place, place_of, last_place, shared_place, shared_octets}
+use Rattle.dns_spec.specs.LayoutSize.{cost}
 use Rattle.dns_spec.proofs.DomainNames.NameLaws.{is_name-tail}
 use Rattle.dns_spec.proofs.Messages.Places.{Stands}
 use Rattle.dns_spec.proofs.Layouts.LayoutSize.{length-shared_octets}

@@ -9,28 +9,29 @@ use Rattle.std.specs.Str.Parse.{AllDigits}
 use Rattle.dns_spec.specs.Names.{Octets, DomainName}
 use Rattle.dns_spec.specs.NameText.{is_special, three_digits, octet_text, label_text, labels_text}
 use Rattle.dns_spec.specs.AddressText.{ipv4_text}
-use Rattle.dns_spec.specs.WrittenText.{string_octet_text, is_unbroken, is_bare, is_quotable}
+use Rattle.dns_spec.specs.WrittenText.{string_octet_text, is_unbroken, is_quotable}
+use Rattle.dns_spec.specs.DataText.{is_word_octet}
 use Rattle.dns_spec.proofs.Records.SortedOnce.{Each}
 use Rattle.dns_spec.proofs.DomainNames.SmallOctets.{Small, small_head, small_tail}
 
 -- octets that end no word by themselves
 abbrev pub Bare : Octets → Type 0
-Bare = Each (λ o. is_bare o ≡ true)
+Bare = Each (λ o. is_word_octet o ≡ true)
 
 pub bare_append : (x y : Octets) → Bare x → Bare y → Bare (x ++ y)
 bare_append [] y h k = k
 bare_append (o ∷ x) y h k = (h.0, bare_append x y h.1 k)
 
 -- texts with an octet between each two
-pub bare_joined : (c : ℕ) (f : ℕ → Octets) (xs : List ℕ) → is_bare c ≡ true → Each (λ x. Bare (f x)) xs → Bare (join_with_byte c (map f xs))
+pub bare_joined : (c : ℕ) (f : ℕ → Octets) (xs : List ℕ) → is_word_octet c ≡ true → Each (λ x. Bare (f x)) xs → Bare (join_with_byte c (map f xs))
 bare_joined c f [] between each = tt
 bare_joined c f (x ∷ []) between each = each.0
 bare_joined c f (x ∷ y ∷ xs) between each = bare_append (f x) (c ∷ join_with_byte c (map f (y ∷ xs))) each.0 (between, bare_joined c f (y ∷ xs) between each.1)
 
-bare_digit : (c : ℕ) → IsAsciiDigit c → is_bare c ≡ true
+bare_digit : (c : ℕ) → IsAsciiDigit c → is_word_octet c ≡ true
 bare_digit c h =
     let whole : 48 + (c - 48) ≡ c = omega (arith, h.0) in
-    subst (λ e. is_bare e ≡ true) whole (agree_below_at (λ e. is_bare (48 + e)) (λ e. true) 10 (c - 48) refl (omega (arith, h.0, h.1)))
+    subst (λ e. is_word_octet e ≡ true) whole (agree_below_at (λ e. is_word_octet (48 + e)) (λ e. true) 10 (c - 48) refl (omega (arith, h.0, h.1)))
 
 bare_digits : (ds : Octets) → AllDigits 10 ds → Bare ds
 bare_digits [] all = tt
@@ -48,7 +49,7 @@ bare_ipv4 d small = bare_joined 46 decimal d refl (bare_decimals d small)
 
 pub bare_hex : (ds : List ℕ) → Each (λ d. d < 16) ds → Bare (map digit_char ds)
 bare_hex [] below = tt
-bare_hex (d ∷ ds) below = (agree_below_at (λ e. is_bare (digit_char e)) (λ e. true) 16 d refl below.0, bare_hex ds below.1)
+bare_hex (d ∷ ds) below = (agree_below_at (λ e. is_word_octet (digit_char e)) (λ e. true) 16 d refl below.0, bare_hex ds below.1)
 
 -- octet by octet
 plain_octet : (p : ℕ → Bool) (c : ℕ) (rest : Octets) → p c ≡ true → (c == 92) ≡ false → is_unbroken p rest ≡ true → is_unbroken p (c ∷ rest) ≡ true
@@ -64,9 +65,9 @@ no_backslash p o none h = elim (cases_Bool (o == 92)) [
   | inr other ↦ other
 ]
 
-pub bare_text : (x rest : Octets) → Bare x → is_unbroken is_bare rest ≡ true → is_unbroken is_bare (x ++ rest) ≡ true
+pub bare_text : (x rest : Octets) → Bare x → is_unbroken is_word_octet rest ≡ true → is_unbroken is_word_octet (x ++ rest) ≡ true
 bare_text [] rest h after = after
-bare_text (o ∷ x) rest h after = plain_octet is_bare o (x ++ rest) h.0 (no_backslash is_bare o refl h.0) (bare_text x rest h.1 after)
+bare_text (o ∷ x) rest h after = plain_octet is_word_octet o (x ++ rest) h.0 (no_backslash is_word_octet o refl h.0) (bare_text x rest h.1 after)
 
 -- a backslash and three digits
 digit_octet : (p : ℕ → Bool) (d : ℕ) (rest : Octets) → ((e : ℕ) → e < 10 → p (48 + e) ≡ true) → p 92 ≡ false → d < 10 → is_unbroken p rest ≡ true
@@ -83,8 +84,8 @@ digits_octet p x rest digit none small after =
     (digit_octet p (x / 10 % 10) ((48 + x % 10) ∷ rest) digit none (omega arith)
     (digit_octet p (x % 10) rest digit none (omega arith) after))
 
-bare_below_10 : (e : ℕ) → e < 10 → is_bare (48 + e) ≡ true
-bare_below_10 e small = agree_below_at (λ d. is_bare (48 + d)) (λ d. true) 10 e refl small
+bare_below_10 : (e : ℕ) → e < 10 → is_word_octet (48 + e) ≡ true
+bare_below_10 e small = agree_below_at (λ d. is_word_octet (48 + d)) (λ d. true) 10 e refl small
 
 quotable_below_10 : (e : ℕ) → e < 10 → is_quotable (48 + e) ≡ true
 quotable_below_10 e small = agree_below_at (λ d. is_quotable (48 + d)) (λ d. true) 10 e refl small
@@ -94,39 +95,39 @@ pub follows : (a b : Bool) → (not a || b) ≡ true → a ≡ true → b ≡ tr
 follows true b h e = h
 follows false b h e = absurd (false≢true e)
 
-pub graphic_bare : (x : ℕ) → x < 256 → is_special x ≡ false → is_ascii_graphic x ≡ true → is_bare x ≡ true
+pub graphic_bare : (x : ℕ) → x < 256 → is_special x ≡ false → is_ascii_graphic x ≡ true → is_word_octet x ≡ true
 graphic_bare x small other graphic =
-    follows (not (is_special x) && is_ascii_graphic x) (is_bare x)
-    (agree_below_at (λ o. not (not (is_special o) && is_ascii_graphic o) || is_bare o) (λ o. true) 256 x refl small)
+    follows (not (is_special x) && is_ascii_graphic x) (is_word_octet x)
+    (agree_below_at (λ o. not (not (is_special o) && is_ascii_graphic o) || is_word_octet o) (λ o. true) 256 x refl small)
     (and_from _ _ (ap not other) graphic)
 
 special_graphic : (x : ℕ) → x < 256 → is_special x ≡ true → is_ascii_graphic x ≡ true
 special_graphic x small special =
     follows (is_special x) (is_ascii_graphic x) (agree_below_at (λ o. not (is_special o) || is_ascii_graphic o) (λ o. true) 256 x refl small) special
 
-octet_unbroken : (x : ℕ) (rest : Octets) → x < 256 → is_unbroken is_bare rest ≡ true → is_unbroken is_bare (octet_text x ++ rest) ≡ true
+octet_unbroken : (x : ℕ) (rest : Octets) → x < 256 → is_unbroken is_word_octet rest ≡ true → is_unbroken is_word_octet (octet_text x ++ rest) ≡ true
 unfolding octet_text
 octet_unbroken x rest small after = by_cases (cases_Bool (is_special x)) (cases_Bool (is_ascii_graphic x))
   where
     by_cases : (is_special x ≡ true) ⊎ (is_special x ≡ false) → (is_ascii_graphic x ≡ true) ⊎ (is_ascii_graphic x ≡ false)
-        → is_unbroken is_bare (octet_text x ++ rest) ≡ true
-    by_cases (inl special) graphic = rw special (escaped_octet is_bare x rest (special_graphic x small special) after)
+        → is_unbroken is_word_octet (octet_text x ++ rest) ≡ true
+    by_cases (inl special) graphic = rw special (escaped_octet is_word_octet x rest (special_graphic x small special) after)
     by_cases (inr other) (inl graphic) =
         let bare = graphic_bare x small other graphic in
-        rw (other, graphic) (plain_octet is_bare x rest bare (no_backslash is_bare x refl bare) after)
-    by_cases (inr other) (inr none) = rw (other, none) (digits_octet is_bare x rest bare_below_10 refl small after)
+        rw (other, graphic) (plain_octet is_word_octet x rest bare (no_backslash is_word_octet x refl bare) after)
+    by_cases (inr other) (inr none) = rw (other, none) (digits_octet is_word_octet x rest bare_below_10 refl small after)
 
-label_unbroken : (l rest : Octets) → Small l → is_unbroken is_bare rest ≡ true → is_unbroken is_bare (label_text l ++ rest) ≡ true
+label_unbroken : (l rest : Octets) → Small l → is_unbroken is_word_octet rest ≡ true → is_unbroken is_word_octet (label_text l ++ rest) ≡ true
 label_unbroken [] rest small after = after
 label_unbroken (x ∷ l) rest small after =
-    ap (is_unbroken is_bare) (append_assoc (octet_text x) (label_text l) rest)
+    ap (is_unbroken is_word_octet) (append_assoc (octet_text x) (label_text l) rest)
     ∙ octet_unbroken x (label_text l ++ rest) (small_head x l small) (label_unbroken l rest (small_tail x l small) after)
 
-pub labels_unbroken : (n : DomainName) → Each Small n → is_unbroken is_bare (labels_text n) ≡ true
+pub labels_unbroken : (n : DomainName) → Each Small n → is_unbroken is_word_octet (labels_text n) ≡ true
 labels_unbroken [] small = refl
 labels_unbroken (l ∷ n) small =
-    ap (is_unbroken is_bare) (append_assoc (label_text l) (46 ∷ []) (labels_text n))
-    ∙ label_unbroken l (46 ∷ labels_text n) small.0 (plain_octet is_bare 46 (labels_text n) refl refl (labels_unbroken n small.1))
+    ap (is_unbroken is_word_octet) (append_assoc (label_text l) (46 ∷ []) (labels_text n))
+    ∙ label_unbroken l (46 ∷ labels_text n) small.0 (plain_octet is_word_octet 46 (labels_text n) refl refl (labels_unbroken n small.1))
 
 string_octet_unbroken : (o : ℕ) (rest : Octets) → o < 256 → is_unbroken is_quotable rest ≡ true
     → is_unbroken is_quotable (string_octet_text o ++ rest) ≡ true

@@ -7,9 +7,8 @@ use Rattle.std.specs.Option.{option_map, unwrap_or}
 use Rattle.std.specs.List.{list_all, find, flat_map}
 use Rattle.dns_spec.specs.Names.{Octets, DomainName, name_of}
 use Rattle.dns_spec.specs.Data.{numbers, ipv4, ipv6, Piece, fixed, domain, string, strings, anything, TypeRow, type_table, row_of, other_type, pieces_of, Part, octets, name, part_octets, octets_front, piece_front, cut, valid, lower_case}
-use Rattle.dns_spec.specs.DataText.{Word, WordForm, name_word, string_word, SaysForms, forms_in, forms_of, SaysTyped, is_unknown_mark, SaysAsSpelled, Says}
+use Rattle.dns_spec.specs.DataText.{Word, WordForm, name_word, string_word, SaysForms, forms_in, forms_of, SaysTyped, is_unknown_mark, SaysAsSpelled, Says, is_word_octet}
 use Rattle.dns_spec.specs.WrittenText.{word_front, form_words, string_count, words_by, written_words, unknown_words, hex_words, stands_alone}
-use Rattle.dns_spec.specs.ZoneText.{is_word_octet}
 use Rattle.dns_spec.proofs.Records.SortedOnce.{Each}
 use Rattle.dns_spec.proofs.DomainNames.SmallOctets.{Small, small_back}
 use Rattle.dns_spec.proofs.DataWords.WrittenData.{cut_into, all_strings}

@@ -9,9 +9,8 @@ use Rattle.std.specs.Fmt.{digits}
 use Rattle.dns_spec.specs.Names.{Octets, DomainName, octets_equal}
 use Rattle.dns_spec.specs.NameText.{label_text, labels_text, name_text}
 use Rattle.dns_spec.specs.AddressText.{SaysIpv6, ipv6_groups, ipv4_text, groups_text, longest_run, longest_place, groups_of, ipv6_text}
-use Rattle.dns_spec.specs.DataText.{Word, is_unknown_mark}
-use Rattle.dns_spec.specs.WrittenText.{plain, quoted, hex_text, is_unbroken, is_bare, stands_alone}
-use Rattle.dns_spec.specs.ZoneText.{is_word_octet, is_string_octet}
+use Rattle.dns_spec.specs.DataText.{Word, is_unknown_mark, is_word_octet, is_string_octet}
+use Rattle.dns_spec.specs.WrittenText.{plain, quoted, hex_text, is_unbroken, stands_alone}
 use Rattle.dns_spec.proofs.Records.SortedOnce.{Each}
 use Rattle.dns_spec.proofs.DomainNames.SmallOctets.{Small, small_head, small_tail}
 use Rattle.dns_spec.proofs.NameTexts.WrittenNames.{labels_text_long}
@@ -34,11 +33,11 @@ pub record Standing (w : Word) : Type 0 where
   pub unmarked : is_unknown_mark w ≡ false
 
 bare_alone : (x : Octets) → 0 < length x → Bare x → stands_alone (plain x) ≡ true
-bare_alone x some bare = and_from _ _ (lt-ltb 0 (length x) some) (ap (is_unbroken is_bare) (sym (append-nil x)) ∙ bare_text x [] bare refl)
+bare_alone x some bare = and_from _ _ (lt-ltb 0 (length x) some) (ap (is_unbroken is_word_octet) (sym (append-nil x)) ∙ bare_text x [] bare refl)
 
 bare_unmarked : (x : Octets) → Bare x → is_unknown_mark (plain x) ≡ false
 bare_unmarked [] bare = refl
-bare_unmarked (o ∷ x) bare = rw (no_backslash is_bare o refl bare.0) refl
+bare_unmarked (o ∷ x) bare = rw (no_backslash is_word_octet o refl bare.0) refl
 
 pub bare_standing : (x : Octets) → 0 < length x → Bare x → Standing (plain x)
 bare_standing x some bare = record { alone = bare_alone x some bare; whole = runs_bare x bare; unmarked = bare_unmarked x bare }

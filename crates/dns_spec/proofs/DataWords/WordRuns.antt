@@ -5,9 +5,9 @@ use Rattle.std.specs.Char.{is_ascii_graphic, is_ascii_digit}
 use Rattle.std.specs.List.{flat_map}
 use Rattle.dns_spec.specs.Names.{Octets, DomainName}
 use Rattle.dns_spec.specs.NameText.{is_special, three_digits_value, three_digits, octet_text, label_text, labels_text, name_text, is_printable}
-use Rattle.dns_spec.specs.WrittenText.{string_octet_text, is_bare}
-use Rattle.dns_spec.specs.ZoneText.{is_word_octet, is_string_octet, escape_length, unit_left, run_length}
-use Rattle.std.specs.Prelude.{if◌then◌else◌}
+use Rattle.dns_spec.specs.WrittenText.{string_octet_text}
+use Rattle.dns_spec.specs.DataText.{is_word_octet, is_string_octet}
+use Rattle.dns_spec.specs.ZoneText.{unit_left, run_length}
 use Rattle.dns_spec.proofs.Records.SortedOnce.{Each}
 use Rattle.dns_spec.proofs.NameTexts.Escapes.{escape-counted}
 use Rattle.dns_spec.proofs.DomainNames.SmallOctets.{Small, small_head, small_tail}
@@ -37,10 +37,7 @@ unfolding run_length
 runs_escaped p x digit printable rest = run_step p 92 1 (x ∷ rest) unit ∙ omega arith
   where
     unit : unit_left p 92 (x ∷ rest) ≡ Some 1
-    unit = ap (λ k. if k == 0 then None else Some k) long
-      where
-        long : escape_length (x ∷ rest) ≡ 1
-        long = escape-counted (x ∷ rest) ∙ rw (digit, printable) refl
+    unit = escape-counted (x ∷ rest) ∙ rw (digit, printable) refl
 
 -- three digits with a backslash before them
 runs_code : (p : ℕ → Bool) (a b c : ℕ) → is_ascii_digit a ≡ true → is_ascii_digit b ≡ true → is_ascii_digit c ≡ true
@@ -49,10 +46,7 @@ unfolding run_length
 runs_code p a b c h k l small rest = run_step p 92 3 (a ∷ b ∷ c ∷ rest) unit ∙ omega arith
   where
     unit : unit_left p 92 (a ∷ b ∷ c ∷ rest) ≡ Some 3
-    unit = ap (λ k. if k == 0 then None else Some k) long
-      where
-        long : escape_length (a ∷ b ∷ c ∷ rest) ≡ 3
-        long = escape-counted (a ∷ b ∷ c ∷ rest) ∙ rw (h, k, l, small) refl
+    unit = escape-counted (a ∷ b ∷ c ∷ rest) ∙ rw (h, k, l, small) refl
 
 digit : (d : ℕ) → d < 10 → is_ascii_digit (48 + d) ≡ true
 digit d small = agree_below_at (λ e. is_ascii_digit (48 + e)) (λ e. true) 10 d refl small
@@ -66,7 +60,7 @@ runs_digits p x small =
 pub runs_bare : (x : Octets) → Bare x → Runs is_word_octet x
 runs_bare [] bare = runs_none is_word_octet
 runs_bare (o ∷ x) bare =
-    runs_append is_word_octet (o ∷ []) x (runs_octet is_word_octet o bare.0 (no_backslash is_bare o refl bare.0)) (runs_bare x bare.1)
+    runs_append is_word_octet (o ∷ []) x (runs_octet is_word_octet o bare.0 (no_backslash is_word_octet o refl bare.0)) (runs_bare x bare.1)
 
 special_escaped : (x : ℕ) → x < 256 → is_special x ≡ true → Runs is_word_octet (92 ∷ x ∷ [])
 special_escaped x small special =
@@ -82,7 +76,7 @@ octet_runs x small = by_cases (cases_Bool (is_special x)) (cases_Bool (is_ascii_
     by_cases (inl special) graphic = rw special (special_escaped x small special)
     by_cases (inr other) (inl graphic) =
         let bare = graphic_bare x small other graphic in
-        rw (other, graphic) (runs_octet is_word_octet x bare (no_backslash is_bare x refl bare))
+        rw (other, graphic) (runs_octet is_word_octet x bare (no_backslash is_word_octet x refl bare))
     by_cases (inr other) (inr none) = rw (other, none) (runs_digits is_word_octet x small)
 
 label_runs : (l : Octets) → Small l → Runs is_word_octet (label_text l)

@@ -4,8 +4,9 @@ use Rattle.std.proofs.Common.{◌≡◌, ℕ, zero, suc, ◌+◌, ◌≤◌, Boo
 use Rattle.std.proofs.lemmas.List.Concat.{flat_map-append}
 use Rattle.dns_spec.specs.Records.{ResourceRecord}
 use Rattle.dns_spec.specs.Reading.{MessageQuestion}
-use Rattle.dns_spec.specs.Layout.{Item, greatest, records_of, Placed, asked_octets, asked_placed, record_size, record_names, records_size, size}
-use Rattle.dns_spec.specs.Reply.{kept, fitting}
+use Rattle.dns_spec.specs.Layout.{Item, records_of, Placed, asked_octets, asked_placed}
+use Rattle.dns_spec.specs.LayoutSize.{record_size, record_names, records_size, size}
+use Rattle.dns_spec.specs.Reply.{kept, fitting, greatest}
 
 records_grow : (ms : List Placed) (p : ℕ) (rs ss : List ResourceRecord) → records_size ms p rs ≤ records_size ms p (rs ++ ss)
 unfolding records_size

@@ -4,7 +4,8 @@ use Rattle.dns_spec.specs.Names.{Octets, DomainName}
 use Rattle.dns_spec.specs.Data.{class_in, Part, octets, name}
 use Rattle.dns_spec.specs.Records.{ResourceRecord}
 use Rattle.dns_spec.specs.Reading.{Header, MessageQuestion}
-use Rattle.dns_spec.specs.Layout.{octets16, octets32, Item, records_of, pointer, Placed, shared_place, shared_octets, cost, data_laid, record_laid, parts_of, record_tail, records_octets, asked_octets, asked_placed, reply_header, layout, data_size, data_names, record_size, record_names, records_size, size}
+use Rattle.dns_spec.specs.Layout.{octets16, octets32, Item, records_of, pointer, Placed, shared_place, shared_octets, data_laid, record_laid, parts_of, record_tail, records_octets, asked_octets, asked_placed, reply_header, layout}
+use Rattle.dns_spec.specs.LayoutSize.{cost, data_size, data_names, record_size, record_names, records_size, size}
 
 pub length-record_tail : (r : ResourceRecord) (d : Octets) → length (record_tail r d) ≡ 10 + length d
 length-record_tail r d = length-append (octets16 r.rtype ++ octets16 class_in ++ octets32 r.ttl ++ octets16 (length d)) d

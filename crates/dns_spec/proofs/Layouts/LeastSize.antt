@@ -6,7 +6,8 @@ use Rattle.dns_spec.specs.Names.{DomainName}
 use Rattle.dns_spec.specs.Data.{Part, octets, name}
 use Rattle.dns_spec.specs.Records.{ResourceRecord}
 use Rattle.dns_spec.specs.Reading.{MessageQuestion}
-use Rattle.dns_spec.specs.Layout.{Item, records_of, Placed, shared_place, cost, asked_octets, asked_placed, data_size, data_names, record_size, record_names, records_size, size, parts_of}
+use Rattle.dns_spec.specs.Layout.{reach, Item, records_of, Placed, shared_place, asked_octets, asked_placed, parts_of}
+use Rattle.dns_spec.specs.LayoutSize.{cost, data_size, data_names, record_size, record_names, records_size, size}
 use Rattle.dns_spec.specs.Sharing.{asked_names, names_in, names_of, NameSize, DataSize, RecordsSize, Sharing}
 use Rattle.dns_spec.specs.Sharing.NameSize.{whole, shared}
 use Rattle.dns_spec.specs.Sharing.DataSize.{no_parts, after_octets, after_name}
@@ -74,16 +75,16 @@ size_possible q items =
       whole = refl;
     }
 
-pub size_least : (q : Option MessageQuestion) (items : List Item) (z : ℕ) → Sharing q items z → z ≤ 16384 → size q items ≤ z
+pub size_least : (q : Option MessageQuestion) (items : List Item) (z : ℕ) → Sharing q items z → z ≤ reach → size q items ≤ z
 size_least q items z s short =
     let least = unbounded_size_least q items z s in
     let same = same_size q items (inr (omega (arith, least, short))) in
     omega (arith, least, same)
 
-pub past_limit : (q : Option MessageQuestion) (items : List Item) (limit : ℕ) → limit ≤ 16384
+pub past_limit : (q : Option MessageQuestion) (items : List Item) (limit : ℕ) → limit ≤ reach
     → (limit < size q items) ↔ ((z : ℕ) → Sharing q items z → limit < z)
-past_limit q items limit low = (λ past z s. go z s (nat_le z 16384) refl past, λ all. all (size q items) (size_possible q items))
+past_limit q items limit low = (λ past z s. go z s (nat_le z reach) refl past, λ all. all (size q items) (size_possible q items))
   where
-    go : (z : ℕ) → Sharing q items z → (t : Bool) → nat_le z 16384 ≡ t → limit < size q items → limit < z
-    go z s true e past = let least = size_least q items z s (leb-true z 16384 e) in omega (arith, least, past)
-    go z s false e past = omega (arith, leb-false z 16384 e, low)
+    go : (z : ℕ) → Sharing q items z → (t : Bool) → nat_le z reach ≡ t → limit < size q items → limit < z
+    go z s true e past = let least = size_least q items z s (leb-true z reach e) in omega (arith, least, past)
+    go z s false e past = omega (arith, leb-false z reach e, low)

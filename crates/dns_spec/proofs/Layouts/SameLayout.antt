@@ -5,7 +5,8 @@ use Rattle.dns_spec.specs.Names.{Octets, DomainName, wire}
 use Rattle.dns_spec.specs.Data.{Part, octets, name}
 use Rattle.dns_spec.specs.Records.{ResourceRecord}
 use Rattle.dns_spec.specs.Reading.{Header, MessageQuestion}
-use Rattle.dns_spec.specs.Layout.{Item, records_of, pointer, Placed, has_suffix, suffix_place, place_of, shared_place, shared_octets, Laid, laid_front, data_laid, record_laid, parts_of, record_tail, records_octets, asked_octets, asked_placed, reply_header, layout, size}
+use Rattle.dns_spec.specs.Layout.{reach, Item, records_of, pointer, Placed, has_suffix, suffix_place, place_of, shared_place, shared_octets, Laid, laid_front, data_laid, record_laid, parts_of, record_tail, records_octets, asked_octets, asked_placed, reply_header, layout}
+use Rattle.dns_spec.specs.LayoutSize.{size}
 use Rattle.dns_spec.specs.UnboundedLayout.{unbounded_octets, unbounded_data, unbounded_record, unbounded_records, unbounded_layout, unbounded_size}
 use Rattle.dns_spec.proofs.Layouts.LayoutSize.{length-layout, length-record_tail}
 use Rattle.dns_spec.proofs.Layouts.UnboundedSize.{length-unbounded_layout}
@@ -14,7 +15,7 @@ use Rattle.dns_spec.proofs.Layouts.MessageParts.{length-question_octets}
 
 -- all places are in reach
 abbrev Low : List Placed → Type 0
-Low ms = (l : Octets) (n : DomainName) (p : ℕ) → place_of ms (l ∷ n) ≡ Some p → p < 16384
+Low ms = (l : Octets) (n : DomainName) (p : ℕ) → place_of ms (l ∷ n) ≡ Some p → p < reach
 
 same_place : (ms : List Placed) → Low ms → (l : Octets) (n : DomainName) → shared_place ms (l ∷ n) ≡ place_of ms (l ∷ n)
 same_place ms low l n = go (place_of ms (l ∷ n)) refl
@@ -43,10 +44,10 @@ begins_inside ms (k ∷ n) (x ∷ front) l t e none =
     let inside = r.1 in
     (omega (arith, longer, short), omega (arith, longer, short, inside, ap length (shared_whole ms k n out), length-append k (shared_octets ms n)))
 
-low_more : (ms : List Placed) → Low ms → (n : DomainName) (i : ℕ) → i + length (shared_octets ms n) ≤ 16384 → Low (ms ++ (n, i) ∷ [])
+low_more : (ms : List Placed) → Low ms → (n : DomainName) (i : ℕ) → i + length (shared_octets ms n) ≤ reach → Low (ms ++ (n, i) ∷ [])
 low_more ms low n i room l t p e = go (place_pushed ms (n, i) (l ∷ t) p e)
   where
-    go : (place_of ms (l ∷ t) ≡ Some p) ⊎ ((place_of ms (l ∷ t) ≡ None) × (has_suffix n (l ∷ t) ≡ true) × (suffix_place (n, i) (l ∷ t) ≡ p)) → p < 16384
+    go : (place_of ms (l ∷ t) ≡ Some p) ⊎ ((place_of ms (l ∷ t) ≡ None) × (has_suffix n (l ∷ t) ≡ true) × (suffix_place (n, i) (l ∷ t) ≡ p)) → p < reach
     go (inl f) = low l t p f
     go (inr f) =
         let s = suffix_from n (l ∷ t) f.1 in
@@ -56,10 +57,10 @@ low_more ms low n i room l t p e = go (place_pushed ms (n, i) (l ∷ t) p e)
 
 -- octets that end in reach
 abbrev Ends : ℕ → Octets → Octets → Type 0
-Ends p x y = (p + length x ≤ 16384) ⊎ (p + length y ≤ 16384)
+Ends p x y = (p + length x ≤ reach) ⊎ (p + length y ≤ reach)
 
 -- what ends after octets and others, ends after the octets; what is after both, too
-ends_front : (p : ℕ) (w x y : Octets) → Ends p (w ++ x) (w ++ y) → p + length w ≤ 16384
+ends_front : (p : ℕ) (w x y : Octets) → Ends p (w ++ x) (w ++ y) → p + length w ≤ reach
 ends_front p w x y (inl h) = omega (arith, h, length-append w x)
 ends_front p w x y (inr h) = omega (arith, h, length-append w y)
 
@@ -156,12 +157,12 @@ same_records ms p (r ∷ rs) low ends =
     front (inr h) = inr (let b = unbounded_record ms p r in omega (arith, h, length-append b.written (unbounded_records (ms ++ b.names) (p + length b.written) rs)))
 
 -- the question's name begins in reach
-asked_low : (q : Option MessageQuestion) → 12 + length (asked_octets q) ≤ 16384 → Low (asked_placed q)
+asked_low : (q : Option MessageQuestion) → 12 + length (asked_octets q) ≤ reach → Low (asked_placed q)
 asked_low None room = λ l n p e. absurd (none-some p e)
 asked_low (Some q) room = low_more [] (λ l n p e. absurd (none-some p e)) q.qname 12
     (omega (arith, room, ap length (shared_alone q.qname), length-question_octets q))
 
-pub same_layout : (h : Header) (q : Option MessageQuestion) (items : List Item) → (size q items ≤ 16384) ⊎ (unbounded_size q items ≤ 16384)
+pub same_layout : (h : Header) (q : Option MessageQuestion) (items : List Item) → (size q items ≤ reach) ⊎ (unbounded_size q items ≤ reach)
     → layout h q items ≡ unbounded_layout h q items
 unfolding layout unbounded_layout
 same_layout h q items short = go (ends short)
@@ -179,11 +180,11 @@ same_layout h q items short = go (ends short)
         let low = asked_low q (omega (arith, head_len, ends_front 0 front (records_octets ms place rs) (unbounded_records ms place rs) e)) in
         ap (λ z. front ++ z) (same_records ms place rs low (ends_rest 0 place front (records_octets ms place rs) (unbounded_records ms place rs) head_len e))
 
-    ends : (size q items ≤ 16384) ⊎ (unbounded_size q items ≤ 16384) → Ends 0 (layout h q items) (unbounded_layout h q items)
+    ends : (size q items ≤ reach) ⊎ (unbounded_size q items ≤ reach) → Ends 0 (layout h q items) (unbounded_layout h q items)
     ends (inl s) = inl (omega (arith, s, length-layout h q items))
     ends (inr s) = inr (omega (arith, s, length-unbounded_layout h q items))
 
-pub same_size : (q : Option MessageQuestion) (items : List Item) → (size q items ≤ 16384) ⊎ (unbounded_size q items ≤ 16384) → size q items ≡ unbounded_size q items
+pub same_size : (q : Option MessageQuestion) (items : List Item) → (size q items ≤ reach) ⊎ (unbounded_size q items ≤ reach) → size q items ≡ unbounded_size q items
 same_size q items short =
     let h : Header = record { id = 0; flags = 0 } in
     sym (length-layout h q items) ∙ ap length (same_layout h q items short) ∙ length-unbounded_layout h q items

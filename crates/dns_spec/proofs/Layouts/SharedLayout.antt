@@ -9,7 +9,8 @@ use Rattle.dns_spec.specs.Names.{Octets, wire, is_label, labels_from}
 use Rattle.dns_spec.specs.Data.{class_in, Fixed, width, Piece, fixed, domain, string, strings, anything, pieces_of, compresses, Part, octets, octets_front, piece_front, cut, valid, parts, laid_parts}
 use Rattle.dns_spec.specs.Records.{ResourceRecord}
 use Rattle.dns_spec.specs.Reading.{Header, MessageQuestion, MessageRecord, OctetsAt, NumberAt, PiecesAt, DataAt, RecordsAt, Spells}
-use Rattle.dns_spec.specs.Layout.{octets16, octets32, answer, authority, additional, Item, records_of, in_section, Placed, shared_octets, data_laid, parts_of, record_tail, records_octets, question_octets, asked_octets, asked_placed, reply_header, layout, record_size, record_names, records_size, size, is_section, Section, message_record, message_of}
+use Rattle.dns_spec.specs.Layout.{octets16, octets32, answer, authority, additional, Item, records_of, in_section, Placed, shared_octets, data_laid, parts_of, record_tail, records_octets, question_octets, asked_octets, asked_placed, reply_header, layout, is_section, Section, message_record, message_of}
+use Rattle.dns_spec.specs.LayoutSize.{record_size, record_names, records_size, size}
 use Rattle.dns_spec.specs.Laws.{IsWritable, IsAskable, HasRoom}
 use Rattle.dns_spec.proofs.Records.SortedOnce.{Each}
 use Rattle.dns_spec.proofs.Messages.Places.{Stands, stands_front, stands_rest, stands_after, stands_all, stands_within, stands_get, number_at, octets_at}

@@ -6,7 +6,7 @@ use Rattle.std.specs.List.{list_all}
 use Rattle.dns_spec.specs.Names.{Octets, DomainName, wire, is_label, is_name, names_equal, last_labels}
 use Rattle.dns_spec.specs.Reading.{RunAt, NameAt}
 use Rattle.dns_spec.specs.Reading.RunAt.{ends, goes_on, jumps}
-use Rattle.dns_spec.specs.Layout.{pointer, Placed, has_suffix, suffix_place, place_of, last_place, reached, shared_place, shared_octets}
+use Rattle.dns_spec.specs.Layout.{reach, pointer, Placed, has_suffix, suffix_place, place_of, last_place, reached, shared_place, shared_octets}
 use Rattle.dns_spec.proofs.Messages.Places.{Stands, stands_front, stands_rest, stands_after, stands_within, stands_get, stands_take, label_parts}
 use Rattle.dns_spec.proofs.DomainNames.NameLaws.{names_equal-decides}
 
@@ -62,24 +62,24 @@ place_pushed (k ∷ ms) m s p e = go (has_suffix k.0 s) e (place_pushed ms m s p
     go false f again = again f
 
 -- a place that is shared is a place, and a pointer reaches it
-pub shared_is : (ms : List Placed) (s : DomainName) (p : ℕ) → shared_place ms s ≡ Some p → (place_of ms s ≡ Some p) × (p < 16384)
+pub shared_is : (ms : List Placed) (s : DomainName) (p : ℕ) → shared_place ms s ≡ Some p → (place_of ms s ≡ Some p) × (p < reach)
 shared_is ms s p e = go (place_of ms s) refl e
   where
-    go : (x : Option ℕ) → place_of ms s ≡ x → reached x ≡ Some p → (place_of ms s ≡ Some p) × (p < 16384)
+    go : (x : Option ℕ) → place_of ms s ≡ x → reached x ≡ Some p → (place_of ms s ≡ Some p) × (p < reach)
     go None is h = absurd (none-some p h)
     go (Some q) is h =
         let c = cond_some (nat_le q last_place) q p h in
         let low = leb-true q last_place c.0 in
         (is ∙ ap Some c.1, omega (arith, low, c.1))
 
-pub shared_to : (ms : List Placed) (s : DomainName) (p : ℕ) → place_of ms s ≡ Some p → p < 16384 → shared_place ms s ≡ Some p
+pub shared_to : (ms : List Placed) (s : DomainName) (p : ℕ) → place_of ms s ≡ Some p → p < reach → shared_place ms s ≡ Some p
 shared_to ms s p e low = ap reached e ∙ ap (λ t. cond t (Some p) None) (le-leb p last_place (omega arith))
 
 pub shared_none : (ms : List Placed) (s : DomainName) → place_of ms s ≡ None → shared_place ms s ≡ None
 shared_none ms s e = ap reached e
 
 -- the two octets of a pointer give its place
-pub pointer_octets : (p : ℕ) → p < 16384 → pointer p ≡ (192 + p / 256) ∷ p % 256 ∷ []
+pub pointer_octets : (p : ℕ) → p < reach → pointer p ≡ (192 + p / 256) ∷ p % 256 ∷ []
 pointer_octets p h = ap₂ (λ x y. x ∷ y ∷ []) (omega arith) (omega arith)
 
 -- What is known of earlier names: where a suffix of one has its place, it is spelled there.
@@ -196,7 +196,7 @@ module _ (b : Octets) (bound : ℕ) (ms : List Placed) (known : Known b bound ms
   known_more n i after header name at l t p e = let here = shared_is (ms ++ (n, i) ∷ []) (l ∷ t) p e in go (place_pushed ms (n, i) (l ∷ t) p here.0) here.1
     where
       go : (place_of ms (l ∷ t) ≡ Some p) ⊎ ((place_of ms (l ∷ t) ≡ None) × (has_suffix n (l ∷ t) ≡ true) × (suffix_place (n, i) (l ∷ t) ≡ p))
-          → p < 16384 → Found b (i + length (shared_octets ms n)) (l ∷ t) p
+          → p < reach → Found b (i + length (shared_octets ms n)) (l ∷ t) p
       go (inl f) low = known_later b bound (i + length (shared_octets ms n)) ms (omega arith) known l t p (shared_to ms (l ∷ t) p f low)
       go (inr f) low =
           let s = suffix_from n (l ∷ t) f.1 in

@@ -1,12 +1,13 @@
 -- Escapes: what one stands for is what it spells in a name, and how long one is.
 use Rattle.std.proofs.Common.{◌≡◌, ℕ, ◌-◌, ◌<◌, ◌≤◌, ◌⊎◌, inl, inr, Bool, true, false, cond, ◌&&◌, nat_le, nat_lt, Option, Some, None, [], ◌∷◌, ◌++◌, length, refl, sym, ◌∙◌, ap, subst, arith}
-use Rattle.std.specs.Prelude.{◌↔◌}
+use Rattle.std.specs.Prelude.{◌↔◌, ◌==◌, if◌then◌else◌}
+use Rattle.std.specs.Option.{option_map}
 use Rattle.std.proofs.lemmas.Bool.{and_parts, and_from, leb-true, le-leb, ltb-true, lt-ltb, cases_lt, cases_Bool, false≢true}
 use Rattle.std.proofs.lemmas.Option.{none-some, some_pair_parts}
 use Rattle.std.specs.Char.{is_ascii_digit, IsAsciiDigit, IsNotAsciiDigit}
 use Rattle.dns_spec.specs.Names.{Octets}
 use Rattle.dns_spec.specs.NameText.{three_digits_value, SpellsOctet, is_printable, digits_front, escape_front}
-use Rattle.dns_spec.specs.ZoneText.{escape_length}
+use Rattle.dns_spec.specs.ZoneText.{escape_left}
 
 are_digits : ℕ → ℕ → ℕ → Bool
 are_digits a b c = is_ascii_digit a && is_ascii_digit b && is_ascii_digit c && nat_lt (three_digits_value a b c) 256
@@ -23,27 +24,37 @@ abbrev pub counted_escape : Octets → ℕ
 counted_escape [] = 0
 counted_escape (a ∷ text) = cond (is_ascii_digit a) (counted_digits (a ∷ text)) (cond (is_printable a) 1 0)
 
-abbrev front_length : Octets → Option (ℕ × Octets) → ℕ
-front_length text front = elim front as (λ _. ℕ) [ None ↦ 0 | Some r ↦ length text - length r.1 ]
+-- how many octets of it are to come, where it has any
+abbrev pub left_by : ℕ → Option ℕ
+left_by k = if k == 0 then None else Some k
 
-digits-counted : (text : Octets) → front_length text (digits_front text) ≡ counted_digits text
+abbrev front_left : Octets → Option (ℕ × Octets) → Option ℕ
+front_left text = option_map (λ r. length text - length r.1)
+
+digits-counted : (text : Octets) → front_left text (digits_front text) ≡ left_by (counted_digits text)
 digits-counted [] = refl
 digits-counted (a ∷ []) = refl
 digits-counted (a ∷ b ∷ []) = refl
 digits-counted (a ∷ b ∷ c ∷ text) = go (is_ascii_digit a && is_ascii_digit b && is_ascii_digit c && nat_lt (three_digits_value a b c) 256)
   where
-    go : (t : Bool) → front_length (a ∷ b ∷ c ∷ text) (cond t (Some (three_digits_value a b c, text)) None) ≡ cond t 3 0
-    go true = omega arith
+    three : length (a ∷ b ∷ c ∷ text) - length text ≡ 3
+    three = omega arith
+
+    go : (t : Bool) → front_left (a ∷ b ∷ c ∷ text) (cond t (Some (three_digits_value a b c, text)) None) ≡ left_by (cond t 3 0)
+    go true = ap Some three
     go false = refl
 
-pub escape-counted : (text : Octets) → escape_length text ≡ counted_escape text
+pub escape-counted : (text : Octets) → escape_left text ≡ left_by (counted_escape text)
 escape-counted [] = refl
 escape-counted (a ∷ text) = go (is_ascii_digit a) (is_printable a)
   where
-    go : (d p : Bool) → front_length (a ∷ text) (cond d (digits_front (a ∷ text)) (cond p (Some (a, text)) None))
-        ≡ cond d (counted_digits (a ∷ text)) (cond p 1 0)
+    one : length (a ∷ text) - length text ≡ 1
+    one = omega arith
+
+    go : (d p : Bool) → front_left (a ∷ text) (cond d (digits_front (a ∷ text)) (cond p (Some (a, text)) None))
+        ≡ left_by (cond d (counted_digits (a ∷ text)) (cond p 1 0))
     go true p = digits-counted (a ∷ text)
-    go false true = omega arith
+    go false true = ap Some one
     go false false = refl
 
 -- what an escape stands for is what it spells in a name

@@ -7,8 +7,8 @@ use Rattle.dns_spec.specs.Names.{Octets}
 use Rattle.dns_spec.specs.NameText.{name_text}
 use Rattle.dns_spec.specs.Data.{TypeRow, type_table, row_of}
 use Rattle.dns_spec.specs.TypeText.{numbered_type, type_text}
-use Rattle.dns_spec.specs.DataText.{Word}
-use Rattle.dns_spec.specs.WrittenText.{plain, word_text, written_words, data_text, is_bare, stands_alone}
+use Rattle.dns_spec.specs.DataText.{Word, is_word_octet}
+use Rattle.dns_spec.specs.WrittenText.{plain, word_text, written_words, data_text, stands_alone}
 use Rattle.dns_spec.specs.Records.{ResourceRecord}
 use Rattle.dns_spec.specs.ZoneText.{Token, blank, word, quoted_string, line_end, is_blank, TokensThen, parenthesis, before_first, cut_entries, parentheses, word_of}
 use Rattle.dns_spec.specs.ZonePrinted.{IsReadRecord, record_line}
@@ -79,11 +79,11 @@ words_then (w ∷ v ∷ ws) rest reads =
 
 -- the first words of a line
 abbrev is_bare_text : Octets → Bool
-is_bare_text x = nat_lt 0 (length x) && list_all is_bare x
+is_bare_text x = nat_lt 0 (length x) && list_all is_word_octet x
 
-bare_tested : (x : Octets) → list_all is_bare x ≡ true → Bare x
+bare_tested : (x : Octets) → list_all is_word_octet x ≡ true → Bare x
 bare_tested [] all = tt
-bare_tested (o ∷ x) all = let p = and_parts (is_bare o) (list_all is_bare x) all in (p.0, bare_tested x p.1)
+bare_tested (o ∷ x) all = let p = and_parts (is_word_octet o) (list_all is_word_octet x) all in (p.0, bare_tested x p.1)
 
 mnemonic_bare : (t : ℕ) (made : TypeRow) → row_of t ≡ Some made → is_bare_text made.mnemonic ≡ true
 mnemonic_bare t made e = entry_passes (λ (r : TypeRow). r.number == t) (λ (r : TypeRow). is_bare_text r.mnemonic) type_table made e refl
@@ -94,7 +94,7 @@ type_standing t small = go (row_of t) refl
     go : (r : Option TypeRow) → row_of t ≡ r → Standing (plain (unwrap_or (option_map (λ (row : TypeRow). row.mnemonic) r) (numbered_type t)))
     go None e = bare_standing (numbered_type t) (omega arith) (bare_append (codes "TYPE") (decimal t) (bare_tested (codes "TYPE") refl) (bare_decimal t (omega (arith, small))))
     go (Some made) e =
-        let p = and_parts (nat_lt 0 (length made.mnemonic)) (list_all is_bare made.mnemonic) (mnemonic_bare t made e) in
+        let p = and_parts (nat_lt 0 (length made.mnemonic)) (list_all is_word_octet made.mnemonic) (mnemonic_bare t made e) in
         bare_standing made.mnemonic (ltb-true 0 (length made.mnemonic) p.0) (bare_tested made.mnemonic p.1)
 
 first_read : (r : ResourceRecord) → IsReadRecord r → Each Read (first_words r)

@@ -13,10 +13,10 @@ use Rattle.dns_spec.specs.Data.{type_ns, type_cname, type_a, type_aaaa, qtype_an
 use Rattle.dns_spec.specs.Records.{ResourceRecord, ZoneContents, data_order, at, of_type, rrset, with_owner}
 use Rattle.dns_spec.specs.Sets.{rising_types, of_first_type, of_lowest_type}
 use Rattle.dns_spec.specs.Tree.{exists, cut_of, source_of_synthesis, found}
-use Rattle.dns_spec.specs.Checks.{count, large_set, Passes}
+use Rattle.dns_spec.specs.Checks.{most_of_a_set, count, large_set, Passes}
 use Rattle.dns_spec.specs.Reading.{no_error}
 use Rattle.dns_spec.specs.Layout.{Section, answer, authority, additional, Item, records_of}
-use Rattle.dns_spec.specs.Answer.{item, follows_alias, alias_set, chain, last_sought, alias_items, asked_records, has_any, Outcome, negative, positive, referral_to, outcome_by, outcome_at, outcome, has_target_type, targets_of, targets_inside, targets_outside, targets, stands, address_set, address_sets, extra, main_items, items, nodes_to, targets_in_zone, most_visits, names_looked_up}
+use Rattle.dns_spec.specs.Answer.{most_aliases, item, follows_alias, alias_set, chain, last_sought, alias_items, asked_records, has_any, Outcome, negative, positive, referral_to, outcome_by, outcome_at, outcome, has_target_type, targets_of, targets_inside, targets_outside, targets, stands, address_set, address_sets, extra, main_items, items, nodes_to, targets_in_zone, most_visits, names_looked_up}
 use Rattle.dns_spec.proofs.DomainNames.NameLaws.{names_equal-decides, length-is_name}
 use Rattle.dns_spec.proofs.Records.SortedOnce.{Each, Among, each_filter, among_filter, length-sort_by}
 use Rattle.dns_spec.proofs.Replies.ItemSets.{any_false, filter_test}
@@ -71,11 +71,11 @@ typed_shown o t (r ∷ rs) = go (r.rtype == t) (typed_shown o t rs)
     go false e = e
 
 module _ (z : ZoneContents) (origin : folded z.origin ≡ z.origin) (low : Each (λ (r : ResourceRecord). folded r.owner ≡ r.owner) z.records) (passes : Passes z) where
-  -- a limit of this project: a set has at most 64 records
-  pub count_few : (n : DomainName) (t : ℕ) → count z n t ≤ 64
+  -- a limit of this project: a set has at most so many records
+  pub count_few : (n : DomainName) (t : ℕ) → count z n t ≤ most_of_a_set
   count_few n t = go (filter (λ (r : ResourceRecord). r.rtype == t) (at z n)) refl
     where
-      few : (r : ResourceRecord) → Among r (filter (λ (s : ResourceRecord). s.rtype == t) (at z n)) → count z n t ≤ 64
+      few : (r : ResourceRecord) → Among r (filter (λ (s : ResourceRecord). s.rtype == t) (at z n)) → count z n t ≤ most_of_a_set
       few r m =
           let in_at = among_filter (λ (s : ResourceRecord). s.rtype == t) r (at z n) m in
           let in_zone = among_filter (λ (s : ResourceRecord). same s.owner n) r z.records in_at in
@@ -83,53 +83,53 @@ module _ (z : ZoneContents) (origin : folded z.origin ≡ z.origin) (low : Each 
           let alike : folded r.owner ≡ folded n = (names_equal-decides (folded r.owner) (folded n)).0 (filter_test (λ (s : ResourceRecord). same s.owner n) r z.records in_at) in
           let one_name : at z r.owner ≡ at z n = ap (λ (f : DomainName). filter (λ (s : ResourceRecord). names_equal (folded s.owner) f) z.records) alike in
           let fine : large_set z r.owner ≡ false = (checks_at z origin low passes r in_zone).1.1.1.1.1.1.1.1.1.1.1.1.1.0 in
-          let one : nat_lt 64 (count z r.owner r.rtype) ≡ false =
-          any_false (λ (q : ResourceRecord). nat_lt 64 (count z r.owner q.rtype)) (at z r.owner) r fine (subst (Among r) (sym one_name) in_at)
+          let one : nat_lt most_of_a_set (count z r.owner r.rtype) ≡ false =
+          any_false (λ (q : ResourceRecord). nat_lt most_of_a_set (count z r.owner q.rtype)) (at z r.owner) r fine (subst (Among r) (sym one_name) in_at)
           in
           let own : count z r.owner r.rtype ≡ count z n t =
           ap (λ rs. length (filter (λ (s : ResourceRecord). s.rtype == r.rtype) rs)) one_name
           ∙ ap (λ (u : ℕ). length (filter (λ (s : ResourceRecord). s.rtype == u) (at z n))) is_t
           in
-          let bound = ltb-false 64 (count z r.owner r.rtype) one in
+          let bound = ltb-false most_of_a_set (count z r.owner r.rtype) one in
           omega (arith, bound, own)
 
-      go : (rs : List ResourceRecord) → filter (λ (r : ResourceRecord). r.rtype == t) (at z n) ≡ rs → count z n t ≤ 64
+      go : (rs : List ResourceRecord) → filter (λ (r : ResourceRecord). r.rtype == t) (at z n) ≡ rs → count z n t ≤ most_of_a_set
       go [] e = let none = ap length e in omega (arith, none)
       go (r ∷ rs) e = few r (subst (Among r) (sym e) (inl refl))
 
-  shown_few : (o n : DomainName) (t : ℕ) → length (of_type t (with_owner o (at z n))) ≤ 64
+  shown_few : (o n : DomainName) (t : ℕ) → length (of_type t (with_owner o (at z n))) ≤ most_of_a_set
   shown_few o n t =
       let a = length-sort_by data_order (filter (λ (r : ResourceRecord). r.rtype == t) (with_owner o (at z n))) in
       let b = typed_shown o t (at z n) in
       let c = count_few n t in
       omega (arith, a, b, c)
 
-  asked_few : (o n : DomainName) (t : ℕ) → length (asked_records t (with_owner o (at z n))) ≤ 64
+  asked_few : (o n : DomainName) (t : ℕ) → length (asked_records t (with_owner o (at z n))) ≤ most_of_a_set
   asked_few o n t = go (t == qtype_any)
     where
-      lowest : (ts : List ℕ) → length (of_first_type ts (with_owner o (at z n))) ≤ 64
+      lowest : (ts : List ℕ) → length (of_first_type ts (with_owner o (at z n))) ≤ most_of_a_set
       lowest [] = omega arith
       lowest (u ∷ us) = shown_few o n u
 
-      go : (b : Bool) → length (cond b (of_lowest_type (with_owner o (at z n))) (of_type t (with_owner o (at z n)))) ≤ 64
+      go : (b : Bool) → length (cond b (of_lowest_type (with_owner o (at z n))) (of_type t (with_owner o (at z n)))) ≤ most_of_a_set
       go true = lowest (rising_types (with_owner o (at z n)))
       go false = shown_few o n t
 
-  found_few : (s : DomainName) (rs : List ResourceRecord) (t : ℕ) → found z s ≡ Some rs → length (asked_records t rs) ≤ 64
+  found_few : (s : DomainName) (rs : List ResourceRecord) (t : ℕ) → found z s ≡ Some rs → length (asked_records t rs) ≤ most_of_a_set
   found_few s rs t e = go (exists z s) e
     where
-      is : (n : DomainName) → with_owner s (at z n) ≡ rs → length (asked_records t rs) ≤ 64
-      is n h = subst (λ xs. length (asked_records t xs) ≤ 64) h (asked_few s n t)
+      is : (n : DomainName) → with_owner s (at z n) ≡ rs → length (asked_records t rs) ≤ most_of_a_set
+      is n h = subst (λ xs. length (asked_records t xs) ≤ most_of_a_set) h (asked_few s n t)
 
-      wild : (y : Option DomainName) → option_map (λ n. with_owner s (at z n)) y ≡ Some rs → length (asked_records t rs) ≤ 64
+      wild : (y : Option DomainName) → option_map (λ n. with_owner s (at z n)) y ≡ Some rs → length (asked_records t rs) ≤ most_of_a_set
       wild None e = absurd (none-some rs e)
       wild (Some n) e = is n (same_Some (with_owner s (at z n)) rs e)
 
-      go : (b : Bool) → cond b (Some (with_owner s (at z s))) (option_map (λ n. with_owner s (at z n)) (source_of_synthesis z s)) ≡ Some rs → length (asked_records t rs) ≤ 64
+      go : (b : Bool) → cond b (Some (with_owner s (at z s))) (option_map (λ n. with_owner s (at z n)) (source_of_synthesis z s)) ≡ Some rs → length (asked_records t rs) ≤ most_of_a_set
       go true e = is s (same_Some (with_owner s (at z s)) rs e)
       go false e = wild (source_of_synthesis z s) e
 
-  outcome_few : (s : DomainName) (t : ℕ) (x : Option DomainName) (y : Option (List ResourceRecord)) → found z s ≡ y → length (targets (outcome_by z t x y)) ≤ 64
+  outcome_few : (s : DomainName) (t : ℕ) (x : Option DomainName) (y : Option (List ResourceRecord)) → found z s ≡ y → length (targets (outcome_by z t x y)) ≤ most_of_a_set
   outcome_few s t (Some c) y e =
       let o = referral_to z c in
       let ts = targets_of o.authorities in
@@ -146,7 +146,7 @@ module _ (z : ZoneContents) (origin : folded z.origin ≡ z.origin) (low : Each 
   outcome_few s t None None e = omega arith
   outcome_few s t None (Some rs) e = go (follows_alias t && has_any (of_type type_cname rs)) (has_any (asked_records t rs))
     where
-      go : (b c : Bool) → length (targets (cond b (positive []) (cond c (positive (item answer (asked_records t rs))) (negative z no_error)))) ≤ 64
+      go : (b c : Bool) → length (targets (cond b (positive []) (cond c (positive (item answer (asked_records t rs))) (negative z no_error)))) ≤ most_of_a_set
       go true c = omega arith
       go false true =
           let ts = targets_of (item answer (asked_records t rs)) in
@@ -156,11 +156,11 @@ module _ (z : ZoneContents) (origin : folded z.origin ≡ z.origin) (low : Each 
           omega (arith, a, b, c)
       go false false = omega arith
 
-  targets_few : (q : DomainName) (t : ℕ) → length (targets (outcome z q t)) ≤ 64
+  targets_few : (q : DomainName) (t : ℕ) → length (targets (outcome z q t)) ≤ most_of_a_set
   unfolding outcome_at
   targets_few q t =
       let s = last_sought z q t in
-      subst (λ ms. length ms ≤ 64) (sym (targets_last z q t)) (outcome_few s t (cut_of z s) (found z s) refl)
+      subst (λ ms. length ms ≤ most_of_a_set) (sym (targets_last z q t)) (outcome_few s t (cut_of z s) (found z s) refl)
 
 -- sets
 item_one : (s : Section) (rs : List ResourceRecord) → length (item s rs) ≤ 1
@@ -185,11 +185,11 @@ aliases_few z (n ∷ ns) =
     let c = aliases_few z ns in
     omega (arith, a, b, c)
 
-alias_items_few : (z : ZoneContents) (q : DomainName) (t : ℕ) → length (alias_items z q t) ≤ 17
+alias_items_few : (z : ZoneContents) (q : DomainName) (t : ℕ) → length (alias_items z q t) ≤ 1 + most_aliases
 alias_items_few z q t = go (follows_alias t) (aliases_few z (chain z q t)) (chain_short z q t)
   where
-    go : (b : Bool) → length (flat_map (λ n. item answer (alias_set z n)) (chain z q t)) ≤ length (chain z q t) → length (chain z q t) ≤ 17
-        → length (cond b (flat_map (λ n. item answer (alias_set z n)) (chain z q t)) []) ≤ 17
+    go : (b : Bool) → length (flat_map (λ n. item answer (alias_set z n)) (chain z q t)) ≤ length (chain z q t) → length (chain z q t) ≤ 1 + most_aliases
+        → length (cond b (flat_map (λ n. item answer (alias_set z n)) (chain z q t)) []) ≤ 1 + most_aliases
     go true a b = omega (arith, a, b)
     go false a b = omega arith
 
@@ -213,10 +213,10 @@ extra_few z earlier (m ∷ ms) =
     omega (arith, a, b, c, d, e)
 
 module _ (z : ZoneContents) (origin : folded z.origin ≡ z.origin) (low : All (λ (r : ResourceRecord). folded r.owner ≡ r.owner) z.records) (passes : Passes z) (q : DomainName) (t : ℕ) where
-  pub few_targets : length (targets (outcome z q t)) ≤ 64
+  pub few_targets : length (targets (outcome z q t)) ≤ most_of_a_set
   few_targets = targets_few z origin (each_from_all (λ (r : ResourceRecord). folded r.owner ≡ r.owner) z.records low) passes q t
 
-  pub few_items : length (items z q t) ≤ 146
+  pub few_items : length (items z q t) ≤ 2 + most_aliases + 2 * most_of_a_set
   unfolding items outcome outcome_at
   few_items =
       let o = outcome z q t in

@@ -2,8 +2,8 @@
 use Rattle.std.proofs.Common.{◌≡◌, ℕ, zero, suc, ◌<◌, ◌≤◌, Bool, true, false, cond, nat_le, ◌⊎◌, inl, inr, List, [], length, take, refl, sym, ap, ◌∙◌, subst, arith, le-leb, leb-true, eq-or-lt_of_le}
 use Rattle.std.proofs.lemmas.Bool.{false≢true}
 use Rattle.std.proofs.lemmas.List.{length-take-le}
-use Rattle.dns_spec.specs.Layout.{Item, greatest}
-use Rattle.dns_spec.specs.Reply.{kept}
+use Rattle.dns_spec.specs.Layout.{Item}
+use Rattle.dns_spec.specs.Reply.{kept, greatest}
 
 pub greatest_bound : (test : ℕ → Bool) (n : ℕ) → greatest test n ≤ n
 greatest_bound test zero = omega arith

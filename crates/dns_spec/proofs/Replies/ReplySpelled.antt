@@ -10,9 +10,10 @@ use Rattle.dns_spec.specs.Records.{ZoneContents}
 use Rattle.dns_spec.specs.Reading.{Header, MessageQuestion, format_error, not_implemented, refused, Spells}
 use Rattle.dns_spec.specs.ComputedReading.{name_at}
 use Rattle.dns_spec.specs.Query.{field16, opcode, recursion_desired, bit, head_of, reply_head, refusal_head, question_of, question_at, counts_are_one_question, is_ignored, QueryRead, absent, refused_with, query, query_or_error, query_read}
-use Rattle.dns_spec.specs.Layout.{Item, greatest, records_size, size, layout, message_of}
+use Rattle.dns_spec.specs.Layout.{Item, layout, message_of}
+use Rattle.dns_spec.specs.LayoutSize.{records_size, size}
 use Rattle.dns_spec.specs.Answer.{outcome, items, is_authoritative}
-use Rattle.dns_spec.specs.Reply.{truncated, Decision, silence, header_alone, question_alone, answered, is_meta_type, refusal, decide_question, decide_query, decide, Reply, answer_with, reply_of, reply_with, octets_by, reply_message, keep_longest, reply}
+use Rattle.dns_spec.specs.Reply.{truncated, Decision, silence, header_alone, question_alone, answered, is_meta_type, refusal, decide_question, decide_query, decide, Reply, answer_with, reply_of, reply_with, reply_octets, reply_message, keep_longest, reply, greatest}
 use Rattle.dns_spec.specs.Laws.{sections_in_order, IsWritable, IsAskable, HasRoom}
 use Rattle.dns_spec.proofs.Records.SortedOnce.{Each}
 use Rattle.dns_spec.proofs.Messages.NameReading.{name_at_computes}
@@ -132,29 +133,29 @@ empty_size q h =
     let short = leb-true (length (wire q.qname)) 255 (and_parts (list_all is_label q.qname) (nat_le (length (wire q.qname)) 255) h).1 in
     omega (arith, length-question_octets q, short)
 
--- a layout spells the message of a question and of sets, whatever header stands before them
-abbrev Laid : (Header → Option MessageQuestion → List Item → Octets) → Option MessageQuestion → List Item → Type 0
-Laid lay q is = (h : Header) → h.id < 2 ^ 16 → h.flags < 2 ^ 16 → Spells (lay h q is) (message_of h q is)
+-- the layout spells the message of a question and of sets, whatever header stands before them
+abbrev Laid : Option MessageQuestion → List Item → Type 0
+Laid q is = (h : Header) → h.id < 2 ^ 16 → h.flags < 2 ^ 16 → Spells (layout h q is) (message_of h q is)
 
 -- then the octets of a reply spell the message that it is
-reply_laid : (lay : Header → Option MessageQuestion → List Item → Octets) (z : ZoneContents) (d : Octets) (keep : MessageQuestion → List Item) (r : Reply)
-    → All IsWritable z.records → All (λ o. o < 256) d → Laid lay None [] → ((q : MessageQuestion) → IsAskable q → Laid lay (Some q) [] × Laid lay (Some q) (keep q))
-    → reply_with keep z d ≡ Some r → Spells (octets_by lay r) (reply_message r)
+reply_laid : (z : ZoneContents) (d : Octets) (keep : MessageQuestion → List Item) (r : Reply)
+    → All IsWritable z.records → All (λ o. o < 256) d → Laid None [] → ((q : MessageQuestion) → IsAskable q → Laid (Some q) [] × Laid (Some q) (keep q))
+    → reply_with keep z d ≡ Some r → Spells (reply_octets r) (reply_message r)
 unfolding reply_with
-reply_laid lay z d keep r writable low bare lays e = go (decide z d) (decided z d) e
+reply_laid z d keep r writable low bare lays e = go (decide z d) (decided z d) e
   where
     id : field16 d 0 < 2 ^ 16
     id = field_bound d 0 low
 
-    replied : (x : Reply) → Spells (octets_by lay x) (reply_message x) → ◌≡◌ {A = Option Reply} (Some x) (Some r) → Spells (octets_by lay r) (reply_message r)
-    replied x s e = subst (λ y. Spells (octets_by lay y) (reply_message y)) (same_Some x r e) s
+    replied : (x : Reply) → Spells (reply_octets x) (reply_message x) → ◌≡◌ {A = Option Reply} (Some x) (Some r) → Spells (reply_octets r) (reply_message r)
+    replied x s e = subst (λ y. Spells (reply_octets y) (reply_message y)) (same_Some x r e) s
 
-    refusing : (h : Header) (q : Option MessageQuestion) → Refuses d h → Laid lay q [] → Spells (lay h q []) (message_of h q [])
+    refusing : (h : Header) (q : Option MessageQuestion) → Refuses d h → Laid q [] → Spells (layout h q []) (message_of h q [])
     refusing h q ok laid =
-        subst (λ x. Spells (lay x q []) (message_of x q [])) ok.head
+        subst (λ x. Spells (layout x q []) (message_of x q [])) ok.head
         (laid (refusal_head (head_of d) ok.rcode) id (flags_bound (head_of d) false false ok.rcode ok.low))
 
-    go : (x : Decision) → Decided d x → reply_of keep z x ≡ Some r → Spells (octets_by lay r) (reply_message r)
+    go : (x : Decision) → Decided d x → reply_of keep z x ≡ Some r → Spells (reply_octets r) (reply_message r)
     go silence ok e = absurd (none-some r e)
     go (header_alone h) ok e = replied (record { header = h; question = None; sets = [] }) (refusing h None ok bare) e
     go (question_alone h q) ok e =
@@ -168,20 +169,20 @@ reply_laid lay z d keep r writable low bare lays e = go (decide z d) (decided z 
 
 -- The octets of a reply spell the message that it is.
 pub reply_spells : (z : ZoneContents) (d : Octets) (limit : ℕ) (r : Reply) → All IsWritable z.records → All (λ o. o < 256) d → 271 ≤ limit → limit ≤ 65535
-    → reply z d limit ≡ Some r → Spells (octets_by layout r) (reply_message r)
+    → reply z d limit ≡ Some r → Spells (reply_octets r) (reply_message r)
 unfolding reply
 reply_spells z d limit r writable low from upto =
-    reply_laid layout z d (keep_longest z limit) r writable low bare (λ q ok. (alone q ok, sets q ok))
+    reply_laid z d (keep_longest z limit) r writable low bare (λ q ok. (alone q ok, sets q ok))
   where
-    bare : Laid layout None []
+    bare : Laid None []
     bare h id flags = let small = bare_size in layout_spells h None [] (roomy h None [] id flags tt refl) (All-nil IsWritable) (omega (arith, small))
 
-    alone : (q : MessageQuestion) → IsAskable q → Laid layout (Some q) []
+    alone : (q : MessageQuestion) → IsAskable q → Laid (Some q) []
     alone q ok h id flags =
         let small = empty_size q ok.qname in
         layout_spells h (Some q) [] (roomy h (Some q) [] id flags ok refl) (All-nil IsWritable) (omega (arith, small))
 
-    sets : (q : MessageQuestion) → IsAskable q → Laid layout (Some q) (keep_longest z limit q)
+    sets : (q : MessageQuestion) → IsAskable q → Laid (Some q) (keep_longest z limit q)
     sets q ok h id flags =
         let all = items z q.qname q.qtype in
         let k = greatest (λ n. nat_le (size (Some q) (take n all)) limit) (length all) in
@@ -203,16 +204,16 @@ named_question d q h = go (name_at d 12) refl h
         let c = cond_some (length d == e + 4) (record { qname = n; qtype = field16 d e; qclass = field16 d (e + 2) }) q f in
         subst (λ (x : MessageQuestion). is_name x.qname ≡ true) c.1 ((name_at_computes d 12 n e).0 is).1
 
-reply_sized : (lay : Header → Option MessageQuestion → List Item → Octets) (z : ZoneContents) (d : Octets) (keep : MessageQuestion → List Item) (limit : ℕ) (r : Reply) → ((h : Header) → length (lay h None []) ≤ limit)
-    → ((h : Header) (q : MessageQuestion) → is_name q.qname ≡ true → (length (lay h (Some q) []) ≤ limit) × (length (lay h (Some q) (keep q)) ≤ limit))
-    → reply_with keep z d ≡ Some r → length (octets_by lay r) ≤ limit
+reply_sized : (z : ZoneContents) (d : Octets) (keep : MessageQuestion → List Item) (limit : ℕ) (r : Reply) → ((h : Header) → length (layout h None []) ≤ limit)
+    → ((h : Header) (q : MessageQuestion) → is_name q.qname ≡ true → (length (layout h (Some q) []) ≤ limit) × (length (layout h (Some q) (keep q)) ≤ limit))
+    → reply_with keep z d ≡ Some r → length (reply_octets r) ≤ limit
 unfolding reply_with
-reply_sized lay z d keep limit r room fits e = go (decide z d) (decided z d) e
+reply_sized z d keep limit r room fits e = go (decide z d) (decided z d) e
   where
-    replied : (x : Reply) → length (octets_by lay x) ≤ limit → ◌≡◌ {A = Option Reply} (Some x) (Some r) → length (octets_by lay r) ≤ limit
-    replied x s e = subst (λ y. length (octets_by lay y) ≤ limit) (same_Some x r e) s
+    replied : (x : Reply) → length (reply_octets x) ≤ limit → ◌≡◌ {A = Option Reply} (Some x) (Some r) → length (reply_octets r) ≤ limit
+    replied x s e = subst (λ y. length (reply_octets y) ≤ limit) (same_Some x r e) s
 
-    go : (x : Decision) → Decided d x → reply_of keep z x ≡ Some r → length (octets_by lay r) ≤ limit
+    go : (x : Decision) → Decided d x → reply_of keep z x ≡ Some r → length (reply_octets r) ≤ limit
     go silence ok e = absurd (none-some r e)
     go (header_alone h) ok e = replied (record { header = h; question = None; sets = [] }) (room h) e
     go (question_alone h q) ok e = replied (record { header = h; question = Some q; sets = [] }) (fits h q (named_question d q ok.0)).0 e
@@ -220,9 +221,9 @@ reply_sized lay z d keep limit r room fits e = go (decide z d) (decided z d) e
         let o = outcome z q.qname q.qtype in
         replied (answer_with z h q (keep q)) (fits (reply_head h (is_authoritative o) (truncated z q (keep q)) o.rcode) q (named_question d q ok.0)).1 e
 
-pub reply_fits : (z : ZoneContents) (d : Octets) (limit : ℕ) (r : Reply) → 271 ≤ limit → reply z d limit ≡ Some r → length (octets_by layout r) ≤ limit
+pub reply_fits : (z : ZoneContents) (d : Octets) (limit : ℕ) (r : Reply) → 271 ≤ limit → reply z d limit ≡ Some r → length (reply_octets r) ≤ limit
 unfolding reply
-reply_fits z d limit r from = reply_sized layout z d (keep_longest z limit) limit r bare fits
+reply_fits z d limit r from = reply_sized z d (keep_longest z limit) limit r bare fits
   where
     bare : (h : Header) → length (layout h None []) ≤ limit
     bare h = let small = bare_size in omega (arith, length-layout h None [], small)

@@ -12,7 +12,7 @@ use Rattle.dns_spec.specs.Sets.{rising_types, of_first_type, of_lowest_type}
 use Rattle.dns_spec.specs.Tree.{exists, is_cut, cut_of, source_of_synthesis, found}
 use Rattle.dns_spec.specs.Layout.{Section, answer, authority, additional, Item, records_of}
 use Rattle.dns_spec.specs.Reading.{name_error, no_error}
-use Rattle.dns_spec.specs.Answer.{item, follows_alias, alias_set, first_target, next_sought, chain_from, chain, last_of, last_sought, alias_items, Outcome, asked_records, negative, positive, has_any, outcome_by, outcome_at, outcome, targets, stands, address_set, address_sets, extra, main_items, items}
+use Rattle.dns_spec.specs.Answer.{most_aliases, item, follows_alias, alias_set, first_target, next_sought, chain_from, chain, last_of, last_sought, alias_items, Outcome, asked_records, negative, positive, has_any, outcome_by, outcome_at, outcome, targets, stands, address_set, address_sets, extra, main_items, items}
 use Rattle.dns_spec.specs.Laws.{section_rank, sections_in_order, IsWritable}
 use Rattle.dns_spec.proofs.DomainNames.NameLaws.{is_name-tail, is_name-folded}
 use Rattle.dns_spec.proofs.Records.SortedOnce.{Each, each_filter, each_sort}
@@ -140,9 +140,9 @@ module _ (z : ZoneContents) where
 
   pub chain_named : (q : DomainName) (t : ℕ) → Named q → Each Named (chain z q t)
   unfolding chain
-  chain_named q t h = go (follows_alias t) (chain_from_named 16 [] q h)
+  chain_named q t h = go (follows_alias t) (chain_from_named most_aliases [] q h)
     where
-      go : (b : Bool) → Each Named (chain_from z 16 [] q) → Each Named (cond b (chain_from z 16 [] q) (q ∷ []))
+      go : (b : Bool) → Each Named (chain_from z most_aliases [] q) → Each Named (cond b (chain_from z most_aliases [] q) (q ∷ []))
       go true e = e
       go false e = (h, tt)
 

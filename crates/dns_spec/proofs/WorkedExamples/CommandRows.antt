@@ -1,5 +1,5 @@
 -- Which words ask for what, in the worked cases.
-use Rattle.std.proofs.Common.{◌≡◌, ℕ, Bool, true, false, List, [], ◌∷◌, ◌++◌, length, get_or, codes, decimal, refl, ap, ◌∙◌, arith, lit≤, inl, inr}
+use Rattle.std.proofs.Common.{◌≡◌, ℕ, Bool, true, false, List, [], ◌∷◌, ◌++◌, length, get_or, codes, refl, ap, ◌∙◌, arith, lit≤, inl, inr}
 use Rattle.std.specs.Fmt.{digits}
 use Rattle.dns_spec.specs.Names.{Octets}
 use Rattle.dns_spec.specs.Report.{Options}

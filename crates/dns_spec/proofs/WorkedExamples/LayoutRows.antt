@@ -6,7 +6,8 @@ use Rattle.dns_spec.specs.Names.{wire, labels_from}
 use Rattle.dns_spec.specs.Data.{type_cname, type_srv, cut}
 use Rattle.dns_spec.specs.Records.{ResourceRecord}
 use Rattle.dns_spec.specs.Reading.{Header}
-use Rattle.dns_spec.specs.Layout.{answer, Item, shared_octets, cost, data_laid, record_laid, records_octets, header_octets, layout, data_size, records_size, size}
+use Rattle.dns_spec.specs.Layout.{answer, Item, shared_octets, data_laid, record_laid, records_octets, header_octets, layout}
+use Rattle.dns_spec.specs.LayoutSize.{cost, data_size, records_size, size}
 use Rattle.dns_spec.specs.Sharing.{names_of}
 use Rattle.dns_spec.proofs.WorkedExamples.Zones.{hex, under, entry, in_zone}
 

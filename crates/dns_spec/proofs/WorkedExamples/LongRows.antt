@@ -7,7 +7,8 @@ use Rattle.dns_spec.specs.Names.{Octets, labels_from}
 use Rattle.dns_spec.specs.Data.{type_txt, cut}
 use Rattle.dns_spec.specs.Records.{ResourceRecord, ZoneContents}
 use Rattle.dns_spec.specs.ComputedReading.{run, runs_before, name_at}
-use Rattle.dns_spec.specs.Layout.{Placed, shared_octets, cost, data_laid, records_octets, layout, data_size, records_size, size}
+use Rattle.dns_spec.specs.Layout.{Placed, shared_octets, data_laid, records_octets, layout}
+use Rattle.dns_spec.specs.LayoutSize.{cost, data_size, records_size, size}
 use Rattle.dns_spec.specs.Answer.{chain_from, chain, outcome_at, outcome, extra, items, required_items}
 use Rattle.dns_spec.specs.Reply.{reply_with, reply, octets_of, decide}
 use Rattle.dns_spec.specs.Query.{question_at, query_read}

@@ -9,10 +9,10 @@ use Rattle.dns_spec.specs.Data.{cut}
 use Rattle.dns_spec.specs.DataText.{hex_octets}
 use Rattle.dns_spec.specs.WrittenText.{data_text}
 use Rattle.dns_spec.specs.Report.{Report}
-use Rattle.dns_spec.specs.Reading.{MessageRecord, DnsMessage}
+use Rattle.dns_spec.specs.Reading.{DnsMessage}
 use Rattle.dns_spec.specs.ComputedReading.{run, runs_before, name_at, pieces_at, several, message_at}
 use Rattle.dns_spec.specs.Lines.{lines, line_message}
-use Rattle.dns_spec.specs.MessageLines.{first_of, section_line, message_text, PrintsOctets, PrintsMessage, PrintsInput}
+use Rattle.dns_spec.specs.MessageLines.{section_line, message_text, PrintsMessage, PrintsInput}
 use Rattle.dns_spec.proofs.Messages.MessageReading.{message_at_computes}
 use Rattle.dns_spec.proofs.WorkedExamples.Zones.{hex, under, example, net_192, soa_of}
 

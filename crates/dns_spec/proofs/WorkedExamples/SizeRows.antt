@@ -7,7 +7,7 @@ use Rattle.dns_spec.specs.Data.{cut, type_txt}
 use Rattle.dns_spec.specs.Records.{ZoneContents, zone_of}
 use Rattle.dns_spec.specs.Checks.{Fault, faults}
 use Rattle.dns_spec.specs.Reading.{MessageQuestion}
-use Rattle.dns_spec.specs.Layout.{cost, data_size, records_size, size}
+use Rattle.dns_spec.specs.LayoutSize.{cost, data_size, records_size, size}
 use Rattle.dns_spec.specs.Answer.{chain_from, chain, outcome_at, outcome, extra, items}
 use Rattle.dns_spec.specs.Reply.{keep_longest}
 use Rattle.dns_spec.proofs.WorkedExamples.Zones.{hex, dotted, in_zone, alias, example, small_zone, small_zone_with, large_zone}

@@ -5,7 +5,8 @@ use Rattle.dns_spec.specs.Names.{Octets, labels_from}
 use Rattle.dns_spec.specs.Data.{cut}
 use Rattle.dns_spec.specs.ComputedReading.{run, runs_before, name_at}
 use Rattle.dns_spec.specs.Query.{question_at, query_read}
-use Rattle.dns_spec.specs.Layout.{shared_octets, cost, data_laid, records_octets, layout, data_size, records_size, size}
+use Rattle.dns_spec.specs.Layout.{shared_octets, data_laid, records_octets, layout}
+use Rattle.dns_spec.specs.LayoutSize.{cost, data_size, records_size, size}
 use Rattle.dns_spec.specs.Answer.{chain_from, chain, outcome_at, outcome, extra, items, required_items}
 use Rattle.dns_spec.specs.Reply.{reply_with, reply, octets_of, decide}
 use Rattle.dns_spec.specs.Stream.{frame, first_frame, frames, after_frames, replies}

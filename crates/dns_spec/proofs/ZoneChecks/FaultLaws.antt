@@ -11,7 +11,7 @@ use Rattle.dns_spec.specs.Names.{DomainName, folded, names_equal, same, name_ord
 use Rattle.dns_spec.specs.Data.{type_ns, type_cname, type_soa, type_mx, type_srv, target}
 use Rattle.dns_spec.specs.Records.{ResourceRecord, ZoneContents, at, owns, distinct}
 use Rattle.dns_spec.specs.Tree.{is_cut}
-use Rattle.dns_spec.specs.Checks.{Check, is_origin, is_owner, count, owns_such, has_target, is_address_type, below_cut, lacks_address, checks, fails, Fault, faults_at, checked_names, faults, fault_order}
+use Rattle.dns_spec.specs.Checks.{most_of_a_set, most_sets, Check, is_origin, is_owner, count, owns_such, has_target, is_address_type, below_cut, lacks_address, checks, fails, Fault, faults_at, checked_names, faults, fault_order}
 use Rattle.dns_spec.proofs.Records.SortedOnce.{Each, Among, each_at, Rises, apart_distinct, sort_rises, among_sort, among_distinct, among_filter, filter_among, filter_each, each_filter}
 use Rattle.dns_spec.proofs.Records.RecordOrder.{contains_among, among_contains}
 use Rattle.dns_spec.proofs.ZoneChecks.FaultOrder.{Lower, one_lower, each_lower, name_order_total, name_tie, folded_folded, any_counted}
@@ -127,9 +127,9 @@ each_of_checked z n = (
                         (
                           λ e. inr (owner_if_owns z n type_ns (and_parts _ (owns z n type_ns) e).1),
                           (
-                            λ e. inr (owner_if z n (λ rs. list_any (λ (r : ResourceRecord). nat_lt 64 (count z n r.rtype)) rs) refl e),
+                            λ e. inr (owner_if z n (λ rs. list_any (λ (r : ResourceRecord). nat_lt most_of_a_set (count z n r.rtype)) rs) refl e),
                             (
-                              λ e. inr (owner_if z n (λ rs. nat_lt 32 (length (distinct ◌==◌ (map (λ (r : ResourceRecord). r.rtype) rs)))) refl e),
+                              λ e. inr (owner_if z n (λ rs. nat_lt most_sets (length (distinct ◌==◌ (map (λ (r : ResourceRecord). r.rtype) rs)))) refl e),
                               tt,
                             ),
                           ),

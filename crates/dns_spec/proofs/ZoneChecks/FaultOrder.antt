@@ -15,7 +15,7 @@ use Rattle.dns_spec.specs.Names.{Octets, DomainName, folded, same, names_equal, 
 use Rattle.dns_spec.specs.Data.{type_a, type_ns, type_cname, type_soa, type_mx, type_aaaa, type_srv, target}
 use Rattle.dns_spec.specs.Records.{ResourceRecord, ZoneContents, at, owns, distinct}
 use Rattle.dns_spec.specs.Tree.{is_cut, without_first}
-use Rattle.dns_spec.specs.Checks.{Check, count, has_target, at_or_below_cut, below_cut, has_address, is_address_type, no_soa, many_soa, soa_elsewhere, no_ns, outside, cname_and_other, many_cname, ttls_differ, ns_target_alias, lacks_address, ns_target_lost, mx_target_alias, data_at_cut, first_is_asterisk, wildcard_ns, large_set, many_sets, checks, Fault, faults_at, checked_names, faults}
+use Rattle.dns_spec.specs.Checks.{most_of_a_set, most_sets, Check, count, has_target, at_or_below_cut, below_cut, has_address, is_address_type, no_soa, many_soa, soa_elsewhere, no_ns, outside, cname_and_other, many_cname, ttls_differ, ns_target_alias, lacks_address, ns_target_lost, mx_target_alias, data_at_cut, first_is_asterisk, wildcard_ns, large_set, many_sets, checks, Fault, faults_at, checked_names, faults}
 use Rattle.dns_spec.proofs.DomainNames.NameLaws.{names_equal-decides}
 use Rattle.dns_spec.proofs.Records.SortedOnce.{Each, Among, length-sort_by, same_sorted}
 
@@ -241,11 +241,11 @@ module _ (o : DomainName) (xs ys : List ResourceRecord) (c : SameCounts xs ys) w
 
   large_set_kept : Kept large_set
   large_set_kept n =
-      ap (λ (h : ResourceRecord → Bool). list_any h (at z n)) (λ k r. nat_lt 64 (count_kept n r.rtype k))
-      ∙ any_at n (λ (r : ResourceRecord). nat_lt 64 (count z' n r.rtype))
+      ap (λ (h : ResourceRecord → Bool). list_any h (at z n)) (λ k r. nat_lt most_of_a_set (count_kept n r.rtype k))
+      ∙ any_at n (λ (r : ResourceRecord). nat_lt most_of_a_set (count z' n r.rtype))
 
   many_sets_kept : Kept many_sets
-  many_sets_kept n = ap (nat_lt 32) (same_type_count (at z n) (at z' n) (same_at n))
+  many_sets_kept n = ap (nat_lt most_sets) (same_type_count (at z n) (at z' n) (same_at n))
 
   faults_at_kept : (n : DomainName) → faults_at z n ≡ faults_at z' n
   faults_at_kept n =

@@ -7,9 +7,10 @@ use Rattle.std.specs.List.{prefix_len}
 use Rattle.std.specs.Char.{is_ascii_digit}
 use Rattle.dns_spec.specs.Names.{Octets}
 use Rattle.dns_spec.specs.NameText.{is_printable}
-use Rattle.dns_spec.specs.ZoneText.{Token, blank, comment, word, line_end, is_blank, is_word_octet, is_string_octet, escape_length, unit_left, run_length, word_length, string_length, closed, quoted_front, unquoted_front, line_feed_front, token_front, parenthesis, is_line_end, is_cut_short}
+use Rattle.dns_spec.specs.ZoneText.{Token, blank, comment, word, line_end, is_blank, unit_left, run_length, word_length, string_length, closed, quoted_front, unquoted_front, line_feed_front, token_front, parenthesis, is_line_end, is_cut_short}
+use Rattle.dns_spec.specs.DataText.{is_word_octet, is_string_octet}
 use Rattle.dns_spec.proofs.ZoneTexts.ReadWords.{front_taken}
-use Rattle.dns_spec.proofs.NameTexts.Escapes.{counted_digits, counted_escape, escape-counted}
+use Rattle.dns_spec.proofs.NameTexts.Escapes.{counted_digits, counted_escape, left_by, escape-counted}
 
 first_false : (x y : Bool) → (x || y) ≡ false → x ≡ false
 first_false true y h = h
@@ -56,21 +57,16 @@ counted_more (a ∷ b ∷ []) (c ∷ more) h =
     two_digits (is_ascii_digit a) (is_ascii_digit b) (is_printable a) (is_ascii_digit c) _ h
 counted_more (a ∷ b ∷ c ∷ text) more h = refl
 
-length_more : (text more : Octets) → (escape_length text ≡ 0 → is_cut_short (92 ∷ text) ≡ false)
-    → escape_length (text ++ more) ≡ escape_length text
-length_more text more h =
-    escape-counted (text ++ more) ∙ counted_more text more (λ z. h (escape-counted text ∙ z)) ∙ sym (escape-counted text)
-
-abbrev left_by : ℕ → Option ℕ
-left_by k = if k == 0 then None else Some k
-
 drop_one : (n o : ℕ) (text : Octets) → drop (1 + n) (o ∷ text) ≡ drop n text
 drop_one n o text = let next : 1 + n ≡ suc n = omega arith in ap (λ m. drop m (o ∷ text)) next
 
 module _ (by : ℕ → Bool) where
   escape_more : (text more : Octets) → (unit_left by 92 text ≡ None → is_cut_short (92 ∷ text) ≡ false)
       → unit_left by 92 (text ++ more) ≡ unit_left by 92 text
-  escape_more text more h = ap left_by (length_more text more (λ z. h (ap left_by z)))
+  escape_more text more h =
+      escape-counted (text ++ more)
+      ∙ ap left_by (counted_more text more (λ z. h (escape-counted text ∙ ap left_by z)))
+      ∙ sym (escape-counted text)
 
   unit_more : (o : ℕ) (text more : Octets) → (unit_left by o text ≡ None → is_cut_short (o ∷ text) ≡ false)
       → unit_left by o (text ++ more) ≡ unit_left by o text
@@ -273,7 +269,7 @@ slash_none : (text : Octets) → counted_escape text ≡ 0 → token_front (92 �
 unfolding run_length
 slash_none text none =
     let length : run_length is_word_octet 0 (92 ∷ text) ≡ 0 =
-    ap (λ u. elim u as (λ _. ℕ) [ None ↦ 0 | Some k ↦ 1 + run_length is_word_octet k text ]) (ap left_by (escape-counted text ∙ none)) in
+    ap (λ u. elim u as (λ _. ℕ) [ None ↦ 0 | Some k ↦ 1 + run_length is_word_octet k text ]) (escape-counted text ∙ ap left_by none) in
     ap (λ n. if n == 0 then None else Some (word (take n (92 ∷ text)), drop n (92 ∷ text))) length
 
 at_slash : (o : ℕ) (text : Octets) → (o == 92) ≡ true → counted_escape text ≡ 0 → token_front (o ∷ text) ≡ None

@@ -8,8 +8,10 @@ use mathlib.Core.Bool.{xor}
 use Rattle.dns_spec.specs.Names.{Octets, DomainName}
 use Rattle.dns_spec.specs.Records.{ResourceRecord}
 use Rattle.dns_spec.specs.FileFaults.{FileFault, bad_parenthesis, unended_string, too_long}
-use Rattle.dns_spec.specs.ZoneText.{most_octets, extent_of, Token, token_front, TokensThen, parenthesis, parentheses, is_line_end, open_after, before_first, cut_entries, take_turns, is_open_at_end, is_cut_short, begins_line_end, string_length, is_string_octet, Extent, whole_text, beginning, EntryStop, text_over, in_string, in_token, stop_at, token_fault, string_fault, stop_fault, Entry, ended, unended, with_end}
-use Rattle.dns_spec.specs.Meaning.{faulty, gives, KindGives, kind_of, Meaning, records, fault_at, after, line_after, EntriesMean, OctetsMean, Means}
+use Rattle.dns_spec.specs.ZoneText.{most_octets, extent_of, Token, token_front, TokensThen, parenthesis, parentheses, is_line_end, open_after, before_first, cut_entries, take_turns, is_open_at_end, is_cut_short, begins_line_end, string_length, Extent, whole_text, beginning, EntryStop, text_over, in_string, in_token, stop_at, token_fault, string_fault, stop_fault, Entry, ended, unended, with_end}
+use Rattle.dns_spec.specs.DataText.{is_string_octet}
+use Rattle.dns_spec.specs.Meaning.{faulty, gives, KindGives, kind_of, Meaning, records, fault_at, after, line_after, EntriesMean, Means}
+use Rattle.dns_spec.specs.Laws.{OctetsMean}
 use Rattle.dns_spec.proofs.ZoneTexts.TextTokens.{has_tokens}
 use Rattle.dns_spec.proofs.ZoneTexts.OneMeaning.{FromHere}
 use Rattle.dns_spec.proofs.ZoneTexts.Beginnings.{mark_uncut, Loose, uncut, run_more, dropped_more, stop_place, front_kept, none_kept, cut_none}

@@ -6,7 +6,8 @@ use Rattle.std.specs.List.{list_any}
 use Rattle.std.specs.Char.{is_ascii_graphic, is_ascii_digit}
 use Rattle.dns_spec.specs.Names.{Octets}
 use Rattle.dns_spec.specs.NameText.{three_digits_value, is_printable}
-use Rattle.dns_spec.specs.ZoneText.{most_octets, Token, blank, comment, word, quoted_string, opening, closing, line_end, is_blank, is_word_octet, is_string_octet, escape_length, escape_left, unit_left, run_length, word_length, string_length, closed, quoted_front, unquoted_front, line_feed_front, token_front, TokensThen, is_line_end, open_after, before_first, cut_entries, Entry, with_end, Entries, word_of, entry_words, Extent, extent_of}
+use Rattle.dns_spec.specs.ZoneText.{most_octets, Token, blank, comment, word, quoted_string, opening, closing, line_end, is_blank, escape_left, unit_left, run_length, word_length, string_length, closed, quoted_front, unquoted_front, line_feed_front, token_front, TokensThen, is_line_end, open_after, before_first, cut_entries, Entry, with_end, Entries, word_of, entry_words, Extent, extent_of}
+use Rattle.dns_spec.specs.DataText.{is_word_octet, is_string_octet}
 use Rattle.dns_spec.proofs.Records.SortedOnce.{Each}
 use Rattle.dns_spec.proofs.NameTexts.Escapes.{counted_digits, counted_escape, escape-counted}
 use Rattle.dns_spec.proofs.ZoneTexts.ReadOctets.{Octet, SmallWord}
@@ -51,11 +52,11 @@ escape_small (a ∷ text) = go (is_ascii_digit a) (is_printable a) refl
     go false false e = tt
 
 escape_left_small : (text : Octets) (k : ℕ) → escape_left text ≡ Some k → Each Octet (take k text)
-escape_left_small text k e = go (escape_length text == 0) e
+escape_left_small text k e = go (counted_escape text == 0) (sym (escape-counted text) ∙ e)
   where
-    go : (t : Bool) → cond t None (Some (escape_length text)) ≡ Some k → Each Octet (take k text)
+    go : (t : Bool) → cond t None (Some (counted_escape text)) ≡ Some k → Each Octet (take k text)
     go true e = absurd (none-some k e)
-    go false e = subst (λ n. Each Octet (take n text)) (sym (escape-counted text) ∙ same_Some (escape_length text) k e) (escape_small text)
+    go false e = subst (λ n. Each Octet (take n text)) (same_Some (counted_escape text) k e) (escape_small text)
 
 unit_small : (p : ℕ → Bool) → ((o : ℕ) → p o ≡ true → Octet o) → (o : ℕ) (text : Octets) (k : ℕ) → unit_left p o text ≡ Some k → Octet o × Each Octet (take k text)
 unit_small p small o text k e = go (o == 92) (p o) refl refl e

@@ -6,15 +6,15 @@ use Rattle.std.specs.Prelude.{if◌then◌else◌}
 use Rattle.std.specs.List.{prefix_len}
 use Rattle.std.specs.Char.{is_ascii_graphic}
 use Rattle.dns_spec.specs.Names.{Octets}
-use Rattle.dns_spec.specs.DataText.{Word}
-use Rattle.dns_spec.specs.WrittenText.{word_text, is_unbroken, is_bare, stands_alone}
-use Rattle.dns_spec.specs.ZoneText.{Token, blank, word, quoted_string, is_blank, is_word_octet, is_string_octet, run_length, word_length, string_length, closed, unquoted_front, token_front}
+use Rattle.dns_spec.specs.DataText.{Word, is_word_octet, is_string_octet}
+use Rattle.dns_spec.specs.WrittenText.{word_text, is_unbroken, stands_alone}
+use Rattle.dns_spec.specs.ZoneText.{Token, blank, word, quoted_string, is_blank, run_length, word_length, string_length, closed, unquoted_front, token_front}
 use Rattle.dns_spec.proofs.DataWords.WordRuns.{Runs}
 use Rattle.dns_spec.proofs.DataWords.StandingWords.{TakenWhole}
 
 -- octets that a word out of quotation marks may begin with
 abbrev begins_word : ℕ → Bool
-begins_word o = o == 92 || is_bare o
+begins_word o = o == 92 || is_word_octet o
 
 apart : (o k : ℕ) → begins_word o ≡ true → begins_word k ≡ false → (o == k) ≡ false
 apart o k begins none = elim (cases_Bool (o == k)) [
@@ -36,20 +36,20 @@ front_taken n text e = ap (λ k. if k == 0 then None else Some (word (take k tex
 abbrev pub word_token : Word → Token
 word_token w = if w.is_quoted then quoted_string w.raw else word w.raw
 
-first_begins : (o : ℕ) (raw : Octets) → is_unbroken is_bare (o ∷ raw) ≡ true → begins_word o ≡ true
+first_begins : (o : ℕ) (raw : Octets) → is_unbroken is_word_octet (o ∷ raw) ≡ true → begins_word o ≡ true
 first_begins o [] h = go (o == 92) h
   where
-    go : (slash : Bool) → is_bare o ≡ true → (slash || is_bare o) ≡ true
+    go : (slash : Bool) → is_word_octet o ≡ true → (slash || is_word_octet o) ≡ true
     go true h = refl
     go false h = h
 first_begins o (d ∷ raw) h = go (o == 92) h
   where
-    go : (slash : Bool) → elim slash as (λ _. Bool) [ true ↦ is_ascii_graphic d && is_unbroken is_bare raw | false ↦ is_bare o && is_unbroken is_bare (d ∷ raw) ] ≡ true
-        → (slash || is_bare o) ≡ true
+    go : (slash : Bool) → elim slash as (λ _. Bool) [ true ↦ is_ascii_graphic d && is_unbroken is_word_octet raw | false ↦ is_word_octet o && is_unbroken is_word_octet (d ∷ raw) ] ≡ true
+        → (slash || is_word_octet o) ≡ true
     go true h = refl
-    go false h = (and_parts (is_bare o) _ h).0
+    go false h = (and_parts (is_word_octet o) _ h).0
 
-bare_read : (raw : Octets) (c : ℕ) (rest : Octets) → nat_lt 0 (length raw) ≡ true → is_unbroken is_bare raw ≡ true → Runs is_word_octet raw
+bare_read : (raw : Octets) (c : ℕ) (rest : Octets) → nat_lt 0 (length raw) ≡ true → is_unbroken is_word_octet raw ≡ true → Runs is_word_octet raw
     → word_length (c ∷ rest) ≡ 0 → token_front (raw ++ c ∷ rest) ≡ Some (word raw, c ∷ rest)
 bare_read [] c rest some unbroken whole ends = absurd (false≢true some)
 bare_read (o ∷ raw) c rest some unbroken whole ends =
@@ -92,7 +92,7 @@ no_blank w rest alone = begin w.raw w.is_quoted alone
     begin raw true alone = refl
     begin [] false alone = absurd (false≢true alone)
     begin (o ∷ raw) false alone =
-        let unbroken = (and_parts (nat_lt 0 (length (o ∷ raw))) (is_unbroken is_bare (o ∷ raw)) alone).1 in
+        let unbroken = (and_parts (nat_lt 0 (length (o ∷ raw))) (is_unbroken is_word_octet (o ∷ raw)) alone).1 in
         let begins = (first_begins o raw unbroken) in
         rw (apart o 32 begins refl, apart o 9 begins refl) refl
 

@@ -12,7 +12,8 @@ use Rattle.dns_spec.specs.DataText.{Word}
 use Rattle.dns_spec.specs.Records.{ResourceRecord}
 use Rattle.dns_spec.specs.FileFaults.{FileFault, unknown_directive, directive_words, bad_owner, no_owner, bad_ttl}
 use Rattle.dns_spec.specs.ZoneText.{most_octets, Extent, extent_of, Entry, with_end, cut_entries, lexical_fault}
-use Rattle.dns_spec.specs.Meaning.{EntryMeaning, faulty, gives, Nothing, Lowest, EntryKind, no_words, directive, owned, unowned, kind_of, nearest, directive_word, ttl_word, NameIs, OwnerBefore, TtlSays, ttl_in_force, IsRecord, Fields, fields, IsNoTtl, record_faults, RecordGives, OneWord, DirectiveSays, DirectiveGives, KindGives, EntryGives, Meaning, records, fault_at, after, line_after, EntriesMean, OctetsMean, Means}
+use Rattle.dns_spec.specs.Meaning.{EntryMeaning, faulty, gives, Nothing, Lowest, EntryKind, no_words, directive, owned, unowned, kind_of, nearest, directive_word, ttl_word, NameIs, OwnerBefore, TtlSays, ttl_in_force, IsRecord, Fields, fields, IsNoTtl, record_faults, RecordGives, OneWord, DirectiveSays, DirectiveGives, KindGives, EntryGives, Meaning, records, fault_at, after, line_after, EntriesMean, Means}
+use Rattle.dns_spec.specs.Laws.{OctetsMean}
 use Rattle.dns_spec.proofs.ZoneTexts.TextTokens.{has_tokens}
 use Rattle.dns_spec.proofs.DomainNames.NameLaws.{octets_equal-decides}
 

@@ -3,7 +3,7 @@ use Rattle.std.proofs.Math.Seq.{take-add}
 use Rattle.std.proofs.lemmas.List.{drop-drop}
 use Rattle.std.proofs.lemmas.List.Folds.{list_all-append}
 use Rattle.std.specs.List.{list_all}
-use Rattle.dns_spec.specs.ZoneText.{is_string_octet}
+use Rattle.dns_spec.specs.DataText.{is_string_octet}
 use Rattle.dns_master.proofs.run.plain_groups.Goals as goal
 
 pub groups-preserved : goal.groups-preserved

@@ -1,5 +1,5 @@
 use Rattle.std.proofs.Common.{rules, ◌≡◌, ◌+◌, drop, ap, ◌∙◌, arith}
-use Rattle.dns_spec.specs.ZoneText.{is_string_octet}
+use Rattle.dns_spec.specs.DataText.{is_string_octet}
 use Rattle.dns_master.specs.TokenForm.{by_itself, plain_length}
 use Rattle.dns_master.specs.declared.run.Run.{Run}
 use Rattle.dns_master.specs.declared.run.Run.TheVariants.{String}

@@ -1,7 +1,7 @@
 use Rattle.std.proofs.Common.{◌≤◌, length, arith, ◌∙◌}
 use Rattle.dns_spec.specs.Names.{Octets}
 use Rattle.dns_spec.specs.Data.{Valid, type_soa}
-use Rattle.dns_rdata.proofs.BigNumbers.{four_long, last_number}
+use Rattle.dns_rdata.proofs.BigNumbers.{four_long, number_in_last}
 use Rattle.dns_rdata.proofs.SoaData.{soa-long}
 use Rattle.dns_rdata.proofs.rdata.Rdata.soa_minimum.Goals as goal
 
@@ -15,4 +15,4 @@ pub read_u32-requires : goal.read_u32-requires
 read_u32-requires c = four_long c.args.octets.now 4 (omega arith) (four_there c.args.octets.now c.requires)
 
 pub returns : goal.returns
-returns c = c.read_u32.ensures ∙ last_number c.args.octets.now (four_there c.args.octets.now c.requires)
+returns c = c.read_u32.ensures ∙ number_in_last c.args.octets.now 4 (omega arith) (four_there c.args.octets.now c.requires)

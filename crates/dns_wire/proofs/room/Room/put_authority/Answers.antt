@@ -1,7 +1,8 @@
 use Rattle.std.proofs.Common.{◌+◌, ◌<◌, ◌∙◌, sym, ap, subst, false, length, ◌++◌, ◌∷◌, [], lt_of_not-le}
 use Rattle.std.proofs.lemmas.Bool.{false≢true}
 use Rattle.dns_spec.specs.Data.{octets, name}
-use Rattle.dns_spec.specs.Layout.{cost, data_laid}
+use Rattle.dns_spec.specs.Layout.{data_laid}
+use Rattle.dns_spec.specs.LayoutSize.{cost}
 use Rattle.dns_name.specs.WireForm.{labels_of}
 use Rattle.dns_wire.specs.Rooms.{known_in}
 use Rattle.dns_wire.specs.Writing.{Holds, IsWritten}

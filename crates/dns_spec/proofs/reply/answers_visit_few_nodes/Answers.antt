@@ -1,5 +1,5 @@
 use Rattle.dns_spec.proofs.Replies.FewItems.{few_nodes}
-use Rattle.dns_spec.proofs.reply.answers_visit_at_most_128_nodes_a_name.Goals as goal
+use Rattle.dns_spec.proofs.reply.answers_visit_few_nodes.Goals as goal
 
 pub returns : goal.returns
 returns c = few_nodes

@@ -1,5 +1,5 @@
 use Rattle.dns_spec.proofs.Replies.ChainLength.{chain_short}
-use Rattle.dns_spec.proofs.reply.chains_have_at_most_17_names.Goals as goal
+use Rattle.dns_spec.proofs.reply.chains_have_few_names.Goals as goal
 
 pub returns : goal.returns
 returns c = chain_short

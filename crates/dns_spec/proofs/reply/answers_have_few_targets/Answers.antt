@@ -1,5 +1,5 @@
 use Rattle.dns_spec.proofs.Replies.FewItems.{few_targets}
-use Rattle.dns_spec.proofs.reply.answers_have_at_most_64_targets.Goals as goal
+use Rattle.dns_spec.proofs.reply.answers_have_few_targets.Goals as goal
 
 pub returns : goal.returns
 returns c = few_targets

@@ -1,5 +1,5 @@
 use Rattle.dns_spec.proofs.Replies.FirstOctets.{first_octets_answer}
-use Rattle.dns_spec.proofs.reply.first_512_octets_give_the_octets.Goals as goal
+use Rattle.dns_spec.proofs.reply.first_octets_give_the_octets.Goals as goal
 
 pub returns : goal.returns
 returns c = first_octets_answer
