@@ -11,7 +11,7 @@ use Rattle.dns_zone.specs.Nodes.{IsNode}
 use Rattle.dns_zone.specs.NodeForm.{zone_of_tree, IsNodeAt}
 use Rattle.dns_zone.specs.TreeForm.{first_of, row_name, row_label, row_at, kids_at, IsRow, IsKid, AreKids}
 use Rattle.dns_zone.specs.declared.row.Row.{Row}
-use Rattle.dns_zone.specs.declared.tree.LentTree.{LentTree}
+use Rattle.dns_zone.specs.declared.tree.Tree.{Tree}
 use Rattle.dns_zone.proofs.Pairs.{each_get}
 use Rattle.dns_zone.proofs.Spans.{in_span, any_there, get_or_any}
 use Rattle.dns_zone.proofs.KidRows.{is_under}
@@ -31,12 +31,12 @@ row_exists rs row n h =
     (contains_among (get_or rs row.first d) rs
     (row.first, h.some, get_or_any rs row.first (get_or rs row.first d) d h.some)) here
 
-module _ (t : LentTree) (k : ℕ) (at : IsNodeAt t k) where
+module _ (t : Tree) (k : ℕ) (at : IsNodeAt t k) where
   abbrev rs : List ResourceRecord
-  rs = t.records.now
+  rs = t.records
 
   abbrev row : Row
-  row = row_at t.rows.now k
+  row = row_at t.rows k
 
   abbrev name : DomainName
   name = row_name rs row
@@ -52,13 +52,13 @@ module _ (t : LentTree) (k : ℕ) (at : IsNodeAt t k) where
   }
 
   abbrev start : ℕ
-  start = get_or t.bounds.now k 0
+  start = get_or t.bounds k 0
 
   abbrev end : ℕ
-  end = get_or t.bounds.now (k + 1) 0
+  end = get_or t.bounds (k + 1) 0
 
   abbrev kids : List Row
-  kids = kids_at t.rows.now t.bounds.now k
+  kids = kids_at t.rows t.bounds k
 
   pub are_kids : AreKids rs name kids
   are_kids = at.kept.tree.kids k at.row
@@ -71,15 +71,15 @@ module _ (t : LentTree) (k : ℕ) (at : IsNodeAt t k) where
   -- a child by its place among the children
   module _ (i : ℕ) (fits : i < length kids) where
     size : length kids ≤ end - start
-    size = omega (arith, length-take (end - start) (drop start t.rows.now))
+    size = omega (arith, length-take (end - start) (drop start t.rows))
 
-    pub row_of_kid : row_at t.rows.now (start + i) ≡ row_at kids i
+    pub row_of_kid : row_at t.rows (start + i) ≡ row_at kids i
     row_of_kid =
         let s = size in
-        sym (get_or-take (end - start) (drop start t.rows.now) i _ (omega arith)
-        ∙ get_or-drop start t.rows.now i _)
+        sym (get_or-take (end - start) (drop start t.rows) i _ (omega arith)
+        ∙ get_or-drop start t.rows i _)
 
-    pub kid_in : start + i < length t.rows.now
+    pub kid_in : start + i < length t.rows
     kid_in =
         let s = size in
         let r = at.kept.tree.rise k at.row in
@@ -89,7 +89,7 @@ module _ (t : LentTree) (k : ℕ) (at : IsNodeAt t k) where
     the_kid : IsKid rs name (row_at kids i)
     the_kid = each_get (IsKid rs name) kids i _ are_kids.each fits
 
-    pub kid_name : row_name rs (row_at t.rows.now (start + i))
+    pub kid_name : row_name rs (row_at t.rows (start + i))
         ≡ row_label rs (row_at kids i) ∷ name
     kid_name =
         let whole = row_is rs (row_at kids i) (the_kid.label ∷ name) the_kid.is_row in

@@ -8,6 +8,7 @@ mod cuts;
 mod entry;
 mod fault;
 mod faults;
+mod kept;
 mod key;
 mod keyed;
 mod label_key;

@@ -7,7 +7,7 @@ ghost use Rattle.dns_spec.specs.Records.{ResourceRecord, at, rrset};
 ghost use Rattle.dns_spec.specs.Sets.{set_of, of_lowest_type};
 ghost use Rattle.dns_spec.specs.Tree.{exists};
 ghost use Rattle.dns_zone.specs.Nodes.{IsNode, IsSetOf};
-ghost use Rattle.dns_zone.specs.NodeForm.{zone_of_tree, IsLentTree, IsNodeAt};
+ghost use Rattle.dns_zone.specs.NodeForm.{zone_of_tree, IsZoneTree, IsNodeAt};
 ghost use Rattle.dns_zone.specs.TreeForm.{kids_at};
 
 use crate::entry::Entry;
@@ -16,7 +16,7 @@ use crate::row::{Row, RowNumber};
 use crate::search::find;
 use crate::set::{RecordSet, lent_set};
 use crate::steps::Steps;
-use crate::tree::LentTree;
+use crate::tree::Tree;
 use dns_name::{Label, NameRef};
 use dns_rdata::RType;
 use std::marker::Model;
@@ -26,7 +26,7 @@ use std::marker::Model;
 /// It is lent out of the zone, as are its sets. A node is had from a walk alone, which counts it.
 #[derive(Drop)]
 pub struct Node<'z> {
-    tree: LentTree<'z>,
+    tree: &'z Tree,
     row: RowNumber,
 }
 
@@ -37,23 +37,20 @@ impl<'z> Model for Node<'z> {
 
     ghost use Rattle.dns_zone.specs.NodeForm.{node_at, IsNodeAt};
 
-    ghost view = { λ n. node_at n.tree n.row.0 };
+    ghost view = { λ n. node_at n.tree.now n.row.0 };
 
-    ghost invariant = { λ n. IsNodeAt n.tree n.row.0 };
+    ghost invariant = { λ n. IsNodeAt n.tree.now n.row.0 };
 }
 
 impl<'z> Node<'z> {
     // The node of the zone's origin.
-    pub(crate) fn of_origin(tree: &LentTree<'z>) -> Node<'z>
-        requires { IsLentTree tree.now }
-        ensures node { result ≡ record {
-          zone = zone_of_tree tree.now;
-          name = tree.now.origin.now;
-        } }
-        ensures exists { IsNode (zone_of_tree tree.now) tree.now.origin.now }
+    pub(crate) fn of_origin(tree: &'z Tree) -> Node<'z>
+        requires { IsZoneTree tree.now }
+        ensures node { result ≡ record { zone = zone_of_tree tree.now; name = tree.now.origin } }
+        ensures exists { IsNode (zone_of_tree tree.now) tree.now.origin }
     {
         Node {
-            tree: *tree,
+            tree,
             row: RowNumber(0),
         }
     }
@@ -83,8 +80,8 @@ impl<'z> Node<'z> {
         ensures compared { IfSome result (λ _. steps.old.comparisons < steps.new.comparisons) }
         ensures same_zone { steps.new.zone ≡ steps.old.zone }
     {
-        let (start, kids) = kids_of(&self.tree, self.row);
-        let found = find(self.tree.records, kids, label.octets(), steps)?;
+        let (start, kids) = kids_of(self.tree, self.row);
+        let found = find(self.tree.records.lent(), kids, label.octets(), steps)?;
         steps.count_visit();
         Some(Node {
             tree: self.tree,
@@ -128,18 +125,19 @@ impl<'z> Node<'z> {
         ensures by_types { IsNonDecreasingBy (λ (r : ResourceRecord). r.rtype) result.now }
         ensures node { IsNode self.now.zone self.now.name }
     {
-        let row = &self.tree.rows[self.row.0];
-        &self.tree.records[row.first as usize..row.own_end as usize]
+        let row = &self.tree.rows.lent()[self.row.0];
+        &self.tree.records.lent()[row.first as usize..row.own_end as usize]
     }
 }
 
 // The number of the first child of a row, and its children.
-fn kids_of<'z>(tree: &LentTree<'z>, row: RowNumber) -> (usize, &'z [Row])
+fn kids_of<'z>(tree: &'z Tree, row: RowNumber) -> (usize, &'z [Row])
     requires { IsNodeAt tree.now row.0 }
-    ensures start { result.0 ≡ get_or tree.now.bounds.now row.0 0 }
-    ensures kids { result.1.now ≡ kids_at tree.now.rows.now tree.now.bounds.now row.0 }
+    ensures start { result.0 ≡ get_or tree.now.bounds row.0 0 }
+    ensures fits { result.0 + length result.1.now ≤ 18446744073709551615 }
+    ensures kids { result.1.now ≡ kids_at tree.now.rows tree.now.bounds row.0 }
 {
-    let start = tree.bounds[row.0];
-    let end = tree.bounds[row.0 + 1];
-    (start, &tree.rows[start..end])
+    let bounds = tree.bounds.lent();
+    let start = bounds[row.0];
+    (start, &tree.rows.lent()[start..bounds[row.0 + 1]])
 }

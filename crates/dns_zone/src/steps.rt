@@ -5,7 +5,7 @@ ghost use Rattle.dns_zone.specs.Nodes.{IsNode};
 ghost use Rattle.dns_zone.specs.ZoneForm.{IsBuilt};
 
 use crate::node::Node;
-use crate::tree::LentTree;
+use crate::tree::Tree;
 use crate::zone::Zone;
 use dns_name::Name;
 use std::marker::Model;
@@ -16,24 +16,24 @@ use std::marker::Model;
 /// zone nor another walk is had from it: who is lent one is counted.
 #[derive(Drop)]
 pub struct Steps<'z> {
-    tree: LentTree<'z>,
+    tree: &'z Tree,
     visits: u32,
     comparisons: u32,
 }
 
 impl<'z> Model for Steps<'z> {
     ghost use Rattle.dns_zone.specs.Nodes.{Walk};
-    ghost use Rattle.dns_zone.specs.NodeForm.{zone_of_tree, IsLentTree};
+    ghost use Rattle.dns_zone.specs.NodeForm.{zone_of_tree, IsZoneTree};
 
     ghost Value = { Walk };
 
     ghost view = { λ s. record {
-      zone = zone_of_tree s.tree;
+      zone = zone_of_tree s.tree.now;
       visits = s.visits;
       comparisons = s.comparisons;
     } };
 
-    ghost invariant = { λ s. IsLentTree s.tree };
+    ghost invariant = { λ s. IsZoneTree s.tree.now };
 }
 
 impl<'z> Steps<'z> {
@@ -42,7 +42,7 @@ impl<'z> Steps<'z> {
         ensures { result ≡ record { zone = zone.now; visits = 0; comparisons = 0 } }
     {
         Steps {
-            tree: zone.lent(),
+            tree: zone.tree(),
             visits: 0,
             comparisons: 0,
         }
@@ -70,7 +70,7 @@ impl<'z> Steps<'z> {
         ensures lower { folded self.now.zone.origin ≡ self.now.zone.origin }
         ensures built { IsBuilt self.now.zone }
     {
-        self.tree.origin
+        &self.tree.origin
     }
 
     /// The node of the origin. It is counted.
@@ -85,7 +85,7 @@ impl<'z> Steps<'z> {
         ensures zone { self.new.zone ≡ self.old.zone }
     {
         self.count_visit();
-        Node::of_origin(&self.tree)
+        Node::of_origin(self.tree)
     }
 
     // Counts a node that is handed out.

@@ -10,6 +10,7 @@ ghost use Rattle.dns_zone.specs.TreeForm.{owners, row_octets, row_name, row_at, 
 ghost use Rattle.dns_zone.specs.TreeSteps.{IsChildOf, IsNext, IsKidAt, AddsKids};
 
 use crate::entry::Entry;
+use crate::kept::Kept;
 use crate::label_key::{first_octets, label_key};
 use crate::lookup::{count_at, count_under};
 use crate::row::Row;
@@ -20,25 +21,16 @@ use std::alloc::{AllocError, Global};
 #[derive(Drop)]
 pub(crate) struct Tree {
     pub(crate) origin: Name,
-    pub(crate) records: Vec<Entry>,
-    pub(crate) rows: Vec<Row>,
-    pub(crate) bounds: Vec<usize>,
-}
-
-/// A tree that is lent, from which no allocator is reached.
-#[derive(Clone, Copy)]
-pub(crate) struct LentTree<'z> {
-    pub(crate) origin: &'z Name,
-    pub(crate) records: &'z [Entry],
-    pub(crate) rows: &'z [Row],
-    pub(crate) bounds: &'z [usize],
+    pub(crate) records: Kept<Entry>,
+    pub(crate) rows: Kept<Row>,
+    pub(crate) bounds: Kept<usize>,
 }
 
 /// Rows, and for each row the number of its first child; the children of the next row follow.
 #[derive(Drop)]
 pub(crate) struct Rows {
-    pub(crate) rows: Vec<Row>,
-    pub(crate) bounds: Vec<usize>,
+    pub(crate) rows: Kept<Row>,
+    pub(crate) bounds: Kept<usize>,
 }
 
 /// The rows of all names of a zone. Memory is taken for 28 octets for each name.
@@ -48,7 +40,7 @@ pub(crate) fn rows_of(
     records: &[Entry],
 ) -> Result<Rows, AllocError>
     requires { IsBuilt (record { origin = origin.now; records = records.now }) }
-    ensures { IfOk result (λ t. IsTree origin.now records.now t.rows.items t.bounds.items) }
+    ensures { IfOk result (λ t. IsTree origin.now records.now t.rows t.bounds) }
 {
     let mut rows = Vec::new(alloc);
     let mut bounds = Vec::new(alloc);
@@ -61,7 +53,10 @@ pub(crate) fn rows_of(
         add_kids(records, number, &mut rows)?;
         bounds.push(rows.len())?;
     }
-    Ok(Rows { rows, bounds })
+    Ok(Rows {
+        rows: Kept::new(rows),
+        bounds: Kept::new(bounds),
+    })
 }
 
 // The row of the origin: all records of a zone are at or below it, and the first is its own.

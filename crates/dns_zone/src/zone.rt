@@ -8,14 +8,15 @@ ghost use Rattle.dns_spec.specs.Checks.{faults};
 ghost use Rattle.dns_spec.specs.Meaning.{most_records};
 ghost use Rattle.dns_spec.specs.ZonePrinted.{is_soa};
 ghost use Rattle.dns_zone.specs.ZoneForm.{IsBuilt, ReportsFaults};
-ghost use Rattle.dns_zone.specs.NodeForm.{zone_of_tree, IsLentTree};
+ghost use Rattle.dns_zone.specs.NodeForm.{zone_of_tree, IsZoneTree};
 
 use crate::entry::Entry;
 use crate::fault::BuildFault;
 use crate::faults::faults;
+use crate::kept::Kept;
 use crate::ordered::ordered;
 use crate::store::Store;
-use crate::tree::{LentTree, Rows, Tree, rows_of};
+use crate::tree::{Rows, Tree, rows_of};
 use dns_master::Record;
 use dns_name::{Name, NameRef};
 use dns_rdata::{RType, Rdata};
@@ -34,13 +35,11 @@ impl Model for Zone {
 
     ghost Value = { ZoneContents };
 
-    ghost use Rattle.dns_zone.specs.NodeForm.{IsZoneTree};
+    ghost use Rattle.dns_zone.specs.NodeForm.{zone_of_tree, IsZoneTree};
 
-    ghost view = { λ z. record { origin = z.tree.origin; records = z.tree.records.items } };
+    ghost view = { λ z. zone_of_tree z.tree };
 
-    ghost invariant = { λ z. IsZoneTree
-        (record { origin = z.tree.origin; records = z.tree.records.items })
-        z.tree.rows.items z.tree.bounds.items };
+    ghost invariant = { λ z. IsZoneTree z.tree };
 }
 
 impl Zone {
@@ -86,7 +85,7 @@ impl Zone {
         Ok(Zone {
             tree: Tree {
                 origin,
-                records,
+                records: Kept::new(records),
                 rows,
                 bounds,
             },
@@ -106,20 +105,15 @@ impl Zone {
     pub fn serial(&self) -> u32
         ensures { result ≡ zone_serial self.now }
     {
-        serial_at(&self.tree.origin.lent(), self.tree.records.as_slice())
+        serial_at(&self.tree.origin.lent(), self.tree.records.lent())
     }
 
     // Its names.
-    pub(crate) fn lent(&self) -> LentTree<'_>
-        ensures zone { zone_of_tree result ≡ self.now }
-        ensures tree { IsLentTree result }
+    pub(crate) fn tree(&self) -> &Tree
+        ensures zone { zone_of_tree result.now ≡ self.now }
+        ensures tree { IsZoneTree result.now }
     {
-        LentTree {
-            origin: &self.tree.origin,
-            records: self.tree.records.as_slice(),
-            rows: self.tree.rows.as_slice(),
-            bounds: self.tree.bounds.as_slice(),
-        }
+        &self.tree
     }
 
     // Its records, in canonical order.
@@ -127,7 +121,7 @@ impl Zone {
         ensures records { result.now ≡ self.now.records }
         ensures built { IsBuilt self.now }
     {
-        self.tree.records.as_slice()
+        self.tree.records.lent()
     }
 }
 

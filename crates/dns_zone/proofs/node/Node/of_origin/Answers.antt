@@ -13,7 +13,7 @@ pub returns-clause-node : goal.returns-clause-node
 returns-clause-node c =
     let t = c.args.tree.now in
     ap (λ (n : DomainName). record { zone = zone_of_tree t; name = n })
-    (row_is t.records.now (row_at t.rows.now 0) t.origin.now c.requires.tree.origin)
+    (row_is t.records (row_at t.rows 0) t.origin c.requires.tree.origin)
 
 pub returns-clause-exists : goal.returns-clause-exists
 returns-clause-exists c = origin-node (zone_of_tree c.args.tree.now) c.requires.built

@@ -1,7 +1,9 @@
-use Rattle.std.proofs.Common.{sym, ap, ◌∙◌, subst}
+use Rattle.std.proofs.Common.{List, sym, ap, ap₂, ◌∙◌, subst}
 use Rattle.std.specs.List.Sorted.{IsNonDecreasingBy}
 use Rattle.dns_spec.specs.Records.{ResourceRecord, at}
 use Rattle.dns_zone.specs.Nodes.{ZoneNode, IsNode}
+use Rattle.dns_zone.specs.TreeForm.{span, row_at}
+use Rattle.dns_zone.specs.declared.row.Row.{Row}
 use Rattle.dns_zone.proofs.OwnRecords.{own_types}
 use Rattle.dns_zone.proofs.NodeRows.{is_row, node_is}
 use Rattle.dns_zone.proofs.node.Node.own.Goals as goal
@@ -9,11 +11,14 @@ use Rattle.dns_zone.proofs.node.Node.own.Goals as goal
 pub returns-clause-node : goal.returns-clause-node
 returns-clause-node c =
     subst (λ (v : ZoneNode). IsNode v.zone v.name) c.self.view_is
-    (node_is c.self.inside.tree c.self.inside.row.0 c.self.invariant)
+    (node_is c.self.inside.tree.now c.self.inside.row.0 c.self.invariant)
 
 pub returns-clause-own : goal.returns-clause-own
 returns-clause-own c =
-    (is_row c.self.inside.tree c.self.inside.row.0 c.self.invariant).own
+    let k = c.self.inside.row.0 in
+    ap₂ (λ (rows : List Row) (rs : List ResourceRecord).
+    span rs (row_at rows k).first (row_at rows k).own_end) c.lent.ensures c.lent-2.ensures
+    ∙ (is_row c.self.inside.tree.now k c.self.invariant).own
     ∙ ap (λ (v : ZoneNode). at v.zone v.name) c.self.view_is
 
 pub returns-clause-by_types : goal.returns-clause-by_types

@@ -57,13 +57,14 @@ invariant_of-result c =
     c.in_ok-records.ensures.in_order c.in_ok-records.ensures.each
     in
     record {
-      built = kept;
+      built = subst (λ (xs : List ResourceRecord). IsBuilt
+          (record { origin = c.fold-origin.result; records = xs })) (sym c.new.ensures) kept;
       tree =
           subst (λ (xs : List ResourceRecord). IsTree c.fold-origin.result xs
-          c.in_ok-rows.field-0.rows.items c.in_ok-rows.field-0.bounds.items)
-          c.as_slice-2.ensures.value
+          c.in_ok-rows.field-0.rows c.in_ok-rows.field-0.bounds)
+          (c.as_slice-2.ensures.value ∙ sym c.new.ensures)
           (subst (λ (o : DomainName). IsTree o c.as_slice-2.result.now
-          c.in_ok-rows.field-0.rows.items c.in_ok-rows.field-0.bounds.items)
+          c.in_ok-rows.field-0.rows c.in_ok-rows.field-0.bounds)
           c.lent-3.ensures.value c.in_ok-rows.ensures);
     }
 

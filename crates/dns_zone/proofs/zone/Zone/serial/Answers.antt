@@ -7,8 +7,8 @@ use Rattle.dns_zone.proofs.zone.Zone.serial.Goals as goal
 pub returns : goal.returns
 returns c =
     let at_origin =
-    c.serial_at.ensures ∙ ap (λ (o : DomainName). first_serial (soas_at o c.as_slice.result.now)) c.lent.ensures.value
-    ∙ ap (λ xs. first_serial (soas_at c.self.inside.tree.origin xs)) c.as_slice.ensures.value in
+    c.serial_at.ensures ∙ ap (λ (o : DomainName). first_serial (soas_at o c.lent-2.result.now)) c.lent.ensures.value
+    ∙ ap (λ xs. first_serial (soas_at c.self.inside.tree.origin xs)) c.lent-2.ensures in
     subst (λ (z : ZoneContents). c.serial_at.result ≡ zone_serial z) c.self.view_is
     (serial_is _ c.serial_at.result c.self.invariant.built
     at_origin)

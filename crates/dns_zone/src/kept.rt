@@ -1,0 +1,34 @@
+//! Lists that a zone keeps.
+ghost use Rattle.std.specs.Prelude.{◌≡◌};
+
+use std::marker::Model;
+
+/// A list that is lent, and nothing else: neither its memory nor an allocator is reached from it.
+#[derive(Drop)]
+pub(crate) struct Kept<T> {
+    items: Vec<T>,
+}
+
+impl<T> Model for Kept<T> {
+    ghost use Rattle.std.specs.Prelude.{List};
+
+    ghost Value = { List T };
+
+    ghost view = { λ k. k.items.items };
+}
+
+impl<T> Kept<T> {
+    /// Keeps the list.
+    pub(crate) fn new(items: Vec<T>) -> Kept<T>
+        ensures { result ≡ items.items }
+    {
+        Kept { items }
+    }
+
+    /// The list.
+    pub(crate) fn lent(&self) -> &[T]
+        ensures { result.now ≡ self.now }
+    {
+        self.items.as_slice()
+    }
+}
