@@ -1,14 +1,14 @@
 -- Data and records are written part by part: what is written and what is to come are the whole.
 use Rattle.std.proofs.Common.{◌≡◌, ◌↔◌, ℕ, ◌+◌, ◌<◌, ◌≤◌, Bool, true, false, List, [], ◌∷◌, ◌++◌, length, refl, sym, ap, ap₂, ◌∙◌, subst, arith, append_assoc, append-nil, length-append}
 use Rattle.std.proofs.lemmas.Bool.{false≢true}
-use Rattle.std.specs.Bool.{OnTrue, OnFalse}
+use Rattle.std.specs.Bool.{OnTrue}
 use Rattle.dns_spec.specs.Names.{Octets, DomainName}
 use Rattle.dns_spec.specs.Data.{class_in, Part, octets, name, laid_parts}
 use Rattle.dns_spec.specs.Layout.{Placed, Laid, laid_front, octets16, octets32, shared_octets, data_laid, record_laid, record_tail}
 use Rattle.dns_spec.specs.LayoutSize.{cost}
 use Rattle.dns_spec.proofs.Layouts.LayoutSize.{length-shared_octets, length-record_tail}
 use Rattle.dns_wire.specs.Kept.{Kept}
-use Rattle.dns_wire.specs.Writing.{Holds, IsWritten, Extends, shown, tail_laid}
+use Rattle.dns_wire.specs.Writing.{Holds, IsWritten, shown, tail_laid}
 use Rattle.dns_wire.proofs.NameWritten.{holds_octets}
 
 -- data after octets, and after a name
@@ -75,10 +75,6 @@ octets_written {head} {limit} {ms} {b} {b'} {ks} {ks'} o fits holds exactly writ
     go true e =
         subst (λ x. Holds head x b' ks') (sym (append-nil ms))
         (subst (λ x. Holds head ms b' x) (sym places) (subst (λ x. Holds head ms x ks) (sym e) (holds_octets (o ++ []) holds)))
-
-pub octets_extend : {b b' : Octets} {ks ks' : List Kept} (o : Octets) (fits : Bool) → OnTrue fits (b' ≡ b ++ o) → OnFalse fits (b' ≡ b) → ks' ≡ ks → Extends b ks b' ks'
-octets_extend {b} {b'} {ks} {ks'} o true e f places = record { more_octets = o; octets = e; more_places = []; places = places ∙ sym (append-nil ks) }
-octets_extend {b} {b'} {ks} {ks'} o false e f places = record { more_octets = []; octets = f ∙ sym (append-nil b); more_places = []; places = places ∙ sym (append-nil ks) }
 
 -- what is written after octets that were written, and what does not fit
 pub written_after : {head : Octets → ℕ} {limit : ℕ} {ms ms' : List Placed} {b b' b'' : Octets} {ks : List Kept} {laid laid' : Laid} {fits : Bool} (w : Octets) → b' ≡ b ++ w

@@ -9,6 +9,7 @@ mod ChainLemmas
 mod SpelledLemmas
 mod CommonFront
 mod Suffixes
+mod Grown
 mod NameWritten
 mod AskedLemmas
 mod DataWritten

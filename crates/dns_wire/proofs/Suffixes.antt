@@ -340,3 +340,6 @@ extends_again {b} {ks = ks} e f = record {
   more_places = e.more_places ++ f.more_places;
   places = f.places ∙ ap (λ z. z ++ f.more_places) e.places ∙ append_assoc ks e.more_places f.more_places;
 }
+
+pub octets_added : {b b' : Octets} {ks ks' : List Kept} (o : Octets) → b' ≡ b ++ o → ks' ≡ ks → Extends b ks b' ks'
+octets_added {ks = ks} o e places = record { more_octets = o; octets = e; more_places = []; places = places ∙ sym (append-nil ks) }

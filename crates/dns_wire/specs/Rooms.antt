@@ -1,5 +1,5 @@
 -- What a reader learns here: what is said of a room before and after a call.
-use Rattle.std.specs.Prelude.{ℕ, List, ◌++◌, Bool}
+use Rattle.std.specs.Prelude.{◌≡◌, ℕ, List, ◌++◌, Bool}
 use Rattle.dns_spec.specs.Names.{Octets}
 use Rattle.dns_spec.specs.Layout.{Placed, Laid}
 use Rattle.dns_wire.specs.Kept.{Kept}
@@ -21,9 +21,13 @@ module _ {N size : ℕ} where
   HasNames r head ms =
       Holds (suffix_number head) ms r.octets.items (known_in (suffix_number head) r)
 
-  -- octets and places came after those that were there
-  abbrev pub HasGrown : Room N size → Room N size → Type 0
-  HasGrown old new = Extends old.octets.items old.places new.octets.items new.places
+  -- octets and places came after those that were there, within the same limit, and the name of the
+  -- question ends where it did
+  pub record HasGrown (old new : Room N size) : Type 0 where
+    pub extends : Extends old.octets.items old.places new.octets.items new.places
+    pub asked : new.asked_end ≡ old.asked_end
+    pub limit : new.limit ≡ old.limit
+    pub sound : IsSoundRoom new
 
   -- what is laid out was written exactly where it fits the limit
   abbrev pub HasWritten : Room N size → Room N size → (Octets → ℕ) → List Placed → Laid

@@ -105,9 +105,7 @@ impl<const N: usize, const SIZE: usize> Room<N, SIZE> {
             ≡ self.old.octets.items ++ (front.now ++ end.now)) }
         ensures unchanged { OnFalse result (self.new.octets.items ≡ self.old.octets.items) }
         ensures places { self.new.places ≡ self.old.places }
-        ensures asked { self.new.asked_end ≡ self.old.asked_end }
-        ensures limit { self.new.limit ≡ self.old.limit }
-        ensures sound { IsSoundRoom self.new }
+        ensures grown { HasGrown self.old self.new }
     {
         let room = self.limit - self.octets.len();
         if room < front.len() || room - front.len() < end.len() {
@@ -125,9 +123,7 @@ impl<const N: usize, const SIZE: usize> Room<N, SIZE> {
         requires room { length self.old.octets.items + length octets.now ≤ self.old.limit }
         ensures octets { self.new.octets.items ≡ self.old.octets.items ++ octets.now }
         ensures places { self.new.places ≡ self.old.places }
-        ensures asked { self.new.asked_end ≡ self.old.asked_end }
-        ensures limit { self.new.limit ≡ self.old.limit }
-        ensures sound { IsSoundRoom self.new }
+        ensures grown { HasGrown self.old self.new }
     {
         if self.octets.try_extend_from_slice(octets).is_err() {
             unreachable!();
@@ -149,13 +145,10 @@ impl<const N: usize, const SIZE: usize> Room<N, SIZE> {
             → HasNames self.old (H.numbers hash.old) ms → name.now ≡ wire n → IsTrue (is_name n)
             → OnTrue result (HasNames self.new (H.numbers hash.old)
             (ms ++ (n, length self.old.octets.items) ∷ [])) }
-        ensures extends { HasGrown self.old self.new }
         ensures unchanged { OnFalse result ((self.new.octets.items ≡ self.old.octets.items)
             × (self.new.places ≡ self.old.places)) }
-        ensures asked { self.new.asked_end ≡ self.old.asked_end }
-        ensures limit { self.new.limit ≡ self.old.limit }
+        ensures grown { HasGrown self.old self.new }
         ensures same { H.numbers hash.new ≡ H.numbers hash.old }
-        ensures sound { IsSoundRoom self.new }
     {
         let message = self.octets.as_slice();
         let shared = shared_suffix(&self.places, message, hash, name, self.asked_end);
@@ -185,11 +178,8 @@ impl<const N: usize, const SIZE: usize> Room<N, SIZE> {
             → OnTrue result (StandsIn (suffix_number (H.numbers hash.old)) ms b
             (data_laid ms (length b) (laid_parts rtype.0 rdata.now))
             (known_in (suffix_number (H.numbers hash.old)) self.new)) }
-        ensures extends { HasGrown self.old self.new }
-        ensures asked { self.new.asked_end ≡ self.old.asked_end }
-        ensures limit { self.new.limit ≡ self.old.limit }
+        ensures grown { HasGrown self.old self.new }
         ensures same { H.numbers hash.new ≡ H.numbers hash.old }
-        ensures sound { IsSoundRoom self.new }
     {
         if rtype == RType::SOA {
             return self.put_authority(hash, rdata);
@@ -207,11 +197,8 @@ impl<const N: usize, const SIZE: usize> Room<N, SIZE> {
         ensures written { (ms : List Placed) → HasNames self.old (H.numbers hash.old) ms
             → HasWritten self.old self.new (H.numbers hash.old) ms
             (data_laid ms (length self.old.octets.items) (laid_parts type_mx rdata.now)) result }
-        ensures extends { HasGrown self.old self.new }
-        ensures asked { self.new.asked_end ≡ self.old.asked_end }
-        ensures limit { self.new.limit ≡ self.old.limit }
+        ensures grown { HasGrown self.old self.new }
         ensures same { H.numbers hash.new ≡ H.numbers hash.old }
-        ensures sound { IsSoundRoom self.new }
     {
         let (preference, exchange) = rdata.split_at(2);
         self.append(preference, &[]) && self.put_name(hash, exchange)
@@ -225,11 +212,8 @@ impl<const N: usize, const SIZE: usize> Room<N, SIZE> {
         ensures written { (ms : List Placed) → HasNames self.old (H.numbers hash.old) ms
             → HasWritten self.old self.new (H.numbers hash.old) ms
             (data_laid ms (length self.old.octets.items) (laid_parts type_soa rdata.now)) result }
-        ensures extends { HasGrown self.old self.new }
-        ensures asked { self.new.asked_end ≡ self.old.asked_end }
-        ensures limit { self.new.limit ≡ self.old.limit }
+        ensures grown { HasGrown self.old self.new }
         ensures same { H.numbers hash.new ≡ H.numbers hash.old }
-        ensures sound { IsSoundRoom self.new }
     {
         let Some((part, rest)) = first_part(Piece::Domain, rdata) else {
             unreachable!();
@@ -278,10 +262,8 @@ impl<const N: usize, const SIZE: usize> Room<N, SIZE> {
             × (self.new.places ≡ self.old.places)) }
         ensures longer { OnTrue result (length self.old.octets.items + length (S.set set.now).rdata
             ≤ length self.new.octets.items) }
-        ensures asked { self.new.asked_end ≡ self.old.asked_end }
-        ensures limit { self.new.limit ≡ self.old.limit }
+        ensures grown { HasGrown self.old self.new }
         ensures same { H.numbers hash.new ≡ H.numbers hash.old }
-        ensures sound { IsSoundRoom self.new }
     {
         if self.is_too_small(set.len()) {
             return false;
@@ -315,10 +297,8 @@ impl<const N: usize, const SIZE: usize> Room<N, SIZE> {
             × (self.new.places ≡ self.old.places)) }
         ensures longer { OnTrue result (length self.old.octets.items + length (S.set set.now).rdata
             ≤ length self.new.octets.items) }
-        ensures asked { self.new.asked_end ≡ self.old.asked_end }
-        ensures limit { self.new.limit ≡ self.old.limit }
+        ensures grown { HasGrown self.old self.new }
         ensures same { H.numbers hash.new ≡ H.numbers hash.old }
-        ensures sound { IsSoundRoom self.new }
     {
         let octets = self.octets.len();
         let places = self.places.len();
@@ -348,11 +328,8 @@ impl<const N: usize, const SIZE: usize> Room<N, SIZE> {
             (shown owner.now rtype.0 ttl rdata.now)) result }
         ensures longer { OnTrue result (length self.old.octets.items + 10
             ≤ length self.new.octets.items) }
-        ensures extends { HasGrown self.old self.new }
-        ensures asked { self.new.asked_end ≡ self.old.asked_end }
-        ensures limit { self.new.limit ≡ self.old.limit }
+        ensures grown { HasGrown self.old self.new }
         ensures same { H.numbers hash.new ≡ H.numbers hash.old }
-        ensures sound { IsSoundRoom self.new }
     {
         self.put_name(hash, owner.octets()) && self.put_tail(hash, rtype, ttl, rdata)
     }
@@ -372,11 +349,8 @@ impl<const N: usize, const SIZE: usize> Room<N, SIZE> {
             (tail_laid ms (length self.old.octets.items) rtype.0 ttl rdata.now) result }
         ensures longer { OnTrue result (length self.old.octets.items + 10
             ≤ length self.new.octets.items) }
-        ensures extends { HasGrown self.old self.new }
-        ensures asked { self.new.asked_end ≡ self.old.asked_end }
-        ensures limit { self.new.limit ≡ self.old.limit }
+        ensures grown { HasGrown self.old self.new }
         ensures same { H.numbers hash.new ≡ H.numbers hash.old }
-        ensures sound { IsSoundRoom self.new }
     {
         if rtype.compresses() {
             self.put_shared_tail(hash, rtype, ttl, rdata)
@@ -401,11 +375,8 @@ impl<const N: usize, const SIZE: usize> Room<N, SIZE> {
             (tail_laid ms (length self.old.octets.items) rtype.0 ttl rdata.now) result }
         ensures longer { OnTrue result (length self.old.octets.items + 10
             ≤ length self.new.octets.items) }
-        ensures extends { HasGrown self.old self.new }
-        ensures asked { self.new.asked_end ≡ self.old.asked_end }
-        ensures limit { self.new.limit ≡ self.old.limit }
+        ensures grown { HasGrown self.old self.new }
         ensures same { H.numbers hash.new ≡ H.numbers hash.old }
-        ensures sound { IsSoundRoom self.new }
     {
         let at = self.octets.len();
         if !self.append(&record_numbers(rtype, ttl, 0), &[]) {
@@ -446,9 +417,7 @@ impl<const N: usize, const SIZE: usize> Room<N, SIZE> {
             ≡ self.old.octets.items ++ (front.now ++ end_octets place)) }
         ensures unchanged { OnFalse result (self.new.octets.items ≡ self.old.octets.items) }
         ensures places { self.new.places ≡ self.old.places }
-        ensures asked { self.new.asked_end ≡ self.old.asked_end }
-        ensures limit { self.new.limit ≡ self.old.limit }
-        ensures sound { IsSoundRoom self.new }
+        ensures grown { HasGrown self.old self.new }
     {
         match place {
             Some(place) => self.append(front, &pointer_octets(place)),

@@ -1,9 +1,10 @@
 use Rattle.std.proofs.Common.{◌≡◌, ◌++◌, rules, refl, ap, arith, length, length-append}
 use Rattle.dns_wire.proofs.AskedLemmas.{is_asked_more}
+use Rattle.dns_wire.proofs.Suffixes.{octets_added}
 use Rattle.dns_wire.proofs.room.Room.extend.Goals as goal
 
-pub returns-clause-sound : goal.returns-clause-sound
-returns-clause-sound g c =
+pub returns-clause-grown : goal.returns-clause-grown
+returns-clause-grown g c =
     let b = c.args.self.now.octets.items in
     let more : c.try_extend_from_slice.new.self.items ≡ b ++ c.args.octets.now = search rules in
     let s = c.requires.sound in
@@ -11,11 +12,16 @@ returns-clause-sound g c =
     let few = s.few in
     let long = length-append b c.args.octets.now in
     record {
-      within = omega (arith, room, ap length more, long);
-      fits = s.fits;
-      short = s.short;
-      few = omega (arith, few, ap length more, long);
-      enough = s.enough;
-      most = s.most;
-      asked = is_asked_more c.args.octets.now s.asked more refl;
+      extends = octets_added c.args.octets.now more refl;
+      asked = refl;
+      limit = refl;
+      sound = record {
+        within = omega (arith, room, ap length more, long);
+        fits = s.fits;
+        short = s.short;
+        few = omega (arith, few, ap length more, long);
+        enough = s.enough;
+        most = s.most;
+        asked = is_asked_more c.args.octets.now s.asked more refl;
+      };
     }

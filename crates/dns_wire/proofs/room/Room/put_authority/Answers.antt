@@ -6,8 +6,8 @@ use Rattle.dns_spec.specs.LayoutSize.{cost}
 use Rattle.dns_name.specs.WireForm.{labels_of}
 use Rattle.dns_wire.specs.Rooms.{known_in}
 use Rattle.dns_wire.specs.Writing.{Holds, IsWritten}
-use Rattle.dns_wire.proofs.Suffixes.{extends_again}
-use Rattle.dns_wire.proofs.DataWritten.{past_name, octets_extend, octets_written, not_written}
+use Rattle.dns_wire.proofs.Grown.{grows_again}
+use Rattle.dns_wire.proofs.DataWritten.{past_name, octets_written, not_written}
 use Rattle.dns_wire.proofs.AskedLemmas.{kept_stays}
 use Rattle.dns_wire.proofs.AuthorityLaid.{server_some, server_lent, name_then}
 use Rattle.dns_wire.specs.SuffixNumbers.{suffix_number}
@@ -55,7 +55,7 @@ returns-then-not-put_name-2-clause-written g c = λ ms holds.
     let there' = subst (λ h. Holds h more b' (known_in h c.put_name.new.self)) (ap suffix_number (sym c.put_name.ensures.same)) there in
     let exactly = c.put_name-2.ensures.fits more m there' (c.split_at.ensures.front ∙ s.laid.whole) s.laid.is_name in
     let over : c.put_name.new.self.limit < length b' + cost more m = lt_of_not-le (λ fits. false≢true (sym c.if-not-put_name-2.true ∙ exactly.1 fits)) in
-    let over' : limit < length b' + cost more m = subst (λ k. k < length b' + cost more m) c.put_name.ensures.limit over in
+    let over' : limit < length b' + cost more m = subst (λ k. k < length b' + cost more m) c.put_name.ensures.grown.limit over in
     let none = not_written {head = head} {b' = b''} {ks = ks''} (past_name limit more b' m (o ∷ []) over') in
     subst (λ ps. IsWritten head limit ms b (data_laid ms (length b) ps) false b'' ks'')
     (sym (s.laid.parts ∙ ap (λ x. name n ∷ name m ∷ octets x ∷ []) (sym c.split_at.ensures.back))) (name_then n (name m ∷ o ∷ []) own none)
@@ -82,13 +82,15 @@ returns-clause-written g c = λ ms holds.
     let whole = c.split_at.ensures.front ∙ s.laid.whole in
     let own' = c.if-not-put_name-2.ensures.octets more m there whole s.laid.is_name in
     let there' = subst (λ h. Holds h both b'' (known_in h c.put_name-2.new.self)) (ap suffix_number c.put_name.ensures.same) (c.if-not-put_name-2.ensures.holds more m there whole s.laid.is_name) in
-    let same = kept_stays head _ _ _ _ _ _ (x ++ []) c.append.result c.put_name-2.ensures.sound.asked c.append.ensures.octets c.append.ensures.unchanged c.append.ensures.asked c.append.ensures.places in
+    let same = kept_stays head _ _ _ _ _ _ (x ++ []) c.append.result c.put_name-2.ensures.grown.sound.asked c.append.ensures.octets c.append.ensures.unchanged c.append.ensures.grown.asked c.append.ensures.places in
     let last = octets_written x c.append.result there' c.append.ensures.fits c.append.ensures.octets same in
-    let last' = subst (λ k. IsWritten head k both b'' (data_laid both (length b'') (octets x ∷ [])) c.append.result end kept) (c.put_name-2.ensures.limit ∙ c.put_name.ensures.limit) last in
+    let last' = subst (λ k. IsWritten head k both b'' (data_laid both (length b'') (octets x ∷ [])) c.append.result end kept) (c.put_name-2.ensures.grown.limit ∙ c.put_name.ensures.grown.limit) last in
     subst (λ ps. IsWritten head limit ms b (data_laid ms (length b) ps) c.append.result end kept)
     (sym (s.laid.parts ∙ ap (λ z. name n ∷ name m ∷ octets z ∷ []) (sym c.split_at.ensures.back))) (name_then n (name m ∷ octets x ∷ []) own (name_then m (octets x ∷ []) own' last'))
 
-pub returns-clause-extends : goal.returns-clause-extends
-returns-clause-extends g c =
-    extends_again (extends_again c.put_name.ensures.extends c.put_name-2.ensures.extends)
-    (octets_extend (c.split_at.result.1.now ++ []) c.append.result c.append.ensures.octets c.append.ensures.unchanged c.append.ensures.places)
+pub returns-then-not-put_name-2-clause-grown : goal.returns-then-not-put_name-2-clause-grown
+returns-then-not-put_name-2-clause-grown g c = grows_again c.put_name.ensures.grown c.put_name-2.ensures.grown
+
+pub returns-clause-grown : goal.returns-clause-grown
+returns-clause-grown g c =
+    grows_again (grows_again c.put_name.ensures.grown c.put_name-2.ensures.grown) c.append.ensures.grown

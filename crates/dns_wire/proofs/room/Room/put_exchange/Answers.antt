@@ -6,7 +6,8 @@ use Rattle.dns_wire.specs.Rooms.{known_in}
 use Rattle.dns_wire.specs.Writing.{Holds, IsWritten}
 use Rattle.dns_wire.proofs.NameWritten.{holds_octets}
 use Rattle.dns_wire.proofs.AskedLemmas.{kept_more}
-use Rattle.dns_wire.proofs.DataWritten.{past_octets, octets_extend, not_written}
+use Rattle.dns_wire.proofs.DataWritten.{past_octets, not_written}
+use Rattle.dns_wire.proofs.Grown.{grows_again}
 use Rattle.dns_wire.proofs.DataNames.{exchange_laid, one_written, name_after}
 use Rattle.dns_wire.specs.SuffixNumbers.{suffix_number}
 use Rattle.dns_wire.proofs.room.Room.put_exchange.Goals as goal
@@ -25,12 +26,12 @@ returns-then-append-clause-written g c = λ ms holds.
     let laid = exchange_laid c.args.rdata.now c.requires.valid in
     let n = laid.own in
     let own : b' ≡ b ++ (o ++ []) = c.if-append.ensures.octets in
-    let same = kept_more head _ _ _ _ _ _ (o ++ []) c.requires.sound.asked own c.append.ensures.asked c.append.ensures.places in
+    let same = kept_more head _ _ _ _ _ _ (o ++ []) c.requires.sound.asked own c.append.ensures.grown.asked c.append.ensures.places in
     let there = subst₂ (Holds head ms) (sym own) (sym same) (holds_octets (o ++ []) holds) in
     let whole = c.split_at.ensures.back ∙ laid.whole in
     let put = c.put_name.ensures in
     let one = one_written {head = head} n (put.fits ms n there whole laid.is_name) (put.octets ms n there whole laid.is_name) (put.holds ms n there whole laid.is_name) in
-    let done = subst (λ l. IsWritten head l ms b' (data_laid ms (length b') (name n ∷ [])) c.put_name.result b'' ks'') c.append.ensures.limit one in
+    let done = subst (λ l. IsWritten head l ms b' (data_laid ms (length b') (name n ∷ [])) c.put_name.result b'' ks'') c.append.ensures.grown.limit one in
     subst (λ ps. IsWritten head c.args.self.now.limit ms b (data_laid ms (length b) ps) c.put_name.result b'' ks'')
     (sym (laid.parts ∙ ap (λ x. octets x ∷ name n ∷ []) (sym c.split_at.ensures.front))) (name_after o n own done)
 
@@ -48,6 +49,5 @@ returns-else-append-clause-written g c = λ ms holds.
     (sym (laid.parts ∙ ap (λ x. octets x ∷ name laid.own ∷ []) (sym c.split_at.ensures.front))) none in
     subst (λ f. IsWritten head limit ms b (data_laid ms (length b) (laid_parts type_mx c.args.rdata.now)) f b' (known_in head c.append.new.self)) (sym c.if-append.false) all
 
-pub returns-else-append-clause-extends : goal.returns-else-append-clause-extends
-returns-else-append-clause-extends g c =
-    octets_extend (c.split_at.result.0.now ++ []) c.append.result c.append.ensures.octets c.append.ensures.unchanged c.append.ensures.places
+pub returns-then-append-clause-grown : goal.returns-then-append-clause-grown
+returns-then-append-clause-grown g c = grows_again c.append.ensures.grown c.put_name.ensures.grown

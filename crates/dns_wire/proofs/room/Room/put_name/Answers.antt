@@ -2,8 +2,7 @@ use Rattle.std.proofs.Common.{rules, ◌≡◌, append_assoc, length-append, ◌
 use Rattle.std.proofs.lemmas.Bool.{false≢true}
 use Rattle.dns_wire.specs.Rooms.{known_in}
 use Rattle.dns_wire.proofs.AskedLemmas.{kept_more}
-use Rattle.dns_wire.specs.Writing.{IsAsked, asked_places, end_octets, new_places, Holds, Extends}
-use Rattle.dns_wire.proofs.Suffixes.{extends_none}
+use Rattle.dns_wire.specs.Writing.{IsAsked, asked_places, end_octets, new_places, Holds}
 use Rattle.dns_wire.proofs.NameWritten.{name_laid, cost_is, holds_name}
 use Rattle.dns_wire.specs.SuffixNumbers.{suffix_number}
 use Rattle.dns_wire.proofs.room.Room.put_name.Goals as goal
@@ -55,45 +54,44 @@ returns-clause-holds g c = λ ms n holds e ok.
     ∙ ap (λ i. c.args.self.now.places ++ new_places head ms n i) c.len-at.ensures.value in
     let o = c.split_at.result.0.now ++ end_octets c.shared_suffix-shared.result.place in
     let asked = asked_places head b c.args.self.now.asked_end in
-    let kept = kept_more head _ _ _ _ _ _ o c.requires.asked c.if-not-append_end.ensures.octets c.append_end.ensures.asked places ∙ sym (append_assoc asked c.args.self.now.places new) in
+    let kept = kept_more head _ _ _ _ _ _ o c.requires.asked c.if-not-append_end.ensures.octets c.append_end.ensures.grown.asked places ∙ sym (append_assoc asked c.args.self.now.places new) in
     subst₂ (λ x ks. Holds head (ms ++ (n, length b) ∷ []) x ks) (sym octets) (sym kept) (holds_name head ms b (known_in head c.args.self.now) holds n ok)
-
-pub returns-clause-extends : goal.returns-clause-extends
-returns-clause-extends g c = record {
-  more_octets = c.split_at.result.0.now ++ end_octets c.shared_suffix-shared.result.place;
-  octets = c.if-not-append_end.ensures.octets;
-  more_places = c.keep_suffixes.ensures.grows.more;
-  places = c.keep_suffixes.ensures.grows.places ∙ ap (λ ks. ks ++ c.keep_suffixes.ensures.grows.more) c.append_end.ensures.places;
-}
-
-pub returns-then-not-append_end-clause-extends : goal.returns-then-not-append_end-clause-extends
-returns-then-not-append_end-clause-extends g c =
-    subst₂ (Extends c.args.self.now.octets.items c.args.self.now.places) (sym (c.if-not-append_end.ensures.unchanged)) (sym c.append_end.ensures.places)
-    (extends_none c.args.self.now.octets.items c.args.self.now.places)
 
 pub shared_suffix-shared-requires : goal.shared_suffix-shared-requires
 shared_suffix-shared-requires g c = (search rules, subst (λ b. IsAsked b c.args.self.now.asked_end) (sym c.as_slice-message.ensures.value) c.requires.asked)
 
-pub returns-clause-sound : goal.returns-clause-sound
-returns-clause-sound g c =
-    let s = c.append_end.ensures.sound in
+pub returns-clause-grown : goal.returns-clause-grown
+returns-clause-grown g c =
+    let step = c.append_end.ensures.grown in
+    let s = step.sound in
     let few = c.keep_suffixes.ensures.few in
     let front = c.split_at.result.0.now in
     let end = end_octets c.shared_suffix-shared.result.place in
+    let more = c.keep_suffixes.ensures.grows in
     record {
-      within = s.within;
-      fits = s.fits;
-      short = s.short;
-      few = omega (
-        arith,
-        few,
-        ap length c.if-not-append_end.ensures.octets,
-        length-append c.args.self.now.octets.items (front ++ end),
-        length-append front end,
-        c.split_at.ensures.front_len,
-        c.len-at.ensures.value,
-      );
-      enough = s.enough;
-      most = s.most;
-      asked = s.asked;
+      extends = record {
+        more_octets = front ++ end;
+        octets = c.if-not-append_end.ensures.octets;
+        more_places = more.more;
+        places = more.places ∙ ap (λ ks. ks ++ more.more) c.append_end.ensures.places;
+      };
+      asked = step.asked;
+      limit = step.limit;
+      sound = record {
+        within = s.within;
+        fits = s.fits;
+        short = s.short;
+        few = omega (
+          arith,
+          few,
+          ap length c.if-not-append_end.ensures.octets,
+          length-append c.args.self.now.octets.items (front ++ end),
+          length-append front end,
+          c.split_at.ensures.front_len,
+          c.len-at.ensures.value,
+        );
+        enough = s.enough;
+        most = s.most;
+        asked = s.asked;
+      };
     }

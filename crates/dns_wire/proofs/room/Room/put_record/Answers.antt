@@ -4,7 +4,7 @@ use Rattle.std.specs.Bool.{OnTrue}
 use Rattle.dns_spec.specs.Layout.{record_laid}
 use Rattle.dns_wire.specs.Rooms.{known_in}
 use Rattle.dns_wire.specs.Writing.{Holds, IsWritten, tail_laid, shown}
-use Rattle.dns_wire.proofs.Suffixes.{extends_again}
+use Rattle.dns_wire.proofs.Grown.{grows_again}
 use Rattle.dns_wire.proofs.DataWritten.{record_written, record_past, not_written}
 use Rattle.dns_wire.specs.SuffixNumbers.{suffix_number}
 use Rattle.dns_wire.proofs.room.Room.put_record.Goals as goal
@@ -20,11 +20,11 @@ returns-then-put_name-clause-written g c = λ ms holds.
     let there = c.if-put_name.ensures.holds ms n holds c.octets.ensures.value c.octets.ensures.is_name in
     let done = c.put_tail.ensures.written more (subst (λ h. Holds h more b' (known_in h c.put_name.new.self)) (ap suffix_number (sym c.put_name.ensures.same)) there) in
     let same = subst₂ (λ h l. IsWritten h l more b' (tail_laid more (length b') c.args.rtype.0 c.args.ttl c.args.rdata.now) c.put_tail.result c.put_tail.new.self.octets.items (known_in h c.put_tail.new.self))
-    (ap suffix_number c.put_name.ensures.same) c.put_name.ensures.limit done in
+    (ap suffix_number c.put_name.ensures.same) c.put_name.ensures.grown.limit done in
     record_written n c.args.rtype.0 c.args.ttl c.args.rdata.now e same
 
-pub returns-then-put_name-clause-extends : goal.returns-then-put_name-clause-extends
-returns-then-put_name-clause-extends g c = extends_again c.put_name.ensures.extends c.put_tail.ensures.extends
+pub returns-then-put_name-clause-grown : goal.returns-then-put_name-clause-grown
+returns-then-put_name-clause-grown g c = grows_again c.put_name.ensures.grown c.put_tail.ensures.grown
 
 pub returns-else-put_name-clause-written : goal.returns-else-put_name-clause-written
 returns-else-put_name-clause-written g c = λ ms holds.
@@ -41,4 +41,4 @@ returns-then-put_name-clause-longer g c = go c.put_tail.result c.put_tail.ensure
     go : (t : Bool) → OnTrue t (length c.put_name.new.self.octets.items + 10 ≤ length c.put_tail.new.self.octets.items)
         → OnTrue t (length c.args.self.now.octets.items + 10 ≤ length c.put_tail.new.self.octets.items)
     go false h = tt
-    go true h = omega (arith, h, ap length c.put_name.ensures.extends.octets, length-append c.args.self.now.octets.items c.put_name.ensures.extends.more_octets)
+    go true h = omega (arith, h, ap length c.put_name.ensures.grown.extends.octets, length-append c.args.self.now.octets.items c.put_name.ensures.grown.extends.more_octets)

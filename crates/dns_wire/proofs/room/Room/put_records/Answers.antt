@@ -3,7 +3,7 @@ use Rattle.std.specs.Bool.{OnTrue}
 use Rattle.dns_spec.specs.Sets.{records_at}
 use Rattle.dns_wire.specs.Writing.{shown}
 use Rattle.dns_wire.specs.Rooms.{known_in}
-use Rattle.dns_wire.proofs.Suffixes.{extends_none, extends_again}
+use Rattle.dns_wire.proofs.Grown.{grows_not, grows_again, grows_back}
 use Rattle.dns_wire.proofs.RecordsWritten.{RecordsGo, records_begin, records_step, records_written, records_past, records_at_hand, record_done, no_records_left}
 use Rattle.dns_wire.specs.SuffixNumbers.{suffix_number}
 use Rattle.dns_wire.proofs.room.Room.put_records.Goals as goal
@@ -11,12 +11,9 @@ use Rattle.dns_wire.proofs.room.Room.put_records.Goals as goal
 pub records-init : goal.records-init
 records-init g c = record {
   go = records_begin (suffix_number (g.H.SuffixHash.numbers c.args.hash.now)) (records_at c.args.owner.now c.args.ttl (g.S.SetView.set c.args.set.now)) c.args.self.now.octets.items (known_in (suffix_number (g.H.SuffixHash.numbers c.args.hash.now)) c.args.self.now);
-  extends = extends_none c.args.self.now.octets.items c.args.self.now.places;
   longer = omega arith;
-  asked = refl;
-  limit = refl;
   same = refl;
-  sound = c.requires;
+  grown = grows_not c.args.self.now c.requires;
 }
 
 pub records-preserved : goal.records-preserved
@@ -41,12 +38,9 @@ records-preserved g c =
       go =
           subst (λ j. RecordsGo (suffix_number (g.H.SuffixHash.numbers c.args.hash.now)) rs c.args.self.now.octets.items (known_in head c.args.self.now) (drop j rs) b' ks') next
           (records_step _ c.records.self.limit rs (drop (suc k) rs) _ _ b b' _ (known_in head c.records.self) ks' go done);
-      extends = extends_again c.records.invariant.extends c.put_record.ensures.extends;
       longer = omega (arith, longer, so_far);
-      asked = c.put_record.ensures.asked ∙ c.records.invariant.asked;
-      limit = c.put_record.ensures.limit ∙ c.records.invariant.limit;
       same = c.put_record.ensures.same ∙ c.records.invariant.same;
-      sound = c.put_record.ensures.sound;
+      grown = grows_again c.records.invariant.grown c.put_record.ensures.grown;
     }
 
 pub returns-then-not-put_record-clause-written : goal.returns-then-not-put_record-clause-written
@@ -59,9 +53,15 @@ returns-then-not-put_record-clause-written g c =
     let within = c.records-test.true in
     let go = records_at_hand owner ttl set c.records.i (omega (arith, within, c.len-i-end.ensures.value)) c.records.invariant.go in
     let at_hand = ap₂ (λ t d. shown owner t ttl d) c.rtype.ensures c.rdata.ensures.value in
-    let done = record_done (λ h. known_in h c.records.self) (λ h. known_in h c.put_record.new.self) (ap suffix_number c.records.invariant.same) c.records.invariant.limit at_hand c.if-not-put_record.true c.put_record.ensures.written in
+    let done = record_done (λ h. known_in h c.records.self) (λ h. known_in h c.put_record.new.self) (ap suffix_number c.records.invariant.same) c.records.invariant.grown.limit at_hand c.if-not-put_record.true c.put_record.ensures.written in
     records_past _ c.args.self.now.limit rs (drop (suc c.records.i) rs) _ _ c.records.self.octets.items c.put_record.new.self.octets.items c.take_back.new.self.octets.items
     _ (known_in head c.records.self) (known_in head c.put_record.new.self) (known_in head c.take_back.new.self) go done
+
+pub returns-then-not-put_record-clause-grown : goal.returns-then-not-put_record-clause-grown
+returns-then-not-put_record-clause-grown g c =
+    let grown = grows_again c.records.invariant.grown c.put_record.ensures.grown in
+    let back = c.take_back.ensures in
+    grows_back c.requires grown c.len-octets.ensures.value c.len-places.ensures.value back.octets back.places back.asked back.limit
 
 pub returns-clause-written : goal.returns-clause-written
 returns-clause-written g c =
@@ -74,6 +74,6 @@ returns-clause-written g c =
     let ks = known_in head c.records.self in
     let over = c.records-test.false in
     let none = no_records_left c.args.owner.now c.args.ttl set.rtype set.rdata c.records.i (omega (arith, over, c.len-i-end.ensures.value)) in
-    let short = c.records.invariant.sound.within in
-    records_written head c.args.self.now.limit rs b₀ b ks₀ ks (omega (arith, short, c.records.invariant.limit))
+    let short = c.records.invariant.grown.sound.within in
+    records_written head c.args.self.now.limit rs b₀ b ks₀ ks (omega (arith, short, c.records.invariant.grown.limit))
     (subst (λ x. RecordsGo head rs b₀ ks₀ x b ks) none c.records.invariant.go)

@@ -1,7 +1,6 @@
 use Rattle.std.proofs.Common.{◌≡◌, ◌≤◌, ◌+◌, drop, length}
 use Rattle.dns_spec.specs.Sets.{records_at}
-use Rattle.dns_wire.specs.Rooms.{known_in}
-use Rattle.dns_wire.specs.Writing.{Extends, IsSound}
+use Rattle.dns_wire.specs.Rooms.{known_in, HasGrown}
 use Rattle.dns_wire.proofs.RecordsWritten.{RecordsGo}
 use Rattle.dns_wire.specs.SuffixNumbers.{suffix_number}
 use Rattle.dns_wire.proofs.room.Room.put_records.Given as goal
@@ -10,10 +9,7 @@ use Rattle.dns_wire.proofs.room.Room.put_records.Given as goal
 abbrev pub invariant-records : goal.invariant-records
 invariant-records g l = record {
   go : RecordsGo (suffix_number (g.H.SuffixHash.numbers l.initial.hash)) (records_at l.owner l.ttl (g.S.SetView.set l.set)) l.initial.self.octets.items (known_in (suffix_number (g.H.SuffixHash.numbers l.initial.hash)) l.initial.self) (drop l.i (records_at l.owner l.ttl (g.S.SetView.set l.set))) l.self.octets.items (known_in (suffix_number (g.H.SuffixHash.numbers l.initial.hash)) l.self);
-  extends : Extends l.initial.self.octets.items l.initial.self.places l.self.octets.items l.self.places;
   longer : length l.initial.self.octets.items + l.i ≤ length l.self.octets.items;
-  asked : l.self.asked_end ≡ l.initial.self.asked_end;
-  limit : l.self.limit ≡ l.initial.self.limit;
   same : g.H.SuffixHash.numbers l.hash ≡ g.H.SuffixHash.numbers l.initial.hash;
-  sound : IsSound g.row.N g.row.SIZE l.self.limit l.self.octets.items l.self.asked_end l.self.places;
+  grown : HasGrown l.initial.self l.self;
 }

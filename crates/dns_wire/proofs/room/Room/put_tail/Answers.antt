@@ -1,7 +1,7 @@
 use Rattle.std.proofs.Common.{◌≡◌, ◌∙◌, ap, sym, length, [], ◌∷◌, ◌++◌, cond}
 use Rattle.dns_spec.specs.Data.{octets, parts, laid_parts}
 use Rattle.dns_wire.proofs.AskedLemmas.{kept_stays}
-use Rattle.dns_wire.proofs.DataWritten.{plain_written, longer_by_numbers, octets_extend}
+use Rattle.dns_wire.proofs.DataWritten.{plain_written, longer_by_numbers}
 use Rattle.dns_wire.specs.SuffixNumbers.{suffix_number}
 use Rattle.dns_wire.proofs.room.Room.put_tail.Goals as goal
 
@@ -11,10 +11,7 @@ returns-else-compresses-clause-written g c = λ ms holds.
     let whole : laid_parts c.args.rtype.0 d ≡ octets d ∷ [] =
     ap (λ t. cond t (parts c.args.rtype.0 d) (octets d ∷ [])) (sym c.compresses.ensures ∙ c.if-compresses.false) in
     plain_written c.args.rtype.0 c.args.ttl d c.record_numbers.result c.record_numbers.ensures whole holds c.append.ensures.fits c.append.ensures.octets
-    (kept_stays (suffix_number (g.H.SuffixHash.numbers c.args.hash.now)) _ _ _ _ _ _ (c.record_numbers.result ++ d) c.append.result c.requires.sound.asked c.append.ensures.octets c.append.ensures.unchanged c.append.ensures.asked c.append.ensures.places)
-
-pub returns-else-compresses-clause-extends : goal.returns-else-compresses-clause-extends
-returns-else-compresses-clause-extends g c = octets_extend (c.record_numbers.result ++ c.args.rdata.now) c.append.result c.append.ensures.octets c.append.ensures.unchanged c.append.ensures.places
+    (kept_stays (suffix_number (g.H.SuffixHash.numbers c.args.hash.now)) _ _ _ _ _ _ (c.record_numbers.result ++ d) c.append.result c.requires.sound.asked c.append.ensures.octets c.append.ensures.unchanged c.append.ensures.grown.asked c.append.ensures.places)
 
 pub returns-else-compresses-clause-longer : goal.returns-else-compresses-clause-longer
 returns-else-compresses-clause-longer g c =
