@@ -21,7 +21,7 @@ use Rattle.dns_wire.specs.declared.page.Section.{Section}
 use Rattle.dns_wire.specs.Kept.{Kept}
 use Rattle.dns_wire.specs.Writing.{Holds, IsWritten, records_laid, shown}
 use Rattle.dns_wire.specs.SuffixNumbers.{suffix_number}
-use Rattle.dns_wire.specs.Draft.{Draft, known_places, IsDraft, section_of, item_of, names_so_far}
+use Rattle.dns_wire.specs.Draft.{Draft, known_places, IsDraft, section_of, counted, item_of, names_so_far}
 use Rattle.dns_wire.proofs.RecordsWritten.{octets_of_records, records-more, records-none}
 
 -- records after others
@@ -49,10 +49,6 @@ records_split ms p (r ∷ rs) ss =
 records_pushed : (items : List Item) (i : Item) → records_of (items ++ i ∷ []) ≡ records_of items ++ i.records
 records_pushed items i = flat_map-append (λ (x : Item). x.records) items (i ∷ []) ∙ ap (λ z. records_of items ++ z) (append-nil i.records)
 
--- how many records a section has
-abbrev pub count : Layout.Section → Section → ℕ → ℕ
-count s section k = cond (is_section s (section_of section)) k 0
-
 section_pushed : (s : Layout.Section) (items : List Item) (i : Item) → length (in_section s (items ++ i ∷ [])) ≡ length (in_section s items) + cond (is_section s i.section) (length i.records) 0
 section_pushed s [] i = go (is_section s i.section)
   where
@@ -68,7 +64,7 @@ section_pushed s (x ∷ items) i = go (is_section s x.section) (section_pushed s
     go false h = h
 
 section_counted : (s : Layout.Section) (items : List Item) (section : Section) (owner : DomainName) (ttl : ℕ) (set : RecordSet)
-    → length (in_section s (items ++ item_of section owner ttl set ∷ [])) ≡ length (in_section s items) + count s section (length set.rdata)
+    → length (in_section s (items ++ item_of section owner ttl set ∷ [])) ≡ length (in_section s items) + counted s section (length set.rdata)
 section_counted s items section owner ttl set =
     section_pushed s items (item_of section owner ttl set)
     ∙ ap (λ k. length (in_section s items) + cond (is_section s (section_of section)) k 0) (length-map set.rdata (λ (d : Octets). shown owner set.rtype ttl d))
@@ -104,8 +100,8 @@ module _ (head : Octets → ℕ) (q : Option MessageQuestion) (items : List Item
 
   pub draft_put : (limit : ℕ) (section : Section) (owner : DomainName) (ttl : ℕ) (set : RecordSet) (d' : Draft)
       → IsWritten (suffix_number head) limit (names_so_far q items) d.octets (records_laid (names_so_far q items) (length d.octets) (records_at owner ttl set)) true d'.octets (known_places (suffix_number head) d')
-      → d'.questions ≡ d.questions → d'.answers ≡ d.answers + count answer section (length set.rdata)
-      → d'.authorities ≡ d.authorities + count authority section (length set.rdata) → d'.additionals ≡ d.additionals + count additional section (length set.rdata)
+      → d'.questions ≡ d.questions → d'.answers ≡ d.answers + counted answer section (length set.rdata)
+      → d'.authorities ≡ d.authorities + counted authority section (length set.rdata) → d'.additionals ≡ d.additionals + counted additional section (length set.rdata)
       → IsDraft head q (items ++ item_of section owner ttl set ∷ []) d'
   draft_put limit section owner ttl set d' done questions answers authorities additionals =
       let i = item_of section owner ttl set in
@@ -119,9 +115,9 @@ module _ (head : Octets → ℕ) (q : Option MessageQuestion) (items : List Item
         written = done.written ∙ ap (λ z. z ++ more.written) draft.written ∙ append_assoc front l.written more.written ∙ ap (λ (x : Laid). front ++ x.written) (sym all);
         holds = subst (λ x. Holds (suffix_number head) x d'.octets (known_places (suffix_number head) d')) (append_assoc ms l.names more.names ∙ ap (λ (x : Laid). ms ++ x.names) (sym all)) done.holds;
         questions = questions ∙ draft.questions;
-        answers = answers ∙ ap (λ k. k + count answer section (length set.rdata)) draft.answers ∙ sym (section_counted answer items section owner ttl set);
-        authorities = authorities ∙ ap (λ k. k + count authority section (length set.rdata)) draft.authorities ∙ sym (section_counted authority items section owner ttl set);
-        additionals = additionals ∙ ap (λ k. k + count additional section (length set.rdata)) draft.additionals ∙ sym (section_counted additional items section owner ttl set);
+        answers = answers ∙ ap (λ k. k + counted answer section (length set.rdata)) draft.answers ∙ sym (section_counted answer items section owner ttl set);
+        authorities = authorities ∙ ap (λ k. k + counted authority section (length set.rdata)) draft.authorities ∙ sym (section_counted authority items section owner ttl set);
+        additionals = additionals ∙ ap (λ k. k + counted additional section (length set.rdata)) draft.additionals ∙ sym (section_counted additional items section owner ttl set);
         askable = draft.askable;
       }
 
@@ -139,19 +135,18 @@ put_fits {head} {t} {u} {b} {ks} {d} {now} q items section owner ttl set view dr
       λ fits. sym is ∙ done.exactly.1 (omega (arith, fits, size_is, limit)),
     )
 
--- a set that was put, in the section that was asked for
-pub put_in : {head : Octets → ℕ} {limit : ℕ} {t : Bool} {d now d' : Draft} {asked : Section} (q : Option MessageQuestion) (items : List Item) (section : Section)
-    (owner : DomainName) (ttl : ℕ) (set : RecordSet) → asked ≡ section → d ≡ now → IsDraft head q items now
+-- a set that was put
+pub put_in : {head : Octets → ℕ} {limit : ℕ} {t : Bool} {d now d' : Draft} (q : Option MessageQuestion) (items : List Item) (section : Section)
+    (owner : DomainName) (ttl : ℕ) (set : RecordSet) → d ≡ now → IsDraft head q items now
     → ((ms : List Placed) → Holds (suffix_number head) ms d.octets (known_places (suffix_number head) d) → IsWritten (suffix_number head) limit ms d.octets (records_laid ms (length d.octets) (records_at owner ttl set)) t d'.octets (known_places (suffix_number head) d'))
-    → t ≡ true → d'.questions ≡ d.questions → d'.answers ≡ d.answers + count answer section (length set.rdata)
-    → d'.authorities ≡ d.authorities + count authority section (length set.rdata) → d'.additionals ≡ d.additionals + count additional section (length set.rdata)
-    → IsDraft head q (items ++ item_of asked owner ttl set ∷ []) d'
-put_in {head} {limit} {t} {d} {now} {d'} {asked} q items section owner ttl set is view draft written put questions answers authorities additionals =
+    → t ≡ true → d'.questions ≡ d.questions → d'.answers ≡ d.answers + counted answer section (length set.rdata)
+    → d'.authorities ≡ d.authorities + counted authority section (length set.rdata) → d'.additionals ≡ d.additionals + counted additional section (length set.rdata)
+    → IsDraft head q (items ++ item_of section owner ttl set ∷ []) d'
+put_in {head} {limit} {t} {d} {now} {d'} q items section owner ttl set view draft written put questions answers authorities additionals =
     let here = subst (IsDraft head q items) (sym view) draft in
     let ms = names_so_far q items in
     let done = subst (λ u. IsWritten (suffix_number head) limit ms d.octets (records_laid ms (length d.octets) (records_at owner ttl set)) u d'.octets (known_places (suffix_number head) d')) put (written ms here.holds) in
-    subst (λ (s : Section). IsDraft head q (items ++ item_of s owner ttl set ∷ []) d') (sym is)
-    (draft_put head q items d here limit section owner ttl set d' done questions answers authorities additionals)
+    draft_put head q items d here limit section owner ttl set d' done questions answers authorities additionals
 
 -- a draft without sets
 pub draft_begins : (head : Octets → ℕ) (q : Option MessageQuestion) (d : Draft) → d.octets ≡ replicate 12 0 ++ asked_octets q → Holds (suffix_number head) (asked_placed q) d.octets (known_places (suffix_number head) d)

@@ -4,7 +4,7 @@ use Rattle.dns_spec.specs.Names.{Octets, DomainName}
 use Rattle.dns_spec.specs.Reading.{Header, MessageQuestion, MessageRecord, DnsMessage, NameAt, NumberAt, DataAt, QuestionsAt, RecordsAt, Spells}
 use Rattle.dns_spec.proofs.Messages.OneMessage.{one_number, same_names, same_record, same_questions, same_records}
 use Rattle.dns_wire.specs.Pieces.{NoDataAt}
-use Rattle.dns_wire.specs.declared.reader.Counts.{Counts}
+use Rattle.dns_wire.specs.declared.message.Counts.{Counts}
 use Rattle.dns_wire.specs.Read.{HeaderAt, AreQuestions, AreRecords, NoMessage, QuestionAt, WholeRecordAt, NoQuestion, NoRecord, NoQuestions, NoRecords, QuestionsRead, RecordsRead}
 
 -- numbers that are missing

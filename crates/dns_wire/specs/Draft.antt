@@ -1,11 +1,11 @@
 -- What a reader learns here: what a writer has written of a message so far.
-use Rattle.std.specs.Prelude.{◌≡◌, ℕ, ◌+◌, ◌≤◌, List, [], ◌∷◌, ◌++◌, length, replicate, Option, IfSome}
+use Rattle.std.specs.Prelude.{◌≡◌, ℕ, ◌+◌, ◌≤◌, List, [], ◌∷◌, ◌++◌, length, replicate, if◌then◌else◌, Option, IfSome}
 use Rattle.std.specs.Option.{option_to_list}
 use Rattle.dns_spec.specs.Names.{Octets, DomainName}
 use Rattle.dns_spec.specs.Sets.{RecordSet, records_at}
 use Rattle.dns_spec.specs.Reading.{MessageQuestion}
 use Rattle.dns_spec.specs.Layout as Layout
-use Rattle.dns_spec.specs.Layout.{Item, Placed, records_of, in_section, asked_octets, asked_placed, answer, authority, additional}
+use Rattle.dns_spec.specs.Layout.{Item, Placed, records_of, in_section, is_section, asked_octets, asked_placed, answer, authority, additional}
 use Rattle.dns_spec.specs.Laws.{IsAskable}
 use Rattle.dns_wire.specs.Kept.{Kept}
 use Rattle.dns_wire.specs.SuffixNumbers.{suffix_number}
@@ -17,6 +17,10 @@ abbrev pub section_of : Section → Layout.Section
 section_of Answer = answer
 section_of Authority = authority
 section_of Additional = additional
+
+-- how many of so many records of a section come in a section
+abbrev pub counted : Layout.Section → Section → ℕ → ℕ
+counted s section k = if is_section s (section_of section) then k else 0
 
 -- the records of a set, in a section of a message
 abbrev pub item_of : Section → DomainName → ℕ → RecordSet → Item

@@ -4,7 +4,7 @@ use Rattle.std.specs.Prelude.{◌≡◌, ℕ, ◌+◌, ◌≤◌, List, ◌++◌
 use Rattle.dns_spec.specs.Data.{class_in, Valid}
 use Rattle.dns_spec.specs.Names.{Octets}
 use Rattle.dns_spec.specs.Reading.{Header, MessageQuestion, MessageRecord, DnsMessage, NameAt, NumberAt, QuestionsAt, RecordAt, RecordsAt, Spells}
-use Rattle.dns_wire.specs.declared.reader.Counts.{Counts}
+use Rattle.dns_wire.specs.declared.message.Counts.{Counts}
 
 -- The type whose form data has: in another class than IN none, as type 0, of which the data is any
 -- octets (RFC 3597 3).

@@ -30,6 +30,15 @@ impl Model for Head {
     ghost view = { λ h. record { id = h.id; flags = h.flags } };
 }
 
+/// How many questions and records a header states, by section (RFC 1035 4.1.1).
+#[derive(Clone, Copy, Default)]
+pub(crate) struct Counts {
+    pub(crate) questions: u16,
+    pub(crate) answers: u16,
+    pub(crate) authorities: u16,
+    pub(crate) additionals: u16,
+}
+
 /// A question: the name as it is spelled, and the numbers of the type and the class asked for (RFC
 /// 1035 4.1.2).
 #[derive(Drop)]

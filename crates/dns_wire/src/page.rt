@@ -5,13 +5,14 @@ ghost use Rattle.std.specs.Option.{option_copied};
 ghost use Rattle.dns_spec.specs.Names.{Octets};
 ghost use Rattle.std.specs.Bool.{OnTrue, OnFalse};
 ghost use Rattle.dns_spec.specs.Reading.{MessageQuestion, Spells};
-ghost use Rattle.dns_spec.specs.Layout.{Item, layout, header_octets, message_of, records_of};
+ghost use Rattle.dns_spec.specs.Layout.{Item, answer, authority, additional, layout, header_octets, message_of, records_of};
 ghost use Rattle.dns_spec.specs.LayoutSize.{size};
 ghost use Rattle.dns_spec.specs.Laws.{sections_in_order, IsWritable};
 ghost use Rattle.dns_spec.specs.Sharing.{Sharing};
 ghost use Rattle.dns_wire.specs.Writing.{IsSound};
+ghost use Rattle.dns_wire.specs.Draft.{counted};
 
-use crate::message::{HEADER_OCTETS, Head, Question, QuestionRef};
+use crate::message::{Counts, HEADER_OCTETS, Head, Question, QuestionRef};
 use crate::places::SuffixHash;
 use crate::room::Room;
 use byteorder::{BigEndian, ByteOrder};
@@ -34,10 +35,7 @@ pub enum Section {
 #[derive(Drop)]
 pub struct Page<const N: usize, const SIZE: usize> {
     room: Room<N, SIZE>,
-    questions: u16,
-    answers: u16,
-    authorities: u16,
-    additionals: u16,
+    counts: Counts,
 }
 
 impl<const N: usize, const SIZE: usize> Model for Page<N, SIZE> {
@@ -50,10 +48,10 @@ impl<const N: usize, const SIZE: usize> Model for Page<N, SIZE> {
       octets = p.room.octets.items;
       asked_end = p.room.asked_end;
       kept = p.room.places;
-      questions = p.questions;
-      answers = p.answers;
-      authorities = p.authorities;
-      additionals = p.additionals;
+      questions = p.counts.questions;
+      answers = p.counts.answers;
+      authorities = p.counts.authorities;
+      additionals = p.counts.additionals;
     } };
 
     ghost invariant = { λ p. IsWellKept N SIZE (record {
@@ -61,10 +59,10 @@ impl<const N: usize, const SIZE: usize> Model for Page<N, SIZE> {
       octets = p.room.octets.items;
       asked_end = p.room.asked_end;
       kept = p.room.places;
-      questions = p.questions;
-      answers = p.answers;
-      authorities = p.authorities;
-      additionals = p.additionals;
+      questions = p.counts.questions;
+      answers = p.counts.answers;
+      authorities = p.counts.authorities;
+      additionals = p.counts.additionals;
     }) };
 }
 
@@ -112,10 +110,7 @@ impl<const N: usize, const SIZE: usize> Page<N, SIZE> {
     {
         Page {
             room: Room::new(limit),
-            questions: 0,
-            answers: 0,
-            authorities: 0,
-            additionals: 0,
+            counts: Counts::default(),
         }
     }
 
@@ -131,10 +126,7 @@ impl<const N: usize, const SIZE: usize> Page<N, SIZE> {
         ensures { self.new ≡ no_draft limit }
     {
         self.room.clear(limit);
-        self.questions = 0;
-        self.answers = 0;
-        self.authorities = 0;
-        self.additionals = 0;
+        self.counts = Counts::default();
     }
 
     /// Writes the question that a message repeats, if any.
@@ -149,7 +141,7 @@ impl<const N: usize, const SIZE: usize> Page<N, SIZE> {
     {
         if let Some(question) = question {
             self.room.put_question(question);
-            self.questions = 1;
+            self.counts.questions = 1;
         }
     }
 
@@ -183,12 +175,7 @@ impl<const N: usize, const SIZE: usize> Page<N, SIZE> {
         if !self.room.put_set(hash, owner, ttl, set) {
             return false;
         }
-        let count = set.len() as u16;
-        match section {
-            Section::Answer => self.answers += count,
-            Section::Authority => self.authorities += count,
-            Section::Additional => self.additionals += count,
-        }
+        self.counts = with_records(self.counts, section, set.len() as u16);
         true
     }
 
@@ -211,16 +198,28 @@ impl<const N: usize, const SIZE: usize> Page<N, SIZE> {
         let length = octets.len();
         let (_, body) = octets.split_at(HEADER_OCTETS);
         put_body(out, body);
-        put_header(
-            out,
-            &head,
-            self.questions,
-            self.answers,
-            self.authorities,
-            self.additionals,
-        );
+        put_header(out, &head, &self.counts);
         length
     }
+}
+
+// The counts with so many records more in a section.
+fn with_records(counts: Counts, section: Section, count: u16) -> Counts
+    requires { counts.answers + counts.authorities + counts.additionals + count < 2 ^ 16 }
+    ensures { result ≡ record {
+      questions = counts.questions;
+      answers = counts.answers + counted answer section count;
+      authorities = counts.authorities + counted authority section count;
+      additionals = counts.additionals + counted additional section count;
+    } }
+{
+    let mut counts = counts;
+    match section {
+        Section::Answer => counts.answers += count,
+        Section::Authority => counts.authorities += count,
+        Section::Additional => counts.additionals += count,
+    }
+    counts
 }
 
 fn put_body(out: &mut [u8], body: &[u8])
@@ -231,25 +230,18 @@ fn put_body(out: &mut [u8], body: &[u8])
     out[HEADER_OCTETS..HEADER_OCTETS + body.len()].copy_from_slice(body);
 }
 
-fn put_header(
-    out: &mut [u8],
-    head: &Head,
-    questions: u16,
-    answers: u16,
-    authorities: u16,
-    additionals: u16,
-)
+fn put_header(out: &mut [u8], head: &Head, counts: &Counts)
     requires { 12 ≤ length out.old }
-    ensures octets { out.new ≡ header_octets head.now questions answers authorities additionals
-        ++ drop 12 out.old }
+    ensures octets { out.new ≡ header_octets head.now counts.now.questions counts.now.answers
+        counts.now.authorities counts.now.additionals ++ drop 12 out.old }
     ensures id { head.now.id < 2 ^ 16 }
     ensures flags { head.now.flags < 2 ^ 16 }
 {
     let Head { id, flags } = *head;
     BigEndian::write_u16(out, id);
     BigEndian::write_u16(&mut out[2..], flags);
-    BigEndian::write_u16(&mut out[4..], questions);
-    BigEndian::write_u16(&mut out[6..], answers);
-    BigEndian::write_u16(&mut out[8..], authorities);
-    BigEndian::write_u16(&mut out[10..], additionals);
+    BigEndian::write_u16(&mut out[4..], counts.questions);
+    BigEndian::write_u16(&mut out[6..], counts.answers);
+    BigEndian::write_u16(&mut out[8..], counts.authorities);
+    BigEndian::write_u16(&mut out[10..], counts.additionals);
 }

@@ -6,7 +6,7 @@ ghost use Rattle.dns_wire.specs.WireFault.{UnlessNoMemory};
 
 use crate::data::read_data;
 use crate::fault::WireFault;
-use crate::message::{HEADER_OCTETS, Head, Message, Question, WireRecord};
+use crate::message::{Counts, HEADER_OCTETS, Head, Message, Question, WireRecord};
 use crate::name::read_name;
 use crate::number::{read_u16, read_u32};
 use dns_rdata::RType;
@@ -35,15 +35,6 @@ pub fn read_message(alloc: Global, octets: &[u8]) -> Result<Message, WireFault>
         authorities,
         additionals,
     })
-}
-
-// How many questions and records a header states, by section.
-#[derive(Clone, Copy)]
-struct Counts {
-    questions: u16,
-    answers: u16,
-    authorities: u16,
-    additionals: u16,
 }
 
 fn read_header(octets: &[u8]) -> Result<(Head, Counts), WireFault>

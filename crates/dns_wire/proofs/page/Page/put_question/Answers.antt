@@ -14,7 +14,7 @@ pub returns-in-Some-clause-draft : goal.returns-in-Some-clause-draft
 returns-in-Some-clause-draft g c =
     let head = g.H.SuffixHash.numbers c.args.hash.now in
     let r = c.put_question.new.self in
-    let d : Draft = record { limit = r.limit; octets = r.octets.items; asked_end = r.asked_end; kept = r.places; questions = 1; answers = c.self.inside.answers; authorities = c.self.inside.authorities; additionals = c.self.inside.additionals } in
+    let d : Draft = record { limit = r.limit; octets = r.octets.items; asked_end = r.asked_end; kept = r.places; questions = 1; answers = c.self.inside.counts.answers; authorities = c.self.inside.counts.authorities; additionals = c.self.inside.counts.additionals } in
     let begun = draft_begins head (Some c.in-Some.question.now) d c.put_question.ensures.octets (c.put_question.ensures.holds head) refl
     (ap (λ (k : Draft). k.answers) (c.self.view_is ∙ c.requires.nothing)) (ap (λ (k : Draft). k.authorities) (c.self.view_is ∙ c.requires.nothing)) (ap (λ (k : Draft). k.additionals) (c.self.view_is ∙ c.requires.nothing)) c.put_question.ensures.askable in
     subst (λ (o : Option (Bor MessageQuestion)). IsDraft head (option_copied o) [] d) (sym c.in-Some.is) begun
