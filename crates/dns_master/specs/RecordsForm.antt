@@ -14,7 +14,7 @@ StillGives r m =
     (o : DomainName) (earlier : List Entry) → Knows o earlier r.reader
     → r.reader.line ≡ line_after earlier → TextMeans o earlier r.goes_on r.rest.now m
 
--- the record that was gone on to, if there was one
+-- the current record, if there is one
 abbrev pub came : Bool → Records → List ResourceRecord
 came taken r = handed taken r.reader.last
 
