@@ -60,6 +60,11 @@ record Summary : Type 0 where
   needed : ℕ
   sets : List Row
 
+abbrev gives : ℕ → Bool → ℕ → List Row → Summary
+gives rcode authoritative needed sets =
+    record { rcode = rcode; authoritative = authoritative; needed = needed; sets = sets }
+
+-- the answer for a name and a type
 unfoldable summary : Octets → ℕ → Summary
 unfolding labels_from cut chain_from chain outcome_at outcome extra items required_items
 summary cs t = record {
@@ -69,107 +74,64 @@ summary cs t = record {
   sets = map (λ (i : Item). row_of i.section i.records) (items zone (dotted cs) t);
 }
 
--- an alias of a name below a cut ends in a referral, which the server still speaks for
-alias_below_cut : summary (codes "far.example") 1 ≡ record { rcode = 0; authoritative = true; needed = 3; sets = set answer (codes "far.example") 5 1 ∷ set authority (codes "sub.example") 2 1 ∷ set additional (codes "ns.sub.example") 1 1 ∷ [] }
+answer_rows :
+    -- an alias of a name below a cut ends in a referral, which the server still speaks for
+    (summary (codes "far.example") 1
+    ≡ gives 0 true 3 (set answer (codes "far.example") 5 1 ∷ set authority (codes "sub.example") 2 1 ∷ set additional (codes "ns.sub.example") 1 1 ∷ []))
+    -- an alias of a name that does not exist is a name error
+    × (summary (codes "gone.example") 1
+    ≡ gives 3 true 2 (set answer (codes "gone.example") 5 1 ∷ set authority (codes "example") 6 1 ∷ []))
+    -- an alias of a name of another zone ends there
+    × (summary (codes "out.example") 1 ≡ gives 0 true 1 (set answer (codes "out.example") 5 1 ∷ []))
+    -- a wildcard that only has names below it answers that there is nothing
+    × (summary (codes "q.v.example") 1 ≡ gives 0 true 1 (set authority (codes "example") 6 1 ∷ []))
+    -- a wildcard does not answer below a name that exists
+    × (summary (codes "z.c.e.example") 1
+    ≡ gives 3 true 1 (set authority (codes "example") 6 1 ∷ []))
+    -- and does elsewhere
+    × (summary (codes "z.e.example") 1 ≡ gives 0 true 1 (set answer (codes "z.e.example") 1 1 ∷ []))
+    -- also for a name of several labels
+    × (summary (codes "y.z.e.example") 1
+    ≡ gives 0 true 1 (set answer (codes "y.z.e.example") 1 1 ∷ []))
+    -- an alias by a wildcard
+    × (summary (codes "q.k.example") 1
+    ≡ gives 0 true 2 (set answer (codes "q.k.example") 5 1 ∷ set answer (codes "www.example") 1 1 ∷ []))
+    -- a wildcard asked for by its own name
+    × (summary (codes "*.k.example") 1
+    ≡ gives 0 true 2 (set answer (codes "*.k.example") 5 1 ∷ set answer (codes "www.example") 1 1 ∷ []))
+    -- an alias that is asked for is not followed
+    × (summary (codes "alias.example") 5
+    ≡ gives 0 true 1 (set answer (codes "alias.example") 5 1 ∷ []))
+    -- nor where all is asked for
+    × (summary (codes "alias.example") 255
+    ≡ gives 0 true 1 (set answer (codes "alias.example") 5 1 ∷ []))
+    -- glue is no answer
+    × (summary (codes "ns.sub.example") 1
+    ≡ gives 0 false 2 (set authority (codes "sub.example") 2 1 ∷ set additional (codes "ns.sub.example") 1 1 ∷ []))
+    -- nor are the servers at a cut
+    × (summary (codes "sub.example") 2
+    ≡ gives 0 false 2 (set authority (codes "sub.example") 2 1 ∷ set additional (codes "ns.sub.example") 1 1 ∷ []))
+    -- also where all is asked for
+    × (summary (codes "sub.example") 255
+    ≡ gives 0 false 2 (set authority (codes "sub.example") 2 1 ∷ set additional (codes "ns.sub.example") 1 1 ∷ []))
+    -- where all is asked for, one set is the answer, that of the lowest type number: addresses have no targets
+    × (summary (codes "self.example") 255
+    ≡ gives 0 true 1 (set answer (codes "self.example") 1 1 ∷ []))
+    -- an address set of two targets is not repeated
+    × (summary (codes "twice.example") 15
+    ≡ gives 0 true 1 (set answer (codes "twice.example") 15 2 ∷ set additional (codes "www.example") 1 1 ∷ []))
+    -- a name without the type asked for
+    × (summary (codes "www.example") 16 ≡ gives 0 true 1 (set authority (codes "example") 6 1 ∷ []))
+    -- the NS set of the origin stands before its SOA
+    × (summary (codes "example") 255
+    ≡ gives 0 true 1 (set answer (codes "example") 2 1 ∷ set additional (codes "ns.example") 1 1 ∷ []))
+    -- nothing is found where only names below own records
+    × (summary (codes "w.example") 255 ≡ gives 0 true 1 (set authority (codes "example") 6 1 ∷ []))
+    -- additional addresses in the order of their targets
+    × (summary (codes "mm.example") 15
+    ≡ gives 0 true 1 (set answer (codes "mm.example") 15 2 ∷ set additional (codes "www.example") 1 1 ∷ set additional (codes "ns.example") 1 1 ∷ []))
+    -- the glue of a referral comes first, and alone may not be left out
+    × (summary (codes "x.two.example") 1
+    ≡ gives 0 false 2 (set authority (codes "two.example") 2 2 ∷ set additional (codes "z.two.example") 1 1 ∷ set additional (codes "ns.example") 1 1 ∷ []))
 unfolding summary labels_from cut chain_from chain outcome_at outcome extra items required_items
-alias_below_cut = refl
-
--- an alias of a name that does not exist is a name error
-alias_of_nothing : summary (codes "gone.example") 1 ≡ record { rcode = 3; authoritative = true; needed = 2; sets = set answer (codes "gone.example") 5 1 ∷ set authority (codes "example") 6 1 ∷ [] }
-unfolding summary labels_from cut chain_from chain outcome_at outcome extra items required_items
-alias_of_nothing = refl
-
--- an alias of a name of another zone ends there
-alias_to_outside : summary (codes "out.example") 1 ≡ record { rcode = 0; authoritative = true; needed = 1; sets = set answer (codes "out.example") 5 1 ∷ [] }
-unfolding summary labels_from cut chain_from chain outcome_at outcome extra items required_items
-alias_to_outside = refl
-
--- a wildcard that only has names below it answers that there is nothing
-wildcard_without_records : summary (codes "q.v.example") 1 ≡ record { rcode = 0; authoritative = true; needed = 1; sets = set authority (codes "example") 6 1 ∷ [] }
-unfolding summary labels_from cut chain_from chain outcome_at outcome extra items required_items
-wildcard_without_records = refl
-
--- a wildcard does not answer below a name that exists
-closer_encloser : summary (codes "z.c.e.example") 1 ≡ record { rcode = 3; authoritative = true; needed = 1; sets = set authority (codes "example") 6 1 ∷ [] }
-unfolding summary labels_from cut chain_from chain outcome_at outcome extra items required_items
-closer_encloser = refl
-
--- and does elsewhere
-wildcard_address : summary (codes "z.e.example") 1 ≡ record { rcode = 0; authoritative = true; needed = 1; sets = set answer (codes "z.e.example") 1 1 ∷ [] }
-unfolding summary labels_from cut chain_from chain outcome_at outcome extra items required_items
-wildcard_address = refl
-
--- also for a name of several labels
-wildcard_deeper : summary (codes "y.z.e.example") 1 ≡ record { rcode = 0; authoritative = true; needed = 1; sets = set answer (codes "y.z.e.example") 1 1 ∷ [] }
-unfolding summary labels_from cut chain_from chain outcome_at outcome extra items required_items
-wildcard_deeper = refl
-
--- an alias by a wildcard
-wildcard_alias : summary (codes "q.k.example") 1 ≡ record { rcode = 0; authoritative = true; needed = 2; sets = set answer (codes "q.k.example") 5 1 ∷ set answer (codes "www.example") 1 1 ∷ [] }
-unfolding summary labels_from cut chain_from chain outcome_at outcome extra items required_items
-wildcard_alias = refl
-
--- a wildcard asked for by its own name
-wildcard_itself : summary (codes "*.k.example") 1 ≡ record { rcode = 0; authoritative = true; needed = 2; sets = set answer (codes "*.k.example") 5 1 ∷ set answer (codes "www.example") 1 1 ∷ [] }
-unfolding summary labels_from cut chain_from chain outcome_at outcome extra items required_items
-wildcard_itself = refl
-
--- an alias that is asked for is not followed
-alias_asked : summary (codes "alias.example") 5 ≡ record { rcode = 0; authoritative = true; needed = 1; sets = set answer (codes "alias.example") 5 1 ∷ [] }
-unfolding summary labels_from cut chain_from chain outcome_at outcome extra items required_items
-alias_asked = refl
-
--- nor where all is asked for
-alias_any : summary (codes "alias.example") 255 ≡ record { rcode = 0; authoritative = true; needed = 1; sets = set answer (codes "alias.example") 5 1 ∷ [] }
-unfolding summary labels_from cut chain_from chain outcome_at outcome extra items required_items
-alias_any = refl
-
--- glue is no answer
-glue_asked : summary (codes "ns.sub.example") 1 ≡ record { rcode = 0; authoritative = false; needed = 2; sets = set authority (codes "sub.example") 2 1 ∷ set additional (codes "ns.sub.example") 1 1 ∷ [] }
-unfolding summary labels_from cut chain_from chain outcome_at outcome extra items required_items
-glue_asked = refl
-
--- nor are the servers at a cut
-cut_asked : summary (codes "sub.example") 2 ≡ record { rcode = 0; authoritative = false; needed = 2; sets = set authority (codes "sub.example") 2 1 ∷ set additional (codes "ns.sub.example") 1 1 ∷ [] }
-unfolding summary labels_from cut chain_from chain outcome_at outcome extra items required_items
-cut_asked = refl
-
--- also where all is asked for
-cut_any : summary (codes "sub.example") 255 ≡ record { rcode = 0; authoritative = false; needed = 2; sets = set authority (codes "sub.example") 2 1 ∷ set additional (codes "ns.sub.example") 1 1 ∷ [] }
-unfolding summary labels_from cut chain_from chain outcome_at outcome extra items required_items
-cut_any = refl
-
--- where all is asked for, one set is the answer, that of the lowest type number: addresses have no targets
-lowest_any : summary (codes "self.example") 255 ≡ record { rcode = 0; authoritative = true; needed = 1; sets = set answer (codes "self.example") 1 1 ∷ [] }
-unfolding summary labels_from cut chain_from chain outcome_at outcome extra items required_items
-lowest_any = refl
-
--- an address set of two targets is not repeated
-stands_already : summary (codes "twice.example") 15 ≡ record { rcode = 0; authoritative = true; needed = 1; sets = set answer (codes "twice.example") 15 2 ∷ set additional (codes "www.example") 1 1 ∷ [] }
-unfolding summary labels_from cut chain_from chain outcome_at outcome extra items required_items
-stands_already = refl
-
--- a name without the type asked for
-other_type : summary (codes "www.example") 16 ≡ record { rcode = 0; authoritative = true; needed = 1; sets = set authority (codes "example") 6 1 ∷ [] }
-unfolding summary labels_from cut chain_from chain outcome_at outcome extra items required_items
-other_type = refl
-
--- the NS set of the origin stands before its SOA
-origin_any : summary (codes "example") 255 ≡ record { rcode = 0; authoritative = true; needed = 1; sets = set answer (codes "example") 2 1 ∷ set additional (codes "ns.example") 1 1 ∷ [] }
-unfolding summary labels_from cut chain_from chain outcome_at outcome extra items required_items
-origin_any = refl
-
--- nothing is found where only names below own records
-above_any : summary (codes "w.example") 255 ≡ record { rcode = 0; authoritative = true; needed = 1; sets = set authority (codes "example") 6 1 ∷ [] }
-unfolding summary labels_from cut chain_from chain outcome_at outcome extra items required_items
-above_any = refl
-
--- additional addresses in the order of their targets
-targets_in_order : summary (codes "mm.example") 15 ≡ record { rcode = 0; authoritative = true; needed = 1; sets = set answer (codes "mm.example") 15 2 ∷ set additional (codes "www.example") 1 1 ∷ set additional (codes "ns.example") 1 1 ∷ [] }
-unfolding summary labels_from cut chain_from chain outcome_at outcome extra items required_items
-targets_in_order = refl
-
--- the glue of a referral comes first, and alone may not be left out
-glue_first : summary (codes "x.two.example") 1 ≡ record { rcode = 0; authoritative = false; needed = 2; sets = set authority (codes "two.example") 2 2 ∷ set additional (codes "z.two.example") 1 1 ∷ set additional (codes "ns.example") 1 1 ∷ [] }
-unfolding summary labels_from cut chain_from chain outcome_at outcome extra items required_items
-glue_first = refl
+answer_rows = search []

@@ -1,7 +1,6 @@
 -- The faults of zones, computed from the definitions: most checks once, with what they spare.
 use Rattle.std.specs.Prelude.{◌≡◌, ℕ, zero, suc, ◌+◌, List, [], ◌∷◌, ◌++◌, codes}
 use Rattle.std.specs.Int.{bytes_high_first}
-use mathlib.Core.Path.{refl}
 use Rattle.dns_spec.specs.Names.{Octets, wire, labels_from}
 use Rattle.dns_spec.specs.Data.{type_a, type_soa, type_mx, cut}
 use Rattle.dns_spec.specs.Records.{ResourceRecord}
@@ -17,77 +16,45 @@ abbrev unknown_sets : ℕ → List ResourceRecord
 unknown_sets zero = []
 unknown_sets (suc k) = unknown_sets k ++ in_zone (codes "g") (65280 + k) [] ∷ []
 
--- a record that stands twice is one record
-one_record_twice : faults (small_zone_with (address (codes "www") (net_192 10) ∷ [])) ≡ []
+check_rows :
+    -- a record that stands twice is one record
+    (faults (small_zone_with (address (codes "www") (net_192 10) ∷ [])) ≡ [])
+    -- one set with two TTLs
+    × (faults (small_zone_with (record (address (codes "www") (net_192 10)) { ttl = 60 } ∷ []))
+    ≡ reported (codes "www.example") 8 ∷ [])
+    -- two CNAME records at a name
+    × (faults (small_zone_with (alias (codes "alias") (codes "ns") ∷ []))
+    ≡ reported (codes "alias.example") 7 ∷ [])
+    -- a server that is an alias has no address either
+    × (faults (small_zone_with (server example (codes "alias") ∷ []))
+    ≡ reported (codes "example") 9 ∷ reported (codes "example") 10 ∷ [])
+    -- a server below a cut has its address there
+    × (faults (small_zone_with (server example (codes "h.sub") ∷ [])) ≡ [])
+    -- but a server below the cut that it serves has glue
+    × (faults (small_zone_with (server (under (codes "sub")) (codes "h.sub") ∷ []))
+    ≡ reported (codes "sub.example") 10 ∷ [])
+    -- a mail exchange that is an alias
+    × (faults (small_zone_with (entry example type_mx (bytes_high_first 2 10 ++ wire (under (codes "alias"))) ∷ []))
+    ≡ reported (codes "example") 11 ∷ [])
+    -- a cut at a wildcard, whose strings are not its own
+    × (faults (small_zone_with (server (under (codes "*.w")) (codes "ns") ∷ []))
+    ≡ reported (codes "*.w.example") 12 ∷ reported (codes "*.w.example") 13 ∷ [])
+    -- a name of another zone
+    × (faults (small_zone_with (entry (dotted (codes "www.other")) type_a (net_192 1) ∷ []))
+    ≡ reported (codes "www.other") 5 ∷ [])
+    -- an SOA that is not at the origin
+    × (faults (small_zone_with (in_zone (codes "www") type_soa (soa_of (under (codes "ns")) (under (codes "hostmaster")) 1 2 3 4 5) ∷ []))
+    ≡ reported (codes "www.example") 3 ∷ [])
+    -- a second SOA
+    × (faults (small_zone_with (entry example type_soa (soa_of (under (codes "ns")) (under (codes "hostmaster")) 2 7200 900 1209600 300) ∷ []))
+    ≡ reported (codes "example") 2 ∷ [])
+    -- 65 records in a set
+    × (faults (small_zone_with (addresses 65 (codes "f"))) ≡ reported (codes "f.example") 14 ∷ [])
+    -- 64 records in a set
+    × (faults (small_zone_with (addresses 64 (codes "f"))) ≡ [])
+    -- 33 sets at a name
+    × (faults (small_zone_with (unknown_sets 33)) ≡ reported (codes "g.example") 15 ∷ [])
+    -- 32 sets at a name
+    × (faults (small_zone_with (unknown_sets 32)) ≡ [])
 unfolding faults labels_from cut
-one_record_twice = refl
-
--- one set with two TTLs
-ttls_that_differ : faults (small_zone_with (record (address (codes "www") (net_192 10)) { ttl = 60 } ∷ [])) ≡ reported (codes "www.example") 8 ∷ []
-unfolding faults labels_from cut
-ttls_that_differ = refl
-
--- two CNAME records at a name
-two_aliases : faults (small_zone_with (alias (codes "alias") (codes "ns") ∷ [])) ≡ reported (codes "alias.example") 7 ∷ []
-unfolding faults labels_from cut
-two_aliases = refl
-
--- a server that is an alias has no address either
-server_is_alias : faults (small_zone_with (server example (codes "alias") ∷ [])) ≡ reported (codes "example") 9 ∷ reported (codes "example") 10 ∷ []
-unfolding faults labels_from cut
-server_is_alias = refl
-
--- a server below a cut has its address there
-server_below_other_cut : faults (small_zone_with (server example (codes "h.sub") ∷ [])) ≡ []
-unfolding faults labels_from cut
-server_below_other_cut = refl
-
--- but a server below the cut that it serves has glue
-server_without_glue : faults (small_zone_with (server (under (codes "sub")) (codes "h.sub") ∷ [])) ≡ reported (codes "sub.example") 10 ∷ []
-unfolding faults labels_from cut
-server_without_glue = refl
-
--- a mail exchange that is an alias
-exchange_is_alias : faults (small_zone_with (entry example type_mx (bytes_high_first 2 10 ++ wire (under (codes "alias"))) ∷ [])) ≡ reported (codes "example") 11 ∷ []
-unfolding faults labels_from cut
-exchange_is_alias = refl
-
--- a cut at a wildcard, whose strings are not its own
-cut_at_wildcard : faults (small_zone_with (server (under (codes "*.w")) (codes "ns") ∷ [])) ≡ reported (codes "*.w.example") 12 ∷ reported (codes "*.w.example") 13 ∷ []
-unfolding faults labels_from cut
-cut_at_wildcard = refl
-
--- a name of another zone
-outside_of_zone : faults (small_zone_with (entry (dotted (codes "www.other")) type_a (net_192 1) ∷ [])) ≡ reported (codes "www.other") 5 ∷ []
-unfolding faults labels_from cut
-outside_of_zone = refl
-
--- an SOA that is not at the origin
-soa_below_origin : faults (small_zone_with (in_zone (codes "www") type_soa (soa_of (under (codes "ns")) (under (codes "hostmaster")) 1 2 3 4 5) ∷ [])) ≡ reported (codes "www.example") 3 ∷ []
-unfolding faults labels_from cut
-soa_below_origin = refl
-
--- a second SOA
-second_soa : faults (small_zone_with (entry example type_soa (soa_of (under (codes "ns")) (under (codes "hostmaster")) 2 7200 900 1209600 300) ∷ [])) ≡ reported (codes "example") 2 ∷ []
-unfolding faults labels_from cut
-second_soa = refl
-
--- 65 records in a set
-large_set_of_65 : faults (small_zone_with (addresses 65 (codes "f"))) ≡ reported (codes "f.example") 14 ∷ []
-unfolding faults labels_from cut
-large_set_of_65 = refl
-
--- 64 records in a set
-set_of_64 : faults (small_zone_with (addresses 64 (codes "f"))) ≡ []
-unfolding faults labels_from cut
-set_of_64 = refl
-
--- 33 sets at a name
-sets_33 : faults (small_zone_with (unknown_sets 33)) ≡ reported (codes "g.example") 15 ∷ []
-unfolding faults labels_from cut
-sets_33 = refl
-
--- 32 sets at a name
-sets_32 : faults (small_zone_with (unknown_sets 32)) ≡ []
-unfolding faults labels_from cut
-sets_32 = refl
+check_rows = search []

@@ -42,14 +42,13 @@ plain_label (c ∷ cs) h =
     let parts = and_parts (not (c == 46)) _ here.0 in
     (c ∷ [], cs, refl, (refl, other_than c 46 parts.0, other_than c 92 parts.1), plain_label cs here.1)
 
--- a single zero group stays
-single_zero_group : SaysIpv6 (codes "1:0:2:3:4:5:6:7") (hex (codes "0001 0000 0002 0003 0004 0005 0006 0007"))
-unfolding ipv6_groups
-single_zero_group = refl
-
-single_zero_group_written : data_text type_aaaa (hex (codes "0001 0000 0002 0003 0004 0005 0006 0007")) ≡ codes "1:0:2:3:4:5:6:7"
-unfolding data_text digits
-single_zero_group_written = refl
+data_rows :
+    -- a single zero group stays
+    (SaysIpv6 (codes "1:0:2:3:4:5:6:7") (hex (codes "0001 0000 0002 0003 0004 0005 0006 0007")))
+    × (data_text type_aaaa (hex (codes "0001 0000 0002 0003 0004 0005 0006 0007"))
+    ≡ codes "1:0:2:3:4:5:6:7")
+unfolding ipv6_groups data_text digits
+data_rows = (refl, refl)
 
 -- as a record's data
 single_zero_group_said : Says type_aaaa (bare (codes "1:0:2:3:4:5:6:7") ∷ []) example (hex (codes "0001 0000 0002 0003 0004 0005 0006 0007"))
@@ -61,63 +60,31 @@ single_zero_group_said = record {
   lower = refl;
 }
 
--- the first of two equal runs, and capitals
-equal_runs : SaysIpv6 (codes "2001:DB8:0:0:1:0:0:1") (hex (codes "2001 0db8 0000 0000 0001 0000 0000 0001"))
-unfolding ipv6_groups
-equal_runs = refl
-
-equal_runs_written : data_text type_aaaa (hex (codes "2001 0db8 0000 0000 0001 0000 0000 0001")) ≡ codes "2001:db8::1:0:0:1"
-unfolding data_text digits
-equal_runs_written = refl
-
--- `::` for one group alone is read, and not written
-last_group : SaysIpv6 (codes "1:2:3:4:5:6:7::") (hex (codes "0001 0002 0003 0004 0005 0006 0007 0000"))
-unfolding ipv6_groups
-last_group = refl
-
-last_group_written : data_text type_aaaa (hex (codes "0001 0002 0003 0004 0005 0006 0007 0000")) ≡ codes "1:2:3:4:5:6:7:0"
-unfolding data_text digits
-last_group_written = refl
-
--- all groups, and none
-no_groups : SaysIpv6 (codes "::") (hex (codes "0000 0000 0000 0000 0000 0000 0000 0000"))
-unfolding ipv6_groups
-no_groups = refl
-
-no_groups_written : data_text type_aaaa (hex (codes "0000 0000 0000 0000 0000 0000 0000 0000")) ≡ codes "::"
-unfolding data_text digits
-no_groups_written = refl
-
--- the longest run, at the end
-longest_at_end : data_text type_aaaa (hex (codes "0001 0000 0000 0002 0003 0000 0000 0000")) ≡ codes "1:0:0:2:3::"
-unfolding data_text digits
-longest_at_end = refl
-
--- eight groups leave nothing for `::`
-nothing_left_out : ipv6_groups (codes "1:2:3:4:5:6:7:8::") ≡ None
-unfolding ipv6_groups
-nothing_left_out = refl
-
--- an IPv4 address is no group
-ipv4_inside : ipv6_groups (codes "::1.2.3.4") ≡ None
-unfolding ipv6_groups
-ipv4_inside = refl
-
-two_gaps : ipv6_groups (codes "1::2::3") ≡ None
-unfolding ipv6_groups
-two_gaps = refl
-
-wide_gap : ipv6_groups (codes ":::") ≡ None
-unfolding ipv6_groups
-wide_gap = refl
-
-long_group : ipv6_groups (codes "1:2:3:4:5:6:7:00008") ≡ None
-unfolding ipv6_groups
-long_group = refl
-
-colon_in_front : ipv6_groups (codes ":1:2:3:4:5:6:7") ≡ None
-unfolding ipv6_groups
-colon_in_front = refl
+equal_runs_rows :
+    -- the first of two equal runs, and capitals
+    (SaysIpv6 (codes "2001:DB8:0:0:1:0:0:1") (hex (codes "2001 0db8 0000 0000 0001 0000 0000 0001")))
+    × (data_text type_aaaa (hex (codes "2001 0db8 0000 0000 0001 0000 0000 0001"))
+    ≡ codes "2001:db8::1:0:0:1")
+    -- `::` for one group alone is read, and not written
+    × (SaysIpv6 (codes "1:2:3:4:5:6:7::") (hex (codes "0001 0002 0003 0004 0005 0006 0007 0000")))
+    × (data_text type_aaaa (hex (codes "0001 0002 0003 0004 0005 0006 0007 0000"))
+    ≡ codes "1:2:3:4:5:6:7:0")
+    -- all groups, and none
+    × (SaysIpv6 (codes "::") (hex (codes "0000 0000 0000 0000 0000 0000 0000 0000")))
+    × (data_text type_aaaa (hex (codes "0000 0000 0000 0000 0000 0000 0000 0000")) ≡ codes "::")
+    -- the longest run, at the end
+    × (data_text type_aaaa (hex (codes "0001 0000 0000 0002 0003 0000 0000 0000"))
+    ≡ codes "1:0:0:2:3::")
+    -- eight groups leave nothing for `::`
+    × (ipv6_groups (codes "1:2:3:4:5:6:7:8::") ≡ None)
+    -- an IPv4 address is no group
+    × (ipv6_groups (codes "::1.2.3.4") ≡ None)
+    × (ipv6_groups (codes "1::2::3") ≡ None)
+    × (ipv6_groups (codes ":::") ≡ None)
+    × (ipv6_groups (codes "1:2:3:4:5:6:7:00008") ≡ None)
+    × (ipv6_groups (codes ":1:2:3:4:5:6:7") ≡ None)
+unfolding ipv6_groups data_text digits
+equal_runs_rows = search []
 
 not_none : {A : Type 0} (a : A) → None ≡ Some a → ⊥
 not_none a e = cc
@@ -168,13 +135,11 @@ no_octets = record {
   lower = refl;
 }
 
-no_octets_written : data_text 65280 [] ≡ 92 ∷ codes "# 0"
+no_octets_written_rows :
+    (data_text 65280 [] ≡ 92 ∷ codes "# 0")
+    × (data_text 65280 (hex (codes "0aFF")) ≡ 92 ∷ codes "# 2 0aff")
 unfolding data_text digits
-no_octets_written = refl
-
-some_octets_written : data_text 65280 (hex (codes "0aFF")) ≡ 92 ∷ codes "# 2 0aff"
-unfolding data_text digits
-some_octets_written = refl
+no_octets_written_rows = (refl, refl)
 
 -- a word of three digits
 odd_digits : SaysNothing 65280 (mark ∷ bare (codes "2") ∷ bare (codes "abc") ∷ bare (codes "d") ∷ [])
@@ -252,22 +217,17 @@ exchange = record {
   lower = refl;
 }
 
-exchange_written : data_text type_mx (hex (codes "000a 046d61696c 076578616d706c65 00")) ≡ codes "10 mail.example."
-unfolding data_text digits labels_from octet_text
-exchange_written = refl
-
-exchange_parts : parts type_mx (hex (codes "000a 046d61696c 076578616d706c65 00")) ≡ octets (hex (codes "000a")) ∷ name (under (codes "mail")) ∷ []
-unfolding cut labels_from
-exchange_parts = refl
-
--- the same data as it comes in a message
-exchange_valid : Valid type_mx (hex (codes "000a 044d61696c 076578616d706c65 00"))
-unfolding cut labels_from
-exchange_valid = refl
-
-exchange_lower_case : lower_case type_mx (hex (codes "000a 044d61696c 076578616d706c65 00")) ≡ hex (codes "000a 046d61696c 076578616d706c65 00")
-unfolding cut labels_from
-exchange_lower_case = refl
+exchange_written_rows :
+    (data_text type_mx (hex (codes "000a 046d61696c 076578616d706c65 00"))
+    ≡ codes "10 mail.example.")
+    × (parts type_mx (hex (codes "000a 046d61696c 076578616d706c65 00"))
+    ≡ octets (hex (codes "000a")) ∷ name (under (codes "mail")) ∷ [])
+    -- the same data as it comes in a message
+    × (Valid type_mx (hex (codes "000a 044d61696c 076578616d706c65 00")))
+    × (lower_case type_mx (hex (codes "000a 044d61696c 076578616d706c65 00"))
+    ≡ hex (codes "000a 046d61696c 076578616d706c65 00"))
+unfolding data_text digits labels_from octet_text cut
+exchange_written_rows = search []
 
 -- a zero in front
 no_number_010 : (n : ℕ) → n < 2 ^ 16 → codes "010" ≡ decimal n → ⊥

@@ -18,19 +18,16 @@ head = record { id = 1; flags = 33792 }
 abbrev www_alias : ResourceRecord
 www_alias = entry (under (codes "www")) type_cname (wire (under (codes "ns")))
 
--- its names, and their places: 10 octets stand between owner and data
-www_names : names_of www_alias ≡ under (codes "www") ∷ under (codes "ns") ∷ []
-unfolding labels_from cut
-www_names = refl
-
-www_laid : (record_laid [] 12 www_alias).names ≡ (under (codes "www"), 12) ∷ (under (codes "ns"), 35) ∷ []
+layout_rows :
+    -- its names, and their places: 10 octets stand between owner and data
+    (names_of www_alias ≡ under (codes "www") ∷ under (codes "ns") ∷ [])
+    × ((record_laid [] 12 www_alias).names
+    ≡ (under (codes "www"), 12) ∷ (under (codes "ns"), 35) ∷ [])
+    -- the target of SRV is no name to a writer
+    × (names_of (in_zone (codes "s") type_srv (replicate 6 0 ++ wire (under (codes "ns"))))
+    ≡ under (codes "s") ∷ [])
 unfolding labels_from cut shared_octets data_laid
-www_laid = refl
-
--- the target of SRV is no name to a writer
-srv_names : names_of (in_zone (codes "s") type_srv (replicate 6 0 ++ wire (under (codes "ns")))) ≡ under (codes "s") ∷ []
-unfolding labels_from cut
-srv_names = refl
+layout_rows = (refl, refl, refl)
 
 -- one record, whose owner begins at place 12
 abbrev one_alias : List Item
@@ -41,15 +38,11 @@ header_alone : (h : Header) → layout h None [] ≡ header_octets h 0 0 0 0
 unfolding layout records_octets
 header_alone h = refl
 
-header_size : size None [] ≡ 12
-unfolding size records_size
-header_size = refl
-
--- its data shares `example`, at place 16, with its owner
-alias_alone : layout head None one_alias ≡ hex (codes "000184000000000100000000 03777777076578616d706c6500 00050001 00000e10 0005 026e73c010")
-unfolding labels_from cut shared_octets data_laid records_octets layout
-alias_alone = refl
-
-alias_size : size None one_alias ≡ 12 + 13 + 10 + 5
-unfolding labels_from cut cost data_size records_size size
-alias_size = refl
+header_size_rows :
+    (size None [] ≡ 12)
+    -- its data shares `example`, at place 16, with its owner
+    × (layout head None one_alias
+    ≡ hex (codes "000184000000000100000000 03777777076578616d706c6500 00050001 00000e10 0005 026e73c010"))
+    × (size None one_alias ≡ 12 + 13 + 10 + 5)
+unfolding size records_size labels_from cut shared_octets data_laid records_octets layout cost data_size
+header_size_rows = (refl, refl, refl)

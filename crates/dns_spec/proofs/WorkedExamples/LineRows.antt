@@ -6,39 +6,19 @@ use Rattle.dns_spec.specs.Names.{Octets}
 use Rattle.dns_spec.specs.DataText.{hex_octets}
 use Rattle.dns_spec.specs.Lines.{lines, ended_lines, line_message, line_answers, are_messages}
 
--- after the last LF there is no line, unless octets follow
-no_line : lines [] ≡ []
-unfolding lines
-no_line = refl
-
-two_lines : lines (codes "ab\n\n") ≡ codes "ab" ∷ [] ∷ []
-unfolding lines
-two_lines = refl
-
-three_lines : lines (codes "ab\n\nc") ≡ codes "ab" ∷ [] ∷ codes "c" ∷ []
-unfolding lines
-three_lines = refl
-
-two_are_ended : ended_lines (codes "ab\n\nc") ≡ codes "ab" ∷ [] ∷ []
-unfolding lines
-two_are_ended = refl
-
--- digits are of either case, and of an even number; other octets are none, as CR
-either_case : line_message (codes "0aFf") ≡ Some (10 ∷ 255 ∷ [])
-unfolding hex_octets
-either_case = refl
-
-no_digits : line_message [] ≡ Some []
-unfolding hex_octets
-no_digits = refl
-
-odd_number : line_message (codes "0aF") ≡ None
-unfolding hex_octets
-odd_number = refl
-
-carriage_return : line_message (codes "0aF\r") ≡ None
-unfolding hex_octets
-carriage_return = refl
+line_rows :
+    -- after the last LF there is no line, unless octets follow
+    (lines [] ≡ [])
+    × (lines (codes "ab\n\n") ≡ codes "ab" ∷ [] ∷ [])
+    × (lines (codes "ab\n\nc") ≡ codes "ab" ∷ [] ∷ codes "c" ∷ [])
+    × (ended_lines (codes "ab\n\nc") ≡ codes "ab" ∷ [] ∷ [])
+    -- digits are of either case, and of an even number; other octets are none, as CR
+    × (line_message (codes "0aFf") ≡ Some (10 ∷ 255 ∷ []))
+    × (line_message [] ≡ Some [])
+    × (line_message (codes "0aF") ≡ None)
+    × (line_message (codes "0aF\r") ≡ None)
+unfolding lines hex_octets
+line_rows = search []
 
 -- a reply to all messages but the empty one: the message itself
 echo : Octets → Option Octets
@@ -49,14 +29,9 @@ unfoldable answers : Octets → Octets
 unfolding lines hex_octets echo
 answers x = line_answers echo (lines x)
 
-all_answered : answers (codes "0aFF\n\n0a\r\nab") ≡ codes "0aff\nnone\nbad hex\nab\n"
+all_answered_rows :
+    (answers (codes "0aFF\n\n0a\r\nab") ≡ codes "0aff\nnone\nbad hex\nab\n")
+    × (are_messages (lines (codes "0aFF\n\n0a\r\nab")) ≡ false)
+    × (are_messages (lines (codes "0aFF\n\nab")) ≡ true)
 unfolding answers lines hex_octets echo
-all_answered = refl
-
-one_is_none : are_messages (lines (codes "0aFF\n\n0a\r\nab")) ≡ false
-unfolding lines hex_octets
-one_is_none = refl
-
-all_are_messages : are_messages (lines (codes "0aFF\n\nab")) ≡ true
-unfolding lines hex_octets
-all_are_messages = refl
+all_answered_rows = (refl, refl, refl)

@@ -36,10 +36,10 @@ strings_tcp = refl
 abbrev after_question : List Placed
 after_question = (under (codes "y"), 12) ∷ []
 
-near_owners : records_octets after_question 16382 (addresses 2 (codes "t25")) ≡ hex (codes "03743235c00e 00010001 00000e10 0004 c6336401 fffe 00010001 00000e10 0004 c6336402")
+long_rows :
+    (records_octets after_question 16382 (addresses 2 (codes "t25"))
+    ≡ hex (codes "03743235c00e 00010001 00000e10 0004 c6336401 fffe 00010001 00000e10 0004 c6336402"))
+    × (records_octets after_question 17002 (addresses 2 (codes "t26"))
+    ≡ hex (codes "03743236c00e 00010001 00000e10 0004 c6336401 03743236c00e 00010001 00000e10 0004 c6336402"))
 unfolding labels_from cut shared_octets data_laid records_octets
-near_owners = refl
-
-far_owners : records_octets after_question 17002 (addresses 2 (codes "t26")) ≡ hex (codes "03743236c00e 00010001 00000e10 0004 c6336401 03743236c00e 00010001 00000e10 0004 c6336402")
-unfolding labels_from cut shared_octets data_laid records_octets
-far_owners = refl
+long_rows = (refl, refl)

@@ -58,42 +58,22 @@ read_error : message_at error_reply ≡ Some (record {
 unfolding run runs_before name_at pieces_at several message_at
 read_error = refl
 
--- a pointer into the header, and one to itself
-into_header : spells_nothing (pointing address_reply 29 11) ≡ true
+message_rows :
+    -- a pointer into the header, and one to itself
+    (spells_nothing (pointing address_reply 29 11) ≡ true)
+    × (spells_nothing (pointing address_reply 29 29) ≡ true)
+    -- a reserved label in place of a length
+    × (spells_nothing (take 12 address_reply ++ 67 ∷ drop 13 address_reply) ≡ true)
+    -- nothing at all, an octet less, and an octet more
+    × (spells_nothing [] ≡ true)
+    × (spells_nothing (take 44 address_reply) ≡ true)
+    × (spells_nothing (address_reply ++ 0 ∷ []) ≡ true)
+    -- an address of five octets
+    × (spells_nothing (take 40 address_reply ++ 5 ∷ drop 41 address_reply ++ 0 ∷ []) ≡ true)
+    -- each beginning of a message that is not all of it
+    × (list_all (λ k. spells_nothing (take k error_reply)) (places 0 80) ≡ true)
 unfolding spells_nothing run runs_before name_at pieces_at several message_at
-into_header = refl
-
-to_itself : spells_nothing (pointing address_reply 29 29) ≡ true
-unfolding spells_nothing run runs_before name_at pieces_at several message_at
-to_itself = refl
-
--- a reserved label in place of a length
-reserved_label : spells_nothing (take 12 address_reply ++ 67 ∷ drop 13 address_reply) ≡ true
-unfolding spells_nothing run runs_before name_at pieces_at several message_at
-reserved_label = refl
-
--- nothing at all, an octet less, and an octet more
-empty : spells_nothing [] ≡ true
-unfolding spells_nothing run runs_before name_at pieces_at several message_at
-empty = refl
-
-one_octet_less : spells_nothing (take 44 address_reply) ≡ true
-unfolding spells_nothing run runs_before name_at pieces_at several message_at
-one_octet_less = refl
-
-one_octet_more : spells_nothing (address_reply ++ 0 ∷ []) ≡ true
-unfolding spells_nothing run runs_before name_at pieces_at several message_at
-one_octet_more = refl
-
--- an address of five octets
-long_address : spells_nothing (take 40 address_reply ++ 5 ∷ drop 41 address_reply ++ 0 ∷ []) ≡ true
-unfolding spells_nothing run runs_before name_at pieces_at several message_at
-long_address = refl
-
--- each beginning of a message that is not all of it
-each_beginning : list_all (λ k. spells_nothing (take k error_reply)) (places 0 80) ≡ true
-unfolding spells_nothing run runs_before name_at pieces_at several message_at
-each_beginning = refl
+message_rows = search []
 
 -- The place before a pointer is lawful, whatever octets stand there: a label of one octet, and one of 29.
 abbrev authority_owners : DnsMessage → List DomainName
@@ -103,23 +83,14 @@ authority_owners m = owners m.authorities
     owners [] = []
     owners (r ∷ rs) = r.owner ∷ owners rs
 
-one_place_before : option_map authority_owners (message_at (pointing error_reply 30 29)) ≡ Some (((192 ∷ []) ∷ take 29 (drop 32 error_reply) ∷ []) ∷ [])
-unfolding run runs_before name_at pieces_at several message_at
-one_place_before = refl
-
--- each pointer to each place of the header, and to each place from its own run on
-each_into_header : list_all (λ i. list_all (λ p. spells_nothing (pointing error_reply i p)) (places 0 12)) (30 ∷ 45 ∷ 58 ∷ []) ≡ true
-unfolding spells_nothing run runs_before name_at pieces_at several message_at
-each_into_header = refl
-
-each_not_before : list_all (λ p. spells_nothing (pointing error_reply 30 p)) (places 30 50) ≡ true
-unfolding spells_nothing run runs_before name_at pieces_at several message_at
-each_not_before = refl
-
-second_not_before : list_all (λ p. spells_nothing (pointing error_reply 45 p)) (places 42 38) ≡ true
-unfolding spells_nothing run runs_before name_at pieces_at several message_at
-second_not_before = refl
-
-third_not_before : list_all (λ p. spells_nothing (pointing error_reply 58 p)) (places 47 33) ≡ true
-unfolding spells_nothing run runs_before name_at pieces_at several message_at
-third_not_before = refl
+one_place_before_rows :
+    (option_map authority_owners (message_at (pointing error_reply 30 29))
+    ≡ Some (((192 ∷ []) ∷ take 29 (drop 32 error_reply) ∷ []) ∷ []))
+    -- each pointer to each place of the header, and to each place from its own run on
+    × (list_all (λ i. list_all (λ p. spells_nothing (pointing error_reply i p)) (places 0 12)) (30 ∷ 45 ∷ 58 ∷ [])
+    ≡ true)
+    × (list_all (λ p. spells_nothing (pointing error_reply 30 p)) (places 30 50) ≡ true)
+    × (list_all (λ p. spells_nothing (pointing error_reply 45 p)) (places 42 38) ≡ true)
+    × (list_all (λ p. spells_nothing (pointing error_reply 58 p)) (places 47 33) ≡ true)
+unfolding run runs_before name_at pieces_at several message_at spells_nothing
+one_place_before_rows = search []

@@ -1,6 +1,5 @@
 -- Datagrams read as queries, computed from the definitions.
 use Rattle.std.specs.Prelude.{◌≡◌, ℕ, [], ◌∷◌, ◌++◌, replicate, codes}
-use mathlib.Core.Path.{refl}
 use Rattle.dns_spec.specs.Reading.{Header}
 use Rattle.dns_spec.specs.ComputedReading.{run, runs_before, name_at}
 use Rattle.dns_spec.specs.Query.{absent, refused_with, query, question_at, query_read}
@@ -9,48 +8,26 @@ use Rattle.dns_spec.proofs.WorkedExamples.Zones.{hex, dotted, www_query}
 abbrev head : ℕ → Header
 head flags = record { id = 4660; flags = flags }
 
--- header and question as they came
-asked : query_read www_query ≡ query (head 0) (record { qname = dotted (codes "www.example"); qtype = 1; qclass = 1 })
+query_rows :
+    -- header and question as they came
+    (query_read www_query
+    ≡ query (head 0) (record { qname = dotted (codes "www.example"); qtype = 1; qclass = 1 }))
+    -- the root, its capitals or any class and type are no matter here; RD is set
+    × (query_read (hex (codes "123401000001000000000000 000041ffff"))
+    ≡ query (head 256) (record { qname = []; qtype = 65; qclass = 65535 }))
+    -- less than a header, and a reply
+    × (query_read (replicate 11 0) ≡ absent)
+    × (query_read (hex (codes "123484000001000000000000 0000010001")) ≡ absent)
+    -- another opcode gives RCODE 4, and the opcode stays (RFC 1035 4.1.1)
+    × (query_read (hex (codes "123410000000000000000000")) ≡ refused_with (head 36868))
+    -- no question, two questions, a record, and an octet after the question give RCODE 1
+    × (query_read (hex (codes "123401000000000000000000")) ≡ refused_with (head 33025))
+    × (query_read (hex (codes "123400000002000000000000 0000010001 0000010001"))
+    ≡ refused_with (head 32769))
+    × (query_read (hex (codes "123400000001000000000001 0000010001 0000290200000000000000"))
+    ≡ refused_with (head 32769))
+    × (query_read (www_query ++ 0 ∷ []) ≡ refused_with (head 32769))
+    -- a name without its end
+    × (query_read (hex (codes "123400000001000000000000 037777")) ≡ refused_with (head 32769))
 unfolding query_read question_at run runs_before name_at
-asked = refl
-
--- the root, its capitals or any class and type are no matter here; RD is set
-any_class : query_read (hex (codes "123401000001000000000000 000041ffff")) ≡ query (head 256) (record { qname = []; qtype = 65; qclass = 65535 })
-unfolding query_read question_at run runs_before name_at
-any_class = refl
-
--- less than a header, and a reply
-of_11_octets : query_read (replicate 11 0) ≡ absent
-unfolding query_read
-of_11_octets = refl
-
-a_reply : query_read (hex (codes "123484000001000000000000 0000010001")) ≡ absent
-unfolding query_read
-a_reply = refl
-
--- another opcode gives RCODE 4, and the opcode stays (RFC 1035 4.1.1)
-of_opcode_2 : query_read (hex (codes "123410000000000000000000")) ≡ refused_with (head 36868)
-unfolding query_read
-of_opcode_2 = refl
-
--- no question, two questions, a record, and an octet after the question give RCODE 1
-no_question : query_read (hex (codes "123401000000000000000000")) ≡ refused_with (head 33025)
-unfolding query_read
-no_question = refl
-
-two_questions : query_read (hex (codes "123400000002000000000000 0000010001 0000010001")) ≡ refused_with (head 32769)
-unfolding query_read
-two_questions = refl
-
-with_a_record : query_read (hex (codes "123400000001000000000001 0000010001 0000290200000000000000")) ≡ refused_with (head 32769)
-unfolding query_read
-with_a_record = refl
-
-one_octet_more : query_read (www_query ++ 0 ∷ []) ≡ refused_with (head 32769)
-unfolding query_read question_at run runs_before name_at
-one_octet_more = refl
-
--- a name without its end
-cut_name : query_read (hex (codes "123400000001000000000000 037777")) ≡ refused_with (head 32769)
-unfolding query_read question_at run runs_before name_at
-cut_name = refl
+query_rows = search []

@@ -14,54 +14,25 @@ message os = replicate 12 0 ++ os
 abbrev chained : Octets
 chained = message (hex (codes "0377777700 0178c00c c011"))
 
-after_pointers : name_at chained 21 ≡ Some (dotted (codes "x.www"), 23)
+reading_rows :
+    (name_at chained 21 ≡ Some (dotted (codes "x.www"), 23))
+    -- a name ends after its own octets
+    × (name_at chained 17 ≡ Some (dotted (codes "x.www"), 21))
+    -- a pointer to the run in which it stands
+    × (name_at (message (hex (codes "0161c00c"))) 12 ≡ None)
+    -- also where the run was come to by a pointer, which is lawful itself
+    × (name_at (message (hex (codes "0161c00cc00c"))) 16 ≡ None)
+    -- to itself, forwards, and into the header
+    × (name_at (message (hex (codes "00c00d"))) 13 ≡ None)
+    × (name_at (message (hex (codes "c00e00"))) 12 ≡ None)
+    × (name_at (message (hex (codes "00c00b"))) 13 ≡ None)
+    -- a pointer cut in two, a label cut short, a name without its end, a reserved octet
+    × (name_at (message (hex (codes "00c0"))) 13 ≡ None)
+    × (name_at (message (hex (codes "036161"))) 12 ≡ None)
+    × (name_at (message (hex (codes "0161"))) 12 ≡ None)
+    × (name_at (message (hex (codes "4000"))) 12 ≡ None)
 unfolding run runs_before name_at
-after_pointers = refl
-
--- a name ends after its own octets
-after_its_own : name_at chained 17 ≡ Some (dotted (codes "x.www"), 21)
-unfolding run runs_before name_at
-after_its_own = refl
-
--- a pointer to the run in which it stands
-to_own_run : name_at (message (hex (codes "0161c00c"))) 12 ≡ None
-unfolding run runs_before name_at
-to_own_run = refl
-
--- also where the run was come to by a pointer, which is lawful itself
-to_own_run_again : name_at (message (hex (codes "0161c00cc00c"))) 16 ≡ None
-unfolding run runs_before name_at
-to_own_run_again = refl
-
--- to itself, forwards, and into the header
-to_itself : name_at (message (hex (codes "00c00d"))) 13 ≡ None
-unfolding run runs_before name_at
-to_itself = refl
-
-forwards : name_at (message (hex (codes "c00e00"))) 12 ≡ None
-unfolding run runs_before name_at
-forwards = refl
-
-into_header : name_at (message (hex (codes "00c00b"))) 13 ≡ None
-unfolding run runs_before name_at
-into_header = refl
-
--- a pointer cut in two, a label cut short, a name without its end, a reserved octet
-half_a_pointer : name_at (message (hex (codes "00c0"))) 13 ≡ None
-unfolding run runs_before name_at
-half_a_pointer = refl
-
-cut_label : name_at (message (hex (codes "036161"))) 12 ≡ None
-unfolding run runs_before name_at
-cut_label = refl
-
-without_end : name_at (message (hex (codes "0161"))) 12 ≡ None
-unfolding run runs_before name_at
-without_end = refl
-
-reserved : name_at (message (hex (codes "4000"))) 12 ≡ None
-unfolding run runs_before name_at
-reserved = refl
+reading_rows = search []
 
 -- a name of 255 octets, and one that a label in front of it makes longer
 abbrev longest : DomainName
@@ -70,10 +41,8 @@ longest = letters 63 ∷ letters 63 ∷ letters 63 ∷ letters 61 ∷ []
 abbrev and_longer : Octets
 and_longer = message (wire longest ++ hex (codes "0161c00c"))
 
-of_255_octets : name_at and_longer 12 ≡ Some (longest, 267)
+of_255_octets_rows :
+    (name_at and_longer 12 ≡ Some (longest, 267))
+    × (name_at and_longer 267 ≡ None)
 unfolding run runs_before name_at
-of_255_octets = refl
-
-of_257_octets : name_at and_longer 267 ≡ None
-unfolding run runs_before name_at
-of_257_octets = refl
+of_255_octets_rows = (refl, refl)

@@ -32,14 +32,13 @@ passed output = record { output = output; passes = true }
 abbrev failed : Octets → Report
 failed output = record { output = output; passes = false }
 
--- a zone that passes
-loaded : report_of_meaning no_options example (records small_records) ≡ passed (codes "zone example/IN: loaded serial 1\nOK\n")
+report_rows :
+    -- a zone that passes
+    (report_of_meaning no_options example (records small_records)
+    ≡ passed (codes "zone example/IN: loaded serial 1\nOK\n"))
+    × (report_of_meaning quiet example (records small_records) ≡ passed [])
 unfolding faults labels_from cut octet_text digits
-loaded = refl
-
-loaded_quietly : report_of_meaning quiet example (records small_records) ≡ passed []
-unfolding faults labels_from cut octet_text digits
-loaded_quietly = refl
+report_rows = (refl, refl)
 
 -- its canonical text
 printed : report_of_meaning printing example (records small_records)
@@ -61,33 +60,21 @@ faulty_zone : zone_report no_options (small_zone_with (alias (codes "www") (code
 unfolding faults labels_from cut octet_text digits
 faulty_zone = refl
 
-faulty_zone_quietly : zone_report quiet (small_zone_with (alias (codes "www") (codes "ns") ∷ [])) ≡ failed []
+faulty_zone_quietly_rows :
+    (zone_report quiet (small_zone_with (alias (codes "www") (codes "ns") ∷ [])) ≡ failed [])
+    -- an empty file
+    × (report_of_meaning no_options example (records [])
+    ≡ failed (codes "example. Z01\nexample. Z04\n"))
+    -- an empty file for the root, whose faults are reported though the zone itself was asked for
+    × (report_of_meaning printing [] (records []) ≡ failed (codes ". Z01\n. Z04\n"))
+    -- a fault of the file
+    × (report_of_meaning printing example (fault_at bad_ttl 4) ≡ failed (codes "line 4: R09\n"))
+    -- quiet alone reports no fault of the file either
+    × (report_of_meaning quiet example (fault_at bad_ttl 4) ≡ failed [])
+    -- two digits of a code
+    × (report_of_meaning no_options example (fault_at bad_type 7) ≡ failed (codes "line 7: R11\n"))
 unfolding faults labels_from cut octet_text digits
-faulty_zone_quietly = refl
-
--- an empty file
-nothing_there : report_of_meaning no_options example (records []) ≡ failed (codes "example. Z01\nexample. Z04\n")
-unfolding faults labels_from cut octet_text digits
-nothing_there = refl
-
--- an empty file for the root, whose faults are reported though the zone itself was asked for
-nothing_at_root : report_of_meaning printing [] (records []) ≡ failed (codes ". Z01\n. Z04\n")
-unfolding faults labels_from cut octet_text digits
-nothing_at_root = refl
-
--- a fault of the file
-faulty_file : report_of_meaning printing example (fault_at bad_ttl 4) ≡ failed (codes "line 4: R09\n")
-unfolding digits
-faulty_file = refl
-
--- quiet alone reports no fault of the file either
-faulty_file_quietly : report_of_meaning quiet example (fault_at bad_ttl 4) ≡ failed []
-faulty_file_quietly = refl
-
--- two digits of a code
-fault_of_two_digits : report_of_meaning no_options example (fault_at bad_type 7) ≡ failed (codes "line 7: R11\n")
-unfolding digits
-fault_of_two_digits = refl
+faulty_zone_quietly_rows = search []
 
 abbrev quiet_printing : Options
 quiet_printing = record { is_quiet = true; is_printing = true }

@@ -1,6 +1,5 @@
 -- Streams of messages and the replies to them, computed from the definitions.
 use Rattle.std.specs.Prelude.{◌≡◌, ℕ, [], ◌∷◌, ◌++◌, length, take, replicate, codes}
-use mathlib.Core.Path.{refl}
 use Rattle.dns_spec.specs.Names.{Octets, labels_from}
 use Rattle.dns_spec.specs.Data.{cut}
 use Rattle.dns_spec.specs.ComputedReading.{run, runs_before, name_at}
@@ -24,59 +23,26 @@ three_messages = frame www_query ++ frame (replicate 11 0) ++ frame www_query
 abbrev www_reply : Octets
 www_reply = hex (codes "123484000001000100000000 03777777076578616d706c650000010001 c00c0001000100000e100004c000020a")
 
-three_are_read : frames 9 three_messages ≡ www_query ∷ replicate 11 0 ∷ www_query ∷ []
-unfolding first_frame frames
-three_are_read = refl
-
-nothing_is_left : after_frames 9 three_messages ≡ []
-unfolding first_frame after_frames
-nothing_is_left = refl
-
--- a message without a reply gets no frame either
-two_are_answered : answers 9 three_messages ≡ hex (codes "002d") ++ www_reply ++ hex (codes "002d") ++ www_reply
-unfolding answers first_frame frames labels_from cut run runs_before name_at shared_octets cost data_laid records_octets layout data_size records_size size chain_from chain outcome_at outcome extra items required_items reply_with reply octets_of question_at query_read decide
-two_are_answered = refl
-
--- after the last of so many messages nothing is read
-one_of_two : after_frames 1 (frame www_query ++ frame www_query) ≡ frame www_query
-unfolding first_frame after_frames
-one_of_two = refl
-
-one_is_answered : answers 1 (frame www_query ++ frame www_query) ≡ hex (codes "002d") ++ www_reply
-unfolding answers first_frame frames labels_from cut run runs_before name_at shared_octets cost data_laid records_octets layout data_size records_size size chain_from chain outcome_at outcome extra items required_items reply_with reply octets_of question_at query_read decide
-one_is_answered = refl
-
-none_is_read : after_frames 0 three_messages ≡ three_messages
-unfolding after_frames
-none_is_read = refl
-
-none_is_answered : answers 0 three_messages ≡ []
-unfolding answers first_frame frames
-none_is_answered = refl
-
--- an empty message is a message
-empty_is_read : frames 9 (hex (codes "0000")) ≡ [] ∷ []
-unfolding first_frame frames
-empty_is_read = refl
-
-empty_is_ignored : answers 9 (hex (codes "0000")) ≡ []
-unfolding answers first_frame frames labels_from cut run runs_before name_at shared_octets cost data_laid records_octets layout data_size records_size size chain_from chain outcome_at outcome extra items required_items reply_with reply octets_of question_at query_read decide
-empty_is_ignored = refl
-
--- a message of 600 octets: they are not one question, so the header is sent alone
-long_is_refused : answers 9 (hex (codes "0258") ++ www_query ++ replicate 571 0) ≡ hex (codes "000c 123480010000000000000000")
-unfolding answers first_frame frames labels_from cut run runs_before name_at shared_octets cost data_laid records_octets layout data_size records_size size chain_from chain outcome_at outcome extra items required_items reply_with reply octets_of question_at query_read decide
-long_is_refused = refl
-
--- a stream that ends inside a length, or inside a message, has no frame there
-half_a_length : frames 9 (0 ∷ []) ≡ []
-unfolding first_frame frames
-half_a_length = refl
-
-one_octet_less : frames 9 (hex (codes "001d") ++ take 28 www_query) ≡ []
-unfolding first_frame frames
-one_octet_less = refl
-
-one_octet_less_is_left : length (after_frames 9 (hex (codes "001d") ++ take 28 www_query)) ≡ 30
-unfolding first_frame after_frames
-one_octet_less_is_left = refl
+stream_rows :
+    (frames 9 three_messages ≡ www_query ∷ replicate 11 0 ∷ www_query ∷ [])
+    × (after_frames 9 three_messages ≡ [])
+    -- a message without a reply gets no frame either
+    × (answers 9 three_messages
+    ≡ hex (codes "002d") ++ www_reply ++ hex (codes "002d") ++ www_reply)
+    -- after the last of so many messages nothing is read
+    × (after_frames 1 (frame www_query ++ frame www_query) ≡ frame www_query)
+    × (answers 1 (frame www_query ++ frame www_query) ≡ hex (codes "002d") ++ www_reply)
+    × (after_frames 0 three_messages ≡ three_messages)
+    × (answers 0 three_messages ≡ [])
+    -- an empty message is a message
+    × (frames 9 (hex (codes "0000")) ≡ [] ∷ [])
+    × (answers 9 (hex (codes "0000")) ≡ [])
+    -- a message of 600 octets: they are not one question, so the header is sent alone
+    × (answers 9 (hex (codes "0258") ++ www_query ++ replicate 571 0)
+    ≡ hex (codes "000c 123480010000000000000000"))
+    -- a stream that ends inside a length, or inside a message, has no frame there
+    × (frames 9 (0 ∷ []) ≡ [])
+    × (frames 9 (hex (codes "001d") ++ take 28 www_query) ≡ [])
+    × (length (after_frames 9 (hex (codes "001d") ++ take 28 www_query)) ≡ 30)
+unfolding first_frame frames after_frames answers labels_from cut run runs_before name_at shared_octets cost data_laid records_octets layout data_size records_size size chain_from chain outcome_at outcome extra items required_items reply_with reply octets_of question_at query_read decide
+stream_rows = search []
