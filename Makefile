@@ -64,8 +64,8 @@ operate: built
 examples: built
 	tools/examples crates/zonecheck/out/zonecheck
 
-# Runs the commands of the documents and compares what they print, and tries the remedies of docs/CODES.md and the scripts of
-# examples/.
+# Runs the commands of the documents and compares what they print, tries the remedies of docs/CODES.md and the scripts of
+# examples/, and sees that the pages that are made by scripts are as these make them.
 docs-check: built
 	tools/docs-check $(PROGRAMS)
 	tools/remedies crates/zonecheck/out/zonecheck
@@ -75,6 +75,7 @@ docs-check: built
 	tools/test-from-bind crates/zonecheck/out/zonecheck
 	tools/test-serve crates/zonecheck/out/zonecheck
 	docs/plots/mistakes | cmp - docs/plots/mistakes.svg
+	tools/definitions | cmp - docs/DEFINITIONS.md
 
 test:
 	RT_JOBS=$$(tools/lanes) rt ci
