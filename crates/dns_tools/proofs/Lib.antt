@@ -1,4 +1,3 @@
-mod LateDash
 mod LineParts
 mod CheckedZone
 mod PrintedLines

@@ -1,5 +1,5 @@
 -- What a reader learns here: with which status a program ends.
-use Rattle.std.specs.Prelude.{ℕ, Bool, true, false, Result, Ok, Err}
+use Rattle.std.specs.Prelude.{ℕ, Bool, true, false, if◌then◌else◌, Result, Ok, Err}
 use Rattle.dns_tools.specs.declared.fault.Stop.{Stop}
 use Rattle.dns_tools.specs.declared.fault.Stop.TheVariants.{Memory, Source, Sink}
 use Rattle.dns_serve.specs.declared.fault.TurnFault.{TurnFault}
@@ -27,6 +27,15 @@ abbrev pub word_of : Stop → FaultWord
 word_of Memory = NoMemory
 word_of Source = FileFailed
 word_of Sink = NotWritten
+
+-- how a program ends: with a status, or with what is said
+abbrev pub end_of : Result Bool Stop → Result ℕ FaultWord
+end_of (Ok passes) = Ok (status_of {E = Stop} (Ok passes))
+end_of (Err stop) = Err (word_of stop)
+
+-- the status of a server whose turns are taken
+abbrev pub status_of_turns : Bool → ℕ
+status_of_turns are_said = if are_said then 0 else 2
 
 -- what is said of a turn over UDP that failed
 abbrev pub word_of_turn : TurnFault → TurnWord

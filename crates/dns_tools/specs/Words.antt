@@ -1,43 +1,19 @@
--- What a reader learns here: which words of a command line are never taken as values.
-use Rattle.std.specs.Prelude.{ℕ, Bool, true, false, ◌||◌, ◌==◌, List, [], ◌∷◌, if◌then◌else◌, codes}
-use Rattle.std.specs.List.{list_any}
-use Rattle.dns_spec.specs.Names.{octets_equal}
+-- What a reader learns here: for what the words of a command line are taken or refused.
+use Rattle.std.specs.Prelude.{◌≡◌, Bool, true, false, List, []}
+use Rattle.dns_spec.specs.Names.{Octets, DomainName, folded}
+use Rattle.dns_spec.specs.NameText.{SpellsName}
+use Rattle.dns_spec.specs.Report.{Options}
+use Rattle.dns_spec.specs.CommandWords.{ZoneWords, AskToCheck, Transport, udp, tcp, ServiceAsked, by_lines, by_turns, AskToServe}
+use Rattle.dns_answer.specs.declared.reply.Limit.{Limit}
+use Rattle.dns_answer.specs.declared.reply.Limit.TheVariants as limits
+use Rattle.dns_tools.specs.Checked.{options_of}
+use Rattle.dns_tools.specs.declared.words.Service.{Service}
+use Rattle.dns_tools.specs.declared.words.Service.TheVariants.{Once, Udp, Tcp}
+use Rattle.dns_tools.specs.declared.words.CheckWords.{CheckWords}
+use Rattle.dns_tools.specs.declared.words.ServeWords.{ServeWords}
 use Rattle.dns_tools.specs.declared.fault.FaultWord.{FaultWord}
 use Rattle.dns_tools.specs.declared.fault.FaultWord.TheVariants.{Usage, BadOrigin, NoMemory}
 use Rattle.dns_tools.specs.declared.fault.FaultWord.TheVariants.{SourceFailed, SinkFailed, NotBound}
-
--- the word begins with `-`
-abbrev pub is_dashed : List ℕ → Bool
-is_dashed [] = false
-is_dashed (octet ∷ rest) = octet == 45
-
--- an option of the checker
-abbrev pub is_option : List ℕ → Bool
-is_option word = octets_equal word (codes "--quiet") || octets_equal word (codes "--print")
-
--- after the options a word begins with `-`
-abbrev pub has_late_dash : List (List ℕ) → Bool
-has_late_dash [] = false
-has_late_dash (word ∷ rest) =
-    if is_option word then has_late_dash rest else list_any is_dashed (word ∷ rest)
-
--- the words after `--tcp`, where it is the first
-abbrev pub after_option : List (List ℕ) → List (List ℕ)
-after_option [] = []
-after_option (word ∷ rest) = if octets_equal word (codes "--tcp") then rest else word ∷ rest
-
--- the words after the first
-abbrev pub after_first : List (List ℕ) → List (List ℕ)
-after_first [] = []
-after_first (word ∷ rest) = rest
-
--- a word of the server that may not begin with `-` does: any but the option of `once`, and the
--- address of `udp` and `tcp`
-abbrev pub has_dashed_value : List (List ℕ) → Bool
-has_dashed_value [] = false
-has_dashed_value (word ∷ rest) =
-    if octets_equal word (codes "once") then list_any is_dashed (after_option rest)
-    else is_dashed word || list_any is_dashed (after_first rest)
 
 -- what the words of a command line can be refused for
 abbrev pub is_word_fault : FaultWord → Bool
@@ -47,3 +23,50 @@ is_word_fault NoMemory = true
 is_word_fault SourceFailed = false
 is_word_fault SinkFailed = false
 is_word_fault NotBound = false
+
+-- the name that ORIGIN spells, relative to the root, in lower case
+pub record IsOrigin (word : Octets) (origin : DomainName) : Type 0 where
+  pub as_spelled : DomainName
+  pub spelled : SpellsName [] word as_spelled
+  pub lower : origin ≡ folded as_spelled
+
+-- it spells none
+abbrev pub IsNoOrigin : Octets → Type 0
+IsNoOrigin word = (n : DomainName) → SpellsName [] word n → ⊥
+
+-- the words ask the checker for this
+pub record IsCheckCall (words : List Octets) (call : CheckWords) : Type 0 where
+  pub origin : Octets
+  pub asked : AskToCheck words (options_of call.flags)
+      (record { origin = origin; file = call.file.now })
+  pub origin_is : IsOrigin origin call.origin
+
+-- they ask it for something, with an ORIGIN that is no name
+pub record HasBadCheckOrigin (words : List Octets) : Type 0 where
+  pub options : Options
+  pub zone : ZoneWords
+  pub asked : AskToCheck words options zone
+  pub bad : IsNoOrigin zone.origin
+
+abbrev pub transport_of : Limit → Transport
+transport_of limits.Udp = udp
+transport_of limits.Tcp = tcp
+
+-- the service that is meant
+abbrev pub service_of : Service → ServiceAsked
+service_of (Once limit) = by_lines (transport_of limit)
+service_of (Udp address turns) = by_turns udp address.now turns
+service_of (Tcp address turns) = by_turns tcp address.now turns
+
+-- the words ask the server for this
+pub record IsServeCall (words : List Octets) (call : ServeWords) : Type 0 where
+  pub origin : Octets
+  pub asked : AskToServe words (service_of call.service)
+      (record { origin = origin; file = call.file.now })
+  pub origin_is : IsOrigin origin call.origin
+
+pub record HasBadServeOrigin (words : List Octets) : Type 0 where
+  pub service : ServiceAsked
+  pub zone : ZoneWords
+  pub asked : AskToServe words service zone
+  pub bad : IsNoOrigin zone.origin

@@ -1,9 +1,9 @@
 //! Why a program stops, what it says then, and the status that it ends with.
-ghost use Rattle.std.specs.Prelude.{◌≡◌, IsTrue};
+ghost use Rattle.std.specs.Prelude.{◌≡◌, ◌⊎◌};
 ghost use Rattle.dns_tools.specs.declared.fault.Stop.TheVariants.{Memory, Source, Sink};
-ghost use Rattle.dns_tools.specs.declared.fault.FaultWord.TheVariants.{BadOrigin, NoMemory};
-ghost use Rattle.dns_tools.specs.Status.{status_of, word_of, word_of_turn, word_of_stream};
-ghost use Rattle.dns_tools.specs.Words.{is_word_fault};
+ghost use Rattle.dns_tools.specs.declared.fault.FaultWord.TheVariants.{Usage, BadOrigin, NoMemory};
+ghost use Rattle.dns_tools.specs.Status.{status_of, end_of, status_of_turns};
+ghost use Rattle.dns_tools.specs.Status.{word_of, word_of_turn, word_of_stream};
 
 use clap::error::ErrorKind;
 use dns_name::{NameFault, SinkFailed, SourceFailed};
@@ -65,6 +65,24 @@ pub fn exit_status(outcome: &Result<bool, Stop>) -> u8
         Ok(false) => 1,
         Err(_) => 2,
     }
+}
+
+/// How a program ends: with the status of its engine's answer, or with the word of its stop.
+pub fn end_of(outcome: Result<bool, Stop>) -> Result<u8, FaultWord>
+    ensures { result ≡ end_of outcome }
+{
+    match outcome {
+        Ok(_) => Ok(exit_status(&outcome)),
+        Err(stop) => Err(FaultWord::from(stop)),
+    }
+}
+
+/// The status of a server that has taken its turns: 0 where standard error had each word that was
+/// due, else 2.
+pub fn status_of_turns(are_said: bool) -> u8
+    ensures { result ≡ status_of_turns are_said }
+{
+    if are_said { 0 } else { FAULT_STATUS }
 }
 
 /// What a program says on standard error where it can't do what it was asked for. The texts are
@@ -133,7 +151,7 @@ impl From<NameFault> for FaultWord {
 
 /// Words that the command line does not take.
 impl From<clap::Error> for FaultWord {
-    ghost from_gives = { λ _ word. IsTrue (is_word_fault word) };
+    ghost from_gives = { λ _ word. (word ≡ Usage) ⊎ (word ≡ NoMemory) };
 
     fn from(error: clap::Error) -> FaultWord {
         match error.kind() {

@@ -1,8 +1,12 @@
 //! The words of the programs' command lines.
-ghost use Rattle.std.specs.Prelude.{◌≡◌, IsTrue, IfErr, Err, map, codes};
-ghost use Rattle.dns_spec.specs.Names.{octets_equal};
-ghost use Rattle.std.specs.List.{list_any};
-ghost use Rattle.dns_tools.specs.Words.{is_dashed, is_option, has_late_dash, after_option, has_dashed_value, is_word_fault};
+ghost use Rattle.std.specs.Prelude.{◌≡◌, ◌⊎◌, ◌≤◌, [], ◌∷◌, IsTrue, IfOk, IfErr, IfSome, Err, map, not, decimal};
+ghost use Rattle.std.specs.Bool.{OnTrue};
+ghost use Rattle.dns_spec.specs.CommandWords.{is_dashed, EndWords, AreOptions, AskToCheck, AskToServe};
+ghost use Rattle.dns_spec.specs.CommandWords.{service_words, HasTurns};
+ghost use Rattle.dns_tools.specs.Checked.{options_of};
+ghost use Rattle.dns_tools.specs.Words.{is_word_fault, service_of, IsOrigin, IsNoOrigin};
+ghost use Rattle.dns_tools.specs.Words.{IsCheckCall, HasBadCheckOrigin};
+ghost use Rattle.dns_tools.specs.Words.{IsServeCall, HasBadServeOrigin};
 
 use crate::check::Flags;
 use crate::fault::FaultWord;
@@ -16,6 +20,10 @@ use std::convert::AsStr;
 const QUIET: &str = "quiet";
 
 const PRINT: &str = "print";
+
+const QUIET_OPTION: &str = "--quiet";
+
+const PRINT_OPTION: &str = "--print";
 
 const ONCE: &str = "once";
 
@@ -68,18 +76,15 @@ pub struct ServeWords<'a> {
 /// `usage` where they are other words, or where ORIGIN or FILE begins with `-`; then `bad origin`
 /// where ORIGIN is no name. No other option is known, and no word asks for help or for the version.
 pub fn serve_words<'a, S: AsStr>(alloc: Global, words: &'a [S]) -> Result<ServeWords<'a>, FaultWord>
-    ensures dashed { IsTrue (has_dashed_value (map S.text words.entry.now))
-        → result ≡ Err FaultWord.Usage }
     ensures fault { IfErr result (λ fault. IsTrue (is_word_fault fault)) }
+    ensures asked { IfOk result (IsServeCall (map S.text words.entry.now)) }
+    ensures origin { result ≡ Err FaultWord.BadOrigin
+        → HasBadServeOrigin (map S.text words.entry.now) }
 {
-    if has_dashed_value(words) {
-        return Err(FaultWord::Usage);
-    }
     let (service, origin, file) = serve_values(alloc, words)?;
-    let origin = Name::read_text(origin.as_bytes(), &Name::root())?;
     Ok(ServeWords {
         service,
-        origin: origin.fold(),
+        origin: given_origin(origin)?,
         file,
     })
 }
@@ -102,26 +107,26 @@ pub struct CheckWords<'a> {
 /// `bad origin` where ORIGIN is no name. No other option is known, and no word asks for help or for
 /// the version.
 pub fn check_words<'a, S: AsStr>(alloc: Global, words: &'a [S]) -> Result<CheckWords<'a>, FaultWord>
-    ensures late { IsTrue (has_late_dash (map S.text words.entry.now))
-        → result ≡ Err FaultWord.Usage }
     ensures fault { IfErr result (λ fault. IsTrue (is_word_fault fault)) }
+    ensures asked { IfOk result (IsCheckCall (map S.text words.entry.now)) }
+    ensures origin { result ≡ Err FaultWord.BadOrigin
+        → HasBadCheckOrigin (map S.text words.entry.now) }
 {
-    if has_late_dash(words) {
-        return Err(FaultWord::Usage);
-    }
     let (flags, origin, file) = check_values(alloc, words)?;
-    let origin = Name::read_text(origin.as_bytes(), &Name::root())?;
     Ok(CheckWords {
         flags,
-        origin: origin.fold(),
+        origin: given_origin(origin)?,
         file,
     })
 }
 
-fn has_dashed<S: AsStr>(words: &[S]) -> bool
-    ensures { result ≡ list_any (λ word. is_dashed (S.text word)) words.now }
+// The name that ORIGIN spells, relative to the root and in lower case.
+fn given_origin(word: &str) -> Result<Name, FaultWord>
+    ensures ok { IfOk result (IsOrigin word.now) }
+    ensures err { IfErr result (λ fault. (fault ≡ FaultWord.BadOrigin) × IsNoOrigin word.now) }
 {
-    words.iter().any(|word| begins_with_dash(word.as_str()))
+    let origin = Name::read_text(word.as_bytes(), &Name::root())?;
+    Ok(origin.fold())
 }
 
 fn begins_with_dash(word: &str) -> bool
@@ -130,49 +135,122 @@ fn begins_with_dash(word: &str) -> bool
     matches!(word.as_bytes(), [b'-', ..])
 }
 
-// Whether a word that may not begin with `-` does: all but options of `once`, and the address of
-// `udp` and `tcp`.
-fn has_dashed_value<S: AsStr>(words: &[S]) -> bool
-    ensures { result ≡ has_dashed_value (map S.text words.now) }
-{
-    let Some((first, others)) = words.split_first() else {
-        return false;
-    };
-    if is_once(first.as_str()) {
-        return has_dashed(after_option(others));
-    }
-    match others.split_first() {
-        Some((_, rest)) => begins_with_dash(first.as_str()) || has_dashed(rest),
-        None => begins_with_dash(first.as_str()),
-    }
-}
-
-fn is_once(word: &str) -> bool
-    ensures { result ≡ octets_equal word.now (codes "once") }
-{
-    word == ONCE
-}
-
-// The words after `--tcp`, where it is the first.
-fn after_option<S: AsStr>(words: &[S]) -> &[S]
-    ensures { map S.text result.now ≡ after_option (map S.text words.now) }
-{
-    match words.split_first() {
-        Some((first, others)) if first.as_str() == TCP_OPTION => others,
-        _ => words,
-    }
-}
-
-// How to serve, ORIGIN and FILE as they stand in the words.
+// How to serve, ORIGIN and FILE as they stand in the words. What is found is compared with them.
 fn serve_values<'a, S: AsStr>(
     alloc: Global,
     words: &'a [S],
 ) -> Result<(Service<'a>, &'a str, &'a str), FaultWord>
-    ensures { IfErr result (λ fault. IsTrue (is_word_fault fault)) }
+    ensures fault { IfErr result (λ fault. (fault ≡ FaultWord.Usage)
+        ⊎ (fault ≡ FaultWord.NoMemory)) }
+    ensures asked { IfOk result (λ call. AskToServe (map S.text words.entry.now)
+        (service_of call.0) (record { origin = call.1.now; file = call.2.now })) }
 {
     let command = serve_command(alloc)?;
     let matches = command.try_get_matches_from(words)?;
-    given_service(&matches).ok_or(FaultWord::Usage)
+    match given_service(&matches) {
+        Some(call) if ask_to_serve(words, &call.0, call.1, call.2) => Ok(call),
+        _ => Err(FaultWord::Usage),
+    }
+}
+
+// Whether the words ask the server for this.
+fn ask_to_serve<S: AsStr>(words: &[S], service: &Service<'_>, origin: &str, file: &str) -> bool
+    ensures { OnTrue result (AskToServe (map S.text words.now) (service_of service.now)
+        (record { origin = origin.now; file = file.now })) }
+{
+    match before_zone(words, origin, file) {
+        Some(front) => are_service_words(front, service),
+        None => false,
+    }
+}
+
+// Whether the words before ORIGIN and FILE are those for the service.
+fn are_service_words<S: AsStr>(words: &[S], service: &Service<'_>) -> bool
+    ensures words { OnTrue result (map S.text words.now ≡ service_words (service_of service.now)) }
+    ensures turns { OnTrue result (HasTurns (service_of service.now)) }
+{
+    match service {
+        Service::Once(Limit::Udp) => is_word(words, ONCE),
+        Service::Once(Limit::Tcp) => are_two_words(words, ONCE, TCP_OPTION),
+        Service::Udp { address, turns } => are_turns(words, UDP, address, *turns),
+        Service::Tcp { address, turns } => are_turns(words, TCP, address, *turns),
+    }
+}
+
+// Whether the words are a transport, an address and so many turns.
+fn are_turns<S: AsStr>(words: &[S], transport: &str, address: &str, turns: u32) -> bool
+    ensures words { OnTrue result (map S.text words.now
+        ≡ transport.now ∷ address.now ∷ decimal turns ∷ []) }
+    ensures turns { OnTrue result ((1 ≤ turns) × (turns ≤ 1000000)) }
+{
+    let Some(rest) = after_word(words, transport) else {
+        return false;
+    };
+    let Some(rest) = after_word(rest, address) else {
+        return false;
+    };
+    match rest.split_first() {
+        Some((count, others)) => others.is_empty() && is_count(count.as_str(), turns),
+        None => false,
+    }
+}
+
+// The words after a first one; `None` where that is another.
+fn after_word<'a, S: AsStr>(words: &'a [S], word: &str) -> Option<&'a [S]>
+    ensures { IfSome result (λ rest. map S.text words.now ≡ word.now ∷ map S.text rest.now) }
+{
+    let (first, rest) = words.split_first()?;
+    if first.as_str() == word {
+        return Some(rest);
+    }
+    None
+}
+
+// Whether there is this word alone.
+fn is_word<S: AsStr>(words: &[S], word: &str) -> bool
+    ensures { OnTrue result (map S.text words.now ≡ word.now ∷ []) }
+{
+    match after_word(words, word) {
+        Some(rest) => rest.is_empty(),
+        None => false,
+    }
+}
+
+// Whether there are these words alone.
+fn are_two_words<S: AsStr>(words: &[S], first: &str, second: &str) -> bool
+    ensures { OnTrue result (map S.text words.now ≡ first.now ∷ second.now ∷ []) }
+{
+    match after_word(words, first) {
+        Some(rest) => is_word(rest, second),
+        None => false,
+    }
+}
+
+// The words before ORIGIN and FILE; `None` where the last two are others.
+fn before_zone<'a, S: AsStr>(words: &'a [S], origin: &str, file: &str) -> Option<&'a [S]>
+    ensures { IfSome result (λ front. EndWords (map S.text words.now) (map S.text front.now)
+        (record { origin = origin.now; file = file.now })) }
+{
+    let (last, others) = words.split_last()?;
+    let (first, front) = others.split_last()?;
+    if is_value(first.as_str(), origin) && is_value(last.as_str(), file) {
+        return Some(front);
+    }
+    None
+}
+
+// Whether a word is TURNS, of so many turns.
+fn is_count(word: &str, turns: u32) -> bool
+    ensures { OnTrue result ((word.now ≡ decimal turns) × (1 ≤ turns) × (turns ≤ 1000000)) }
+{
+    turns > 0 && read_number(word.as_bytes(), MOST_TURNS) == Some(turns)
+}
+
+// Whether a word is this ORIGIN or FILE.
+fn is_value(word: &str, value: &str) -> bool
+    ensures { OnTrue result ((word.now ≡ value.now) × IsTrue (not (is_dashed value.now))) }
+{
+    word == value && !begins_with_dash(value)
 }
 
 fn serve_command<'a>(alloc: Global) -> Result<Command<'a>, AllocError> {
@@ -228,38 +306,18 @@ fn given_service<'a>(matches: &ArgMatches<'a>) -> Option<(Service<'a>, &'a str, 
 // ADDR and TURNS.
 fn given_turns<'a>(matches: &ArgMatches<'a>) -> Option<(&'a str, u32)> {
     let turns = read_number(matches.get_str("TURNS")?.as_bytes(), MOST_TURNS)?;
-    if turns == 0 {
-        return None;
-    }
     Some((matches.get_str("ADDR")?, turns))
 }
 
-// Whether a word after the options begins with `-`.
-fn has_late_dash<S: AsStr>(words: &[S]) -> bool
-    ensures { result ≡ has_late_dash (map S.text words.now) }
-{
-    let mut rest = words;
-    'options: while let Some((first, others)) = rest.split_first() {
-        if !is_option(first.as_str()) {
-            return has_dashed(rest);
-        }
-        rest = others;
-    }
-    false
-}
-
-fn is_option(word: &str) -> bool
-    ensures { result ≡ is_option word.now }
-{
-    word == "--quiet" || word == "--print"
-}
-
-// The options, ORIGIN and FILE as they stand in the words.
+// The options, ORIGIN and FILE as they stand in the words. What is found is compared with them.
 fn check_values<'a, S: AsStr>(
     alloc: Global,
     words: &'a [S],
 ) -> Result<(Flags, &'a str, &'a str), FaultWord>
-    ensures { IfErr result (λ fault. IsTrue (is_word_fault fault)) }
+    ensures fault { IfErr result (λ fault. (fault ≡ FaultWord.Usage)
+        ⊎ (fault ≡ FaultWord.NoMemory)) }
+    ensures asked { IfOk result (λ call. AskToCheck (map S.text words.entry.now)
+        (options_of call.0) (record { origin = call.1.now; file = call.2.now })) }
 {
     let command = check_command(alloc)?;
     let matches = command.try_get_matches_from(words)?;
@@ -267,8 +325,38 @@ fn check_values<'a, S: AsStr>(
         quiet: matches.get_flag(QUIET),
         print: matches.get_flag(PRINT),
     };
-    let (origin, file) = named_values(&matches).ok_or(FaultWord::Usage)?;
-    Ok((flags, origin, file))
+    match named_values(&matches) {
+        Some((origin, file)) if ask_to_check(words, flags, origin, file) => {
+            Ok((flags, origin, file))
+        }
+        _ => Err(FaultWord::Usage),
+    }
+}
+
+// Whether the words ask the checker for this.
+fn ask_to_check<S: AsStr>(words: &[S], flags: Flags, origin: &str, file: &str) -> bool
+    ensures { OnTrue result (AskToCheck (map S.text words.now) (options_of flags)
+        (record { origin = origin.now; file = file.now })) }
+{
+    match before_zone(words, origin, file) {
+        Some(front) => are_options(front, flags),
+        None => false,
+    }
+}
+
+// Whether the words before ORIGIN and FILE are the options, in either order.
+fn are_options<S: AsStr>(words: &[S], flags: Flags) -> bool
+    ensures { OnTrue result (AreOptions (options_of flags) (map S.text words.now)) }
+{
+    match (flags.quiet, flags.print) {
+        (false, false) => words.is_empty(),
+        (true, false) => is_word(words, QUIET_OPTION),
+        (false, true) => is_word(words, PRINT_OPTION),
+        (true, true) => {
+            are_two_words(words, QUIET_OPTION, PRINT_OPTION)
+                || are_two_words(words, PRINT_OPTION, QUIET_OPTION)
+        }
+    }
 }
 
 fn check_command<'a>(alloc: Global) -> Result<Command<'a>, AllocError> {

@@ -3,7 +3,7 @@
 #![tactic(auto)]
 
 use dns_name::Tally;
-use dns_tools::{FaultWord, Waiting, exit_status, finish, given_words, run_message, say};
+use dns_tools::{FaultWord, Waiting, end_of, finish, given_words, run_message, say};
 use std::io::{self, BufWriter};
 use std::process::ExitCode;
 use std::rt::Env;
@@ -27,6 +27,5 @@ fn print<R: Env + Input + Print + Clock + AllocGlobal>(rt: &R) -> Result<u8, Fau
     let mut source = Tally::new(Waiting::new(rt.reader(), rt));
     let outcome = run_message(alloc, &mut source, &mut sink);
     let (outcome, _device) = finish(outcome, sink.into_inner());
-    outcome?;
-    Ok(exit_status(&outcome))
+    end_of(outcome)
 }

@@ -4,7 +4,7 @@
 
 use dns_name::Tally;
 use dns_tools::{
-    FaultWord, Waiting, check_words, check_zone, exit_status, finish, given_words, open_file, say,
+    FaultWord, Waiting, check_words, check_zone, end_of, finish, given_words, open_file, say,
 };
 use std::io::{self, BufWriter};
 use std::process::ExitCode;
@@ -29,6 +29,5 @@ fn check<R: Env + Files + Print + Clock + AllocGlobal>(rt: &R) -> Result<u8, Fau
     let mut sink = Tally::new(output);
     let outcome = check_zone(alloc, &words.origin, words.flags, &mut source, &mut sink);
     let (outcome, _device) = finish(outcome, sink.into_inner());
-    outcome?;
-    Ok(exit_status(&outcome))
+    end_of(outcome)
 }

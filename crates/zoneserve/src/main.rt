@@ -6,8 +6,9 @@
 use dns_name::Tally;
 use dns_serve::StreamRoom;
 use dns_tools::{
-    FaultWord, LoadFault, Refusal, Service, Waiting, exit_status, finish, given_words, load_zone,
-    open_file, run_once, say, serve_connections, serve_datagrams, serve_words, write_refusal,
+    FaultWord, LoadFault, Refusal, Service, Waiting, end_of, exit_status, finish, given_words,
+    load_zone, open_file, run_once, say, serve_connections, serve_datagrams, serve_words,
+    status_of_turns, write_refusal,
 };
 use dns_zone::Zone;
 use std::io::{self, BufWriter};
@@ -52,8 +53,7 @@ where
             let mut source = Tally::new(Waiting::new(rt.reader(), rt));
             let mut sink = Tally::new(Waiting::new(io::writer(rt), rt));
             let outcome = run_once(rt.alloc(), zone, *limit, &mut source, &mut sink);
-            outcome?;
-            return Ok(exit_status(&outcome));
+            return end_of(outcome);
         }
         Service::Udp { address, turns } => serve_datagrams(rt, zone, address, *turns)?,
         Service::Tcp { address, turns } => {
@@ -64,7 +64,7 @@ where
             serve_connections(rt, zone, address, *turns, &mut room)?
         }
     };
-    Ok(if are_said { 0 } else { 2 })
+    Ok(status_of_turns(are_said))
 }
 
 // Says on standard error why there is no zone to serve, in the lines of the checker.
