@@ -74,9 +74,7 @@ pub fn read_zone<R: Read>(
 }
 
 /// Reads the zone file of a source, as `read_zone` does, and adds each record to what the caller
-/// keeps them in, which has none before.
-///
-/// After a fault it has some of the records before the faulty entry.
+/// keeps them in, which has none before. What it has after a fault is not promised.
 pub fn read_into<R: Read, G: Gathers>(
     alloc: Global,
     origin: &Name,

@@ -38,7 +38,7 @@ pub data NameSize (ms : List DomainName) : DomainName → ℕ → Type 0 where
       → IsTrue (list_any (λ m. has_suffix m (l ∷ n)) ms)
       → NameSize ms (front ++ l ∷ n) (labels_size front + 2)
 
--- of data, and of records
+-- a size of data, and of records, after earlier names
 pub data DataSize : List DomainName → List Part → ℕ → Type 0 where
   no_parts : {ms : List DomainName} → DataSize ms [] 0
   after_octets : {ms : List DomainName} (o : Octets) (ps : List Part) (k : ℕ) → DataSize ms ps k
