@@ -85,49 +85,49 @@ fn put_chosen<W: Write>(
     ensures { Fills W.contents sink.old sink.new result
         (text.old ++ flat_map record_line (filter (is_chosen is_soa) records.now)) text.new }
 {
-    'records: for record in records {
-        if is_chosen(is_soa, record) {
-            put_record(record, text, sink)?;
+    'records: for entry in records {
+        if is_chosen(is_soa, entry) {
+            put_record(entry, text, sink)?;
         }
     }
     Ok(())
 }
 
-fn is_chosen(is_soa: bool, record: &Entry) -> bool
-    ensures { result ≡ is_chosen is_soa record.now }
+fn is_chosen(is_soa: bool, entry: &Entry) -> bool
+    ensures { result ≡ is_chosen is_soa entry.now }
 {
-    (record.rtype == RType::SOA) == is_soa
+    (entry.rtype == RType::SOA) == is_soa
 }
 
 // A record on a line of its own.
 fn put_record<W: Write>(
-    record: &Entry,
+    entry: &Entry,
     text: &mut TextBuffer,
     sink: &mut Tally<W>,
 ) -> Result<(), SinkFailed>
     requires { sink.old.failures < 2 ^ 64 - 1 }
     ensures { Fills W.contents sink.old sink.new result
-        (text.old ++ record_line record.now) text.new }
+        (text.old ++ record_line entry.now) text.new }
 {
     text.make_room(FRONT_ROOM, sink)?;
-    append_front(record, text);
-    Rdata::put_text(record.rtype, record.rdata(), text, sink)?;
+    append_front(entry, text);
+    Rdata::put_text(entry.rtype, entry.rdata(), text, sink)?;
     text.make_room(1, sink)?;
     text.push(b'\n');
     Ok(())
 }
 
 // A record up to its data: owner, TTL, class and type, with a space after each.
-fn append_front(record: &Entry, text: &mut TextBuffer)
+fn append_front(entry: &Entry, text: &mut TextBuffer)
     requires { length text.old + 1045 ≤ 4096 }
-    ensures { text.new ≡ ((((text.old ++ name_text record.now.owner) ++ codes " ")
-        ++ decimal record.now.ttl) ++ codes " IN ") ++ type_text record.now.rtype ++ codes " " }
+    ensures { text.new ≡ ((((text.old ++ name_text entry.now.owner) ++ codes " ")
+        ++ decimal entry.now.ttl) ++ codes " IN ") ++ type_text entry.now.rtype ++ codes " " }
 {
     let mut digits = Buffer::new();
-    record.owner().append_text(text);
+    entry.owner().append_text(text);
     text.push(b' ');
-    text.append(digits.format(record.ttl).as_bytes());
+    text.append(digits.format(entry.ttl).as_bytes());
     text.append(b" IN ");
-    record.rtype.append_text(text);
+    entry.rtype.append_text(text);
     text.push(b' ');
 }

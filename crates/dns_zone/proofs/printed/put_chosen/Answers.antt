@@ -9,7 +9,7 @@ use Rattle.dns_zone.proofs.printed.put_chosen.Goals.{then-is_chosen+in_ok-put_re
 
 pub returns-in_err-put_record : goal.returns-in_err-put_record
 returns-in_err-put_record g c =
-    let next = chosen (is_chosen c.args.is_soa) c.args.records.now c.record-item.result c.records.record-index c.records-test.true c.record-item.is (sym c.is_chosen.ensures ∙ c.if-is_chosen.true) in
+    let next = chosen (is_chosen c.args.is_soa) c.args.records.now c.entry-item.result c.records.entry-index c.records-test.true c.entry-item.is (sym c.is_chosen.ensures ∙ c.if-is_chosen.true) in
     record {
       ok = search rules;
       err = OnErr-always c.from_residual.result (held_begun _ _ _ _ _ _ (held_more _ _ _ _ _ _ _ c.records.invariant.fills next) c.in_err-put_record.ensures.err);
@@ -19,13 +19,13 @@ returns-in_err-put_record g c =
 pub records-preserved : goal.records-preserved
 records-preserved g c = elim c.if-is_chosen.branch [
   | then-is_chosen+in_ok-put_record w ↦
-      let next = chosen (is_chosen c.args.is_soa) c.args.records.now c.record-item.result c.records.record-index c.records-test.true c.record-item.is (sym c.is_chosen.ensures ∙ w.if-is_chosen.true) in
+      let next = chosen (is_chosen c.args.is_soa) c.args.records.now c.entry-item.result c.records.entry-index c.records-test.true c.entry-item.is (sym c.is_chosen.ensures ∙ w.if-is_chosen.true) in
       rw (w.text-is, w.sink-is)
       (record {
         fills = held_less _ _ _ _ _ _ _ (held_more _ _ _ _ _ _ _ c.records.invariant.fills next) w.in_ok-put_record.ensures.ok;
         counted = search rules;
       })
   | else-is_chosen w ↦
-      let next = passed_over (is_chosen c.args.is_soa) c.args.records.now c.record-item.result c.records.record-index c.records-test.true c.record-item.is (sym c.is_chosen.ensures ∙ w.if-is_chosen.false) in
+      let next = passed_over (is_chosen c.args.is_soa) c.args.records.now c.entry-item.result c.records.entry-index c.records-test.true c.entry-item.is (sym c.is_chosen.ensures ∙ w.if-is_chosen.false) in
       rw (w.text-is, w.sink-is) (record { fills = subst (AppendsAllBut _ _ _) (ap (λ t. c.records.text ++ t) next) c.records.invariant.fills; counted = c.records.invariant.counted })
 ]

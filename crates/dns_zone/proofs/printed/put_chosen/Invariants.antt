@@ -9,6 +9,6 @@ abbrev pub invariant-records : goal.invariant-records
 invariant-records g l = record {
   fills : AppendsAllBut (g.W.Write.contents l.initial.sink.device) (g.W.Write.contents l.sink.device)
       (l.initial.text ++ flat_map record_line (filter (is_chosen l.is_soa) l.records))
-      (l.text ++ flat_map record_line (filter (is_chosen l.is_soa) (drop l.record-index l.records)));
+      (l.text ++ flat_map record_line (filter (is_chosen l.is_soa) (drop l.entry-index l.records)));
   counted : l.sink.failures ≡ l.initial.sink.failures;
 }

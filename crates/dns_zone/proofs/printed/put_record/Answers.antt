@@ -8,8 +8,8 @@ use Rattle.dns_zone.proofs.printed.put_record.Goals as goal
 
 pub returns-in_err-put_text : goal.returns-in_err-put_text
 returns-in_err-put_text g c =
-    let r = c.args.record.now in
-    let said = ap (data_text c.record.inside.rtype.0) c.rdata.ensures.value ∙ ap (λ (s : ResourceRecord). data_text s.rtype r.rdata) c.record.view_is in
+    let r = c.args.entry.now in
+    let said = ap (data_text c.entry.inside.rtype.0) c.rdata.ensures.value ∙ ap (λ (s : ResourceRecord). data_text s.rtype r.rdata) c.entry.view_is in
     let held = line_held _ _ _ _ _ _ r c.in_ok-make_room.ensures.fills.ok c.append_front.ensures said in
     record {
       ok = search rules;
@@ -19,8 +19,8 @@ returns-in_err-put_text g c =
 
 pub returns-in_err-make_room-2 : goal.returns-in_err-make_room-2
 returns-in_err-make_room-2 g c =
-    let r = c.args.record.now in
-    let said = ap (data_text c.record.inside.rtype.0) c.rdata.ensures.value ∙ ap (λ (s : ResourceRecord). data_text s.rtype r.rdata) c.record.view_is in
+    let r = c.args.entry.now in
+    let said = ap (data_text c.entry.inside.rtype.0) c.rdata.ensures.value ∙ ap (λ (s : ResourceRecord). data_text s.rtype r.rdata) c.entry.view_is in
     let held = line_held _ _ _ _ _ _ r c.in_ok-make_room.ensures.fills.ok c.append_front.ensures said in
     let less = held_less _ _ _ _ _ _ _ held c.in_ok-put_text.ensures.ok in
     record {
@@ -31,8 +31,8 @@ returns-in_err-make_room-2 g c =
 
 pub returns : goal.returns
 returns g c =
-    let r = c.args.record.now in
-    let said = ap (data_text c.record.inside.rtype.0) c.rdata.ensures.value ∙ ap (λ (s : ResourceRecord). data_text s.rtype r.rdata) c.record.view_is in
+    let r = c.args.entry.now in
+    let said = ap (data_text c.entry.inside.rtype.0) c.rdata.ensures.value ∙ ap (λ (s : ResourceRecord). data_text s.rtype r.rdata) c.entry.view_is in
     let held = line_held _ _ _ _ _ _ r c.in_ok-make_room.ensures.fills.ok c.append_front.ensures said in
     let less = held_less _ _ _ _ _ _ _ held c.in_ok-put_text.ensures.ok in
     record {
