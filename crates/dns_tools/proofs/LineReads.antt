@@ -5,18 +5,18 @@ use Rattle.std.proofs.lemmas.List.{take_all, take-append-le, length-take-le}
 use Rattle.std.proofs.lemmas.Bool.{cases_lt}
 use Rattle.std.proofs.Math.Seq.{take-append-add}
 use Rattle.std.specs.Io.KnownBytes.{Appends, Consumes, IsAtEnd, Keeps}
-use Rattle.std.proofs.KnownBytes.{Appends-trans, Consumes-trans, Consumes-nil, Consumes-kept}
+use Rattle.std.proofs.KnownBytes.{Appends-nil, Appends-trans, Consumes-trans, Consumes-nil, Consumes-kept}
 use Rattle.dns_spec.specs.Names.{Octets}
 use Rattle.dns_spec.specs.Lines.{lines, line_ends, ended_lines, message_answer, line_answers, are_messages}
 use Rattle.dns_name.specs.Counted.{AppendsBeginning}
 use Rattle.dns_name.proofs.WritesLemmas.{beginning_of_second}
 use Rattle.dns_serve.specs.Streams.{Session}
-use Rattle.dns_tools.specs.Exchanges.{Kept, EndsLine, IsFresh, Progress, Begun, IsInput, LinesAnswered, HasAnsweredLines, HasAnsweredEnded, HasBegunAnswers}
+use Rattle.dns_tools.specs.Exchanges.{Kept, EndsLine, IsFresh, Progress, Begun, IsInput, LinesAnswered, HasAnsweredLines, HasAnsweredEnded, HasBegunAnswers, Grows, KeepsUp}
 use Rattle.dns_tools.specs.KeptLine.{kept_message}
 use Rattle.dns_tools.proofs.KeptLines.{line_alone, lines_nil, kept_says}
 use Rattle.dns_tools.specs.declared.fault.Stop.{Stop}
 use Rattle.dns_tools.specs.declared.fault.Stop.TheVariants.{Source, Sink}
-use Rattle.dns_tools.proofs.LineRuns.{one_answer, one_flag, begun_flush, progress_none, progress_flush}
+use Rattle.dns_tools.proofs.LineRuns.{one_answer, one_flag, begun_flush, progress_none, progress_flush, grows_begun}
 
 -- so much was read, and so many octets more may be
 pub record Reading (reply : Octets → Option Octets) (a b x y : Option Octets) (left : ℕ) (k : Kept) : Type 0 where
@@ -24,6 +24,7 @@ pub record Reading (reply : Octets → Option Octets) (a b x y : Option Octets) 
   pub count : length given + left ≡ 2 ^ 64 - 1
   pub read : Consumes a b given
   pub progress : Progress reply x y given k
+  pub keeps_up : KeepsUp reply x y given
 
 -- the input was read, and so much is answered
 pub record Finished (reply : Octets → Option Octets) (x y : Option Octets) (input : Octets) (k : Kept) : Type 0 where
@@ -100,10 +101,10 @@ rest_of (Some x) (Some y) given read within =
     (take (2 ^ 64 - 1 - length given) y, sym (ap (take (2 ^ 64 - 1)) read ∙ ap (λ n. take n (given ++ y)) n ∙ take-append-add given y (2 ^ 64 - 1 - length given)))
 
 pub begun_answers : (reply : Octets → Option Octets) (a b x y : Option Octets) (given : Octets) → Consumes a b given → length given ≤ 2 ^ 64 - 1 → Begun reply x y given
-    → HasBegunAnswers reply (record { unread = a; left = b; held = x; holds = y })
-begun_answers reply a b x y given read within begun =
+    → KeepsUp reply x y given → HasBegunAnswers reply (record { unread = a; left = b; held = x; holds = y })
+begun_answers reply a b x y given read within begun keeps_up =
     let rest = rest_of a b given read within in
-    record { input = given ++ rest.0; is_input = rest.1; written = begun rest.0 }
+    record { input = given ++ rest.0; is_input = rest.1; written = begun rest.0; given = given; read = read; keeps_up = keeps_up }
 
 -- the last answers were written, or a beginning of them
 pub finished_written : (reply : Octets → Option Octets) (x y z : Option Octets) (input : Octets) (k : Kept) → Finished reply x y input k → Appends y z k.answers
@@ -117,22 +118,55 @@ finished_begun reply x y z input k f begun = subst (AppendsBeginning x z) f.answ
 pub begun_whole : (reply : Octets → Option Octets) (x y : Option Octets) (input : Octets) → Begun reply x y input → AppendsBeginning x y (line_answers reply (lines input))
 begun_whole reply x y input b = subst (λ z. AppendsBeginning x y (line_answers reply (lines z))) (append-nil input) (b [])
 
--- the source failed, when all answers that were due were written
-pub ended_answered : (reply : Octets → Option Octets) (a b c x y : Option Octets) (given : Octets) (k : Kept) → length given < 2 ^ 64 - 1 → Consumes a b given → Keeps b c
-    → k.answers ≡ [] → Progress reply x y given k → HasAnsweredEnded reply (record { unread = a; left = c; held = x; holds = y })
-ended_answered reply a b c x y given k fewer read keeps none p =
+-- all answers to lines that are ended were sent, where none is due
+all_sent : (reply : Octets → Option Octets) (x y : Option Octets) (given : Octets) (k : Kept) → k.answers ≡ [] → Progress reply x y given k
+    → Appends x y (line_answers reply (ended_lines given))
+all_sent reply x y given k none p =
     let ended : p.ended ≡ ended_lines given =
     sym (ap₂ take (sym p.count) (whole_lines reply x y given k p) ∙ take-append-le (length p.ended) p.ended (lines p.front) (omega arith) ∙ take_all (length p.ended) p.ended (omega arith))
     in
     let sent : p.sent ≡ line_answers reply (ended_lines given) =
     sym (append-nil p.sent) ∙ ap (λ z. p.sent ++ z) (sym none) ∙ p.answered ∙ ap (line_answers reply) ended
     in
+    subst (Appends x y) sent p.written
+
+-- answers keep up with pieces that are read
+keeps_up_none : (reply : Octets → Option Octets) (x : Option Octets) → KeepsUp reply x x []
+unfolding lines
+keeps_up_none reply x = record { before = []; last = []; parts = refl; piece = omega arith; more = []; written = Appends-nil x }
+
+keeps_up_grown : (reply : Octets → Option Octets) (x y z : Option Octets) (given : Octets) → Grows y z → KeepsUp reply x y given → KeepsUp reply x z given
+keeps_up_grown reply x y z given (bs, grown) k =
+    let due = line_answers reply (ended_lines k.before) in
     record {
-      given = given;
-      fewer = fewer;
-      read = Consumes-kept a b c given read keeps;
-      written = subst (Appends x y) sent p.written;
+      before = k.before;
+      last = k.last;
+      parts = k.parts;
+      piece = k.piece;
+      more = k.more ++ bs;
+      written = subst (Appends x z) (append_assoc due k.more bs) (Appends-trans x y z (due ++ k.more) bs k.written grown);
     }
+
+keeps_up_next : (reply : Octets → Option Octets) (x y z : Option Octets) (given front : Octets) (k : Kept) → k.answers ≡ [] → Grows y z → length front ≤ 65536
+    → Progress reply x y given k → KeepsUp reply x z (given ++ front)
+keeps_up_next reply x y z given front k none (bs, grown) few p = record {
+  before = given;
+  last = front;
+  parts = refl;
+  piece = few;
+  more = bs;
+  written = Appends-trans x y z (line_answers reply (ended_lines given)) bs (all_sent reply x y given k none p) grown;
+}
+
+-- the source failed, when all answers that were due were written
+pub ended_answered : (reply : Octets → Option Octets) (a b c x y : Option Octets) (given : Octets) (k : Kept) → length given < 2 ^ 64 - 1 → Consumes a b given → Keeps b c
+    → k.answers ≡ [] → Progress reply x y given k → HasAnsweredEnded reply (record { unread = a; left = c; held = x; holds = y })
+ended_answered reply a b c x y given k fewer read keeps none p = record {
+  given = given;
+  fewer = fewer;
+  read = Consumes-kept a b c given read keeps;
+  written = all_sent reply x y given k none p;
+}
 
 -- ---- what a run says where it starts, goes on, ends, and stops
 
@@ -142,6 +176,7 @@ reading_none reply a x k fresh = record {
   count = refl;
   read = Consumes-nil a;
   progress = progress_none reply x k fresh;
+  keeps_up = keeps_up_none reply x;
 }
 
 pub reading_flush : (reply : Octets → Option Octets) (a b x y z : Option Octets) (left : ℕ) (k n : Kept) → Appends y z k.answers → n.answers ≡ []
@@ -151,20 +186,22 @@ reading_flush reply a b x y z left k n written answers line passes r = record {
   count = r.count;
   read = r.read;
   progress = progress_flush reply x y z r.given k n written answers line passes r.progress;
+  keeps_up = keeps_up_grown reply x y z r.given (k.answers, written) r.keeps_up;
 }
 
 -- octets that were read are taken
 pub reading_take : (r s : Octets → Option Octets) (a b c x y z : Option Octets) (left count : ℕ) (octets front : Octets) (k n : Kept) → s ≡ r → octets ≡ front
-    → length front ≡ count → count ≤ left → Consumes b c front
-    → ((h : Option Octets) (i : Octets) → Progress s h y i k → Progress s h z (i ++ octets) n)
+    → length front ≡ count → count ≤ left → count ≤ 65536 → Consumes b c front
+    → ((h : Option Octets) (i : Octets) → Progress s h y i k → Progress s h z (i ++ octets) n) → Grows y z → k.answers ≡ []
     → Reading r a b x y left k → Reading r a c x z (left - count) n
-reading_take r s a b c x y z left count octets front k n same is len within more step reading =
+reading_take r s a b c x y z left count octets front k n same is len within few more step grows none reading =
     let here = subst (λ q. (h : Option Octets) (i : Octets) → Progress q h y i k → Progress q h z (i ++ octets) n) same step in
     record {
       given = reading.given ++ front;
       count = omega (arith, reading.count, len, within, length-append reading.given front);
       read = Consumes-trans a b c reading.given front reading.read more;
       progress = subst (λ o. Progress r x z (reading.given ++ o) n) is (here x reading.given reading.progress);
+      keeps_up = keeps_up_next r x y z reading.given front k none grows (omega (arith, len, few)) reading.progress;
     }
 
 -- the sink failed when answers that were due were written
@@ -172,17 +209,19 @@ pub reading_begun : (reply : Octets → Option Octets) (a b x y z : Option Octet
     → Reading reply a b x y left k → HasBegunAnswers reply (record { unread = a; left = b; held = x; holds = z })
 reading_begun reply a b x y z left k begun r =
     begun_answers reply a b x z r.given r.read (omega (arith, r.count)) (begun_flush reply x y z r.given k begun r.progress)
+    (keeps_up_grown reply x y z r.given (grows_begun y z k.answers begun) r.keeps_up)
 
 -- the sink failed when octets that were read were taken
 pub taking_begun : (r s : Octets → Option Octets) (a b c x y z : Option Octets) (left count : ℕ) (octets front : Octets) (k : Kept) → s ≡ r → octets ≡ front
-    → length front ≡ count → count ≤ left → Consumes b c front
-    → ((h : Option Octets) (i : Octets) → Progress s h y i k → Begun s h z (i ++ octets))
+    → length front ≡ count → count ≤ left → count ≤ 65536 → Consumes b c front
+    → ((h : Option Octets) (i : Octets) → Progress s h y i k → Begun s h z (i ++ octets)) → Grows y z → k.answers ≡ []
     → Reading r a b x y left k → HasBegunAnswers r (record { unread = a; left = c; held = x; holds = z })
-taking_begun r s a b c x y z left count octets front k same is len within more step reading =
+taking_begun r s a b c x y z left count octets front k same is len within few more step grows none reading =
     let here = subst (λ q. (h : Option Octets) (i : Octets) → Progress q h y i k → Begun q h z (i ++ octets)) same step in
     let begun : Begun r x z (reading.given ++ front) = subst (λ o. Begun r x z (reading.given ++ o)) is (here x reading.given reading.progress) in
-    let few : length (reading.given ++ front) ≤ 2 ^ 64 - 1 = omega (arith, reading.count, len, within, length-append reading.given front) in
-    begun_answers r a c x z (reading.given ++ front) (Consumes-trans a b c reading.given front reading.read more) few begun
+    let all : length (reading.given ++ front) ≤ 2 ^ 64 - 1 = omega (arith, reading.count, len, within, length-append reading.given front) in
+    begun_answers r a c x z (reading.given ++ front) (Consumes-trans a b c reading.given front reading.read more) all begun
+    (keeps_up_next r x y z reading.given front k none grows (omega (arith, len, few)) reading.progress)
 
 -- the source failed
 pub reading_failed : (reply : Octets → Option Octets) (a b c x y : Option Octets) (left : ℕ) (k : Kept) → k.answers ≡ [] → 0 < left → Keeps b c
@@ -197,6 +236,7 @@ pub record AllRead (r s : Octets → Option Octets) (a b x y : Option Octets) (k
   pub is_input : IsInput a input
   pub read : Consumes a b input
   pub progress : Progress s x y input k
+  pub keeps_up : KeepsUp r x y input
 
 -- so many octets were read that no more may be
 pub all_read : (r s : Octets → Option Octets) (a b x y : Option Octets) (left : ℕ) (k : Kept) → s ≡ r → left ≡ 0 → Reading r a b x y left k → AllRead r s a b x y k
@@ -206,6 +246,7 @@ all_read r s a b x y left k task none reading = record {
   is_input = input_of a b reading.given left reading.count reading.read (inl none);
   read = reading.read;
   progress = subst (λ q. Progress q x y reading.given k) (sym task) reading.progress;
+  keeps_up = reading.keeps_up;
 }
 
 -- a read gave nothing more
@@ -221,6 +262,7 @@ all_given r s a b c x y left k task none end reading =
       is_input = input_of a c reading.given left reading.count read (inr end);
       read = read;
       progress = subst (λ q. Progress q x y reading.given k) (sym task) reading.progress;
+      keeps_up = reading.keeps_up;
     }
 
 -- a read gave nothing more, once the answers that were due were written
@@ -245,12 +287,15 @@ all_answered r s a b x y z k passes written same all = record {
 }
 
 pub all_begun : (r s : Octets → Option Octets) (a b x y z : Option Octets) (k : Kept)
-    → ((h : Option Octets) (i : Octets) → Progress s h y i k → AppendsBeginning h z (line_answers s (lines i)))
+    → ((h : Option Octets) (i : Octets) → Progress s h y i k → AppendsBeginning h z (line_answers s (lines i))) → Grows y z
     → AllRead r s a b x y k → HasBegunAnswers r (record { unread = a; left = b; held = x; holds = z })
-all_begun r s a b x y z k begun all = record {
+all_begun r s a b x y z k begun grows all = record {
   input = all.input;
   is_input = all.is_input;
   written = subst (λ q. AppendsBeginning x z (line_answers q (lines all.input))) all.task (begun x all.input all.progress);
+  given = all.input;
+  read = all.read;
+  keeps_up = keeps_up_grown r x y z all.input grows all.keeps_up;
 }
 
 -- a device failed, and the run said so

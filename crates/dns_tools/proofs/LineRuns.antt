@@ -1,5 +1,5 @@
 -- How a run over lines goes on, octet by octet.
-use Rattle.std.proofs.Common.{◌≡◌, ◌≢◌, ℕ, ◌+◌, ◌==◌, ◌/◌, ◌%◌, Bool, true, false, ◌&&◌, List, [], ◌∷◌, ◌++◌, length, take, drop, Option, Some, refl, sym, ap, ap₂, ◌∙◌, subst, arith, append_assoc, append-nil, length-append}
+use Rattle.std.proofs.Common.{◌≡◌, ◌≢◌, ℕ, ◌+◌, ◌==◌, ◌/◌, ◌%◌, Bool, true, false, ◌&&◌, List, [], ◌∷◌, ◌++◌, length, take, drop, Option, Some, Result, Ok, Err, OnOk, OnErr, refl, sym, ap, ap₂, ◌∙◌, subst, arith, append_assoc, append-nil, length-append}
 use Rattle.std.specs.Option.{is_some}
 use Rattle.std.proofs.lemmas.Bool.{eqb-true}
 use Rattle.std.proofs.lemmas.List.{take-append-drop}
@@ -14,7 +14,7 @@ use Rattle.dns_spec.specs.WrittenText.{hex_text}
 use Rattle.dns_name.specs.Counted.{AppendsBeginning}
 use Rattle.dns_name.proofs.WritesLemmas.{beginning_of_first, beginning_of_second}
 use Rattle.dns_tools.specs.KeptLine.{KeptLine, kept_message, KeepsOctet}
-use Rattle.dns_tools.specs.Exchanges.{Kept, IsFresh, EndsLine, Progress, Begun, Passes}
+use Rattle.dns_tools.specs.Exchanges.{Kept, IsFresh, EndsLine, Progress, Begun, Passes, Grows}
 use Rattle.dns_tools.proofs.KeptLines.{ends_append, ends_one, line_then, keeps_kept, kept_says}
 
 -- nothing was read yet
@@ -165,6 +165,20 @@ begun_within r held a b x octets i k begun p =
 pub taken_all : (r : Octets → Option Octets) (held b : Option Octets) (x octets : Octets) (i : ℕ) (k : Kept) → take i octets ≡ octets
     → Progress r held b (x ++ take i octets) k → Progress r held b (x ++ octets) k
 taken_all r held b x octets i k all p = subst (λ t. Progress r held b (x ++ t) k) all p
+
+-- a sink grows by what was written of a text, and by one text after another
+pub grows_begun : (a b : Option Octets) (text : Octets) → AppendsBeginning a b text → Grows a b
+grows_begun a b text (n, h, w) = (take n text, w)
+
+pub grows_none : (a : Option Octets) → Grows a a
+grows_none a = ([], Appends-nil a)
+
+pub grows_trans : (a b c : Option Octets) → Grows a b → Grows b c → Grows a c
+grows_trans a b c (bs, h) (cs, k) = (bs ++ cs, Appends-trans a b c bs cs h k)
+
+pub grows_by_result : {A E : Type 0} (result : Result A E) (a b : Option Octets) → OnOk result (Grows a b) → OnErr result (Grows a b) → Grows a b
+grows_by_result (Ok x) a b ok err = ok
+grows_by_result (Err e) a b ok err = err
 
 -- the octet that ends a line
 pub ended_octet : (reply : Octets → Option Octets) (held old new : Option Octets) (x : Octets) (k n : Kept) (o : ℕ) → o ≡ 10 → EndsLine reply old new k n

@@ -1,5 +1,5 @@
 -- What a reader learns here: what a run over lines has read and written, at its end and on its way.
-use Rattle.std.specs.Prelude.{⊤, ◌≡◌, ◌^◌, ◌-◌, ◌<◌, Bool, true, ◌&&◌}
+use Rattle.std.specs.Prelude.{⊤, ◌≡◌, ◌^◌, ◌-◌, ◌<◌, ◌≤◌, Bool, true, ◌&&◌}
 use Rattle.std.specs.Prelude.{List, [], ◌++◌, length, take}
 use Rattle.std.specs.Prelude.{MatchOption, Option, Result, Ok, Err}
 use Rattle.std.specs.Option.{is_some}
@@ -41,11 +41,30 @@ pub record HasAnsweredEnded (reply : Octets → Option Octets) (s : Session) : T
   pub read : Consumes s.unread s.left given
   pub written : Appends s.held s.holds (line_answers reply (ended_lines given))
 
--- The sink failed. A beginning of the answers was written.
+-- known octets grew, perhaps by nothing
+abbrev pub Grows : Option Octets → Option Octets → Type 0
+Grows old new = (more : Octets) × Appends old new more
+
+-- Octets were read piece by piece, and before the last piece all answers were written to the lines
+-- that were ended before it.
+pub record KeepsUp (reply : Octets → Option Octets) (held holds : Option Octets) (given : Octets)
+    : Type 0 where
+  pub before : Octets
+  pub last : Octets
+  pub parts : given ≡ before ++ last
+  pub piece : length last ≤ 65536
+  pub more : Octets
+  pub written : Appends held holds (line_answers reply (ended_lines before) ++ more)
+
+-- The sink failed. A beginning of the answers was written, and at most a piece was read after the
+-- lines that are all answered.
 pub record HasBegunAnswers (reply : Octets → Option Octets) (s : Session) : Type 0 where
   pub input : Octets
   pub is_input : IsInput s.unread input
   pub written : AppendsBeginning s.held s.holds (line_answers reply (lines input))
+  pub given : Octets
+  pub read : Consumes s.unread s.left given
+  pub keeps_up : KeepsUp reply s.held s.holds given
 
 -- what a run over lines has done, by its answer
 abbrev pub LinesAnswered : (Octets → Option Octets) → Session → Result Bool Stop → Type 0

@@ -9,13 +9,13 @@ ghost use Rattle.dns_spec.specs.Names.{Octets};
 ghost use Rattle.dns_spec.specs.WrittenText.{hex_text};
 ghost use Rattle.dns_spec.specs.Lines.{are_messages, line_answers, lines};
 ghost use Rattle.dns_spec.specs.Lines.{message_answer, reply_line};
-ghost use Rattle.dns_tools.specs.Exchanges.{Begun, EndsLine, IsFresh, LinesAnswered, Passes};
+ghost use Rattle.dns_tools.specs.Exchanges.{Begun, EndsLine, Grows, IsFresh, LinesAnswered, Passes};
 ghost use Rattle.dns_tools.specs.Exchanges.{Progress, reply_within};
 ghost use Rattle.dns_tools.specs.KeptLine.{kept_message};
 ghost use Rattle.dns_name.specs.Counted.{AppendsBeginning, failures_after};
 ghost use Rattle.dns_tools.specs.Stops.{source_failures_after, sink_failures_after};
 ghost use Rattle.dns_answer.specs.Limits.{limit_of};
-ghost use Rattle.dns_tools.specs.declared.line.TheConstants.{MOST_OCTETS};
+ghost use Rattle.dns_tools.specs.declared.line.TheConstants.{MOST_OCTETS, PIECE};
 ghost use Rattle.dns_tools.specs.declared.once.TheConstants.{MOST_ANSWER, ANSWERS, DIGITS};
 
 use crate::fault::Stop;
@@ -44,8 +44,9 @@ const DIGITS: usize = 128;
 /// most 18,446,744,073,709,551,615 octets are read, and the source counts as ended there. All
 /// answers that are due are written before the source is asked for more.
 ///
-/// Where it stops, the sink has a beginning of the answers, and no device is used after its
-/// failure. Memory is taken before the first octet is read, and none afterwards.
+/// Where it stops, the sink has a beginning of the answers: of the lines that were ended before the
+/// last piece of at most 65,536 octets was read, all of them. No device is used after its failure.
+/// Memory is taken before the first octet is read, and none afterwards.
 pub fn run_once<R: Read, W: Write>(
     alloc: Global,
     zone: &Zone,
@@ -121,7 +122,7 @@ impl<'z> Exchange<'z> {
     ) -> Result<bool, Stop>
         requires source { source.old.failures < 2 ^ 64 - 1 }
         requires sink { sink.old.failures < 2 ^ 64 - 1 }
-        requires piece { 0 < length piece.old }
+        requires piece { length piece.old ≡ PIECE }
         requires fresh { IsFresh (kept_of self.old) }
         ensures source { source.new.failures ≡ source_failures_after source.old.failures result }
         ensures sink { sink.new.failures ≡ sink_failures_after sink.old.failures result }
@@ -164,6 +165,8 @@ impl<'z> Exchange<'z> {
             → Progress (reply_of self.old) held (W.contents sink.old.device) x (kept_of self.old)
             → OnErr result (AppendsBeginning held (W.contents sink.new.device)
             (line_answers (reply_of self.old) (lines x))) }
+        ensures grows { OnErr result (Grows (W.contents sink.old.device)
+            (W.contents sink.new.device)) }
     {
         if self.line.is_empty() {
             return self.conclude(sink);
@@ -199,6 +202,7 @@ impl<'z> Exchange<'z> {
             → Progress (reply_of self.old) held (W.contents sink.old.device) x (kept_of self.old)
             → OnErr result (Begun (reply_of self.old) held (W.contents sink.new.device)
             (x ++ octets.now)) }
+        ensures grows { Grows (W.contents sink.old.device) (W.contents sink.new.device) }
     {
         'octets: for octet in octets {
             self.take_octet(*octet, sink)?;
@@ -217,6 +221,7 @@ impl<'z> Exchange<'z> {
             (x ++ octet ∷ []) (kept_of self.new)) }
         ensures begun { OnErr result (AppendsBeginning (W.contents sink.old.device)
             (W.contents sink.new.device) self.old.answers.items) }
+        ensures grows { Grows (W.contents sink.old.device) (W.contents sink.new.device) }
     {
         if octet == b'\n' {
             return self.end_line(sink);

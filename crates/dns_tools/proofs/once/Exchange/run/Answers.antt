@@ -25,10 +25,11 @@ returns-in_err-take-clause-lines g c =
     let e = c.in_ok-flush.ensures in
     let bound = c.in_ok-count.ensures.bound in
     let within : c.in_ok-count.count ≤ c.pieces.left = search rules in
+    let few : c.in_ok-count.count ≤ 65536 = search rules in
     sink_stopped _ _ c.from_residual-in_err-take.result c.from_residual-in_err-take.ensures.1
     (taking_begun _ _ _ _ _ _ _ _ c.pieces.left c.in_ok-count.count _ _ _ (e.task ∙ c.pieces.invariant.task)
-    (take-append-le c.in_ok-count.count c.read.new.buf _ bound.0) (sym bound.1) within
-    c.in_ok-count.ensures.bytes.0 c.in_err-take.ensures.begun
+    (take-append-le c.in_ok-count.count c.read.new.buf _ bound.0) (sym bound.1) within few
+    c.in_ok-count.ensures.bytes.0 c.in_err-take.ensures.begun c.in_err-take.ensures.grows e.none
     (reading_flush _ _ _ _ _ _ _ _ _ e.written e.none e.line e.passes c.pieces.invariant.reading))
 
 pub pieces-preserved : goal.pieces-preserved
@@ -40,9 +41,10 @@ pieces-preserved g c = record {
       let e = c.in_ok-flush.ensures in
       let bound = c.in_ok-count.ensures.bound in
       let within : c.in_ok-count.count ≤ c.pieces.left = search rules in
+      let few : c.in_ok-count.count ≤ 65536 = search rules in
       reading_take _ _ _ _ _ _ _ _ c.pieces.left c.in_ok-count.count _ _ _ _ (e.task ∙ c.pieces.invariant.task)
-      (take-append-le c.in_ok-count.count c.read.new.buf _ bound.0) (sym bound.1) within
-      c.in_ok-count.ensures.bytes.0 c.in_ok-take.ensures.taken
+      (take-append-le c.in_ok-count.count c.read.new.buf _ bound.0) (sym bound.1) within few
+      c.in_ok-count.ensures.bytes.0 c.in_ok-take.ensures.taken c.in_ok-take.ensures.grows e.none
       (reading_flush _ _ _ _ _ _ _ _ _ e.written e.none e.line e.passes c.pieces.invariant.reading);
 }
 
@@ -56,7 +58,7 @@ returns-in_err-finish-clause-lines g c =
           rw (w.self-is, w.source-is, w.sink-is) (all_flushed _ _ _ _ _ _ _ _ c.pieces.left _ _ _ _ (e.task ∙ c.pieces.invariant.task) w.in_ok-count.ensures.bytes.0 w.if-count-eq0.true (w.in_ok-count.ensures.bytes.1 w.if-count-eq0.true some) e.written e.none e.line e.passes c.pieces.invariant.reading)
     ] in
     sink_stopped _ _ c.from_residual-in_err-finish.result c.from_residual-in_err-finish.ensures.1
-    (all_begun _ _ _ _ _ _ _ _ c.in_err-finish.ensures.begun all)
+    (all_begun _ _ _ _ _ _ _ _ c.in_err-finish.ensures.begun c.in_err-finish.ensures.grows all)
 
 pub returns-clause-lines : goal.returns-clause-lines
 returns-clause-lines g c =

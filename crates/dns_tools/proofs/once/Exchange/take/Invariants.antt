@@ -1,7 +1,7 @@
 use Rattle.std.proofs.Common.{◌≡◌, ◌++◌, take, Option}
 use Rattle.dns_spec.specs.Names.{Octets}
 use Rattle.dns_tools.specs.ExchangeForm.{kept_of, reply_of}
-use Rattle.dns_tools.specs.Exchanges.{Progress}
+use Rattle.dns_tools.specs.Exchanges.{Grows, Progress}
 use Rattle.dns_tools.proofs.once.Exchange.take.Given as goal
 
 -- what was said of the octets before is said of these too, as far as they were taken
@@ -14,4 +14,5 @@ invariant-octets g l = record {
       (kept_of l.initial.self)
       → Progress (reply_of l.initial.self) held (g.W.Write.contents l.sink.device) (x ++ take l.octet-index l.octets)
       (kept_of l.self);
+  grows : Grows (g.W.Write.contents l.initial.sink.device) (g.W.Write.contents l.sink.device);
 }
