@@ -67,6 +67,7 @@ examples: built
 # Runs the commands of the documents and compares what they print, tries the remedies of docs/CODES.md and the scripts of
 # examples/, and sees that the pages that are made by scripts are as these make them.
 docs-check: built
+	tools/definitions | cmp - docs/DEFINITIONS.md
 	tools/docs-check $(PROGRAMS)
 	tools/remedies crates/zonecheck/out/zonecheck
 	tools/test-units crates/zonecheck/out/zonecheck
