@@ -133,16 +133,11 @@ empty_size q h =
     let short = leb-true (length (wire q.qname)) 255 (and_parts (list_all is_label q.qname) (nat_le (length (wire q.qname)) 255) h).1 in
     omega (arith, length-question_octets q, short)
 
--- the layout spells the message of a question and of sets, whatever header stands before them
-abbrev Laid : Option MessageQuestion → List Item → Type 0
-Laid q is = (h : Header) → h.id < 2 ^ 16 → h.flags < 2 ^ 16 → Spells (layout h q is) (message_of h q is)
-
--- then the octets of a reply spell the message that it is
-reply_laid : (z : ZoneContents) (d : Octets) (keep : MessageQuestion → List Item) (r : Reply)
-    → All IsWritable z.records → All (λ o. o < 256) d → Laid None [] → ((q : MessageQuestion) → IsAskable q → Laid (Some q) [] × Laid (Some q) (keep q))
-    → reply_with keep z d ≡ Some r → Spells (reply_octets r) (reply_message r)
-unfolding reply_with
-reply_laid z d keep r writable low bare lays e = go (decide z d) (decided z d) e
+-- The octets of a reply spell the message that it is.
+pub reply_spells : (z : ZoneContents) (d : Octets) (limit : ℕ) (r : Reply) → All IsWritable z.records → All (λ o. o < 256) d → 271 ≤ limit → limit ≤ 65535
+    → reply z d limit ≡ Some r → Spells (reply_octets r) (reply_message r)
+unfolding reply reply_with
+reply_spells z d limit r writable low from upto e = go (decide z d) (decided z d) e
   where
     id : field16 d 0 < 2 ^ 16
     id = field_bound d 0 low
@@ -150,47 +145,37 @@ reply_laid z d keep r writable low bare lays e = go (decide z d) (decided z d) e
     replied : (x : Reply) → Spells (reply_octets x) (reply_message x) → ◌≡◌ {A = Option Reply} (Some x) (Some r) → Spells (reply_octets r) (reply_message r)
     replied x s e = subst (λ y. Spells (reply_octets y) (reply_message y)) (same_Some x r e) s
 
-    refusing : (h : Header) (q : Option MessageQuestion) → Refuses d h → Laid q [] → Spells (layout h q []) (message_of h q [])
-    refusing h q ok laid =
+    -- the header and perhaps the question alone
+    refusing : (h : Header) (q : Option MessageQuestion) → Refuses d h → IfSome q IsAskable → size q [] ≤ 65535 → Spells (layout h q []) (message_of h q [])
+    refusing h q ok may small =
         subst (λ x. Spells (layout x q []) (message_of x q [])) ok.head
-        (laid (refusal_head (head_of d) ok.rcode) id (flags_bound (head_of d) false false ok.rcode ok.low))
+        (layout_spells (refusal_head (head_of d) ok.rcode) q []
+        (roomy _ q [] id (flags_bound (head_of d) false false ok.rcode ok.low) may refl) (All-nil IsWritable) small)
 
-    go : (x : Decision) → Decided d x → reply_of keep z x ≡ Some r → Spells (reply_octets r) (reply_message r)
-    go silence ok e = absurd (none-some r e)
-    go (header_alone h) ok e = replied (record { header = h; question = None; sets = [] }) (refusing h None ok bare) e
-    go (question_alone h q) ok e =
-        replied (record { header = h; question = Some q; sets = [] }) (refusing h (Some q) ok.1 (lays q (askable d q low ok.0)).0) e
-    go (answered h q) ok e =
-        let may = askable d q low ok.0 in
-        let o = outcome z q.qname q.qtype in
-        let head = reply_head h (is_authoritative o) (truncated z q (keep q)) o.rcode in
-        let flags = flags_bound h (is_authoritative o) (truncated z q (keep q)) o.rcode (outcome_rcode z writable q.qname q.qtype may.qname) in
-        replied (answer_with z h q (keep q)) ((lays q may).1 head (subst (λ (x : Header). x.id < 2 ^ 16) ok.1 id) flags) e
-
--- The octets of a reply spell the message that it is.
-pub reply_spells : (z : ZoneContents) (d : Octets) (limit : ℕ) (r : Reply) → All IsWritable z.records → All (λ o. o < 256) d → 271 ≤ limit → limit ≤ 65535
-    → reply z d limit ≡ Some r → Spells (reply_octets r) (reply_message r)
-unfolding reply
-reply_spells z d limit r writable low from upto =
-    reply_laid z d (keep_longest z limit) r writable low bare (λ q ok. (alone q ok, sets q ok))
-  where
-    bare : Laid None []
-    bare h id flags = let small = bare_size in layout_spells h None [] (roomy h None [] id flags tt refl) (All-nil IsWritable) (omega (arith, small))
-
-    alone : (q : MessageQuestion) → IsAskable q → Laid (Some q) []
-    alone q ok h id flags =
-        let small = empty_size q ok.qname in
-        layout_spells h (Some q) [] (roomy h (Some q) [] id flags ok refl) (All-nil IsWritable) (omega (arith, small))
-
-    sets : (q : MessageQuestion) → IsAskable q → Laid (Some q) (keep_longest z limit q)
-    sets q ok h id flags =
+    -- a question with the sets that are kept
+    answering : (h : Header) (q : MessageQuestion) → IsAskable q → h.id < 2 ^ 16 → h.flags < 2 ^ 16
+        → Spells (layout h (Some q) (keep_longest z limit q)) (message_of h (Some q) (keep_longest z limit q))
+    answering h q ok id flags =
         let all = items z q.qname q.qtype in
         let k = greatest (λ n. nat_le (size (Some q) (take n all)) limit) (length all) in
-        let small = empty_size q ok.qname in
-        let short = kept_fits (size (Some q)) limit all (omega (arith, small)) in
+        let short = kept_fits (size (Some q)) limit all (let small = empty_size q ok.qname in omega (arith, small)) in
         layout_spells h (Some q) (take k all)
         (roomy h (Some q) (take k all) id flags ok (items_in_order z writable q.qname q.qtype ok.qname k))
         (items_writable z writable q.qname q.qtype ok.qname k) (omega (arith, short, upto))
+
+    go : (x : Decision) → Decided d x → reply_of (keep_longest z limit) z x ≡ Some r → Spells (reply_octets r) (reply_message r)
+    go silence ok e = absurd (none-some r e)
+    go (header_alone h) ok e = replied (record { header = h; question = None; sets = [] }) (refusing h None ok tt (let small = bare_size in omega (arith, small))) e
+    go (question_alone h q) ok e =
+        let may = askable d q low ok.0 in
+        replied (record { header = h; question = Some q; sets = [] }) (refusing h (Some q) ok.1 may (let small = empty_size q may.qname in omega (arith, small))) e
+    go (answered h q) ok e =
+        let may = askable d q low ok.0 in
+        let o = outcome z q.qname q.qtype in
+        let sets = keep_longest z limit q in
+        let head = reply_head h (is_authoritative o) (truncated z q sets) o.rcode in
+        let flags = flags_bound h (is_authoritative o) (truncated z q sets) o.rcode (outcome_rcode z writable q.qname q.qtype may.qname) in
+        replied (answer_with z h q sets) (answering head q may (subst (λ (x : Header). x.id < 2 ^ 16) ok.1 id) flags) e
 
 -- The octets of a reply are no more than its sets were kept for.
 named_question : (d : Octets) (q : MessageQuestion) → question_at d ≡ Some q → is_name q.qname ≡ true
@@ -204,33 +189,25 @@ named_question d q h = go (name_at d 12) refl h
         let c = cond_some (length d == e + 4) (record { qname = n; qtype = field16 d e; qclass = field16 d (e + 2) }) q f in
         subst (λ (x : MessageQuestion). is_name x.qname ≡ true) c.1 ((name_at_computes d 12 n e).0 is).1
 
-reply_sized : (z : ZoneContents) (d : Octets) (keep : MessageQuestion → List Item) (limit : ℕ) (r : Reply) → ((h : Header) → length (layout h None []) ≤ limit)
-    → ((h : Header) (q : MessageQuestion) → is_name q.qname ≡ true → (length (layout h (Some q) []) ≤ limit) × (length (layout h (Some q) (keep q)) ≤ limit))
-    → reply_with keep z d ≡ Some r → length (reply_octets r) ≤ limit
-unfolding reply_with
-reply_sized z d keep limit r room fits e = go (decide z d) (decided z d) e
+pub reply_fits : (z : ZoneContents) (d : Octets) (limit : ℕ) (r : Reply) → 271 ≤ limit → reply z d limit ≡ Some r → length (reply_octets r) ≤ limit
+unfolding reply reply_with
+reply_fits z d limit r from e = go (decide z d) (decided z d) e
   where
     replied : (x : Reply) → length (reply_octets x) ≤ limit → ◌≡◌ {A = Option Reply} (Some x) (Some r) → length (reply_octets r) ≤ limit
     replied x s e = subst (λ y. length (reply_octets y) ≤ limit) (same_Some x r e) s
 
-    go : (x : Decision) → Decided d x → reply_of keep z x ≡ Some r → length (reply_octets r) ≤ limit
+    fits : (h : Header) (q : Option MessageQuestion) (is : List Item) → size q is ≤ limit → length (layout h q is) ≤ limit
+    fits h q is small = omega (arith, length-layout h q is, small)
+
+    asked : (q : MessageQuestion) → question_at d ≡ Some q → size (Some q) [] ≤ limit
+    asked q at = let small = empty_size q (named_question d q at) in omega (arith, small, from)
+
+    go : (x : Decision) → Decided d x → reply_of (keep_longest z limit) z x ≡ Some r → length (reply_octets r) ≤ limit
     go silence ok e = absurd (none-some r e)
-    go (header_alone h) ok e = replied (record { header = h; question = None; sets = [] }) (room h) e
-    go (question_alone h q) ok e = replied (record { header = h; question = Some q; sets = [] }) (fits h q (named_question d q ok.0)).0 e
+    go (header_alone h) ok e = replied (record { header = h; question = None; sets = [] }) (fits h None [] (let small = bare_size in omega (arith, small, from))) e
+    go (question_alone h q) ok e = replied (record { header = h; question = Some q; sets = [] }) (fits h (Some q) [] (asked q ok.0)) e
     go (answered h q) ok e =
         let o = outcome z q.qname q.qtype in
-        replied (answer_with z h q (keep q)) (fits (reply_head h (is_authoritative o) (truncated z q (keep q)) o.rcode) q (named_question d q ok.0)).1 e
-
-pub reply_fits : (z : ZoneContents) (d : Octets) (limit : ℕ) (r : Reply) → 271 ≤ limit → reply z d limit ≡ Some r → length (reply_octets r) ≤ limit
-unfolding reply
-reply_fits z d limit r from = reply_sized z d (keep_longest z limit) limit r bare fits
-  where
-    bare : (h : Header) → length (layout h None []) ≤ limit
-    bare h = let small = bare_size in omega (arith, length-layout h None [], small)
-
-    fits : (h : Header) (q : MessageQuestion) → is_name q.qname ≡ true → (length (layout h (Some q) []) ≤ limit) × (length (layout h (Some q) (keep_longest z limit q)) ≤ limit)
-    fits h q name =
-        let small = empty_size q name in (
-          omega (arith, length-layout h (Some q) [], small, from),
-          omega (arith, length-layout h (Some q) (keep_longest z limit q), kept_fits (size (Some q)) limit (items z q.qname q.qtype) (omega (arith, small, from))),
-        )
+        let sets = keep_longest z limit q in
+        let head = reply_head h (is_authoritative o) (truncated z q sets) o.rcode in
+        replied (answer_with z h q sets) (fits head (Some q) sets (kept_fits (size (Some q)) limit (items z q.qname q.qtype) (asked q ok.0))) e
