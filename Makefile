@@ -76,7 +76,6 @@ docs-check: built
 	tools/test-from-bind crates/zonecheck/out/zonecheck
 	tools/test-serve crates/zonecheck/out/zonecheck
 	docs/plots/mistakes | cmp - docs/plots/mistakes.svg
-	tools/definitions | cmp - docs/DEFINITIONS.md
 
 test:
 	RT_JOBS=$$(tools/lanes) rt ci
