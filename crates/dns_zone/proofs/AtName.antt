@@ -1,6 +1,6 @@
 -- The records of a name among records in canonical order.
 use Rattle.std.proofs.Common.{◌≡◌, Bool, true, false, not, cond, List, [], ◌∷◌, refl, ap, ◌∙◌, subst, filter, is_gt, is_lt, Ordering, Less, Equal, Greater}
-use Rattle.std.proofs.lemmas.Bool.{false≢true, true≢false, not-true}
+use Rattle.std.proofs.lemmas.Bool.{false≢true, not-true}
 use Rattle.std.proofs.lemmas.Cmp.{nat_cmp_total, nat_list_cmp_total, on_total, then_total, upto}
 use Rattle.std.specs.Cmp.{IsTotalOrder}
 use Rattle.std.specs.Ordering.{ordering_reverse, ordering_then}
@@ -9,7 +9,7 @@ use Rattle.dns_spec.specs.Names.{DomainName, same, name_order}
 use Rattle.dns_spec.specs.Records.{ResourceRecord, insert_by, sort_by, data_order, record_order}
 use Rattle.dns_spec.proofs.Records.SortedOnce.{Each, each_weaker, filter_each}
 use Rattle.dns_zone.specs.ZoneForm.{AreOrdered}
-use Rattle.dns_zone.proofs.Pairs.{Pairs, pairs_weaker, pairs_of, pairs_filter, parted, filter_within}
+use Rattle.dns_zone.proofs.Pairs.{Pairs, pairs_weaker, pairs_of, pairs_filter, parted}
 use Rattle.dns_zone.proofs.NameOrder.{name_order_total, same-tied, tied-same, not_greater}
 
 -- a sorted list is in order, each element with each after it
@@ -90,23 +90,6 @@ module _ (n : DomainName) where
   abbrev pub is_at : ResourceRecord → Bool
   is_at r = same r.owner n
 
-  before_more : (r s : ResourceRecord) → OwnerNotAfter r s → is_before s ≡ true → is_before r ≡ true
-  before_more r s e f = go (name_order r.owner s.owner) refl e (less (name_order s.owner n) refl f)
-    where
-      less : (c : Ordering) → name_order s.owner n ≡ c → is_lt c ≡ true → name_order s.owner n ≡ Less
-      less Less e f = e
-      less Equal e f = absurd (false≢true f)
-      less Greater e f = absurd (false≢true f)
-
-      go : (c : Ordering) → name_order r.owner s.owner ≡ c → is_gt c ≡ false → name_order s.owner n ≡ Less → is_before r ≡ true
-      go Less a b k = ap is_lt (name_order_total.trans r.owner s.owner n a k)
-      go Equal a b k = ap is_lt (name_order_total.congr r.owner s.owner n a ∙ k)
-      go Greater a b k = absurd (true≢false b)
-
-  pub before_parted : (rs : List ResourceRecord) → AreOrdered rs → IsPartitionedBy is_before rs
-  before_parted rs h =
-      parted is_before rs (pairs_weaker OwnerNotAfter (λ r s. is_before s ≡ true → is_before r ≡ true) rs before_more (owners_in_order rs h))
-
   at_more : (r s : ResourceRecord) → not (is_before r) ≡ true → not (is_before s) ≡ true → OwnerNotAfter r s → is_at s ≡ true → is_at r ≡ true
   at_more r s p q e f =
       let tied = same-tied s.owner n f in
@@ -121,6 +104,3 @@ module _ (n : DomainName) where
       (pairs_of (λ r. not (is_before r) ≡ true) OwnerNotAfter (λ r s. is_at s ≡ true → is_at r ≡ true) others at_more
       (filter_each (λ r. not (is_before r)) rs)
       (pairs_filter OwnerNotAfter (λ r. not (is_before r)) rs (owners_in_order rs h)))
-
-  pub at_others : (rs : List ResourceRecord) → filter is_at (filter (λ r. not (is_before r)) rs) ≡ filter is_at rs
-  at_others rs = filter_within (λ r. not (is_before r)) is_at rs (λ r e. ap (λ c. not (is_lt c)) (same-tied r.owner n e))

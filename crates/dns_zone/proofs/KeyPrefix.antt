@@ -73,15 +73,19 @@ module _ (n m : DomainName) (low_n : folded n ≡ n) (low_m : folded m ≡ m) wh
   turned : (k : DomainName) → folded k ≡ k → folded (reverse k) ≡ reverse k
   turned k e = map_reverse (map to_ascii_lowercase) k ∙ ap reverse e
 
-  under_key : at_or_below n m ≡ true → starts_with ◌==◌ (name_key n) (name_key m) ≡ true
-  under_key h = go (under-is n m h)
+  pub under_begins : at_or_below n m ≡ true → (us : Octets) × (name_key n ≡ name_key m ++ us)
+  under_begins h = go (under-is n m h)
     where
-      go : Under n m → starts_with ◌==◌ (name_key n) (name_key m) ≡ true
+      go : Under n m → (us : Octets) × (name_key n ≡ name_key m ++ us)
       go (p, e) =
           let whole : n ≡ p ++ m = sym low_n ∙ e ∙ ap (λ x. p ++ x) low_m in
-          let key : name_key n ≡ name_key m ++ name_key p = ap name_key whole ∙ key_append p m in
-          (octets_equal-decides (name_key m) (take (length (name_key m)) (name_key n))).1
-          (sym (ap (take (length (name_key m))) key ∙ take-append_seam (name_key m) (name_key p)))
+          (name_key p, ap name_key whole ∙ key_append p m)
+
+  under_key : at_or_below n m ≡ true → starts_with ◌==◌ (name_key n) (name_key m) ≡ true
+  under_key h =
+      let begins = under_begins h in
+      (octets_equal-decides (name_key m) (take (length (name_key m)) (name_key n))).1
+      (sym (ap (take (length (name_key m))) begins.1 ∙ take-append_seam (name_key m) begins.0))
 
   key_under : starts_with ◌==◌ (name_key n) (name_key m) ≡ true → at_or_below n m ≡ true
   key_under h =
@@ -102,7 +106,7 @@ module _ (n m : DomainName) (low_n : folded n ≡ n) (low_m : folded m ≡ m) wh
   starts_under = same_tests _ _ key_under under_key
 
 -- some labels, some octets
-some : (ks : DomainName) → 0 < length ks → length (name_key ks) ≡ 0 → ⊥
+pub some : (ks : DomainName) → 0 < length ks → length (name_key ks) ≡ 0 → ⊥
 some [] h e = absurd (omega arith)
 some (k ∷ ks) h e =
     let size : length (name_key ks ++ ended k) ≡ length (name_key ks) + length (ended k) =

@@ -12,8 +12,6 @@ pub mod Types
 pub mod SetTests
 pub mod NameTree
 pub mod NameEnds
-pub mod AboveCuts
-pub mod TopmostLoop
 pub mod OwnRecords
 pub mod ReportedNames
 pub mod OwnersWalk
@@ -29,7 +27,9 @@ pub mod FoundKid
 pub mod NodeRows
 pub mod KeyOrder
 mod KeyPrefix
+pub mod TopmostCut
+pub mod CheckedNames
+pub mod GrowingNames
 pub mod LabelKeys
-pub mod KeysLeft
 pub mod AlikeKeys
 pub mod LowerCase

@@ -1,5 +1,5 @@
 -- Names at or below a name stand side by side in canonical order, directly after it.
-use Rattle.std.proofs.Common.{◌≡◌, ℕ, suc, ◌+◌, ◌-◌, ◌<◌, ◌≤◌, Bool, true, false, ◌&&◌, nat_lt, nat_le, ◌⊎◌, inl, inr, List, [], ◌∷◌, ◌++◌, map, reverse, length, take, drop, refl, sym, ap, ap₂, ◌∙◌, arith, length-append, is_eq, is_gt, nat_cmp, Ordering, Less, Equal, Greater}
+use Rattle.std.proofs.Common.{◌≡◌, suc, ◌+◌, ◌-◌, ◌<◌, ◌≤◌, Bool, true, false, nat_lt, nat_le, ◌⊎◌, inl, inr, List, [], ◌∷◌, ◌++◌, map, reverse, length, take, drop, refl, sym, ap, ap₂, ◌∙◌, arith, length-append, is_eq, is_gt, nat_cmp, Ordering, Less, Equal, Greater}
 use Rattle.std.proofs.lemmas.Bool.{false≢true, true≢false, and_parts, and_from, or_cases, or_right, le-leb, leb-true, lt-ltb, false_from_ne_true, ltb-true}
 use Rattle.std.proofs.lemmas.List.{reverse-reverse, reverse-append, take-append-drop, drop-map, length-map, append_assoc}
 use Rattle.std.proofs.lemmas.List.Prefix.{end_rest}
@@ -60,10 +60,6 @@ same-under n m a h =
 
 pub itself-under : (n m : DomainName) → same n m ≡ true → at_or_below n m ≡ true
 itself-under n m h = under-from n m ([], same-is n m h)
-
-pub same-below : (n m a : DomainName) → same n m ≡ true → below n a ≡ below m a
-same-below n m a h =
-    ap₂ (λ (k : ℕ) b. nat_lt (length a) k && b) (same-length n m h) (same-under n m a h)
 
 -- a name with a label more at its front is below those that it was at or below
 pub below-cons : (l : Octets) (n a : DomainName) → below (l ∷ n) a ≡ at_or_below n a

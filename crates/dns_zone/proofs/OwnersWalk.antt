@@ -1,7 +1,6 @@
 -- A walk over records of a zone in canonical order, owner by owner.
-use Rattle.std.proofs.Common.{◌+◌, ◌-◌, ◌≤◌, length-drop, ◌≡◌, ℕ, Bool, true, false, not, cond, List, [], ◌∷◌, ◌++◌, ◌<◌, length, take, drop, refl, sym, ap, ap₂, ◌∙◌, arith, subst, filter, is_gt, is_lt, Ordering, Less, Equal, Greater}
+use Rattle.std.proofs.Common.{◌≡◌, ℕ, Bool, true, false, not, cond, List, [], ◌∷◌, ◌++◌, ◌<◌, length, take, drop, refl, sym, ap, ap₂, ◌∙◌, arith, subst, filter, is_gt, is_lt, Ordering, Less, Equal, Greater}
 use Rattle.std.proofs.lemmas.Bool.{false≢true, true≢false, false_from_ne_true}
-use Rattle.std.proofs.lemmas.List.{drop-drop}
 use Rattle.std.proofs.lemmas.List.Filters.{length-filter_both}
 use Rattle.std.proofs.lemmas.List.Elements.{All-head}
 use Rattle.std.proofs.lemmas.List.Sums.{prefix_len_passes, prefix_len_stops, prefix_len-le-length}
@@ -14,10 +13,11 @@ use Rattle.dns_spec.proofs.Records.RecordOrder.{each_all, all_each}
 use Rattle.dns_spec.proofs.Records.SortedOnce.{Each, each_filter, filter_each, each_weaker}
 use Rattle.dns_zone.specs.ZoneForm.{AreOrdered}
 use Rattle.dns_zone.specs.OwnerForm.{IsOwner}
+use Rattle.dns_zone.specs.NamesForm.{first_owner}
 use Rattle.dns_zone.specs.ReportedForm.{HasOwners, begins_with_owner, owners_once}
 use Rattle.dns_zone.proofs.Pairs.{Pairs, pairs_filter, each_both, filter_all, filter_within, halves}
 use Rattle.dns_zone.proofs.NameOrder.{name_order_total, same-is, same-from, same-tied}
-use Rattle.dns_zone.proofs.AtName.{unmoved, record_order_total, is_before, is_at, OwnerNotAfter, ordered_records, owners_in_order, at_parted, at_others}
+use Rattle.dns_zone.proofs.AtName.{unmoved, record_order_total, is_before, is_at, OwnerNotAfter, ordered_records, owners_in_order, at_parted}
 use Rattle.dns_zone.proofs.OwnRecords.{own_types}
 use Rattle.dns_zone.proofs.ReportedNames.{greater_after}
 
@@ -55,31 +55,16 @@ module _ (z : ZoneContents) where
         (filter_each p rs) (each_filter (IsAll rs) p rs (each_all (IsAll rs) rs h.all)));
   }
 
-  before_origin : (o : DomainName) (s r : ResourceRecord) → same s.owner r.owner ≡ true → is_before o s ≡ is_before o r
-  before_origin o s r g = ap is_lt (name_order_total.congr s.owner r.owner o (same-tied s.owner r.owner g))
-
   at_one : (o : DomainName) (s r : ResourceRecord) → same s.owner r.owner ≡ true → is_at o s ≡ is_at o r
   at_one o s r g = ap (λ (k : DomainName). names_equal k (folded o)) (same-is s.owner r.owner g)
 
   pub others_owners : (n : DomainName) (rs : List ResourceRecord) → HasOwners z rs → HasOwners z (filter (λ r. not (is_at n r)) rs)
   others_owners n rs = kept_owners (λ r. not (is_at n r)) rs (λ s r g t. ap not (at_one n s r g) ∙ t)
 
-  module _ (o : DomainName) (ordered : AreOrdered z.records) where
-    pub before_owners : HasOwners z (filter (is_before o) z.records)
-    before_owners = kept_owners (is_before o) z.records (λ s r g t. before_origin o s r g ∙ t) (all_owners ordered)
-
-    pub after_owners : HasOwners z (filter (λ r. not (is_at o r)) (filter (λ r. not (is_before o r)) z.records))
-    after_owners =
-        others_owners o (filter (λ r. not (is_before o r)) z.records)
-        (kept_owners (λ r. not (is_before o r)) z.records (λ s r g t. ap not (before_origin o s r g) ∙ t) (all_owners ordered))
-
-    pub origin_owner : folded o ≡ o → IsOwner z o (filter (is_at o) (filter (λ r. not (is_before o r)) z.records))
-    origin_owner low = subst (IsOwner z o) (sym (at_others o z.records)) (record { lower = low; own_is = refl; by_types = own_types z o ordered })
-
   -- the owner of the first record
   module _ (r : ResourceRecord) (rs : List ResourceRecord) (h : HasOwners z (r ∷ rs)) where
-    pub first_owner : folded r.owner ≡ r.owner → IsOwner z r.owner (filter (is_at r.owner) (r ∷ rs))
-    first_owner low = record {
+    pub first_is_owner : folded r.owner ≡ r.owner → IsOwner z r.owner (filter (is_at r.owner) (r ∷ rs))
+    first_is_owner low = record {
       lower = low;
       own_is = All-head (IsAll (r ∷ rs)) r rs h.all;
       by_types = own_types (record { origin = z.origin; records = r ∷ rs }) r.owner h.ordered;
@@ -137,6 +122,7 @@ pub record Step (z : ZoneContents) (n : DomainName) (rs own others : List Resour
   pub has_owners : HasOwners z others
   pub names : owners_once rs ≡ n ∷ owners_once others
   pub fewer : length others < length rs
+  pub first : (o : DomainName) → first_owner o own ≡ n
 
 -- how the walk takes the records of a name from the others
 pub record IsTaken (n : DomainName) (k : ℕ) (rs own others : List ResourceRecord) : Type 0 where
@@ -154,10 +140,13 @@ step_first z r rs own others k low h t =
     let count : length others ≡ length (filter (λ s. not (is_at r.owner s)) rs) = ap length after in
     let both = length-filter_both (is_at r.owner) (λ s. not (is_at r.owner s)) (λ s. refl) rs in
     record {
-      is_owner = subst (IsOwner z r.owner) (sym own_is) (first_owner z r rs h low);
+      is_owner = subst (IsOwner z r.owner) (sym own_is) (first_is_owner z r rs h low);
       has_owners = subst (HasOwners z) (sym others_are) (others_owners z r.owner (r ∷ rs) h);
       names = once_others r rs (owners_in_order (r ∷ rs) h.ordered) ∙ ap₂ (λ (n : DomainName) ss. n ∷ owners_once ss) low (sym others_are);
       fewer = omega arith;
+      first = λ o. ap (first_owner o) (own_is
+          ∙ ap (λ b. cond b (r ∷ filter (is_at r.owner) rs) (filter (is_at r.owner) rs))
+          (same-from r.owner r.owner refl));
     }
 
 pub step : (z : ZoneContents) (n : DomainName) (r : ResourceRecord) (rs ss own others : List ResourceRecord) (k : ℕ) → n ≡ r.owner → folded n ≡ n
@@ -165,13 +154,3 @@ pub step : (z : ZoneContents) (n : DomainName) (r : ResourceRecord) (rs ss own o
 step z n r rs ss own others k f low e =
     subst (λ ts. HasOwners z ts → IsTaken n k ts own others → Step z n ts own others) (sym e)
     (subst (λ m. folded m ≡ m → HasOwners z (r ∷ rs) → IsTaken m k (r ∷ rs) own others → Step z m (r ∷ rs) own others) (sym f) (step_first z r rs own others k) low)
-
--- what is left of records stands at their end
-pub part_rest : {X : Type 0} (rs ss os : List X) (k : ℕ) → ss ≡ drop (length rs - length ss) rs
-    → os ≡ drop k ss → k ≤ length ss → os ≡ drop (length rs - length os) rs
-part_rest rs ss os k e f b =
-    let size : length ss ≡ length rs - (length rs - length ss) =
-    ap length e ∙ length-drop (length rs - length ss) rs in
-    let rest : length os ≡ length ss - k = ap length f ∙ length-drop k ss in
-    let place : (length rs - length ss) + k ≡ length rs - length os = omega (arith, size, rest, b) in
-    f ∙ ap (drop k) e ∙ drop-drop k (length rs - length ss) rs ∙ ap (λ i. drop i rs) place

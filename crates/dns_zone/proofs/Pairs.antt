@@ -1,9 +1,7 @@
 -- Lists whose elements are in order, each with each after it, and what a search by halves finds in them.
-use Rattle.std.proofs.Common.{◌≡◌, ℕ, zero, suc, ◌+◌, ◌-◌, Some, ◌<◌, ◌≤◌, Bool, true, false, not, cond, ◌⊎◌, inl, inr, List, [], ◌∷◌, length, take, drop, get_or, refl, sym, ap, ◌∙◌, subst, arith, filter}
+use Rattle.std.proofs.Common.{◌≡◌, ℕ, zero, suc, ◌-◌, ◌<◌, ◌≤◌, Bool, true, false, not, cond, ◌⊎◌, inl, inr, List, [], ◌∷◌, length, take, drop, get_or, refl, sym, ap, ◌∙◌, subst, arith, filter}
 use Rattle.std.proofs.lemmas.Bool.{false≢true, false_from_ne_true, cases_lt}
-use Rattle.std.proofs.lemmas.List.{length-take, length-drop, get_or-take, get_or-drop}
-use Rattle.std.proofs.lemmas.Option.{get_or_from_slice_get}
-use Rattle.std.specs.List.{slice_get}
+use Rattle.std.proofs.lemmas.List.{length-take, get_or-take}
 use Rattle.std.proofs.Math.Nat.{min-eq_left}
 use Rattle.std.specs.List.Sorted.{IsPartitionPoint, IsPartitionedBy, IsNonDecreasingBy}
 use Rattle.dns_spec.proofs.Records.SortedOnce.{Each, each_filter, each_weaker}
@@ -137,68 +135,3 @@ near_parted p xs n l parts i j d a b e =
 abbrev pub first_passes : {X : Type 0} → (X → Bool) → List X → Bool
 first_passes p [] = false
 first_passes p (x ∷ xs) = p x
-
--- where the search is among the first n elements from the k-th on
-module _ {X : Type 0} (p : X → Bool) (xs : List X) (k n : ℕ) (near : List X)
-    (part : near ≡ drop k xs) (inside : k ≤ length xs) (parts : IsPartitionedBy p xs)
-    (long : n < length near) where
-  near_at : (i : ℕ) (d : X) → i < n → get_or (take n near) i d ≡ get_or xs (k + i) d
-  near_at i d l =
-      get_or-take n near i d l ∙ ap (λ ys. get_or ys i d) part ∙ get_or-drop k xs i d
-
-  count : length near ≡ length xs - k
-  count = ap length part ∙ length-drop k xs
-
-  near_size : length (take n near) ≡ n
-  near_size = length-take n near ∙ min-eq_left (omega arith)
-
-  pub part_parted : IsPartitionedBy p (take n near)
-  part_parted i j d l m e =
-      let c = count in
-      let few : j < n = omega (arith, near_size, m) in
-      ap p (near_at i d (omega arith))
-      ∙ parts (k + i) (k + j) d (omega arith) (omega (arith, c, few, long, inside))
-      (sym (ap p (near_at j d few)) ∙ e)
-
-  pub part_halves : (a b : X) → slice_get near 0 ≡ Some a → p a ≡ true
-      → ((d : X) → get_or near n d ≡ b) → p b ≡ false → (j : ℕ) → j ≤ n
-      → IsPartitionPoint (λ y. p y ≡ true) (λ y. p y ≡ false) (take n near) j
-      → (take (k + j) xs ≡ filter p xs) × (drop (k + j) xs ≡ filter (λ x. not (p x)) xs)
-  part_halves a b f g h m j u point =
-      halves p xs (k + j) (omega (arith, count, long, inside, u)) (
-        λ i d x y. passes i d y (cases_lt i k),
-        λ i d x y. fails i d x y (cases_lt i (k + n)),
-      )
-    where
-      first : (d : X) → p (get_or xs k d) ≡ true
-      first d =
-          ap (λ i. p (get_or xs i d)) (same k) ∙ ap p (sym (get_or-drop k xs 0 d)
-          ∙ ap (λ ys. get_or ys 0 d) (sym part) ∙ get_or_from_slice_get near 0 a d f) ∙ g
-        where
-          same : (i : ℕ) → i ≡ i + 0
-          same i = omega arith
-
-      last : (d : X) → p (get_or xs (k + n) d) ≡ false
-      last d =
-          ap p (sym (get_or-drop k xs n d) ∙ ap (λ ys. get_or ys n d) (sym part)
-          ∙ h d) ∙ m
-
-      passes : (i : ℕ) (d : X) → i < k + j → (i < k) ⊎ (k ≤ i) → p (get_or xs i d) ≡ true
-      passes i d y (inl l) =
-          parts i k d (omega arith) (omega (arith, count, long, inside)) (first d)
-      passes i d y (inr l) =
-          let place : k + (i - k) ≡ i = omega arith in
-          ap (λ q. p (get_or xs q d)) (sym place)
-          ∙ sym (ap p (near_at (i - k) d (omega (arith, l, y, u))))
-          ∙ point.0 (i - k) d (omega arith) (omega (arith, l, y))
-
-      fails : (i : ℕ) (d : X) → k + j ≤ i → i < length xs → (i < k + n) ⊎ (k + n ≤ i)
-          → p (get_or xs i d) ≡ false
-      fails i d x y (inl l) =
-          let place : k + (i - k) ≡ i = omega (arith, x) in
-          ap (λ q. p (get_or xs q d)) (sym place)
-          ∙ sym (ap p (near_at (i - k) d (omega (arith, l, x))))
-          ∙ point.1 (i - k) d (omega (arith, x)) (omega (arith, near_size, l, x))
-      fails i d x y (inr l) =
-          false_from_ne_true (p (get_or xs i d))
-          (λ t. false≢true (sym (last d) ∙ parts (k + n) i d l y t))

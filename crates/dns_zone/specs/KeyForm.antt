@@ -1,8 +1,7 @@
 -- What a reader learns here: octets that stand in the order of names, by which names are sorted and
 -- found.
-use Rattle.std.specs.Prelude.{⊤, ◌≡◌, ℕ, length, ◌+◌, Bool, false, List, [], ◌∷◌, ◌++◌, map, nat_lt, if◌then◌else◌}
-use Rattle.dns_spec.specs.Names.{Octets, DomainName, names_equal}
-use Rattle.dns_spec.specs.Records.{ResourceRecord}
+use Rattle.std.specs.Prelude.{◌≡◌, ℕ, length, ◌+◌, [], ◌∷◌, ◌++◌, map, nat_lt, if◌then◌else◌}
+use Rattle.dns_spec.specs.Names.{Octets, DomainName}
 
 -- An octet of a name in lower case, where 65 to 90 do not stand: those below are one more, so that
 -- 0 is left to end a label.
@@ -25,18 +24,3 @@ pub record IsSibling (n m : DomainName) (l : Octets) (k : ℕ) : Type 0 where
   pub name_is : n ≡ l ∷ end
   pub other_is : m ≡ other ∷ end
   pub count : k ≡ length (name_key end)
-
--- the next record has the same owner, so that one key serves both
-abbrev pub shares_key : ResourceRecord → List ResourceRecord → Bool
-shares_key r [] = false
-shares_key r (s ∷ ss) = names_equal r.owner s.owner
-
--- the key is that of the first record's owner, if there is one
-abbrev pub IsKeyOfFirst : Octets → List ResourceRecord → Type 0
-IsKeyOfFirst key [] = ⊤
-IsKeyOfFirst key (r ∷ rs) = key ≡ name_key r.owner
-
--- the keys of owners, each once where records of one owner stand side by side
-abbrev pub keys_left : List ResourceRecord → Octets
-keys_left [] = []
-keys_left (r ∷ rs) = if shares_key r rs then keys_left rs else name_key r.owner ++ keys_left rs

@@ -6,7 +6,7 @@ pub mod TreeForm
 pub mod TreeSteps
 pub mod NodeForm
 pub mod SetWalks
-pub mod CutForm
+pub mod NamesForm
 pub mod OwnerForm
 pub mod ReportedForm
 pub mod KeyForm

@@ -4,16 +4,15 @@
 
 mod above;
 mod arranged;
-mod cuts;
 mod entry;
 mod fault;
 mod faults;
 mod kept;
 mod key;
-mod keyed;
 mod label_key;
 mod lookup;
 mod lower_case;
+mod names;
 mod node;
 mod order;
 mod ordered;

@@ -11,70 +11,12 @@ ghost use Rattle.dns_zone.specs.ZoneForm.{AreOrdered, IsFront};
 
 use crate::above::is_at_or_below;
 use crate::entry::Entry;
-use crate::keyed::Keyed;
 use dns_name::NameRef;
 use dns_rdata::RType;
 
 // How many records are looked at before all are: most owners have few records, and most names few
 // below them.
 const NEAR: usize = 4;
-
-/// The records whose owner is the name, whose key this is. They stand side by side, mostly soon
-/// after the place `from`.
-pub(crate) fn records_at<'a>(
-    keyed: &[Keyed<'_>],
-    records: &'a [Entry],
-    from: usize,
-    name: &NameRef<'_>,
-    key: &[u8],
-) -> &'a [Entry]
-    requires keyed { keyed.now ≡ records.now }
-    requires ordered { AreOrdered records.now }
-    requires lower { folded name.now ≡ name.now }
-    requires key { key.now ≡ name_key name.now }
-    ensures { result.now ≡ filter (λ (r : ResourceRecord). same r.owner name.now) records.now }
-{
-    let others = &records[count_before_from(keyed, from, name, key)..];
-    &others[..count_at(others, name)]
-}
-
-/// How many of the records have an owner that comes before the name, whose key this is.
-pub(crate) fn count_before(records: &[Keyed<'_>], name: &NameRef<'_>, key: &[u8]) -> usize
-    requires ordered { AreOrdered records.now }
-    requires lower { folded name.now ≡ name.now }
-    requires key { key.now ≡ name_key name.now }
-    ensures bound { result ≤ length records.now }
-    ensures before { take result records.now
-        ≡ filter (λ (r : ResourceRecord). is_lt (name_order r.owner name.now)) records.now }
-    ensures others { drop result records.now
-        ≡ filter (λ (r : ResourceRecord). not (is_lt (name_order r.owner name.now))) records.now }
-{
-    records.partition_point(|listed| listed.order(name, key).is_lt())
-}
-
-// The same, where the last of them mostly stands soon after the place `from`: then few records are
-// looked at, of those of a zone of 50,000 cuts with their glue 5 for 17.
-fn count_before_from(records: &[Keyed<'_>], from: usize, name: &NameRef<'_>, key: &[u8]) -> usize
-    requires ordered { AreOrdered records.now }
-    requires lower { folded name.now ≡ name.now }
-    requires key { key.now ≡ name_key name.now }
-    ensures bound { result ≤ length records.now }
-    ensures before { take result records.now
-        ≡ filter (λ (r : ResourceRecord). is_lt (name_order r.owner name.now)) records.now }
-    ensures others { drop result records.now
-        ≡ filter (λ (r : ResourceRecord). not (is_lt (name_order r.owner name.now))) records.now }
-{
-    let Some((_, near)) = records.split_at_checked(from) else {
-        return count_before(records, name, key);
-    };
-    let (Some(first), Some(last)) = (near.first(), near.get(NEAR)) else {
-        return count_before(records, name, key);
-    };
-    if !first.order(name, key).is_lt() || last.order(name, key).is_lt() {
-        return count_before(records, name, key);
-    }
-    from + near[..NEAR].partition_point(|listed| listed.order(name, key).is_lt())
-}
 
 /// How many of the records have the name as owner, where these stand in front.
 pub(crate) fn count_at(records: &[Entry], name: &NameRef<'_>) -> usize

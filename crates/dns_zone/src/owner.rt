@@ -4,12 +4,13 @@ ghost use Rattle.dns_spec.specs.Records.{owns};
 ghost use Rattle.dns_spec.specs.Tree.{is_cut};
 ghost use Rattle.dns_spec.specs.Checks.{is_origin, count, owns_such, is_address_type, below_cut, checks, no_soa, many_soa, soa_elsewhere, no_ns, outside, cname_and_other, many_cname, ttls_differ, ns_target_alias, ns_target_lost, mx_target_alias, data_at_cut, wildcard_ns, large_set, many_sets};
 ghost use Rattle.dns_spec.specs.Data.{type_ns, type_cname};
-ghost use Rattle.dns_zone.specs.OwnerForm.{IsOwner, is_server_alias, is_server_lost};
-ghost use Rattle.dns_zone.specs.KeyForm.{name_key};
+ghost use Rattle.dns_zone.specs.OwnerForm.{is_server_alias, is_server_lost};
+ghost use Rattle.dns_zone.specs.NamesForm.{IsChecked};
 
 use crate::entry::Entry;
 use crate::key::{is_below, is_under};
 use crate::lookup::has_type;
+use crate::names::CheckedName;
 use crate::sets::{have_large_set, have_many_sets, have_other_ttls};
 use crate::survey::Survey;
 use dns_name::NameRef;
@@ -23,15 +24,14 @@ pub(crate) struct Owner<'a> {
     name: &'a NameRef<'a>,
     key: &'a [u8],
     own: &'a [Entry],
-    // Where the first of these stands among all records.
-    place: usize,
+    is_below_cut: bool,
     // Whether the name is the zone's origin.
     stands_first: bool,
 }
 
 impl<'a> Model for Owner<'a> {
     ghost use Rattle.std.specs.Prelude.{◌≡◌};
-    ghost use Rattle.dns_spec.specs.Checks.{is_origin};
+    ghost use Rattle.dns_spec.specs.Checks.{is_origin, below_cut};
     ghost use Rattle.dns_zone.specs.KeyForm.{name_key};
     ghost use Rattle.dns_zone.specs.OwnerForm.{NameOfZone, IsOwner};
 
@@ -41,28 +41,26 @@ impl<'a> Model for Owner<'a> {
 
     ghost invariant = { λ o. IsOwner o.survey.now o.name.now o.own.now
         × (o.key.now ≡ name_key o.name.now)
+        × (o.is_below_cut ≡ below_cut o.survey.now o.name.now)
         × (o.stands_first ≡ is_origin o.survey.now o.name.now) };
 }
 
 impl<'a> Owner<'a> {
-    /// A name in lower case, of a zone, with the name's key and records.
+    /// A name of a zone.
     pub(crate) fn new(
         survey: &'a Survey<'a>,
         name: &'a NameRef<'a>,
-        key: &'a [u8],
-        own: &'a [Entry],
-        place: usize,
+        one: &CheckedName<'a>,
     ) -> Owner<'a>
-        requires own { IsOwner survey.now name.now own.now }
-        requires key { key.now ≡ name_key name.now }
+        requires { IsChecked survey.now name.now one.now }
         ensures { result ≡ record { zone = survey.now; name = name.now } }
     {
         Owner {
             survey,
             name,
-            key,
-            own,
-            place,
+            key: one.key,
+            own: survey.own(one),
+            is_below_cut: one.is_below_cut(),
             stands_first: name.same(survey.origin()),
         }
     }
@@ -170,8 +168,7 @@ impl<'a> Owner<'a> {
         if listed.rtype != RType::NS {
             return (false, false);
         }
-        self.survey
-            .judged_target(listed, self.place, self.name, owner_is_cut)
+        self.survey.judged_target(listed, self.name, owner_is_cut)
     }
 
     fn has_mx_target_alias(&self) -> bool
@@ -245,13 +242,12 @@ impl<'a> Owner<'a> {
         self.owns_other_than_delegation() && self.is_cut()
     }
 
-    // Below a cut stands glue alone. Most names own something else, and the cuts are searched for
-    // the fewest.
+    // Below a cut stands glue alone.
     fn has_data_below_cut(&self) -> bool
         ensures { result ≡ (below_cut self.now.zone self.now.name
             && owns_such self.now.zone self.now.name (λ t. not (is_address_type t))) }
     {
-        self.owns_other_than_address() && self.survey.is_below_cut(self.name, self.key)
+        self.is_below_cut && self.owns_other_than_address()
     }
 
     fn owns_other_than_cname(&self) -> bool

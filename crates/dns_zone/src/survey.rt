@@ -1,30 +1,23 @@
-//! A zone under check: its origin, its records in canonical order, and its cuts.
-ghost use Rattle.std.specs.Prelude.{◌≡◌, ◌==◌, ◌&&◌, ◌||◌, true, not, false, IfOk, IfSome, OnOk, length, take};
-ghost use Rattle.std.specs.List.{filter, list_any};
-ghost use Rattle.std.specs.Ordering.{is_gt};
-ghost use Rattle.dns_spec.specs.Names.{folded, name_order, at_or_below, below};
-ghost use Rattle.dns_spec.specs.Records.{ResourceRecord, at, owns};
-ghost use Rattle.std.specs.List.Sorted.{IsNonDecreasingBy};
+//! A zone under check: its origin, its records in canonical order, and the names that are checked.
+ghost use Rattle.std.specs.Prelude.{◌≡◌, ◌≤◌, length, ◌==◌, ◌&&◌, ◌||◌, not, true, false};
 ghost use Rattle.std.specs.Option.{option_map_or};
+ghost use Rattle.std.specs.List.Sorted.{IsNonDecreasingBy};
+ghost use Rattle.dns_spec.specs.Names.{folded, at_or_below};
+ghost use Rattle.dns_spec.specs.Records.{ResourceRecord, at, owns};
 ghost use Rattle.dns_spec.specs.Data.{type_cname, target};
 ghost use Rattle.dns_spec.specs.Tree.{is_cut};
-ghost use Rattle.dns_spec.specs.Checks.{at_or_below_cut, below_cut, lacks_address, has_address};
-ghost use Rattle.dns_zone.specs.ZoneForm.{AreOrdered};
-ghost use Rattle.dns_zone.specs.CutForm.{after, AreTopmost, AreApart, last_passes};
+ghost use Rattle.dns_spec.specs.Checks.{at_or_below_cut, lacks_address, has_address};
 ghost use Rattle.dns_zone.specs.KeyForm.{name_key};
-ghost use Rattle.dns_zone.specs.OwnerForm.{IsOwner};
-ghost use Rattle.dns_zone.specs.ReportedForm.{HasOwners};
+ghost use Rattle.dns_zone.specs.NamesForm.{own_in, AreChecked, IsLastUpto};
 
 use crate::above::is_at_or_below;
-use crate::cuts::{is_below_last, is_covered, not_after, topmost_cuts};
 use crate::entry::Entry;
 use crate::key::Key;
-use crate::keyed::Keyed;
-use crate::lookup::{has_type, records_at};
+use crate::lookup::has_type;
+use crate::names::{CheckedName, count_upto, is_covered};
 use crate::target::target;
 use dns_name::NameRef;
 use dns_rdata::RType;
-use std::alloc::{AllocError, Global};
 use std::marker::Model;
 
 /// The zone of an origin and of records in canonical order, whose checks are asked for.
@@ -34,49 +27,41 @@ pub(crate) struct Survey<'a> {
     // The key of the origin.
     key: &'a [u8],
     records: &'a [Entry],
-    // The same records beside their keys.
-    keyed: &'a [Keyed<'a>],
-    // An NS record of each cut that is below no other.
-    cuts: Vec<&'a Keyed<'a>>,
+    names: &'a [CheckedName<'a>],
 }
 
 impl<'a> Model for Survey<'a> {
     ghost use Rattle.dns_spec.specs.Records.{ZoneContents};
-    ghost use Rattle.dns_zone.specs.CutForm.{IsSurvey, after};
+    ghost use Rattle.dns_zone.specs.NamesForm.{IsSurvey};
 
     ghost Value = { ZoneContents };
 
     ghost view = { λ s. record { origin = s.origin.now; records = s.records.now } };
 
     ghost invariant = { λ s. IsSurvey (record { origin = s.origin.now; records = s.records.now })
-        s.key.now s.keyed.now (after s.cuts.items) };
+        s.key.now s.names.now };
 }
 
 impl<'a> Survey<'a> {
-    /// The zone of an origin in lower case and of records. An error only where no memory for its
-    /// cuts was found.
+    /// The zone of an origin in lower case, with its key, and of records, with the names that are
+    /// checked.
     pub(crate) fn new(
-        alloc: Global,
         origin: &'a NameRef<'a>,
         key: &'a [u8],
         records: &'a [Entry],
-        keyed: &'a [Keyed<'a>],
-    ) -> Result<Survey<'a>, AllocError>
+        names: &'a [CheckedName<'a>],
+    ) -> Survey<'a>
         requires key { key.now ≡ name_key origin.now }
-        requires keyed { keyed.now ≡ records.now }
-        requires ordered { AreOrdered records.now }
         requires lower { folded origin.now ≡ origin.now }
-        ensures { IfOk result (λ survey. survey
-            ≡ record { origin = origin.now; records = records.now }) }
+        requires names { AreChecked (record { origin = origin.now; records = records.now }) names.now }
+        ensures { result ≡ record { origin = origin.now; records = records.now } }
     {
-        let cuts = topmost_cuts(alloc, origin, key, keyed)?;
-        Ok(Survey {
+        Survey {
             origin,
             key,
             records,
-            keyed,
-            cuts,
-        })
+            names,
+        }
     }
 
     /// The name at and below which the zone speaks.
@@ -95,46 +80,69 @@ impl<'a> Survey<'a> {
         self.key
     }
 
-    // The records at the name, whose key this is, by their types. They mostly stand soon after the
-    // place `from`.
-    fn at(&self, from: usize, name: &NameRef<'_>, key: &[u8]) -> &'a [Entry]
-        requires lower { folded name.now ≡ name.now }
-        requires key { key.now ≡ name_key name.now }
-        ensures own { result.now ≡ at self.now name.now }
-        ensures by_types { IsNonDecreasingBy (λ (r : ResourceRecord). r.rtype) result.now }
+    /// The records of a name that is checked.
+    pub(crate) fn own(&self, one: &CheckedName<'_>) -> &'a [Entry]
+        requires rising { one.now.first ≤ one.now.end }
+        requires within { one.now.end ≤ length self.now.records }
+        ensures { result.now ≡ own_in self.now.records one.now }
     {
-        records_at(self.keyed, self.records, from, name, key)
+        one.own(self.records)
     }
 
-    /// Whether the record's target is a name of the zone that owns a CNAME.
-    pub(crate) fn is_target_alias(&self, listed: &Entry) -> bool
-        ensures { result ≡ option_map_or (λ m. at_or_below m self.now.origin
-            && owns self.now m type_cname) (target listed.now.rtype listed.now.rdata) false }
+    // The last of the names that is not after one at or below the origin, whose key this is.
+    fn last_upto(&self, name: &NameRef<'_>, key: &[u8]) -> &'a CheckedName<'a>
+        requires lower { folded name.now ≡ name.now }
+        requires inside { at_or_below name.now self.now.origin ≡ true }
+        requires key { key.now ≡ name_key name.now }
+        ensures { IsLastUpto self.now name.now result.now }
     {
-        match target(listed) {
+        let names = self.names;
+        &names[count_upto(names, key) - 1]
+    }
+
+    // The records at a name at or below the origin, whose key this is, by their types, and whether it
+    // is at or below a cut (RFC 1034 4.2).
+    fn at(&self, name: &NameRef<'_>, key: &[u8]) -> (&'a [Entry], bool)
+        requires lower { folded name.now ≡ name.now }
+        requires inside { at_or_below name.now self.now.origin ≡ true }
+        requires key { key.now ≡ name_key name.now }
+        ensures own { result.0.now ≡ at self.now name.now }
+        ensures by_types { IsNonDecreasingBy (λ (r : ResourceRecord). r.rtype) result.0.now }
+        ensures cut { result.1 ≡ at_or_below_cut self.now name.now }
+    {
+        let last = self.last_upto(name, key);
+        if last.key == key {
+            return (self.own(last), last.cut > 0);
+        }
+        (&[], is_covered(last.cut, last.key, key))
+    }
+
+    /// Whether the record's target is a name of the zone that owns a CNAME (RFC 2181 10.3).
+    pub(crate) fn is_target_alias(&self, record: &Entry) -> bool
+        ensures { result ≡ option_map_or (λ m. at_or_below m self.now.origin
+            && owns self.now m type_cname) (target record.now.rtype record.now.rdata) false }
+    {
+        match target(record) {
             Some(target) => self.is_alias(&target),
             None => false,
         }
     }
 
-    // Whether a name is one of the zone that owns a CNAME (RFC 2181 10.3).
+    // Whether a name is one of the zone that owns a CNAME.
     fn is_alias(&self, target: &NameRef<'_>) -> bool
         requires { folded target.now ≡ target.now }
         ensures { result ≡ (at_or_below target.now self.now.origin
             && owns self.now target.now type_cname) }
     {
         is_at_or_below(target, self.origin())
-            && has_type(self.at(0, target, Key::of(target).octets()), RType::CNAME)
+            && has_type(self.at(target, Key::of(target).octets()).0, RType::CNAME)
     }
 
     /// Whether the record's target is a name of the zone that owns a CNAME (RFC 2181 10.3), and
-    /// whether it is one that lacks an address there (RFC 1034 4.2.1). It is looked up once. The
-    /// record stands at the place `from` or before it, at `owner`, soon after which servers below it
-    /// stand.
+    /// whether it is one that lacks an address there (RFC 1034 4.2.1). It is looked up once.
     pub(crate) fn judged_target(
         &self,
-        listed: &Entry,
-        from: usize,
+        record: &Entry,
         owner: &NameRef<'_>,
         owner_is_cut: bool,
     ) -> (bool, bool)
@@ -142,13 +150,13 @@ impl<'a> Survey<'a> {
         requires lower { folded owner.now ≡ owner.now }
         ensures alias { result.0 ≡ option_map_or
             (λ m. at_or_below m self.now.origin && owns self.now m type_cname)
-            (target listed.now.rtype listed.now.rdata) false }
+            (target record.now.rtype record.now.rdata) false }
         ensures lost { result.1 ≡ option_map_or
             (λ m. at_or_below m self.now.origin && lacks_address self.now owner.now m)
-            (target listed.now.rtype listed.now.rdata) false }
+            (target record.now.rtype record.now.rdata) false }
     {
-        match target(listed) {
-            Some(target) => self.judged_name(&target, from, owner, owner_is_cut),
+        match target(record) {
+            Some(target) => self.judged_name(&target, owner, owner_is_cut),
             None => (false, false),
         }
     }
@@ -156,7 +164,6 @@ impl<'a> Survey<'a> {
     fn judged_name(
         &self,
         target: &NameRef<'_>,
-        from: usize,
         owner: &NameRef<'_>,
         owner_is_cut: bool,
     ) -> (bool, bool)
@@ -171,29 +178,10 @@ impl<'a> Survey<'a> {
         if !is_at_or_below(target, self.origin()) {
             return (false, false);
         }
-        let key = Key::of(target);
-        let own = self.at(from, target, key.octets());
+        let (own, is_under_cut) = self.at(target, Key::of(target).octets());
         let is_lost = !self.has_address(target, own)
-            && self.lacks_glue(target, key.octets(), owner, owner_is_cut);
+            && (!is_under_cut || owner_is_cut && is_at_or_below(target, owner));
         (has_type(own, RType::CNAME), is_lost)
-    }
-
-    // Whether a name without addresses, whose key this is, lacks one that a server of `owner` needs.
-    fn lacks_glue(
-        &self,
-        target: &NameRef<'_>,
-        key: &[u8],
-        owner: &NameRef<'_>,
-        owner_is_cut: bool,
-    ) -> bool
-        requires lower { folded target.now ≡ target.now }
-        requires lower_owner { folded owner.now ≡ owner.now }
-        requires cut { owner_is_cut ≡ is_cut self.now owner.now }
-        requires key { key.now ≡ name_key target.now }
-        ensures { result ≡ (not (at_or_below_cut self.now target.now)
-            || (is_cut self.now owner.now && at_or_below target.now owner.now)) }
-    {
-        !self.is_at_or_below_cut(target, key) || owner_is_cut && is_at_or_below(target, owner)
     }
 
     fn has_address(&self, name: &NameRef<'_>, own: &[Entry]) -> bool
@@ -202,27 +190,5 @@ impl<'a> Survey<'a> {
         ensures { result ≡ has_address self.now name.now }
     {
         has_type(own, RType::A) || has_type(own, RType::AAAA)
-    }
-
-    // Whether the name, whose key this is, is at or below a cut (RFC 1034 4.2).
-    fn is_at_or_below_cut(&self, name: &NameRef<'_>, key: &[u8]) -> bool
-        requires lower { folded name.now ≡ name.now }
-        requires key { key.now ≡ name_key name.now }
-        ensures { result ≡ at_or_below_cut self.now name.now }
-    {
-        is_covered(not_after(self.cuts.as_slice(), name, key), key)
-    }
-
-    /// Whether the name, whose key this is, is below a cut. A cut is below the origin, so what is
-    /// below a cut has two labels more than the origin at least: that costs no search.
-    pub(crate) fn is_below_cut(&self, name: &NameRef<'_>, key: &[u8]) -> bool
-        requires lower { folded name.now ≡ name.now }
-        requires key { key.now ≡ name_key name.now }
-        ensures { result ≡ below_cut self.now name.now }
-    {
-        if name.label_count().saturating_sub(self.origin.label_count()) < 2 {
-            return false;
-        }
-        is_below_last(not_after(self.cuts.as_slice(), name, key), key)
     }
 }

@@ -1,10 +1,53 @@
-use Rattle.std.proofs.Common.{sym, subst}
-use Rattle.std.specs.List.Sorted.{IsNonDecreasingBy}
-use Rattle.dns_spec.specs.Records.{ResourceRecord}
-use Rattle.dns_zone.proofs.OwnRecords.{own_types}
+use Rattle.std.proofs.Common.{◌≡◌, length, sym, ap, ◌∙◌, arith}
+use Rattle.std.proofs.lemmas.Bool.{false≢true}
+use Rattle.dns_spec.proofs.DomainNames.NameLaws.{octets_equal-decides}
+use Rattle.dns_zone.specs.KeyForm.{name_key}
+use Rattle.dns_zone.specs.NamesForm.{name_of}
+use Rattle.dns_zone.proofs.CheckedNames.{found_name, found_at, found_cut, none_there, covered_cut}
+use Rattle.dns_zone.proofs.TopmostCut.{topmost_fits}
 use Rattle.dns_zone.proofs.survey.Survey.at.Goals as goal
 
-pub returns-clause-by_types : goal.returns-clause-by_types
-returns-clause-by_types c =
-    subst (IsNonDecreasingBy (λ (r : ResourceRecord). r.rtype)) (sym c.records_at.ensures)
-    (own_types (record { origin = c.self.inside.origin.now; records = c.self.inside.records.now }) c.args.name.now c.self.invariant.ordered)
+pub returns-then-eq-clause-own : goal.returns-then-eq-clause-own
+returns-then-eq-clause-own c =
+    let z = c.args.self.now in
+    let n = c.args.name.now in
+    let last = c.last_upto-last.result.now in
+    c.own.ensures ∙ found_at z n c.requires.lower last c.last_upto-last.ensures
+    (found_name z n c.requires.lower last c.last_upto-last.ensures
+    ((octets_equal-decides last.key.now c.args.key.now).0 (sym c.eq.ensures ∙ c.if-eq.true)
+    ∙ c.requires.key))
+
+pub returns-then-eq-clause-cut : goal.returns-then-eq-clause-cut
+returns-then-eq-clause-cut c =
+    let z = c.args.self.now in
+    let n = c.args.name.now in
+    let last = c.last_upto-last.result.now in
+    found_cut z n c.requires.lower last c.last_upto-last.ensures
+    (found_name z n c.requires.lower last c.last_upto-last.ensures
+    ((octets_equal-decides last.key.now c.args.key.now).0 (sym c.eq.ensures ∙ c.if-eq.true)
+    ∙ c.requires.key))
+
+pub is_covered-requires : goal.is_covered-requires
+is_covered-requires c =
+    let z = c.args.self.now in
+    let last = c.last_upto-last.result.now in
+    let checked = c.last_upto-last.ensures.checked in
+    let size : length last.key.now ≡ length (name_key (name_of z last)) = ap length checked.key in
+    let fits = topmost_fits z (name_of z last) checked.owner.lower last.cut checked.topmost in
+    omega (arith, size, fits)
+
+pub returns-clause-own : goal.returns-clause-own
+returns-clause-own c =
+    let last = c.last_upto-last.result.now in
+    sym (none_there c.args.self.now c.args.name.now c.requires.lower last c.last_upto-last.ensures
+    (λ e. false≢true (sym c.if-eq.false ∙ c.eq.ensures
+    ∙ (octets_equal-decides last.key.now c.args.key.now).1 (e ∙ sym c.requires.key))))
+
+pub returns-clause-cut : goal.returns-clause-cut
+returns-clause-cut c =
+    let last = c.last_upto-last.result.now in
+    c.is_covered.ensures
+    ∙ covered_cut c.args.self.now c.args.name.now c.requires.lower last c.last_upto-last.ensures
+    c.args.key.now c.requires.key
+    (λ e. false≢true (sym c.if-eq.false ∙ c.eq.ensures
+    ∙ (octets_equal-decides last.key.now c.args.key.now).1 (e ∙ sym c.requires.key)))

@@ -11,6 +11,6 @@ returns-clause-alias c =
     let z = c.args.self.now in
     let m = c.args.target.now in
     let inside = sym c.if-not-is_at_or_below.false ∙ c.is_at_or_below.ensures ∙ ap (at_or_below m) c.origin.ensures.value in
-    c.has_type.ensures ∙ ap (list_any (λ (r : ResourceRecord). r.rtype == type_cname)) c.at-own.ensures.own
+    c.has_type.ensures ∙ ap (list_any (λ (r : ResourceRecord). r.rtype == type_cname)) c.at-is_under_cut.ensures.own
     ∙ own-owns z m type_cname
     ∙ ap (λ b. b && owns z m type_cname) inside

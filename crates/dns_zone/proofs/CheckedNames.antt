@@ -1,0 +1,310 @@
+-- The names that are checked, as a list: what a search among them by keys finds.
+use Rattle.std.proofs.Common.{◌≡◌, ℕ, suc, ◌<◌, ◌≤◌, Bool, true, false, ◌&&◌, not, cond, ◌==◌, nat_lt, ◌⊎◌, inl, inr, List, get_or, zero, drop, length-take, [], ◌∷◌, map, length, take, refl, sym, ap, ap₂, ◌∙◌, subst, arith, filter, is_gt, nat_cmp, Ordering, Less, Equal, Greater}
+use Rattle.std.proofs.lemmas.Bool.{false≢true, true≢false, not-true, and_parts, or_cases, false_from_ne_true, cases_lt}
+use Rattle.std.proofs.lemmas.Cmp.{nat_list_cmp_total, tied_itself, upto}
+use Rattle.std.proofs.lemmas.List.{get_or-take}
+use Rattle.std.proofs.Math.Nat.{min-eq_left}
+use Rattle.std.specs.Cmp.Lexicographic.{slice_cmp}
+use Rattle.std.specs.List.{list_any, starts_with}
+use Rattle.std.specs.List.Sorted.{IsPartitionedBy}
+use Rattle.std.specs.Ordering.{ordering_reverse}
+use Rattle.dns_spec.specs.Names.{Octets, DomainName, folded, same, at_or_below, name_order}
+use Rattle.dns_spec.specs.Data.{type_ns}
+use Rattle.dns_spec.specs.Records.{ResourceRecord, ZoneContents, at, owns}
+use Rattle.dns_spec.specs.Tree.{is_cut}
+use Rattle.dns_spec.specs.Checks.{at_or_below_cut, checked_names}
+use Rattle.dns_spec.proofs.Records.SortedOnce.{Each, Among, Rises, each_at, each_filter, filter_each, filter_among}
+use Rattle.dns_zone.specs.KeyForm.{name_key}
+use Rattle.dns_zone.specs.NamesForm.{own_in, name_of, IsTopmost, is_covered, is_upto, IsChecked, IsLastUpto}
+use Rattle.dns_zone.specs.ReportedForm.{owners_once}
+use Rattle.dns_zone.specs.ZoneForm.{IsFront}
+use Rattle.dns_zone.specs.declared.names.CheckedName.{CheckedName}
+use Rattle.dns_zone.proofs.KeyOrder.{key_order}
+use Rattle.dns_zone.proofs.NameOrder.{name_order_total, same-is, tied-same}
+use Rattle.dns_zone.proofs.NameTree.{under-order}
+use Rattle.dns_zone.proofs.Pairs.{Pairs, pairs_of, each_both, each_get, parted, filter_none}
+use Rattle.dns_zone.proofs.ReportedNames.{Lower, one_lower, owners, among_once, among_checked}
+use Rattle.dns_zone.proofs.TopmostCut.{at_cut, covers, covered, uncovered}
+
+pub among_map : {X Y : Type 0} (f : X → Y) (y : Y) (xs : List X) → Among y (map f xs)
+    → (x : X) × Among x xs × (y ≡ f x)
+among_map f y [] m = absurd m
+among_map f y (x ∷ xs) (inl e) = (x, inl refl, e)
+among_map f y (x ∷ xs) (inr m) =
+    let (a, k, e) = among_map f y xs m in (a, inr k, e)
+
+pub map_among : {X Y : Type 0} (f : X → Y) (x : X) (xs : List X) → Among x xs
+    → Among (f x) (map f xs)
+map_among f x [] m = m
+map_among f x (y ∷ ys) (inl e) = inl (ap f e)
+map_among f x (y ∷ ys) (inr m) = inr (map_among f x ys m)
+
+-- names that rise, each with each after it
+pub rises_pairs : {X : Type 0} (f : X → DomainName) (xs : List X) → Rises name_order (map f xs)
+    → Pairs (λ x y. name_order (f x) (f y) ≡ Less) xs
+rises_pairs f [] h = tt
+rises_pairs {X} f (x ∷ xs) h = (each xs h.0, rises_pairs f xs h.1)
+  where
+    each : (ys : List X) → Each (λ n. name_order (f x) n ≡ Less) (map f ys)
+        → Each (λ y. name_order (f x) (f y) ≡ Less) ys
+    each [] e = tt
+    each (y ∷ ys) e = (e.0, each ys e.1)
+
+-- those up to place i are the element there, or in order with it
+pub last_at : {X : Type 0} (R : X → X → Type 0) (xs : List X) (i : ℕ) (d : X) → Pairs R xs
+    → i < length xs → Each (λ x. (x ≡ get_or xs i d) ⊎ R x (get_or xs i d)) (take (suc i) xs)
+last_at R [] i d h l = tt
+last_at R (x ∷ xs) zero d h l = (inl refl, tt)
+last_at R (x ∷ xs) (suc i) d h l =
+    (inr (each_get (R x) xs i d h.0 (omega arith)), last_at R xs i d h.1 (omega arith))
+
+get_or_any : {X : Type 0} (xs : List X) (i : ℕ) (d e : X) → i < length xs
+    → get_or xs i d ≡ get_or xs i e
+get_or_any [] i d e l = absurd (omega (arith, l))
+get_or_any (x ∷ xs) zero d e l = refl
+get_or_any (x ∷ xs) (suc i) d e l = get_or_any xs i d e (omega arith)
+
+pub itself_upto : (n : DomainName) → is_gt (name_order n n) ≡ false
+itself_upto n = ap is_gt (tied_itself name_order_total n)
+
+pub equal_upto : (n m : DomainName) → n ≡ m → is_gt (name_order n m) ≡ false
+equal_upto n m e = subst (λ k. is_gt (name_order n k) ≡ false) e (itself_upto n)
+
+-- two names, neither of which is after the other
+pub between_both : (n m : DomainName) → Lower n → Lower m → is_gt (name_order n m) ≡ false
+    → is_gt (name_order m n) ≡ false → n ≡ m
+between_both n m p q f g = go (name_order n m) refl f
+  where
+    go : (c : Ordering) → name_order n m ≡ c → is_gt c ≡ false → n ≡ m
+    go Less e h =
+        absurd (true≢false (sym (ap is_gt (name_order_total.antisymm m n ∙ ap ordering_reverse e)) ∙ g))
+    go Equal e h = one_lower n m p q (tied-same n m e)
+    go Greater e h = absurd (true≢false h)
+
+pub one_key : (n m : DomainName) → Lower n → Lower m → name_key n ≡ name_key m → n ≡ m
+one_key n m p q e =
+    one_lower n m p q (tied-same n m (sym (key_order n m p q)
+    ∙ ap (slice_cmp nat_cmp (name_key n)) (sym e) ∙ tied_itself nat_list_cmp_total (name_key n)))
+
+module _ (z : ZoneContents) where
+  -- a cut is an owner
+  pub cut_among : (c : DomainName) → Lower c → is_cut z c ≡ true → Among c (owners_once z.records)
+  cut_among c low h =
+      among_once c z.records (go z.records (and_parts _ (owns z c type_ns) h).1)
+    where
+      go : (rs : List ResourceRecord)
+          → list_any (λ (r : ResourceRecord). same r.owner c && r.rtype == type_ns) rs ≡ true
+          → Among c (owners rs)
+      go [] e = absurd (false≢true e)
+      go (r ∷ rs) e = by_first (or_cases (same r.owner c && r.rtype == type_ns) _ e) (go rs)
+        where
+          by_first : ((same r.owner c && r.rtype == type_ns) ≡ true)
+              ⊎ (list_any (λ (s : ResourceRecord). same s.owner c && s.rtype == type_ns) rs ≡ true)
+              → (list_any (λ (s : ResourceRecord). same s.owner c && s.rtype == type_ns) rs ≡ true
+              → Among c (owners rs)) → (c ≡ folded r.owner) ⊎ Among c (owners rs)
+          by_first (inl k) f =
+              inl (sym low ∙ sym (same-is r.owner c (and_parts (same r.owner c) _ k).0))
+          by_first (inr k) f = inr (f k)
+
+  pub none_at : (m : DomainName) → Lower m → (Among m (owners_once z.records) → ⊥) → at z m ≡ []
+  none_at m low f =
+      filter_none (λ (r : ResourceRecord). same r.owner m) z.records
+      (go z.records (λ k. f (among_once m z.records k)))
+    where
+      go : (rs : List ResourceRecord) → (Among m (owners rs) → ⊥)
+          → Each (λ (r : ResourceRecord). same r.owner m ≡ false) rs
+      go [] g = tt
+      go (r ∷ rs) g = (
+        false_from_ne_true (same r.owner m) (λ e. g (inl (sym low ∙ sym (same-is r.owner m e)))),
+        go rs (λ k. g (inr k)),
+      )
+
+  abbrev name : CheckedName → DomainName
+  name = name_of z
+
+  -- a search among names in order
+  module _ (names : List CheckedName) (each : Each (λ c. IsChecked z (name_of z c) c) names)
+      (rise : Rises name_order (map (name_of z) names)) (m : DomainName) (low : Lower m)
+      (key : Octets) (key_is : key ≡ name_key m) where
+    key_tells : (c : CheckedName) → IsChecked z (name c) c
+        → slice_cmp nat_cmp c.key.now key ≡ name_order (name c) m
+    key_tells c h =
+        ap₂ (slice_cmp nat_cmp) h.key key_is ∙ key_order (name c) m h.owner.lower low
+
+    abbrev InOrder : CheckedName → CheckedName → Type 0
+    InOrder c d = name_order (name c) (name d) ≡ Less
+
+    pairs : Pairs InOrder names
+    pairs = rises_pairs name names rise
+
+    pub upto_parted : IsPartitionedBy (is_upto key) names
+    upto_parted =
+        parted (is_upto key) names
+        (pairs_of (λ c. IsChecked z (name c) c) InOrder
+        (λ c d. is_upto key d ≡ true → is_upto key c ≡ true) names
+        (λ c d p q l r. ap not (ap is_gt (key_tells c p)
+        ∙ upto name_order_total (name c) (name d) m (ap is_gt l)
+        (sym (ap is_gt (key_tells d q)) ∙ not-true _ r)))
+        each pairs)
+
+    -- where so many are not after the name
+    module _ (k : ℕ) (front : IsFront (is_upto key) names k) where
+      upto_each : Each (λ c. is_gt (name_order (name c) m) ≡ false) (take k names)
+      upto_each =
+          subst (Each (λ c. is_gt (name_order (name c) m) ≡ false)) (sym front.passing)
+          (each_both (λ c. IsChecked z (name c) c) (λ c. is_upto key c ≡ true)
+          (λ c. is_gt (name_order (name c) m) ≡ false) (filter (is_upto key) names)
+          (λ c h e. sym (ap is_gt (key_tells c h)) ∙ not-true _ e)
+          (each_filter (λ c. IsChecked z (name c) c) (is_upto key) names each)
+          (filter_each (is_upto key) names))
+
+      pub after_each : Each (λ c. name_order m (name c) ≡ Less) (drop k names)
+      after_each =
+          subst (Each (λ c. name_order m (name c) ≡ Less)) (sym front.others)
+          (each_both (λ c. IsChecked z (name c) c) (λ c. not (is_upto key c) ≡ true)
+          (λ c. name_order m (name c) ≡ Less) (filter (λ c. not (is_upto key c)) names)
+          (λ c h e. after (name_order (name c) m) (name_order m (name c))
+          (name_order_total.antisymm m (name c)) (sym (ap is_gt (key_tells c h)) ∙ twice _ e))
+          (each_filter (λ c. IsChecked z (name c) c) (λ c. not (is_upto key c)) names each)
+          (filter_each (λ c. not (is_upto key c)) names))
+        where
+          twice : (b : Bool) → not (not b) ≡ true → b ≡ true
+          twice true e = refl
+          twice false e = absurd (false≢true e)
+
+          after : (c d : Ordering) → d ≡ ordering_reverse c → is_gt c ≡ true → d ≡ Less
+          after Less d e f = absurd (false≢true f)
+          after Equal d e f = absurd (false≢true f)
+          after Greater d e f = e
+
+      -- a name that is not after it is among the first of them
+      pub upto_among : (c : CheckedName) → Among c names → is_gt (name_order (name c) m) ≡ false
+          → Among c (take k names)
+      upto_among c a e =
+          let h = each_at (λ d. IsChecked z (name d) d) c names each a in
+          subst (Among c) (sym front.passing)
+          (filter_among (is_upto key) c names (ap not (ap is_gt (key_tells c h) ∙ e)) a)
+
+      -- the last of them
+      module _ (i : ℕ) (next : k ≡ suc i) (c : CheckedName)
+          (is : c ≡ get_or names i c) where
+        fits : i < length names
+        fits = let bound = front.bound in omega (arith, next, bound)
+
+        pub in_order : Each (λ d. (d ≡ c) ⊎ InOrder d c) (take k names)
+        in_order =
+            subst (λ j. Each (λ d. (d ≡ c) ⊎ InOrder d c) (take j names)) (sym next)
+            (subst (λ x. Each (λ d. (d ≡ x) ⊎ InOrder d x) (take (suc i) names)) (sym is)
+            (last_at InOrder names i c pairs fits))
+
+        pub last_checked : IsChecked z (name c) c
+        last_checked =
+            subst (λ x. IsChecked z (name x) x) (sym is)
+            (each_get (λ d. IsChecked z (name d) d) names i c each fits)
+
+        pub last_upto : is_gt (name_order (name c) m) ≡ false
+        last_upto =
+            let size : length (take k names) ≡ k = length-take k names ∙ min-eq_left front.bound in
+            subst (λ x. is_gt (name_order (name x) m) ≡ false)
+            (get_or-take k names i c (omega (arith, next)) ∙ sym is)
+            (each_get (λ d. is_gt (name_order (name d) m) ≡ false) (take k names) i c upto_each
+            (omega (arith, size, next)))
+
+        -- the others of them come before it
+        pub upto_last : (d : CheckedName) → Among d names → is_gt (name_order (name d) m) ≡ false
+            → is_gt (name_order (name d) (name c)) ≡ false
+        upto_last d a e =
+            go (each_at (λ x. (x ≡ c) ⊎ InOrder x c) d (take k names) in_order
+            (upto_among d a e))
+          where
+            go : (d ≡ c) ⊎ InOrder d c → is_gt (name_order (name d) (name c)) ≡ false
+            go (inl f) = equal_upto (name d) (name c) (ap name f)
+            go (inr f) = ap is_gt f
+
+      -- where they are all that are checked
+      module _ (all : map (name_of z) names ≡ checked_names z) where
+        pub upto_some : Lower z.origin → at_or_below m z.origin ≡ true → 0 < k
+        upto_some low_origin under = go (cases_lt 0 k)
+          where
+            go : (0 < k) ⊎ (k ≤ 0) → 0 < k
+            go (inl l) = l
+            go (inr l) =
+                let zero_is : k ≡ 0 = omega arith in
+                let (c, b, e) =
+                among_map name z.origin names (subst (Among z.origin) (sym all)
+                (among_checked z z.origin (inl (sym low_origin)))) in
+                absurd (subst (λ j. Among c (take j names)) zero_is (upto_among c b
+                (ap (λ n. is_gt (name_order n m)) (sym e) ∙ under-order m z.origin under)))
+
+        found_last : (i : ℕ) → k ≡ suc i → (c : CheckedName) → c ≡ get_or names i c
+            → IsLastUpto z m c
+        found_last i next c is = record {
+          checked = last_checked i next c is;
+          upto = last_upto i next c is;
+          last = λ n a e.
+              let (d, b, f) = among_map name n names (subst (Among n) (sym all) a) in
+              ap (λ j. is_gt (name_order j (name c))) f
+              ∙ upto_last i next c is d b (ap (λ j. is_gt (name_order j m)) (sym f) ∙ e);
+        }
+
+        pub found_there : (i : ℕ) → k ≡ suc i → (d : CheckedName) → IsLastUpto z m (get_or names i d)
+        found_there i next d =
+            let bound = front.bound in
+            found_last i next (get_or names i d)
+            (get_or_any names i d (get_or names i d) (omega (arith, bound, next)))
+
+  -- what the last name that is not after one tells of that one
+  module _ (m : DomainName) (low : Lower m) where
+    at_cuts : (c : DomainName) → Lower c → is_cut z c ≡ true → Among c (checked_names z)
+    at_cuts c d is = among_checked z c (inr (cut_among c d is))
+
+    no_cut : (Among m (checked_names z) → ⊥) → is_cut z m ≡ false
+    no_cut f = false_from_ne_true (is_cut z m) (λ e. f (at_cuts m low e))
+
+    none_cut : (b : Bool) → b ≡ false → IsTopmost z m (cond b (length (name_key m)) 0)
+        → at_or_below_cut z m ≡ false
+    none_cut b e t = at_cut z m low 0 (subst (λ c. IsTopmost z m (cond c (length (name_key m)) 0)) e t)
+
+    module _ (c : CheckedName) (h : IsLastUpto z m c) where
+      abbrev last : DomainName
+      last = name_of z c
+
+      pub found_name : c.key.now ≡ name_key m → last ≡ m
+      found_name e = one_key last m h.checked.owner.lower low (sym h.checked.key ∙ e)
+
+      no_owner : (c.key.now ≡ name_key m → ⊥) → Among m (checked_names z) → ⊥
+      no_owner f a =
+          f (h.checked.key ∙ ap name_key (between_both last m h.checked.owner.lower low h.upto
+          (h.last m a (itself_upto m))))
+
+      pub none_there : (c.key.now ≡ name_key m → ⊥) → at z m ≡ []
+      none_there f = none_at m low (λ a. no_owner f (among_checked z m (inr a)))
+
+      cuts_upto : (d : DomainName) → Lower d → is_cut z d ≡ true → at_or_below m d ≡ true
+          → (d ≡ m) ⊎ (is_gt (name_order d last) ≡ false)
+      cuts_upto d e is u = inr (h.last d (at_cuts d e is) (under-order m d u))
+
+      pub covered_cut : (key : Octets) → key ≡ name_key m → (c.key.now ≡ name_key m → ⊥)
+          → is_covered c.cut c.key.now key ≡ at_or_below_cut z m
+      covered_cut key e f =
+          ap₂ (λ (x y : Octets). nat_lt 0 c.cut && starts_with ◌==◌ x (take c.cut y)) e h.checked.key
+          ∙ go (covers z last m h.checked.owner.lower low c.cut h.checked.topmost h.upto cuts_upto)
+          refl
+        where
+          go : (b : Bool) → (nat_lt 0 c.cut && starts_with ◌==◌ (name_key m) (take c.cut (name_key last))) ≡ b
+              → b ≡ at_or_below_cut z m
+          go true g =
+              sym (at_cut z m low c.cut
+              (covered z last m h.checked.owner.lower low c.cut h.checked.topmost h.upto cuts_upto g)
+              ∙ (and_parts (nat_lt 0 c.cut) _ g).0)
+          go false g =
+              sym (none_cut (is_cut z m) (no_cut (no_owner f))
+              (uncovered z last m h.checked.owner.lower low c.cut h.checked.topmost h.upto cuts_upto
+              g))
+
+      pub found_cut : last ≡ m → nat_lt 0 c.cut ≡ at_or_below_cut z m
+      found_cut e =
+          sym (at_cut z last h.checked.owner.lower c.cut h.checked.topmost) ∙ ap (at_or_below_cut z) e
+
+      pub found_at : last ≡ m → own_in z.records c ≡ at z m
+      found_at e = h.checked.owner.own_is ∙ ap (at z) e

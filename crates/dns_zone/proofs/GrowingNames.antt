@@ -1,0 +1,324 @@
+-- The owners of a zone, as they are added to the names that are checked, and the origin.
+use Rattle.std.proofs.Common.{◌≡◌, ℕ, zero, suc, ◌+◌, ◌-◌, ◌≤◌, true, false, ◌⊎◌, inl, inr, List, [], ◌∷◌, ◌++◌, length, map, take, drop, refl, sym, ap, ◌∙◌, subst, arith, get_or, ◌<◌, is_gt, is_lt, Ordering, Less, Equal, Greater, length-append}
+use Rattle.std.proofs.lemmas.Bool.{true≢false}
+use Rattle.std.proofs.lemmas.List.{append_assoc, map_push}
+use Rattle.std.proofs.lemmas.List.Concat.{flat_map-cons}
+use Rattle.std.proofs.Math.Seq.{take-append_seam, drop-append_seam}
+use Rattle.std.specs.List.{flat_map}
+use Rattle.std.proofs.lemmas.Cmp.{tied_itself}
+use Rattle.std.specs.Borrow.{Bor}
+use Rattle.std.specs.List.Sorted.{IsPartitionedBy}
+use Rattle.std.specs.Ordering.{ordering_reverse}
+use Rattle.dns_spec.specs.Names.{Octets, DomainName, folded, at_or_below, name_order, wire}
+use Rattle.dns_spec.specs.Records.{ResourceRecord, ZoneContents}
+use Rattle.dns_spec.proofs.Records.SortedOnce.{Each, Among, Rises, each_at, each_weaker}
+use Rattle.dns_zone.specs.KeyForm.{name_key}
+use Rattle.dns_zone.specs.NamesForm.{name_of, is_upto, IsTopmost, IsChecked, AreChecked, AreOwners, ComesNext}
+use Rattle.dns_zone.specs.OwnerForm.{IsOwner}
+use Rattle.dns_zone.specs.ReportedForm.{owners_once}
+use Rattle.dns_zone.specs.ZoneForm.{AreOrdered, IsFront}
+use Rattle.dns_zone.specs.declared.names.CheckedName.{CheckedName}
+use Rattle.dns_zone.proofs.AtName.{owners_in_order}
+use Rattle.dns_zone.proofs.CheckedNames.{among_map, map_among, itself_upto, equal_upto, one_key, cut_among, none_at, upto_parted, upto_among, after_each, in_order, last_checked, last_upto}
+use Rattle.dns_zone.proofs.KeyOrder.{key_length}
+use Rattle.dns_zone.proofs.NameOrder.{name_order_total, tied-same}
+use Rattle.dns_zone.proofs.NameTree.{under-from, under-order}
+use Rattle.dns_zone.proofs.ReportedNames.{one_lower, once_rise, IsName, names_checked}
+use Rattle.dns_zone.proofs.TopmostCut.{topmost_none}
+
+each_push : {X : Type 0} (P : X → Type 0) (xs : List X) (y : X) → Each P xs → P y
+    → Each P (xs ++ y ∷ [])
+each_push P [] y e p = (p, tt)
+each_push P (x ∷ xs) y e p = (e.0, each_push P xs y e.1 p)
+
+among_append : {X : Type 0} (a : X) (xs ys : List X) → Among a (xs ++ ys)
+    → Among a xs ⊎ Among a ys
+among_append a [] ys m = inr m
+among_append a (x ∷ xs) ys (inl e) = inl (inl e)
+among_append a (x ∷ xs) ys (inr m) =
+    elim (among_append a xs ys m) [ inl k ↦ inl (inr k) | inr k ↦ inr k ]
+
+-- what stands before a name in a list that rises, and after it
+rises_around : (ns ms : List DomainName) (n : DomainName) → Rises name_order (ns ++ n ∷ ms)
+    → Each (λ m. name_order m n ≡ Less) ns × Each (λ m. name_order n m ≡ Less) ms
+rises_around [] ms n h = (tt, h.0)
+rises_around (k ∷ ns) ms n h =
+    let rest = rises_around ns ms n h.1 in ((middle ns h.0, rest.0), rest.1)
+  where
+    middle : (ks : List DomainName) → Each (λ m. name_order k m ≡ Less) (ks ++ n ∷ ms)
+        → name_order k n ≡ Less
+    middle [] e = e.0
+    middle (j ∷ ks) e = middle ks e.1
+
+-- the name that was added last, with its key and its topmost cut; at first the root
+pub record LastName (z : ZoneContents) (before after : List DomainName) (key : Octets) (cut : ℕ)
+    : Type 0 where
+  pub name : DomainName
+  pub lower : folded name ≡ name
+  pub key_is : key ≡ name_key name
+  pub topmost : IsTopmost z name cut
+  pub upto : Each (λ m. is_gt (name_order m name) ≡ false) before
+  pub from : Each (λ m. is_gt (name_order name m) ≡ false) after
+
+pub root_first : (z : ZoneContents) (ns : List DomainName) → LastName z [] ns [] 0
+root_first z ns = record {
+  name = [];
+  lower = refl;
+  key_is = refl;
+  topmost = topmost_none z [] (omega arith);
+  upto = tt;
+  from = all ns;
+}
+  where
+    all : (ms : List DomainName) → Each (λ m. is_gt (name_order [] m) ≡ false) ms
+    all [] = tt
+    all (m ∷ ms) =
+        (under-order m [] (under-from m [] (folded m, sym (append-nil (folded m)))), all ms)
+      where
+        append-nil : (xs : DomainName) → xs ++ [] ≡ xs
+        append-nil [] = refl
+        append-nil (x ∷ xs) = ap (λ ys. x ∷ ys) (append-nil xs)
+
+-- the key of the first owner, cut from those of all by the length of its wire form
+pub first_key : (n : DomainName) (ns ms : List DomainName) (keys octets : Octets)
+    → keys ≡ flat_map name_key ns → ns ≡ n ∷ ms → octets ≡ wire n
+    → (length octets - 1 ≤ length keys) × (take (length octets - 1) keys ≡ name_key n)
+    × (drop (length octets - 1) keys ≡ flat_map name_key ms)
+first_key n ns ms keys octets e f g =
+    let later = flat_map name_key ms in
+    let whole : keys ≡ name_key n ++ later =
+    e ∙ ap (flat_map name_key) f ∙ flat_map-cons name_key n ms in
+    let long : length octets ≡ length (wire n) = ap length g in
+    let count : length octets - 1 ≡ length (name_key n) = omega (arith, long, key_length n) in
+    let size : length keys ≡ length (name_key n) + length later =
+    ap length whole ∙ length-append (name_key n) later in (
+      omega (arith, count, size),
+      ap (take (length octets - 1)) whole ∙ ap (λ k. take k (name_key n ++ later)) count
+          ∙ take-append_seam (name_key n) later,
+      ap (drop (length octets - 1)) whole ∙ ap (λ k. drop k (name_key n ++ later)) count
+          ∙ drop-append_seam (name_key n) later,
+    )
+
+-- one owner more
+module _ (z : ZoneContents) (ordered : AreOrdered z.records) (ns ms : List DomainName)
+    (n : DomainName) (all : ns ++ n ∷ ms ≡ owners_once z.records) (low : folded n ≡ n) where
+  around : Each (λ m. name_order m n ≡ Less) ns × Each (λ m. name_order n m ≡ Less) ms
+  around =
+      rises_around ns ms n (subst (Rises name_order) (sym all)
+      (once_rise z.records (owners_in_order z.records ordered)))
+
+  pub comes_next : (last key origin : Octets) (cut : ℕ) (own : List ResourceRecord)
+      → (h : LastName z ns (n ∷ ms) last cut) → origin ≡ name_key z.origin
+      → folded z.origin ≡ z.origin → key ≡ name_key n → IsOwner z n own
+      → ComesNext z h.name n cut origin last key own
+  comes_next last key origin cut own h e f g i = record {
+    origin_key = e;
+    origin_lower = f;
+    last_key = h.key_is;
+    last_lower = h.lower;
+    topmost = h.topmost;
+    key_is = g;
+    owner = i;
+    upto = h.from.0;
+    cuts = λ c d is u.
+        go c u (among_append c ns (n ∷ ms) (subst (Among c) (sym all) (cut_among z c d is)));
+  }
+    where
+      go : (c : DomainName) → at_or_below n c ≡ true
+          → Among c ns ⊎ ((c ≡ n) ⊎ Among c ms)
+          → (c ≡ n) ⊎ (is_gt (name_order c h.name) ≡ false)
+      go c u (inl m) = inr (each_at (λ m. is_gt (name_order m h.name) ≡ false) c ns h.upto m)
+      go c u (inr (inl q)) = inl q
+      go c u (inr (inr m)) =
+          absurd (true≢false (sym (ap is_gt (name_order_total.antisymm c n
+          ∙ ap ordering_reverse (each_at (λ m. name_order n m ≡ Less) c ms around.1 m)))
+          ∙ under-order n c u))
+
+  pub added_last : (key : Octets) (cut : ℕ) → key ≡ name_key n → IsTopmost z n cut
+      → LastName z (ns ++ n ∷ []) ms key cut
+  added_last key cut e t = record {
+    name = n;
+    lower = low;
+    key_is = e;
+    topmost = t;
+    upto = each_push (λ m. is_gt (name_order m n) ≡ false) ns n
+        (each_weaker (λ m. name_order m n ≡ Less) (λ m. is_gt (name_order m n) ≡ false) ns
+        (λ m q. ap is_gt q) around.0)
+        (itself_upto n);
+    from = each_weaker (λ m. name_order n m ≡ Less) (λ m. is_gt (name_order n m) ≡ false) ms
+        (λ m q. ap is_gt q) around.1;
+  }
+
+pub each_added : (z : ZoneContents) (names : List CheckedName) (c : CheckedName) (n : DomainName)
+    → Each (λ d. IsChecked z (name_of z d) d) names → name_of z c ≡ n → IsChecked z n c
+    → Each (λ d. IsChecked z (name_of z d) d) (names ++ c ∷ [])
+each_added z names c n e f h =
+    each_push (λ d. IsChecked z (name_of z d) d) names c e
+    (subst (λ m. IsChecked z m c) (sym f) h)
+
+pub all_added : (z : ZoneContents) (names : List CheckedName) (c : CheckedName) (n : DomainName)
+    (ms : List DomainName) → name_of z c ≡ n
+    → map (name_of z) (names ++ c ∷ []) ++ ms ≡ map (name_of z) names ++ n ∷ ms
+all_added z names c n ms f =
+    ap (λ ks. ks ++ ms) (map_push (name_of z) names c)
+    ∙ append_assoc (map (name_of z) names) (name_of z c ∷ []) ms
+    ∙ ap (λ (m : DomainName). map (name_of z) names ++ m ∷ ms) f
+
+-- an element more, at a place
+each_insert : {X : Type 0} (P : X → Type 0) (xs : List X) (i : ℕ) (x : X) → Each P xs → P x
+    → Each P (take i xs ++ x ∷ drop i xs)
+each_insert P xs zero x e p = (p, e)
+each_insert P [] (suc i) x e p = (p, tt)
+each_insert P (y ∷ ys) (suc i) x e p = (e.0, each_insert P ys i x e.1 p)
+
+module _ {X Y : Type 0} (f : X → Y) where
+  each_map : (P : Y → Type 0) (xs : List X) → Each (λ x. P (f x)) xs → Each P (map f xs)
+  each_map P [] e = tt
+  each_map P (x ∷ xs) e = (e.0, each_map P xs e.1)
+
+  map_each : (P : Y → Type 0) (xs : List X) → Each P (map f xs) → Each (λ x. P (f x)) xs
+  map_each P [] e = tt
+  map_each P (x ∷ xs) e = (e.0, map_each P xs e.1)
+
+  insert_among : (a : Y) (xs : List X) (i : ℕ) (x : X)
+      → Among a (map f (take i xs ++ x ∷ drop i xs)) → (a ≡ f x) ⊎ Among a (map f xs)
+  insert_among a xs zero x m = m
+  insert_among a [] (suc i) x m = m
+  insert_among a (y ∷ ys) (suc i) x (inl e) = inr (inl e)
+  insert_among a (y ∷ ys) (suc i) x (inr m) =
+      elim (insert_among a ys i x m) [ inl e ↦ inl e | inr k ↦ inr (inr k) ]
+
+  among_insert : (a : Y) (xs : List X) (i : ℕ) (x : X) → (a ≡ f x) ⊎ Among a (map f xs)
+      → Among a (map f (take i xs ++ x ∷ drop i xs))
+  among_insert a xs zero x m = m
+  among_insert a [] (suc i) x m = m
+  among_insert a (y ∷ ys) (suc i) x (inl e) = inr (among_insert a ys i x (inl e))
+  among_insert a (y ∷ ys) (suc i) x (inr (inl e)) = inl e
+  among_insert a (y ∷ ys) (suc i) x (inr (inr m)) = inr (among_insert a ys i x (inr m))
+
+insert_rises : {X : Type 0} (f : X → DomainName) (xs : List X) (i : ℕ) (x : X)
+    → Rises name_order (map f xs) → Each (λ y. name_order (f y) (f x) ≡ Less) (take i xs)
+    → Each (λ y. name_order (f x) (f y) ≡ Less) (drop i xs)
+    → Rises name_order (map f (take i xs ++ x ∷ drop i xs))
+insert_rises f xs zero x h e g = (each_map f (λ n. name_order (f x) n ≡ Less) xs g, h)
+insert_rises f [] (suc i) x h e g = (tt, tt)
+insert_rises f (y ∷ ys) (suc i) x h e g = (
+  each_map f (λ n. name_order (f y) n ≡ Less) (take i ys ++ x ∷ drop i ys)
+      (each_insert (λ z. name_order (f y) (f z) ≡ Less) ys i x
+      (map_each f (λ n. name_order (f y) n ≡ Less) ys h.0) e.0),
+  insert_rises f ys i x h.1 e.1 g,
+)
+
+among_get : {X : Type 0} (xs : List X) (i : ℕ) (d : X) → i < length xs → Among (get_or xs i d) xs
+among_get [] i d l = absurd (omega (arith, l))
+among_get (x ∷ xs) zero d l = inl refl
+among_get (x ∷ xs) (suc i) d l = inr (among_get xs i d (omega arith))
+
+-- the origin
+module _ (z : ZoneContents) (low : folded z.origin ≡ z.origin) (ordered : AreOrdered z.records)
+    (names : List CheckedName) (are : AreOwners z names) (key : Octets)
+    (key_is : key ≡ name_key z.origin) where
+  abbrev o : DomainName
+  o = z.origin
+
+  rise : Rises name_order (map (name_of z) names)
+  rise = subst (Rises name_order) (sym are.all) (once_rise z.records (owners_in_order z.records ordered))
+
+  pub owners_parted : IsPartitionedBy (is_upto key) names
+  owners_parted = upto_parted z names are.each rise o low key key_is
+
+  module _ (k : ℕ) (front : IsFront (is_upto key) names k) where
+    -- it is the last that is not after it
+    pub origin_owns : (i : ℕ) → k ≡ suc i → (c : CheckedName)
+        → c ≡ get_or names i c → c.key.now ≡ key → AreChecked z names
+    origin_owns i next c is e =
+        let h = last_checked z names are.each rise o low key key_is k front i next c is in
+        let name = one_key (name_of z c) o h.owner.lower low (sym h.key ∙ e ∙ key_is) in
+        let bound = front.bound in
+        let in_names = subst (λ x. Among x names) (sym is) (among_get names i c (omega (arith, bound, next))) in
+        record {
+          each = are.each;
+          all = names_checked z (map (name_of z) names) rise
+              (λ a m. inr (subst (Among a) are.all m))
+              (λ a m. go c name in_names a m);
+        }
+      where
+        go : (c : CheckedName) → name_of z c ≡ o → Among c names → (a : DomainName) → IsName z a
+            → Among a (map (name_of z) names)
+        go c e m a (inl f) =
+            subst (λ b. Among b (map (name_of z) names)) (e ∙ sym (f ∙ low))
+            (map_among (name_of z) c names m)
+        go c e m a (inr k) = subst (Among a) (sym are.all) k
+
+    abbrev origin_name : Bor Octets → CheckedName
+    origin_name key = record { key = key; first = 0; end = 0; cut = 0 }
+
+    -- it owns nothing
+    module _ (before : Each (λ c. name_order (name_of z c) o ≡ Less) (take k names)) where
+      none : Among o (owners_once z.records) → ⊥
+      none m =
+          let (c, b, e) = among_map (name_of z) o names (subst (Among o) (sym are.all) m) in
+          let there = upto_among z names are.each rise o low key key_is k front c b
+          (equal_upto (name_of z c) o (sym e)) in
+          true≢false (sym (ap is_lt (each_at (λ d. name_order (name_of z d) o ≡ Less) c (take k names) before there))
+          ∙ ap (λ n. is_lt (name_order n o)) (sym e) ∙ ap is_lt (tied_itself name_order_total o))
+
+      pub origin_added : (b : Bor Octets) → b.now ≡ key
+          → AreChecked z (take k names ++ origin_name b ∷ drop k names)
+      origin_added b e =
+          let c = origin_name b in
+          let checked : IsChecked z o c = record {
+            owner = record {
+              lower = low;
+              own_is = sym (none_at z o low none);
+              by_types = λ i j d l m. absurd (omega (arith, m));
+            };
+            rising = omega arith;
+            within = omega arith;
+            key = e ∙ key_is;
+            topmost = topmost_none z o (omega arith);
+          } in
+          record {
+            each = each_insert (λ d. IsChecked z (name_of z d) d) names k c are.each checked;
+            all = names_checked z (map (name_of z) (take k names ++ c ∷ drop k names))
+                (insert_rises (name_of z) names k c rise before
+                (after_each z names are.each rise o low key key_is k front))
+                (λ a m. from a (insert_among (name_of z) a names k c m))
+                (λ a m. among_insert (name_of z) a names k c (back a m));
+          }
+        where
+          from : (a : DomainName) → (a ≡ o) ⊎ Among a (map (name_of z) names) → IsName z a
+          from a (inl f) = inl (f ∙ sym low)
+          from a (inr m) = inr (subst (Among a) are.all m)
+
+          back : (a : DomainName) → IsName z a → (a ≡ o) ⊎ Among a (map (name_of z) names)
+          back a (inl f) = inl (f ∙ low)
+          back a (inr m) = inr (subst (Among a) (sym are.all) m)
+
+    -- all before it, where the last of them is another
+    pub others_before : (i : ℕ) → k ≡ suc i → (c : CheckedName)
+        → c ≡ get_or names i c → (c.key.now ≡ key → ⊥)
+        → Each (λ d. name_order (name_of z d) o ≡ Less) (take k names)
+    others_before i next c is f =
+        each_weaker (λ d. (d ≡ c) ⊎ (name_order (name_of z d) (name_of z c) ≡ Less))
+        (λ d. name_order (name_of z d) o ≡ Less) (take k names) go
+        (in_order z names are.each rise o low key key_is k front i next c is)
+      where
+        less : name_order (name_of z c) o ≡ Less
+        less =
+            let h = last_checked z names are.each rise o low key key_is k front i next c is in
+            let u = last_upto z names are.each rise o low key key_is k front i next c is in
+            by_order (name_order (name_of z c) o) refl h u
+          where
+            by_order : (x : Ordering) → name_order (name_of z c) o ≡ x → IsChecked z (name_of z c) c
+                → is_gt (name_order (name_of z c) o) ≡ false → x ≡ Less
+            by_order Less e h u = refl
+            by_order Equal e h u =
+                absurd (f (h.key ∙ ap name_key (one_lower (name_of z c) o h.owner.lower low
+                (tied-same (name_of z c) o e)) ∙ sym key_is))
+            by_order Greater e h u = absurd (true≢false (sym (ap is_gt e) ∙ u))
+
+        go : (d : CheckedName) → (d ≡ c) ⊎ (name_order (name_of z d) (name_of z c) ≡ Less)
+            → name_order (name_of z d) o ≡ Less
+        go d (inl e) = ap (λ x. name_order (name_of z x) o) e ∙ less
+        go d (inr e) = name_order_total.trans (name_of z d) (name_of z c) o e less

@@ -1,0 +1,11 @@
+use Rattle.std.proofs.Common.{◌≡◌, take, map}
+use Rattle.std.specs.List.{flat_map}
+use Rattle.dns_zone.specs.NamesForm.{name_of}
+use Rattle.dns_zone.specs.ReportedForm.{reported_at}
+use Rattle.dns_zone.proofs.faults.faults.Given as goal
+
+-- the faults of the names so far
+abbrev pub invariant-names : goal.invariant-names
+invariant-names l =
+    l.found.items ≡ flat_map (reported_at l.survey)
+    (map (name_of l.survey) (take l.one-index l.one-items))

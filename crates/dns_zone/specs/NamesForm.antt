@@ -1,0 +1,96 @@
+-- What a reader learns here: the names of a zone that are checked, as a list, and what is kept of
+-- each.
+use Rattle.std.specs.Prelude.{◌≡◌, ℕ, ◌<◌, ◌≤◌, ◌==◌, ◌&&◌, not, ◌⊎◌, nat_lt, Bool, true, false, List, [], ◌∷◌, map, length, take}
+use Rattle.std.specs.List.{starts_with}
+use Rattle.std.specs.Ordering.{is_gt, nat_cmp}
+use Rattle.std.specs.Cmp.Lexicographic.{slice_cmp}
+use Rattle.dns_spec.specs.Names.{Octets, DomainName, folded, at_or_below, name_order}
+use Rattle.dns_spec.specs.Records.{ResourceRecord, ZoneContents}
+use Rattle.dns_spec.specs.Tree.{is_cut}
+use Rattle.dns_spec.specs.Checks.{checked_names}
+use Rattle.dns_spec.proofs.Records.SortedOnce.{Each, Among}
+use Rattle.dns_zone.specs.TreeForm.{span}
+use Rattle.dns_zone.specs.KeyForm.{name_key}
+use Rattle.dns_zone.specs.OwnerForm.{IsOwner}
+use Rattle.dns_zone.specs.ReportedForm.{owners_once}
+use Rattle.dns_zone.specs.declared.names.CheckedName.{CheckedName}
+
+-- the records of a name, and the name: the origin is the one that may have no records
+abbrev pub own_in : List ResourceRecord → CheckedName → List ResourceRecord
+own_in rs c = span rs c.first c.end
+
+abbrev pub first_owner : DomainName → List ResourceRecord → DomainName
+first_owner n [] = n
+first_owner n (r ∷ rs) = r.owner
+
+abbrev pub name_of : ZoneContents → CheckedName → DomainName
+name_of z c = first_owner z.origin (own_in z.records c)
+
+-- a cut that a name is at or below, whose key has k octets
+pub record IsCutAbove (z : ZoneContents) (n : DomainName) (k : ℕ) : Type 0 where
+  pub cut : DomainName
+  pub lower : folded cut ≡ cut
+  pub is_cut : is_cut z cut ≡ true
+  pub above : at_or_below n cut ≡ true
+  pub octets : k ≡ length (name_key cut)
+
+-- The key of the topmost cut that a name is at or below has k octets: no other such cut has fewer. It
+-- is 0 where there is none.
+pub record IsTopmost (z : ZoneContents) (n : DomainName) (k : ℕ) : Type 0 where
+  pub some : 0 < k → IsCutAbove z n k
+  pub least : (c : DomainName) → folded c ≡ c → is_cut z c ≡ true → at_or_below n c ≡ true
+      → (0 < k) × (k ≤ length (name_key c))
+
+-- a key begins with some octets of another, one at least
+abbrev pub is_covered : ℕ → Octets → Octets → Bool
+is_covered k last key = nat_lt 0 k && starts_with ◌==◌ key (take k last)
+
+-- the key of a name does not stand after this one
+abbrev pub is_upto : Octets → CheckedName → Bool
+is_upto key c = not (is_gt (slice_cmp nat_cmp c.key.now key))
+
+-- what is kept of a name
+pub record IsChecked (z : ZoneContents) (n : DomainName) (c : CheckedName) : Type 0 where
+  pub owner : IsOwner z n (own_in z.records c)
+  pub rising : c.first ≤ c.end
+  pub within : c.end ≤ length z.records
+  pub key : c.key.now ≡ name_key n
+  pub topmost : IsTopmost z n c.cut
+
+-- all names that are checked, in canonical order
+pub record AreChecked (z : ZoneContents) (names : List CheckedName) : Type 0 where
+  pub each : Each (λ c. IsChecked z (name_of z c) c) names
+  pub all : map (name_of z) names ≡ checked_names z
+
+-- the owners among them
+pub record AreOwners (z : ZoneContents) (names : List CheckedName) : Type 0 where
+  pub each : Each (λ c. IsChecked z (name_of z c) c) names
+  pub all : map (name_of z) names ≡ owners_once z.records
+
+-- An owner n that comes next in order after a name o, with the keys of both and of the origin: a cut
+-- that it is at or below is not after o, or the owner itself.
+pub record ComesNext (z : ZoneContents) (o n : DomainName) (cut : ℕ)
+    (origin last key : Octets) (own : List ResourceRecord) : Type 0 where
+  pub origin_key : origin ≡ name_key z.origin
+  pub origin_lower : folded z.origin ≡ z.origin
+  pub last_key : last ≡ name_key o
+  pub last_lower : folded o ≡ o
+  pub topmost : IsTopmost z o cut
+  pub key_is : key ≡ name_key n
+  pub owner : IsOwner z n own
+  pub upto : is_gt (name_order o n) ≡ false
+  pub cuts : (c : DomainName) → folded c ≡ c → is_cut z c ≡ true → at_or_below n c ≡ true
+      → (c ≡ n) ⊎ (is_gt (name_order c o) ≡ false)
+
+-- the last of the names that are checked, of those that are not after a name
+pub record IsLastUpto (z : ZoneContents) (n : DomainName) (c : CheckedName) : Type 0 where
+  pub checked : IsChecked z (name_of z c) c
+  pub upto : is_gt (name_order (name_of z c) n) ≡ false
+  pub last : (m : DomainName) → Among m (checked_names z) → is_gt (name_order m n) ≡ false
+      → is_gt (name_order m (name_of z c)) ≡ false
+
+-- what a zone under check keeps
+pub record IsSurvey (z : ZoneContents) (key : Octets) (names : List CheckedName) : Type 0 where
+  pub key_is : key ≡ name_key z.origin
+  pub lower : folded z.origin ≡ z.origin
+  pub names_are : AreChecked z names
