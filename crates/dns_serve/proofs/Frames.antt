@@ -3,7 +3,7 @@ use Rattle.std.proofs.Common.{◌≡◌, ℕ, ◌+◌, ◌-◌, ◌*◌, ◌^◌
 use Rattle.std.proofs.lemmas.Bool.{cases_lt, leb-true}
 use Rattle.std.proofs.lemmas.List.{take_all, take-append-le}
 use Rattle.dns_spec.specs.Names.{Octets}
-use Rattle.dns_spec.specs.Query.{field16}
+use Rattle.dns_spec.specs.Query.{most_over_udp, field16}
 use Rattle.dns_spec.specs.Layout.{octets16}
 use Rattle.dns_spec.specs.Stream.{has_frame, first_frame, IsCutFrame}
 use Rattle.dns_spec.proofs.Streams.StreamFrames.{two_octets, two_again, length_zeros}
@@ -49,18 +49,18 @@ cut_first a ha = record {
 }
 
 -- of a message that is read in two parts the first 512 octets are kept
-pub kept_front : (n : ℕ) (front rest : Octets) → length front ≡ min n 512 → length rest ≡ n - min n 512 → front ≡ take 512 (front ++ rest)
-kept_front n front rest hf hr = go (cases_lt n 512)
+pub kept_front : (n : ℕ) (front rest : Octets) → length front ≡ min n most_over_udp → length rest ≡ n - min n most_over_udp → front ≡ take most_over_udp (front ++ rest)
+kept_front n front rest hf hr = go (cases_lt n most_over_udp)
   where
-    go : (n < 512) ⊎ (512 ≤ n) → front ≡ take 512 (front ++ rest)
+    go : (n < most_over_udp) ⊎ (most_over_udp ≤ n) → front ≡ take most_over_udp (front ++ rest)
     go (inl less) =
-        let short : length (front ++ rest) ≤ 512 = omega (arith, length-append front rest, hf, hr, less) in
+        let short : length (front ++ rest) ≤ most_over_udp = omega (arith, length-append front rest, hf, hr, less) in
         let none : rest ≡ [] = empty rest (omega (arith, hr, less)) in
-        sym (take_all 512 (front ++ rest) short ∙ ap (λ r. front ++ r) none ∙ append-nil front)
+        sym (take_all most_over_udp (front ++ rest) short ∙ ap (λ r. front ++ r) none ∙ append-nil front)
       where
         empty : (r : Octets) → length r ≡ 0 → r ≡ []
         empty [] e = refl
         empty (x ∷ r) e = absurd (omega arith)
     go (inr more) =
-        let len : length front ≡ 512 = omega (arith, hf, more) in
-        sym (take-append-le 512 front rest (omega (arith, len)) ∙ take_all 512 front (omega (arith, len)))
+        let len : length front ≡ most_over_udp = omega (arith, hf, more) in
+        sym (take-append-le most_over_udp front rest (omega (arith, len)) ∙ take_all most_over_udp front (omega (arith, len)))

@@ -2,6 +2,7 @@
 use Rattle.std.proofs.lemmas.List.{take_all, length-take}
 use Rattle.std.proofs.Common.{◌≡◌, ℕ, ◌≤◌, arith, List, [], ◌∷◌, ◌++◌, append-nil, refl, take, Option, Some, None, true, false, sym, ap, ◌∙◌, subst}
 use Rattle.std.specs.Option.{option_map, is_some}
+use Rattle.dns_spec.specs.Query.{most_over_udp}
 use Rattle.dns_spec.specs.Names.{Octets}
 use Rattle.dns_spec.specs.Records.{ZoneContents}
 use Rattle.dns_spec.proofs.Replies.FirstOctets.{first_octets_answer}
@@ -23,8 +24,8 @@ then_kept (Some x) (Some y) None ds p q = absurd q
 then_kept (Some x) (Some y) (Some z) ds p q = q ∙ append-nil y ∙ p
 
 -- the reply to what is kept of a datagram is the reply to the datagram
-reply_is : (z : ZoneContents) (d kept piece : Octets) (reply : Option Octets) → piece ≡ kept → kept ≡ take 512 d → reply ≡ reply_over_udp z piece → reply_over_udp z d ≡ reply
-reply_is z d kept piece reply e k r = first_octets_answer z d 512 ∙ ap (reply_over_udp z) (sym (e ∙ k)) ∙ sym r
+reply_is : (z : ZoneContents) (d kept piece : Octets) (reply : Option Octets) → piece ≡ kept → kept ≡ take most_over_udp d → reply ≡ reply_over_udp z piece → reply_over_udp z d ≡ reply
+reply_is z d kept piece reply e k r = first_octets_answer z d most_over_udp ∙ ap (reply_over_udp z) (sym (e ∙ k)) ∙ sym r
 
 pub turn_without : (z y : ZoneContents) → y ≡ z → (had has sent sent' : Option (List Octets)) (n : ℕ) (buf piece : Octets) (length_of : Option ℕ) (out : Octets)
     → IsHanded had has n buf → piece ≡ take n buf → length_of ≡ None → option_map (λ len. take len out) length_of ≡ reply_over_udp y piece
@@ -59,10 +60,10 @@ turn_unsent z y zone_is had has has' sent sent'' n buf piece length_of len out h
     }
 
 -- a device that tells no datagrams has handed out what stands in the buffer
-pub handed_unknown : (n : ℕ) (buf : Octets) → n ≤ 512 → IsHanded None None n buf
+pub handed_unknown : (n : ℕ) (buf : Octets) → n ≤ most_over_udp → IsHanded None None n buf
 handed_unknown n buf h = record {
   datagram = take n buf;
   handed = tt;
-  kept = sym (take_all 512 (take n buf) (omega (arith, length-take n buf, h)));
+  kept = sym (take_all most_over_udp (take n buf) (omega (arith, length-take n buf, h)));
   within = h;
 }

@@ -7,6 +7,7 @@ use Rattle.std.proofs.lemmas.List.{take_all, take-append-le}
 use Rattle.dns_spec.proofs.Streams.StreamFrames.{two_octets}
 use Rattle.dns_spec.proofs.Replies.WritableItems.{each_from_all}
 use Rattle.std.proofs.KnownBytes.{Consumes-trans}
+use Rattle.dns_spec.specs.Query.{most_over_udp}
 use Rattle.dns_spec.specs.Names.{Octets}
 use Rattle.dns_spec.specs.Layout.{octets16}
 use Rattle.dns_serve.specs.Reads.{Passed, Gives, GivesSome, GivesFewer, GivesBeginning, GivesPart, GivesPartOfBody, GivesMessage, GivesBody, MessageRead, BodyRead}
@@ -63,7 +64,7 @@ message_after a b c n kept h consumed m = record {
 }
 
 -- a message came in two parts
-pub body_in_two : (a b c : Option Octets) (n : ℕ) (front rest : Octets) → Consumes a b front → Consumes b c rest → length front ≡ min n 512 → length rest ≡ n - min n 512
+pub body_in_two : (a b c : Option Octets) (n : ℕ) (front rest : Octets) → Consumes a b front → Consumes b c rest → length front ≡ min n most_over_udp → length rest ≡ n - min n most_over_udp
     → GivesBody a c n front
 body_in_two a b c n front rest first second hf hr = record {
   message = front ++ rest;
@@ -113,7 +114,7 @@ body_fault a b c n buf SinkFailed h l f = f
 body_fault a b c n buf Cut h l f = part_after a b c n h l f
 
 -- what is kept of a message came whole, and then all of the rest, or too little
-pub body_came : (a b c : Option Octets) (count kept first skipped : ℕ) (buf others : Octets) → kept ≡ min count 512 → length buf ≡ kept → kept ≤ first
+pub body_came : (a b c : Option Octets) (count kept first skipped : ℕ) (buf others : Octets) → kept ≡ min count most_over_udp → length buf ≡ kept → kept ≤ first
     → Gives a b (length buf) first (take first buf) → count - kept ≤ skipped → GivesSome b c (count - kept) skipped → GivesBody a c count (take kept (buf ++ others))
 body_came a b c count kept first skipped buf others least len whole g all s =
     let within : first ≤ length buf = g.within in
@@ -122,7 +123,7 @@ body_came a b c count kept first skipped buf others least len whole g all s =
     subst (GivesBody a c count) (sym is_front)
     (body_in_two a b c count buf s.passed.octets (subst (Consumes a b) front g.consumed) s.passed.consumed (len ∙ least) (omega (arith, s.passed.count_is, s.within, all, least)))
 
-pub body_cut : (a b c : Option Octets) (count kept first skipped : ℕ) (buf : Octets) → kept ≡ min count 512 → length buf ≡ kept
+pub body_cut : (a b c : Option Octets) (count kept first skipped : ℕ) (buf : Octets) → kept ≡ min count most_over_udp → length buf ≡ kept
     → Gives a b (length buf) first (take first buf) → skipped < count - kept → GivesSome b c (count - kept) skipped → GivesPartOfBody a c count
 body_cut a b c count kept first skipped buf least len g few s = record {
   fewer = fewer_after a b c count (count - kept) (take first buf) g.consumed (omega (arith, g.length_is, g.within, len, least))
@@ -131,12 +132,12 @@ body_cut a b c count kept first skipped buf least len g few s = record {
 }
 
 -- what is kept of a message did not come whole
-pub body_cut_early : (a b : Option Octets) (count kept first : ℕ) (buf : Octets) → kept ≡ min count 512 → length buf ≡ kept → first < kept
+pub body_cut_early : (a b : Option Octets) (count kept first : ℕ) (buf : Octets) → kept ≡ min count most_over_udp → length buf ≡ kept → first < kept
     → Gives a b (length buf) first (take first buf) → GivesPartOfBody a b count
 body_cut_early a b count kept first buf least len few g = record {
   fewer = record { octets = take first buf; consumed = g.consumed; fewer = omega (arith, g.length_is, few, least) };
   over = g.over (omega (arith, len, few));
 }
 
-pub fewer_of_body : (a b : Option Octets) (count kept n : ℕ) → kept ≡ min count 512 → n ≡ kept → GivesFewer a b n → GivesFewer a b count
+pub fewer_of_body : (a b : Option Octets) (count kept n : ℕ) → kept ≡ min count most_over_udp → n ≡ kept → GivesFewer a b n → GivesFewer a b count
 fewer_of_body a b count kept n least len f = record { octets = f.octets; consumed = f.consumed; fewer = omega (arith, f.fewer, least, len) }

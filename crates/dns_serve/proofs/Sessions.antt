@@ -5,6 +5,7 @@ use Rattle.std.proofs.lemmas.Grind.{flat_map-append}
 use Rattle.std.proofs.lemmas.List.Elements.{All-append}
 use Rattle.std.specs.Io.KnownBytes.{Appends, Consumes, IsAtEnd}
 use Rattle.std.proofs.KnownBytes.{Appends-trans, Appends-nil, Consumes-trans, Consumes-nil}
+use Rattle.dns_spec.specs.Query.{most_over_tcp}
 use Rattle.dns_spec.specs.Names.{Octets}
 use Rattle.dns_spec.specs.Records.{ZoneContents}
 use Rattle.dns_spec.specs.Stream.{frame, frames, first_frame, reply_frame, replies}
@@ -21,7 +22,7 @@ session a b c d = record { unread = a; left = b; held = c; holds = d }
 
 -- the octets that are kept of a message have its reply
 reply_of_kept : (z : ZoneContents) (kept m : Octets) → kept ≡ take 512 m → reply_over_tcp z kept ≡ reply_over_tcp z m
-reply_of_kept z kept m e = ap (reply_over_tcp z) e ∙ sym (first_octets_answer z m 65535)
+reply_of_kept z kept m e = ap (reply_over_tcp z) e ∙ sym (first_octets_answer z m most_over_tcp)
 
 message_of_read : (a b : Option Octets) (buf : Octets) (read : Option ℕ) (kept : ℕ) → read ≡ Some kept → MessageRead a b buf (Ok read) → GivesMessage a b (take kept buf)
 message_of_read a b buf read kept e m = subst (λ o. MessageRead a b buf (Ok o)) e m
