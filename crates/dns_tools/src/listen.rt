@@ -1,5 +1,5 @@
 //! A server on its address: turns over UDP, and connections over TCP, one after another.
-ghost use Rattle.std.specs.Prelude.{◌≡◌, ◌⊎◌, ◌+◌, ◌-◌, ◌^◌, ◌<◌, Err, IfErr};
+ghost use Rattle.std.specs.Prelude.{◌≡◌, ◌+◌, ◌-◌, ◌^◌, ◌<◌, false, IfOk, IfErr};
 ghost use Rattle.dns_tools.specs.Turns.{TakesTurns};
 
 use crate::fault::{FaultWord, TurnWord};
@@ -21,28 +21,29 @@ const MOST_MESSAGES: u32 = 1_000_000;
 // may open no more files, and would ask in vain.
 const PAUSE: u64 = 100;
 
-/// Answers so many datagrams at an address, and tells whether standard error had each word that was
-/// due: `U1` where no datagram was received, `U2` where a reply was not sent. Such a turn counts.
-///
-/// `bind` where the address can't be had.
-pub fn serve_datagrams<R: Net + Eprint>(
-    rt: &R,
-    zone: &Zone,
-    address: &str,
-    turns: u32,
-) -> Result<bool, FaultWord>
-    ensures { IfErr result (λ fault. fault ≡ FaultWord.NotBound) }
+/// A UDP socket at an address, which has received nothing. `bind` where the address can't be had.
+pub fn socket_at<R: Net>(rt: &R, address: &str) -> Result<Socket, FaultWord>
+    ensures socket { IfOk result (λ socket. socket ≡ record {
+      failures = 0;
+      has_sender = false;
+    }) }
+    ensures fault { IfErr result (λ fault. fault ≡ FaultWord.NotBound) }
 {
-    let Ok(socket) = bound(rt, address) else {
-        return Err(FaultWord::NotBound);
-    };
-    let mut socket = Socket::new(socket);
-    Ok(take_turns(rt, zone, &mut socket, turns))
+    match bound(rt, address) {
+        Ok(socket) => Ok(Socket::new(socket)),
+        Err(_) => Err(FaultWord::NotBound),
+    }
 }
 
-// Takes so many turns at a device, one after another, and tells whether standard error had each
-// word that was due.
-fn take_turns<E: Eprint, D: Datagrams>(rt: &E, zone: &Zone, device: &mut D, turns: u32) -> bool
+/// Takes so many turns at a device, one after another, and tells whether standard error had each
+/// word that was due: `U1` where no datagram was received, `U2` where a reply was not sent. Such a
+/// turn counts.
+pub fn serve_datagrams<E: Eprint, D: Datagrams>(
+    rt: &E,
+    zone: &Zone,
+    device: &mut D,
+    turns: u32,
+) -> bool
     requires { D.count device.old + turns < 2 ^ 64 }
     ensures { TakesTurns zone.now turns
         (record {

@@ -6,5 +6,6 @@ mod load;
 mod long;
 mod message;
 mod once;
+mod turns;
 mod waiting;
 mod words;

@@ -8,7 +8,7 @@ use dns_serve::StreamRoom;
 use dns_tools::{
     FaultWord, LoadFault, Refusal, Service, Waiting, end_of, exit_status, finish, given_words,
     load_zone, open_file, run_once, say, serve_connections, serve_datagrams, serve_words,
-    status_of_turns, write_refusal,
+    socket_at, status_of_turns, write_refusal,
 };
 use dns_zone::Zone;
 use std::io::{self, BufWriter};
@@ -55,7 +55,10 @@ where
             let outcome = run_once(rt.alloc(), zone, *limit, &mut source, &mut sink);
             return end_of(outcome);
         }
-        Service::Udp { address, turns } => serve_datagrams(rt, zone, address, *turns)?,
+        Service::Udp { address, turns } => {
+            let mut socket = socket_at(rt, address)?;
+            serve_datagrams(rt, zone, &mut socket, *turns)
+        }
         Service::Tcp { address, turns } => {
             // The room of all sessions is taken before the first, and not from the stack.
             let Ok(mut room) = Box::new(rt.alloc(), StreamRoom::new()) else {

@@ -1,6 +1,6 @@
 use Rattle.std.proofs.Common.{◌≤◌, ◌+◌}
 use Rattle.dns_tools.specs.Turns.{TakesTurns}
-use Rattle.dns_tools.proofs.listen.take_turns.Given as goal
+use Rattle.dns_tools.proofs.listen.serve_datagrams.Given as goal
 
 -- so many turns were taken, none of which failed more than once
 abbrev pub invariant-turns : goal.invariant-turns
