@@ -1,5 +1,5 @@
 -- The names that are checked, as a list: what a search among them by keys finds.
-use Rattle.std.proofs.Common.{◌≡◌, ℕ, suc, ◌<◌, ◌≤◌, Bool, true, false, ◌&&◌, not, cond, ◌==◌, nat_lt, ◌⊎◌, inl, inr, List, get_or, zero, drop, length-take, [], ◌∷◌, map, length, take, refl, sym, ap, ap₂, ◌∙◌, subst, arith, filter, is_gt, nat_cmp, Ordering, Less, Equal, Greater}
+use Rattle.std.proofs.Common.{◌≡◌, ℕ, ◌+◌, suc, ◌<◌, ◌≤◌, Bool, true, false, ◌&&◌, not, cond, ◌==◌, nat_lt, ◌⊎◌, inl, inr, List, get_or, zero, drop, length-take, [], ◌∷◌, map, length, take, refl, sym, ap, ap₂, ◌∙◌, subst, arith, filter, is_gt, nat_cmp, Ordering, Less, Equal, Greater}
 use Rattle.std.proofs.lemmas.Bool.{false≢true, true≢false, not-true, and_parts, or_cases, false_from_ne_true, cases_lt}
 use Rattle.std.proofs.lemmas.Cmp.{nat_list_cmp_total, tied_itself, upto}
 use Rattle.std.proofs.lemmas.List.{get_or-take}
@@ -15,14 +15,14 @@ use Rattle.dns_spec.specs.Tree.{is_cut}
 use Rattle.dns_spec.specs.Checks.{at_or_below_cut, checked_names}
 use Rattle.dns_spec.proofs.Records.SortedOnce.{Each, Among, Rises, each_at, each_filter, filter_each, filter_among}
 use Rattle.dns_zone.specs.KeyForm.{name_key}
-use Rattle.dns_zone.specs.NamesForm.{own_in, name_of, IsTopmost, is_covered, is_upto, IsChecked, IsLastUpto}
+use Rattle.dns_zone.specs.NamesForm.{own_in, name_of, IsTopmost, is_covered, is_upto, IsLastAt, IsChecked, IsLastUpto}
 use Rattle.dns_zone.specs.ReportedForm.{owners_once}
 use Rattle.dns_zone.specs.ZoneForm.{IsFront}
 use Rattle.dns_zone.specs.declared.names.CheckedName.{CheckedName}
 use Rattle.dns_zone.proofs.KeyOrder.{key_order}
 use Rattle.dns_zone.proofs.NameOrder.{name_order_total, same-is, tied-same}
 use Rattle.dns_zone.proofs.NameTree.{under-order}
-use Rattle.dns_zone.proofs.Pairs.{Pairs, pairs_of, each_both, each_get, parted, filter_none}
+use Rattle.dns_zone.proofs.Pairs.{Pairs, halves, pairs_of, each_both, each_get, parted, filter_none}
 use Rattle.dns_zone.proofs.ReportedNames.{Lower, one_lower, owners, among_once, among_checked}
 use Rattle.dns_zone.proofs.TopmostCut.{at_cut, covers, covered, uncovered}
 
@@ -58,11 +58,23 @@ last_at R (x ∷ xs) zero d h l = (inl refl, tt)
 last_at R (x ∷ xs) (suc i) d h l =
     (inr (each_get (R x) xs i d h.0 (omega arith)), last_at R xs i d h.1 (omega arith))
 
-get_or_any : {X : Type 0} (xs : List X) (i : ℕ) (d e : X) → i < length xs
+pub get_or_any : {X : Type 0} (xs : List X) (i : ℕ) (d e : X) → i < length xs
     → get_or xs i d ≡ get_or xs i e
 get_or_any [] i d e l = absurd (omega (arith, l))
 get_or_any (x ∷ xs) zero d e l = refl
 get_or_any (x ∷ xs) (suc i) d e l = get_or_any xs i d e (omega arith)
+
+pub last_front : {X : Type 0} (p : X → Bool) (xs : List X) (i : ℕ) → IsPartitionedBy p xs
+    → IsLastAt p xs i → IsFront p xs (i + 1)
+last_front p xs i parts h =
+    let fits = h.fits in
+    let both =
+    halves p xs (i + 1) (omega (arith, fits)) (
+      λ k d a b. parts k i d (omega arith) (omega (arith, fits)) (h.passes d),
+      λ k d a b. false_from_ne_true (p (get_or xs k d)) (λ t.
+          false≢true (sym (h.fails d) ∙ parts (i + 1) k d a b t)),
+    ) in
+    record { bound = omega (arith, fits); passing = both.0; others = both.1 }
 
 pub itself_upto : (n : DomainName) → is_gt (name_order n n) ≡ false
 itself_upto n = ap is_gt (tied_itself name_order_total n)

@@ -1,6 +1,6 @@
 -- What a reader learns here: the names of a zone that are checked, as a list, and what is kept of
 -- each.
-use Rattle.std.specs.Prelude.{◌≡◌, ℕ, ◌<◌, ◌≤◌, ◌==◌, ◌&&◌, not, ◌⊎◌, nat_lt, Bool, true, false, List, [], ◌∷◌, map, length, take}
+use Rattle.std.specs.Prelude.{◌≡◌, ℕ, ◌+◌, get_or, ◌<◌, ◌≤◌, ◌==◌, ◌&&◌, not, ◌⊎◌, nat_lt, Bool, true, false, List, [], ◌∷◌, map, length, take}
 use Rattle.std.specs.List.{starts_with}
 use Rattle.std.specs.Ordering.{is_gt, nat_cmp}
 use Rattle.std.specs.Cmp.Lexicographic.{slice_cmp}
@@ -48,6 +48,12 @@ is_covered k last key = nat_lt 0 k && starts_with ◌==◌ key (take k last)
 -- the key of a name does not stand after this one
 abbrev pub is_upto : Octets → CheckedName → Bool
 is_upto key c = not (is_gt (slice_cmp nat_cmp c.key.now key))
+
+-- the element at place i is the last that passes, and another follows
+pub record IsLastAt {X : Type 0} (p : X → Bool) (xs : List X) (i : ℕ) : Type 0 where
+  pub fits : i + 1 < length xs
+  pub passes : (d : X) → p (get_or xs i d) ≡ true
+  pub fails : (d : X) → p (get_or xs (i + 1) d) ≡ false
 
 -- what is kept of a name
 pub record IsChecked (z : ZoneContents) (n : DomainName) (c : CheckedName) : Type 0 where

@@ -36,16 +36,19 @@ pub(crate) fn faults(
     let names = checked_names(alloc, origin, key.octets(), records, keys.as_slice())?;
     let survey = Survey::new(origin, key.octets(), records, names.as_slice());
     let mut found = Vec::new(alloc);
+    let mut next = 0_usize;
     'names: for one in names.as_slice() {
-        report(&survey, one, &mut found)?;
+        next = next.saturating_add(1);
+        report(&survey, one, next, &mut found)?;
     }
     Ok(found)
 }
 
-// Adds the faults of a name that is checked.
+// Adds the faults of a name that is checked, with the place of the next.
 fn report(
     survey: &Survey<'_>,
     one: &CheckedName<'_>,
+    next: usize,
     found: &mut Vec<CheckFault>,
 ) -> Result<(), AllocError>
     requires { IsChecked survey.now (name_of survey.now one.now) one.now }
@@ -53,8 +56,8 @@ fn report(
         ++ reported_at survey.now (name_of survey.now one.now)) }
 {
     match survey.own(one).first() {
-        Some(first) => report_at(survey, &first.owner(), one, found),
-        None => report_at(survey, survey.origin(), one, found),
+        Some(first) => report_at(survey, &first.owner(), one, next, found),
+        None => report_at(survey, survey.origin(), one, next, found),
     }
 }
 
@@ -63,12 +66,13 @@ fn report_at(
     survey: &Survey<'_>,
     name: &NameRef<'_>,
     one: &CheckedName<'_>,
+    next: usize,
     found: &mut Vec<CheckFault>,
 ) -> Result<(), AllocError>
     requires { IsChecked survey.now name.now one.now }
     ensures { OnOk result (found.new.items ≡ found.old.items ++ reported_at survey.now name.now) }
 {
-    let failed = Owner::new(survey, name, one).judged();
+    let failed = Owner::new(survey, name, one, next).judged();
     add_failed(name, &failed, found)
 }
 

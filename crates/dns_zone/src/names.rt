@@ -1,5 +1,6 @@
 //! The names of a zone that are checked: its origin and all owners, each once, in canonical order.
 ghost use Rattle.std.specs.Prelude.{◌≡◌, ◌≤◌, ◌&&◌, nat_lt, length, IfOk, OnOk};
+ghost use Rattle.std.specs.Bool.{OnTrue};
 ghost use Rattle.std.specs.List.{flat_map};
 ghost use Rattle.std.specs.List.Sorted.{IsNonDecreasingBy, IsPartitionedBy};
 ghost use Rattle.dns_spec.specs.Names.{DomainName, folded};
@@ -8,7 +9,7 @@ ghost use Rattle.dns_spec.specs.Meaning.{most_records};
 ghost use Rattle.dns_spec.specs.Records.{ResourceRecord, ZoneContents, at};
 ghost use Rattle.dns_zone.specs.ZoneForm.{AreOrdered, IsFront};
 ghost use Rattle.dns_zone.specs.KeyForm.{name_key};
-ghost use Rattle.dns_zone.specs.NamesForm.{own_in, is_covered, is_upto, AreChecked, AreOwners, ComesNext, IsTopmost};
+ghost use Rattle.dns_zone.specs.NamesForm.{own_in, is_covered, is_upto, IsLastAt, AreChecked, AreOwners, ComesNext, IsTopmost};
 ghost use Rattle.dns_zone.specs.ReportedForm.{owners_once};
 
 use crate::entry::Entry;
@@ -172,12 +173,31 @@ pub(crate) fn is_covered(cut: usize, last: &[u8], key: &[u8]) -> bool
     cut > 0 && key.starts_with(&last[..cut])
 }
 
-/// How many of the names are not after the one whose key this is.
-pub(crate) fn count_upto(names: &[CheckedName<'_>], key: &[u8]) -> usize
+/// How many of the names are not after the one whose key this is. Whether the one at place `near` is
+/// the last of them is looked at first: a server mostly stands directly after its cut.
+pub(crate) fn count_upto(names: &[CheckedName<'_>], near: usize, key: &[u8]) -> usize
     requires { IsPartitionedBy (is_upto key.now) names.now }
     ensures { IsFront (is_upto key.now) names.now result }
 {
-    names.partition_point(|one| !one.key.cmp(key).is_gt())
+    if is_last_upto(names, near, key) {
+        return near + 1;
+    }
+    names.partition_point(|one| is_upto(one, key))
+}
+
+fn is_last_upto(names: &[CheckedName<'_>], near: usize, key: &[u8]) -> bool
+    ensures { OnTrue result (IsLastAt (is_upto key.now) names.now near) }
+{
+    names.len() > 1
+        && near < names.len() - 1
+        && is_upto(&names[near], key)
+        && !is_upto(&names[near + 1], key)
+}
+
+fn is_upto(one: &CheckedName<'_>, key: &[u8]) -> bool
+    ensures { result ≡ is_upto key.now one.now }
+{
+    !one.key.cmp(key).is_gt()
 }
 
 // Adds the origin, where it owns nothing.
@@ -195,7 +215,7 @@ fn add_origin<'a>(
     ensures { OnOk result (AreChecked (record { origin = origin.now; records = records.now })
         names.new.items) }
 {
-    let place = count_upto(names.as_slice(), key);
+    let place = count_upto(names.as_slice(), names.len(), key);
     if place > 0 && names[place - 1].key == key {
         return Ok(());
     }

@@ -25,6 +25,8 @@ pub(crate) struct Owner<'a> {
     key: &'a [u8],
     own: &'a [Entry],
     is_below_cut: bool,
+    // The place of the next name.
+    next: usize,
     // Whether the name is the zone's origin.
     stands_first: bool,
 }
@@ -46,11 +48,12 @@ impl<'a> Model for Owner<'a> {
 }
 
 impl<'a> Owner<'a> {
-    /// A name of a zone.
+    /// A name of a zone, with the place of the next.
     pub(crate) fn new(
         survey: &'a Survey<'a>,
         name: &'a NameRef<'a>,
         one: &CheckedName<'a>,
+        next: usize,
     ) -> Owner<'a>
         requires { IsChecked survey.now name.now one.now }
         ensures { result ≡ record { zone = survey.now; name = name.now } }
@@ -61,6 +64,7 @@ impl<'a> Owner<'a> {
             key: one.key,
             own: survey.own(one),
             is_below_cut: one.is_below_cut(),
+            next,
             stands_first: name.same(survey.origin()),
         }
     }
@@ -168,7 +172,8 @@ impl<'a> Owner<'a> {
         if listed.rtype != RType::NS {
             return (false, false);
         }
-        self.survey.judged_target(listed, self.name, owner_is_cut)
+        self.survey
+            .judged_target(listed, self.next, self.name, owner_is_cut)
     }
 
     fn has_mx_target_alias(&self) -> bool

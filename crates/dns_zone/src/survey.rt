@@ -90,19 +90,19 @@ impl<'a> Survey<'a> {
     }
 
     // The last of the names that is not after one at or below the origin, whose key this is.
-    fn last_upto(&self, name: &NameRef<'_>, key: &[u8]) -> &'a CheckedName<'a>
+    fn last_upto(&self, name: &NameRef<'_>, near: usize, key: &[u8]) -> &'a CheckedName<'a>
         requires lower { folded name.now ≡ name.now }
         requires inside { at_or_below name.now self.now.origin ≡ true }
         requires key { key.now ≡ name_key name.now }
         ensures { IsLastUpto self.now name.now result.now }
     {
         let names = self.names;
-        &names[count_upto(names, key) - 1]
+        &names[count_upto(names, near, key) - 1]
     }
 
     // The records at a name at or below the origin, whose key this is, by their types, and whether it
     // is at or below a cut (RFC 1034 4.2).
-    fn at(&self, name: &NameRef<'_>, key: &[u8]) -> (&'a [Entry], bool)
+    fn at(&self, name: &NameRef<'_>, near: usize, key: &[u8]) -> (&'a [Entry], bool)
         requires lower { folded name.now ≡ name.now }
         requires inside { at_or_below name.now self.now.origin ≡ true }
         requires key { key.now ≡ name_key name.now }
@@ -110,7 +110,7 @@ impl<'a> Survey<'a> {
         ensures by_types { IsNonDecreasingBy (λ (r : ResourceRecord). r.rtype) result.0.now }
         ensures cut { result.1 ≡ at_or_below_cut self.now name.now }
     {
-        let last = self.last_upto(name, key);
+        let last = self.last_upto(name, near, key);
         if last.key == key {
             return (self.own(last), last.cut > 0);
         }
@@ -135,14 +135,16 @@ impl<'a> Survey<'a> {
             && owns self.now target.now type_cname) }
     {
         is_at_or_below(target, self.origin())
-            && has_type(self.at(target, Key::of(target).octets()).0, RType::CNAME)
+            && has_type(self.at(target, 0, Key::of(target).octets()).0, RType::CNAME)
     }
 
     /// Whether the record's target is a name of the zone that owns a CNAME (RFC 2181 10.3), and
-    /// whether it is one that lacks an address there (RFC 1034 4.2.1). It is looked up once.
+    /// whether it is one that lacks an address there (RFC 1034 4.2.1). It is looked up once, at
+    /// place `near` first.
     pub(crate) fn judged_target(
         &self,
         record: &Entry,
+        near: usize,
         owner: &NameRef<'_>,
         owner_is_cut: bool,
     ) -> (bool, bool)
@@ -156,7 +158,7 @@ impl<'a> Survey<'a> {
             (target record.now.rtype record.now.rdata) false }
     {
         match target(record) {
-            Some(target) => self.judged_name(&target, owner, owner_is_cut),
+            Some(target) => self.judged_name(&target, near, owner, owner_is_cut),
             None => (false, false),
         }
     }
@@ -164,6 +166,7 @@ impl<'a> Survey<'a> {
     fn judged_name(
         &self,
         target: &NameRef<'_>,
+        near: usize,
         owner: &NameRef<'_>,
         owner_is_cut: bool,
     ) -> (bool, bool)
@@ -178,7 +181,7 @@ impl<'a> Survey<'a> {
         if !is_at_or_below(target, self.origin()) {
             return (false, false);
         }
-        let (own, is_under_cut) = self.at(target, Key::of(target).octets());
+        let (own, is_under_cut) = self.at(target, near, Key::of(target).octets());
         let is_lost = !self.has_address(target, own)
             && (!is_under_cut || owner_is_cut && is_at_or_below(target, owner));
         (has_type(own, RType::CNAME), is_lost)

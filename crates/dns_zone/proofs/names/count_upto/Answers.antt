@@ -1,8 +1,14 @@
 use Rattle.std.proofs.Common.{rules}
 use Rattle.std.proofs.lemmas.List.Sorted.{IsPartitionPoint-from_clause}
 use Rattle.dns_zone.specs.NamesForm.{is_upto}
+use Rattle.dns_zone.proofs.CheckedNames.{last_front}
 use Rattle.dns_zone.proofs.Pairs.{halves}
 use Rattle.dns_zone.proofs.names.count_upto.Goals as goal
+
+pub returns-then-is_last_upto : goal.returns-then-is_last_upto
+returns-then-is_last_upto c =
+    last_front (is_upto c.args.key.now) c.args.names.now c.args.near c.requires
+    c.if-is_last_upto.ensures
 
 pub returns : goal.returns
 returns c =
