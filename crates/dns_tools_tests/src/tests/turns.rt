@@ -16,7 +16,8 @@ const REPLY: &[u8] = b"\x12\x34\x84\x00\x00\x01\x00\x01\x00\x00\x00\x00\x02ns\x0
 /// Hands out one query again and again. The call `fails_at`, counted from 0, fails, and later ones
 /// work.
 #[derive(Drop)]
-struct Asker {
+struct Asker<'a> {
+    query: &'a [u8],
     replies: u32,
     others: u32,
     fails_at: u32,
@@ -24,7 +25,7 @@ struct Asker {
     failures: u64,
 }
 
-impl Asker {
+impl Asker<'_> {
     // Whether the next call works.
     fn works(&mut self) -> bool
         ensures { self.new.failures ≡ self.old.failures }
@@ -35,7 +36,7 @@ impl Asker {
     }
 }
 
-impl Datagrams for Asker {
+impl Datagrams for Asker<'_> {
     ghost received = { λ _. None };
 
     ghost sent = { λ _. None };
@@ -49,8 +50,9 @@ impl Datagrams for Asker {
             self.failures += 1;
             return Err(Failed);
         }
-        buf[..QUERY.len()].copy_from_slice(QUERY);
-        Ok(QUERY.len())
+        let count = self.query.len().min(512);
+        buf[..count].copy_from_slice(&self.query[..count]);
+        Ok(count)
     }
 
     fn send(&mut self, reply: &[u8]) -> Result<(), Failed> {
@@ -79,6 +81,7 @@ fn turns_go_on_after_one_that_fails(rt: HostRuntime) -> Result<(), Fail> {
     // Which call fails, how many replies are sent in three turns, and how many calls are made.
     for (fails_at, replies, calls) in [(9, 3, 6), (0, 2, 5), (3, 2, 6), (5, 2, 6)] {
         let mut asker = Asker {
+            query: QUERY,
             replies: 0,
             others: 0,
             fails_at,
