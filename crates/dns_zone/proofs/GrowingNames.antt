@@ -222,7 +222,9 @@ module _ (z : ZoneContents) (low : folded z.origin ≡ z.origin) (ordered : AreO
   o = z.origin
 
   rise : Rises name_order (map (name_of z) names)
-  rise = subst (Rises name_order) (sym are.all) (once_rise z.records (owners_in_order z.records ordered))
+  rise =
+      subst (Rises name_order) (sym are.all)
+      (once_rise z.records (owners_in_order z.records ordered))
 
   pub owners_parted : IsPartitionedBy (is_upto key) names
   owners_parted = upto_parted z names are.each rise o low key key_is
@@ -235,7 +237,8 @@ module _ (z : ZoneContents) (low : folded z.origin ≡ z.origin) (ordered : AreO
         let h = last_checked z names are.each rise o low key key_is k front i next c is in
         let name = one_key (name_of z c) o h.owner.lower low (sym h.key ∙ e ∙ key_is) in
         let bound = front.bound in
-        let in_names = subst (λ x. Among x names) (sym is) (among_get names i c (omega (arith, bound, next))) in
+        let in_names =
+        subst (λ x. Among x names) (sym is) (among_get names i c (omega (arith, bound, next))) in
         record {
           each = are.each;
           all = names_checked z (map (name_of z) names) rise
@@ -260,7 +263,8 @@ module _ (z : ZoneContents) (low : folded z.origin ≡ z.origin) (ordered : AreO
           let (c, b, e) = among_map (name_of z) o names (subst (Among o) (sym are.all) m) in
           let there = upto_among z names are.each rise o low key key_is k front c b
           (equal_upto (name_of z c) o (sym e)) in
-          true≢false (sym (ap is_lt (each_at (λ d. name_order (name_of z d) o ≡ Less) c (take k names) before there))
+          true≢false (sym (ap is_lt (each_at (λ d. name_order (name_of z d) o ≡ Less) c
+          (take k names) before there))
           ∙ ap (λ n. is_lt (name_order n o)) (sym e) ∙ ap is_lt (tied_itself name_order_total o))
 
       pub origin_added : (b : Bor Octets) → b.now ≡ key

@@ -34,8 +34,8 @@ pub record IsCutAbove (z : ZoneContents) (n : DomainName) (k : ℕ) : Type 0 whe
   pub above : at_or_below n cut ≡ true
   pub octets : k ≡ length (name_key cut)
 
--- The key of the topmost cut that a name is at or below has k octets: no other such cut has fewer. It
--- is 0 where there is none.
+-- The key of the topmost cut that a name is at or below has k octets: no other such cut has fewer.
+-- It is 0 where there is none.
 pub record IsTopmost (z : ZoneContents) (n : DomainName) (k : ℕ) : Type 0 where
   pub some : 0 < k → IsCutAbove z n k
   pub least : (c : DomainName) → folded c ≡ c → is_cut z c ≡ true → at_or_below n c ≡ true
@@ -73,8 +73,8 @@ pub record AreOwners (z : ZoneContents) (names : List CheckedName) : Type 0 wher
   pub each : Each (λ c. IsChecked z (name_of z c) c) names
   pub all : map (name_of z) names ≡ owners_once z.records
 
--- An owner n that comes next in order after a name o, with the keys of both and of the origin: a cut
--- that it is at or below is not after o, or the owner itself.
+-- An owner n that comes next in order after a name o, with the keys of both and of the origin: a
+-- cut that it is at or below is not after o, or the owner itself.
 pub record ComesNext (z : ZoneContents) (o n : DomainName) (cut : ℕ)
     (origin last key : Octets) (own : List ResourceRecord) : Type 0 where
   pub origin_key : origin ≡ name_key z.origin

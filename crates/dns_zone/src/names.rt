@@ -28,8 +28,8 @@ pub(crate) struct CheckedName<'a> {
     pub(crate) first: u32,
     /// The record after its own. The origin may have none.
     pub(crate) end: u32,
-    /// How many octets the key has of the topmost cut that the name is at or below; 0 where it is at
-    /// or below none.
+    /// How many octets the key has of the topmost cut that the name is at or below; 0 where it is
+    /// at or below none.
     pub(crate) cut: usize,
 }
 
@@ -45,7 +45,8 @@ impl<'a> CheckedName<'a> {
 
     /// Whether it is below the topmost cut that it is at or below.
     pub(crate) fn is_below_cut(&self) -> bool
-        ensures { result ≡ (nat_lt 0 self.now.cut && nat_lt self.now.cut (length self.now.key.now)) }
+        ensures { result ≡ (nat_lt 0 self.now.cut
+            && nat_lt self.now.cut (length self.now.key.now)) }
     {
         0 < self.cut && self.cut < self.key.len()
     }
@@ -138,8 +139,8 @@ fn owners<'a>(
     Ok(names)
 }
 
-// How many octets the key has of the topmost cut that an owner is at or below, where that of the name
-// before it has so many.
+// How many octets the key has of the topmost cut that an owner is at or below, where that of the
+// name before it has so many.
 fn cut_of(origin: &[u8], last: &[u8], cut: usize, key: &[u8], own: &[Entry]) -> usize
     requires fits { cut ≤ length last.now }
     requires by_types { IsNonDecreasingBy (λ (r : ResourceRecord). r.rtype) own.now }
@@ -173,8 +174,8 @@ pub(crate) fn is_covered(cut: usize, last: &[u8], key: &[u8]) -> bool
     cut > 0 && key.starts_with(&last[..cut])
 }
 
-/// How many of the names are not after the one whose key this is. Whether the one at place `near` is
-/// the last of them is looked at first: a server mostly stands directly after its cut.
+/// How many of the names are not after the one whose key this is. Whether the one at place `near`
+/// is the last of them is looked at first: a server mostly stands directly after its cut.
 pub(crate) fn count_upto(names: &[CheckedName<'_>], near: usize, key: &[u8]) -> usize
     requires { IsPartitionedBy (is_upto key.now) names.now }
     ensures { IsFront (is_upto key.now) names.now result }

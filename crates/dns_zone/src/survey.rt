@@ -53,7 +53,8 @@ impl<'a> Survey<'a> {
     ) -> Survey<'a>
         requires key { key.now ≡ name_key origin.now }
         requires lower { folded origin.now ≡ origin.now }
-        requires names { AreChecked (record { origin = origin.now; records = records.now }) names.now }
+        requires names { AreChecked (record { origin = origin.now; records = records.now })
+            names.now }
         ensures { result ≡ record { origin = origin.now; records = records.now } }
     {
         Survey {
@@ -100,8 +101,8 @@ impl<'a> Survey<'a> {
         &names[count_upto(names, near, key) - 1]
     }
 
-    // The records at a name at or below the origin, whose key this is, by their types, and whether it
-    // is at or below a cut (RFC 1034 4.2).
+    // The records at a name at or below the origin, whose key this is, by their types, and whether
+    // it is at or below a cut (RFC 1034 4.2).
     fn at(&self, name: &NameRef<'_>, near: usize, key: &[u8]) -> (&'a [Entry], bool)
         requires lower { folded name.now ≡ name.now }
         requires inside { at_or_below name.now self.now.origin ≡ true }
