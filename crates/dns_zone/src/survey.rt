@@ -119,11 +119,11 @@ impl<'a> Survey<'a> {
     }
 
     /// Whether the record's target is a name of the zone that owns a CNAME (RFC 2181 10.3).
-    pub(crate) fn is_target_alias(&self, record: &Entry) -> bool
+    pub(crate) fn is_target_alias(&self, entry: &Entry) -> bool
         ensures { result ≡ option_map_or (λ m. at_or_below m self.now.origin
-            && owns self.now m type_cname) (target record.now.rtype record.now.rdata) false }
+            && owns self.now m type_cname) (target entry.now.rtype entry.now.rdata) false }
     {
-        match target(record) {
+        match target(entry) {
             Some(target) => self.is_alias(&target),
             None => false,
         }
@@ -144,7 +144,7 @@ impl<'a> Survey<'a> {
     /// place `near` first.
     pub(crate) fn judged_target(
         &self,
-        record: &Entry,
+        entry: &Entry,
         near: usize,
         owner: &NameRef<'_>,
         owner_is_cut: bool,
@@ -153,12 +153,12 @@ impl<'a> Survey<'a> {
         requires lower { folded owner.now ≡ owner.now }
         ensures alias { result.0 ≡ option_map_or
             (λ m. at_or_below m self.now.origin && owns self.now m type_cname)
-            (target record.now.rtype record.now.rdata) false }
+            (target entry.now.rtype entry.now.rdata) false }
         ensures lost { result.1 ≡ option_map_or
             (λ m. at_or_below m self.now.origin && lacks_address self.now owner.now m)
-            (target record.now.rtype record.now.rdata) false }
+            (target entry.now.rtype entry.now.rdata) false }
     {
-        match target(record) {
+        match target(entry) {
             Some(target) => self.judged_name(&target, near, owner, owner_is_cut),
             None => (false, false),
         }
