@@ -23,7 +23,7 @@ use Rattle.dns_answer.specs.Ending.{Ends, all_names, inside, not_inside, ending_
 use Rattle.dns_answer.specs.declared.ending.Verdict.{Verdict}
 use Rattle.dns_answer.proofs.Offering.{Offers-is, Offers-nothing, Offers-then, Offers-full}
 use Rattle.dns_answer.proofs.TargetLaws.{side_items-none, items-untaken}
-use Rattle.dns_answer.proofs.WayLaws.{set-owned}
+use Rattle.dns_zone.proofs.WayLaws.{set-owned}
 use Rattle.dns_zone.specs.Nodes.{Walk, ZoneNode, IsSetOf}
 use Rattle.dns_spec.specs.Reading.{no_error}
 use Rattle.dns_answer.proofs.EndingSets.{targets_of_set, item-shown}

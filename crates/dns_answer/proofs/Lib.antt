@@ -1,9 +1,7 @@
 pub mod Offered
 pub mod Offering
-pub mod WayLaws
 pub mod WaySteps
 pub mod LongWays
-pub mod LabelStarts
 pub mod TargetLaws
 pub mod EndingSets
 pub mod Endings

@@ -3,9 +3,11 @@ use Rattle.std.proofs.Common.{◌≡◌, ℕ, zero, suc, Bool, true, ◌+◌, �
 use Rattle.dns_spec.specs.Names.{Octets, DomainName, at_or_below}
 use Rattle.dns_spec.specs.Records.{ZoneContents}
 use Rattle.dns_zone.specs.Nodes.{ZoneNode}
-use Rattle.dns_answer.specs.declared.sought.Sought.{Sought}
-use Rattle.dns_answer.specs.Walks.{IsThere, IsMissing, IsBelow, IsBelowCut, IsStart}
-use Rattle.dns_answer.proofs.WayLaws.{above_under}
+use Rattle.dns_zone.specs.declared.sought.Sought.{Sought}
+use Rattle.dns_zone.specs.Starts.{IsBelow}
+use Rattle.dns_answer.specs.Walks.{IsThere, IsMissing, IsBelowCut, IsStart, IsUncut}
+use Rattle.dns_zone.proofs.NameTree.{under-trans}
+use Rattle.dns_zone.proofs.WayLaws.{above_under}
 use Rattle.dns_answer.proofs.WaySteps.{there-at_start, cut-further, missing-further}
 
 -- what is known of a name above holds of the whole name
@@ -28,15 +30,16 @@ under-drop (suc k) (l ∷ n) a h len =
     under-drop k n a (above_under l n a (length n - length a) h (omega (arith, longer))) (omega (arith, len))
 
 -- the name above, where the way begins
-pub there-above : (z : ZoneContents) (start : ZoneNode) (ends : Bool) (s : Sought) → IsStart z start → (ends ≡ true → start.name ≡ z.origin) → IsBelow s start.name → IsThere z start ends (drop s.depth s.name) None
-there-above z start ends s begins origin below =
-    there-at_start z start ends (drop s.depth s.name) begins origin (under-drop s.depth s.name start.name below.below (omega (arith, below.labels))) (omega (arith, length-drop s.depth s.name, below.labels))
+pub there-above : (z : ZoneContents) (start : ZoneNode) (ends : Bool) (s : Sought) → IsStart z start → (ends ≡ true → IsUncut z start.name) → IsBelow s start.name → IsThere z start ends (drop s.depth s.name) None
+there-above z start ends s begins uncut below =
+    there-at_start z start ends (drop s.depth s.name) begins uncut (under-drop s.depth s.name start.name below.below (omega (arith, below.labels))) (omega (arith, length-drop s.depth s.name, below.labels))
 
 -- below it no name is above the origin, where the way ends at cuts
-pub under-origin : (z : ZoneContents) (start : ZoneNode) (ends : Bool) (s : Sought) (k : ℕ) → (ends ≡ true → start.name ≡ z.origin) → IsBelow s start.name → k ≤ s.depth
+pub under-origin : (z : ZoneContents) (start : ZoneNode) (ends : Bool) (s : Sought) (k : ℕ) → (ends ≡ true → IsUncut z start.name) → IsBelow s start.name → k ≤ s.depth
     → ends ≡ true → at_or_below (drop k s.name) z.origin ≡ true
-under-origin z start ends s k origin below few ending =
-    subst (λ a. at_or_below (drop k s.name) a ≡ true) (origin ending) (under-drop k s.name start.name below.below (omega (arith, below.labels, few)))
+under-origin z start ends s k uncut below few ending =
+    under-trans (drop k s.name) start.name z.origin
+    (under-drop k s.name start.name below.below (omega (arith, below.labels, few))) (uncut ending).inside
 
 -- the label before so many others
 pub label-before : (n labels : DomainName) (l : Octets) (b : ℕ) → labels ≡ n → 0 < b → drop (b - 1) labels ≡ l ∷ drop (b - 1 + 1) labels → drop (b - 1) n ≡ l ∷ drop b n

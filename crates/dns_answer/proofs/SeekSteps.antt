@@ -19,7 +19,7 @@ use Rattle.dns_answer.specs.Ending.{Ends, TookTargets, nodes_by, ending_targets}
 use Rattle.dns_answer.specs.Walks.{AreRecords, Took}
 use Rattle.dns_answer.specs.Chain.{chain_items, chain_required}
 use Rattle.dns_answer.specs.Seeking.{names_of, aliases_left, SeeksFrom, TookFrom, alias_target, NextIs, Completes}
-use Rattle.dns_answer.specs.declared.sought.Sought.{Sought}
+use Rattle.dns_zone.specs.declared.sought.Sought.{Sought}
 use Rattle.dns_answer.specs.declared.ending.Verdict.{Verdict}
 use Rattle.std.specs.Prelude.{◌==◌, All, drop}
 use Rattle.std.proofs.lemmas.List.Elements.{All-nil, All-cons, All-head, All-tail, All-append}

@@ -16,7 +16,7 @@ use Rattle.dns_spec.proofs.Replies.FewItems.{item_records}
 use Rattle.dns_zone.proofs.NameOrder.{same-is, same-from}
 use Rattle.dns_answer.specs.Targets.{addresses_of, target_items, side_items}
 use Rattle.dns_answer.specs.Ending.{all_names}
-use Rattle.dns_answer.proofs.WayLaws.{at-folded}
+use Rattle.dns_zone.proofs.WayLaws.{at-folded}
 
 abbrev is_at : DomainName → ℕ → ResourceRecord → Bool
 is_at n t r = same r.owner n && r.rtype == t

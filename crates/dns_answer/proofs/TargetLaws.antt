@@ -26,7 +26,7 @@ use Rattle.dns_spec.proofs.Records.RecordOrder.{each_all}
 use Rattle.dns_spec.proofs.Replies.FewItems.{sum_cons}
 use Rattle.dns_zone.proofs.NameOrder.{same-from}
 use Rattle.dns_zone.proofs.NameTree.{same-under, itself-under}
-use Rattle.dns_answer.proofs.WayLaws.{at-folded}
+use Rattle.dns_zone.proofs.WayLaws.{at-folded}
 use Rattle.dns_answer.specs.Walks.{Took}
 use Rattle.dns_answer.specs.DraftForm.{State, Offers}
 use Rattle.dns_answer.proofs.Offering.{Offers-is, Offers-then, Offers-full}
@@ -118,17 +118,17 @@ unfolding side_items
 side_items-none z p = refl
 
 -- and what that takes
-abbrev depth_in : ZoneContents → DomainName → ℕ
-depth_in z m = length m - length z.origin
+abbrev labels_below : ZoneContents → DomainName → ℕ
+labels_below z m = length m - length z.origin
 
 side_nodes-cons : (z : ZoneContents) (p : DomainName → Bool) (m : DomainName) (ms : List DomainName) → side_nodes z p (m ∷ ms) ≡ target_nodes z p (Some m) + side_nodes z p ms
 side_nodes-cons z p m ms = go (p m)
   where
-    inner : (b : Bool) → sum (map (depth_in z) (cond b (m ∷ targets_in_zone z (filter p ms)) (targets_in_zone z (filter p ms)))) ≡ cond b (length m - length z.origin) 0 + side_nodes z p ms
-    inner true = sum_cons (depth_in z m) (map (depth_in z) (targets_in_zone z (filter p ms)))
+    inner : (b : Bool) → sum (map (labels_below z) (cond b (m ∷ targets_in_zone z (filter p ms)) (targets_in_zone z (filter p ms)))) ≡ cond b (length m - length z.origin) 0 + side_nodes z p ms
+    inner true = sum_cons (labels_below z m) (map (labels_below z) (targets_in_zone z (filter p ms)))
     inner false = omega arith
 
-    go : (a : Bool) → sum (map (depth_in z) (targets_in_zone z (cond a (m ∷ filter p ms) (filter p ms)))) ≡ cond (a && at_or_below m z.origin) (length m - length z.origin) 0 + side_nodes z p ms
+    go : (a : Bool) → sum (map (labels_below z) (targets_in_zone z (cond a (m ∷ filter p ms) (filter p ms)))) ≡ cond (a && at_or_below m z.origin) (length m - length z.origin) 0 + side_nodes z p ms
     go true = inner (at_or_below m z.origin)
     go false = omega arith
 
@@ -319,3 +319,13 @@ longer-below n a h = leb-true (length a) (length n) (and_parts (nat_le (length a
 -- names in lower case are the same where they are equal
 pub same-lower : (n m : DomainName) → folded n ≡ n → folded m ≡ m → names_equal n m ≡ same n m
 same-lower n m low kept = sym (ap₂ names_equal low kept)
+
+-- a name has few labels
+pub target-few : (z : ZoneContents) (p : DomainName → Bool) (o : Option DomainName)
+    (m : DomainName) → o ≡ Some m → length m ≤ 127 → target_nodes z p o ≤ 127
+target-few z p o m e few =
+    subst (λ x. target_nodes z p x ≤ 127) (sym e) (go (p m && at_or_below m z.origin))
+  where
+    go : (b : Bool) → cond b (length m - length z.origin) 0 ≤ 127
+    go true = omega (arith, few)
+    go false = omega arith

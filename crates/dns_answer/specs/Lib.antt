@@ -1,6 +1,5 @@
 pub mod Draft
 pub mod DraftForm
-pub mod Starts
 pub mod Walks
 pub mod Targets
 pub mod Ending

@@ -11,7 +11,7 @@ use Rattle.dns_zone.specs.Nodes.{Walk}
 use Rattle.dns_wire.specs.QueryForm.{code_of}
 use Rattle.dns_answer.specs.Draft.{empty_draft}
 use Rattle.dns_answer.specs.DraftForm.{State, Holds, Offers}
-use Rattle.dns_answer.specs.Walks.{IsBelow}
+use Rattle.dns_zone.specs.Starts.{IsBelow}
 use Rattle.dns_answer.specs.declared.reply.Judged.{Judged}
 use Rattle.dns_answer.specs.declared.reply.Judged.TheVariants.{Refused, Answered}
 

@@ -1,6 +1,6 @@
 -- What a reader learns here: what seeking a name has offered, and what the header says of it.
 use Rattle.std.specs.Prelude.{◌≡◌, ◌⊎◌, ℕ, ◌-◌, ◌≤◌, ◌<◌, Bool, true, false, ◌&&◌, not, List, [], ◌∷◌, length, map, reverse, get_or, if◌then◌else◌}
-use Rattle.std.specs.Prelude.{Option, None, Some}
+use Rattle.std.specs.Prelude.{Option, None, Some, IfSome}
 use Rattle.std.specs.Option.{is_some, option_and_then}
 use Rattle.std.specs.List.{list_any}
 use Rattle.dns_spec.specs.Names.{DomainName, folded, same, at_or_below}
@@ -8,17 +8,18 @@ use Rattle.dns_spec.specs.Data.{target, type_cname}
 use Rattle.dns_spec.specs.Sets.{RecordSet, set_of}
 use Rattle.dns_spec.specs.Records.{ZoneContents, ResourceRecord, of_type}
 use Rattle.dns_spec.specs.Answer.{follows_alias, alias_set, has_any, asked_records}
-use Rattle.dns_zone.specs.Nodes.{Walk}
+use Rattle.dns_zone.specs.Nodes.{Walk, ZoneNode}
 use Rattle.dns_wire.specs.QueryForm.{code_of}
 use Rattle.dns_answer.specs.Draft as spec
 use Rattle.dns_answer.specs.Draft.{offered}
 use Rattle.dns_answer.specs.DraftForm.{State, Holds, Offers}
-use Rattle.dns_answer.specs.Walks.{Took, IsBelow}
+use Rattle.dns_zone.specs.Starts.{IsBelow}
+use Rattle.dns_answer.specs.Walks.{Took, IsLeadTo}
 use Rattle.dns_answer.specs.Chain.{chain_items, chain_required, chain_outcome, chain_nodes, chain_misses}
 use Rattle.dns_answer.specs.declared.ending.Verdict.{Verdict}
 use Rattle.dns_answer.specs.declared.chain.Next.{Next}
 use Rattle.dns_answer.specs.declared.chain.Next.TheVariants as nexts
-use Rattle.dns_answer.specs.declared.sought.Sought.{Sought}
+use Rattle.dns_zone.specs.declared.sought.Sought.{Sought}
 
 -- the names that were sought, the last one first
 abbrev pub names_of : List Sought → List DomainName
@@ -65,10 +66,11 @@ pub record Completes (w w' : State) (s s' : Walk) (z : ZoneContents) (t : ℕ)
 
 -- The name has an alias, which leads to the name m.
 pub record LeadsTo (w w' : State) (s s' : Walk) (t : ℕ) (before : List DomainName) (n : DomainName)
-    (m : Sought) : Type 0 where
+    (m : Sought) (l : Option ZoneNode) : Type 0 where
   pub more : length before < 16
   pub below : IsBelow m s.zone.origin
   pub lower : folded m.name ≡ m.name
+  pub lead : IfSome l (IsLeadTo s.zone true)
   pub alias : (follows_alias t && has_any (alias_set s.zone n)) ≡ true
   pub took : Took s s' 127 2
   pub completes : Completes w w' s s' s.zone t before (n ∷ before) n m.name
@@ -76,7 +78,7 @@ pub record LeadsTo (w w' : State) (s s' : Walk) (t : ℕ) (before : List DomainN
 abbrev pub SoughtAs : State → State → Walk → Walk → ℕ → List DomainName → DomainName → Next
     → Type 0
 SoughtAs w w' s s' t before n (nexts.Last v) = IsLast w w' s s' t before n v
-SoughtAs w w' s s' t before n (nexts.Alias m) = LeadsTo w w' s s' t before n m
+SoughtAs w w' s s' t before n (nexts.Alias m lead) = LeadsTo w w' s s' t before n m lead
 
 -- no alias among the records is followed
 abbrev pub HasNoAlias : ℕ → List ResourceRecord → Type 0

@@ -10,11 +10,6 @@ use Rattle.dns_spec.specs.Layout.{Item, additional}
 use Rattle.dns_spec.specs.Answer.{item, targets_in_zone}
 use Rattle.dns_answer.specs.declared.addresses.Side.{Side}
 use Rattle.dns_answer.specs.declared.addresses.Side.TheVariants.{All, Inside, Outside}
-use Rattle.dns_answer.specs.declared.addresses.Start.{Start}
-use Rattle.dns_answer.specs.declared.addresses.Start.TheVariants.{NotMeant, Elsewhere, Node}
-use Rattle.dns_answer.specs.Walks.{IsStart, IsBelow}
-use Rattle.dns_answer.specs.declared.sought.Sought.{Sought}
-use Rattle.dns_zone.specs.Nodes.{ZoneNode}
 
 -- the targets of a set
 abbrev pub set_targets : RecordSet → List DomainName
@@ -26,34 +21,8 @@ targets_of_first k set = filter_map (λ (d : Octets). target set.rtype d) (take 
 
 abbrev pub side_takes : Side → DomainName → Bool
 side_takes All m = true
-side_takes (Inside cut node) m = at_or_below m cut.now
+side_takes (Inside cut) m = at_or_below m cut.now
 side_takes (Outside cut) m = not (at_or_below m cut.now)
-
--- the node from which the targets inside of a cut are sought is the cut's
-pub record IsCutNode (z : ZoneContents) (cut : DomainName) (node : ZoneNode) : Type 0 where
-  pub start : IsStart z node
-  pub name : node.name ≡ cut
-  pub below : at_or_below cut z.origin ≡ true
-
-abbrev pub IsSide : ZoneContents → Side → Type 0
-IsSide z All = ⊤
-IsSide z (Inside cut node) = IsCutNode z cut.now node.now
-IsSide z (Outside cut) = ⊤
-
--- a target that is meant and in the zone is sought from this node
-pub record IsSoughtFrom (z : ZoneContents) (side : Side) (m : DomainName) (node : ZoneNode)
-    (sought : Sought) : Type 0 where
-  pub name : sought.name ≡ m
-  pub meant : side_takes side m ≡ true
-  pub inside : at_or_below m z.origin ≡ true
-  pub start : IsStart z node
-  pub below : IsBelow sought node.name
-  pub fewer : sought.depth + length z.origin ≤ length m
-
-abbrev pub SoughtFrom : ZoneContents → Side → DomainName → Start → Type 0
-SoughtFrom z side m NotMeant = side_takes side m ≡ false
-SoughtFrom z side m Elsewhere = (side_takes side m ≡ true) × (at_or_below m z.origin ≡ false)
-SoughtFrom z side m (Node node sought) = IsSoughtFrom z side m node.now sought
 
 -- a target, if there is one, passes a test
 abbrev pub takes_target : (DomainName → Bool) → Option DomainName → Bool
@@ -82,7 +51,10 @@ side_items z p before (m ∷ ms) = target_items z p before (Some m)
 abbrev pub side_nodes : ZoneContents → (DomainName → Bool) → List DomainName → ℕ
 side_nodes z p ms = sum (map (λ m. length m - length z.origin) (targets_in_zone z (filter p ms)))
 
--- on the way to one of them
+-- on the way to a name, and to one of the targets
+abbrev pub depth_in : ZoneContents → DomainName → ℕ
+depth_in z m = if at_or_below m z.origin then length m - length z.origin else 0
+
 abbrev pub target_nodes : ZoneContents → (DomainName → Bool) → Option DomainName → ℕ
 target_nodes z p None = 0
 target_nodes z p (Some m) = if p m && at_or_below m z.origin then length m - length z.origin else 0

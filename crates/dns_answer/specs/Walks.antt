@@ -1,19 +1,20 @@
 -- What a reader learns here: where the way down to a name ends, what is found for it, and what
 -- that took.
-use Rattle.std.specs.Prelude.{◌≡◌, ℕ, ◌+◌, ◌*◌, ◌≤◌, Bool, true, false, length, if◌then◌else◌}
+use Rattle.std.specs.Prelude.{◌≡◌, ℕ, ◌+◌, ◌*◌, ◌<◌, ◌≤◌, Bool, true, false, length, if◌then◌else◌}
 use Rattle.std.specs.Prelude.{Option, None, Some}
 use Rattle.std.specs.Option.{unwrap_or}
 use Rattle.dns_spec.specs.Names.{DomainName, folded, at_or_below}
 use Rattle.dns_spec.specs.Records.{ZoneContents, at, with_owner}
 use Rattle.dns_spec.specs.Tree.{exists, cut_of, closest_encloser, found}
 use Rattle.dns_zone.specs.Nodes.{Walk, ZoneNode, IsNode}
+use Rattle.dns_zone.specs.Starts.{IsBelow}
 use Rattle.dns_answer.specs.declared.lookup.Way.{Way}
 use Rattle.dns_answer.specs.declared.lookup.Way.TheVariants as ways
 use Rattle.dns_answer.specs.declared.lookup.Found.{Found}
 use Rattle.dns_answer.specs.declared.lookup.Found.TheVariants as finds
 use Rattle.dns_answer.specs.declared.lookup.Cuts.{Cuts}
 use Rattle.dns_answer.specs.declared.lookup.Cuts.TheVariants.{End, Pass}
-use Rattle.dns_answer.specs.declared.sought.Sought.{Sought}
+use Rattle.dns_zone.specs.declared.sought.Sought.{Sought}
 
 -- the node of a name
 abbrev pub node_of : ZoneContents → DomainName → ZoneNode
@@ -28,16 +29,30 @@ pub record IsApex (z : ZoneContents) (apex : ZoneNode) : Type 0 where
   pub node : apex ≡ node_of z z.origin
   pub exists : IsNode z z.origin
 
--- the name is so many labels below another one
-pub record IsBelow (s : Sought) (ancestor : DomainName) : Type 0 where
-  pub below : at_or_below s.name ancestor ≡ true
-  pub labels : length s.name ≡ length ancestor + s.depth
-  pub few : length s.name ≤ 127
-
 -- a node from which the way down to a name begins
 pub record IsStart (z : ZoneContents) (start : ZoneNode) : Type 0 where
   pub zone : start.zone ≡ z
   pub exists : IsNode z start.name
+
+-- a name at or below the origin, where no cut is at or above it
+pub record IsUncut (z : ZoneContents) (n : DomainName) : Type 0 where
+  pub inside : at_or_below n z.origin ≡ true
+  pub no_cut : cut_of z n ≡ None
+
+-- a node below the origin at which a way may begin, also one that ends at cuts
+pub record IsLeadTo (z : ZoneContents) (ends : Bool) (v : ZoneNode) : Type 0 where
+  pub start : IsStart z v
+  pub inside : at_or_below v.name z.origin ≡ true
+  pub longer : length z.origin < length v.name
+  pub uncut : ends ≡ true → cut_of z v.name ≡ None
+
+-- a lead that a name is at or below was handed out
+pub record IsBegun (s s' : Walk) (m : DomainName) (lead : Option ZoneNode) (sought : Sought)
+    (node : ZoneNode) : Type 0 where
+  pub name : sought.name ≡ m
+  pub at : lead ≡ Some node
+  pub below : IsBelow sought node.name
+  pub visits : s' ≡ record s { visits = s.visits + 1 }
 
 abbrev pub ends_at_cuts : Cuts → Bool
 ends_at_cuts End = true

@@ -1,5 +1,5 @@
 //! Addresses of the targets of a set (RFC 1034 4.3.2 step 6).
-ghost use Rattle.std.specs.Prelude.{◌≡◌, ℕ, ◌+◌, ◌*◌, ◌≤◌, ◌<◌, ◌⊎◌, [], ◌∷◌, ◌++◌, length, take, get_or, map, true, false, not, IsTrue};
+ghost use Rattle.std.specs.Prelude.{◌≡◌, ℕ, ◌+◌, ◌*◌, ◌≤◌, ◌<◌, ◌⊎◌, [], ◌∷◌, ◌++◌, length, take, get_or, map, true, false, not, IsTrue, IfSome};
 ghost use Rattle.std.specs.List.{list_any, list_all, filter};
 ghost use Rattle.dns_spec.specs.Names.{same, at_or_below, folded};
 ghost use Rattle.dns_spec.specs.Data.{target};
@@ -7,65 +7,38 @@ ghost use Rattle.dns_spec.specs.Answer.{item};
 ghost use Rattle.dns_spec.specs.Records.{rrset};
 ghost use Rattle.dns_spec.specs.Layout.{additional};
 ghost use Rattle.dns_spec.specs.Sets.{HasValidData};
-ghost use Rattle.dns_answer.specs.Walks.{IsApex, IsBelow, IsStart, HasRoom, Took};
+ghost use Rattle.dns_zone.specs.Starts.{IsBelow};
+ghost use Rattle.dns_answer.specs.Walks.{IsApex, IsStart, IsLeadTo, HasRoom, Took};
 ghost use Rattle.dns_answer.specs.DraftForm.{Offers};
-ghost use Rattle.dns_answer.specs.Targets.{addresses_of, IsSide, SoughtFrom, side_items, side_nodes, side_takes, takes_target, set_targets, targets_of_first, target_items, target_nodes, target_misses};
+ghost use Rattle.dns_answer.specs.Targets.{addresses_of, depth_in, side_items, side_nodes, side_takes, takes_target, set_targets, targets_of_first, target_items, target_nodes, target_misses};
 
 use crate::draft::Draft;
-use crate::lookup::{Cuts, Way, or_start, walk};
-use crate::sought::Sought;
+use crate::lookup::{Cuts, Way, begin, or_start, walk};
 use dns_name::NameRef;
 use dns_rdata::{RType, SetView};
 use dns_wire::Section;
-use dns_zone::{Node, RecordSet, Steps};
+use dns_zone::{Lead, Node, RecordSet, Sought, Steps};
 
 /// Which targets are meant: all, or those at or below a cut, or the others.
 #[derive(Clone, Copy)]
-pub(crate) enum Side<'c, 'n, 'z> {
+pub(crate) enum Side<'c, 'n> {
     /// All of them.
     All,
-    /// Those at or below the cut, without whose addresses the asker gets no further. This is the
-    /// cut's node, from which the ways to them are shorter.
-    Inside(&'c NameRef<'n>, &'c Node<'z>),
+    /// Those at or below the cut, without whose addresses the asker gets no further.
+    Inside(&'c NameRef<'n>),
     /// Those that are not.
     Outside(&'c NameRef<'n>),
 }
 
-// From where a target is sought.
-#[derive(Drop)]
-enum Start<'c, 'z> {
-    // It is not meant.
-    NotMeant,
-    // It is not in the zone.
-    Elsewhere,
-    // From this node.
-    Node(&'c Node<'z>, Sought<'z>),
-}
-
-impl<'c, 'z> Side<'c, '_, 'z> {
-    // From where the target is sought, if it is meant.
-    #[inline(always)]
-    fn start(self, target: &NameRef<'z>, origin: &NameRef<'_>, apex: &'c Node<'z>) -> Start<'c, 'z>
-        requires apex { IsApex apex.now.zone apex.now }
-        requires origin { origin.now ≡ apex.now.zone.origin }
-        requires side { IsSide apex.now.zone self }
-        ensures { SoughtFrom apex.now.zone self.entry target.now result }
+impl Side<'_, '_> {
+    // Whether the target is meant.
+    fn takes(self, target: &NameRef<'_>) -> bool
+        ensures { result ≡ side_takes self.entry target.now }
     {
         match self {
-            Side::Inside(cut, node) => match Sought::below(target, cut) {
-                Some(sought) => return Start::Node(node, sought),
-                None => return Start::NotMeant,
-            },
-            Side::Outside(cut) => {
-                if target.at_or_below(cut) {
-                    return Start::NotMeant;
-                }
-            }
-            Side::All => {}
-        }
-        match Sought::below(target, origin) {
-            Some(sought) => Start::Node(apex, sought),
-            None => Start::Elsewhere,
+            Side::All => true,
+            Side::Inside(cut) => target.at_or_below(cut),
+            Side::Outside(cut) => !target.at_or_below(cut),
         }
     }
 }
@@ -74,14 +47,15 @@ impl<'c, 'z> Side<'c, '_, 'z> {
 /// target that stood before are not offered again. Answers whether all targets are meant, unless
 /// the reply is full: no target is sought then, since none of its addresses is put.
 pub(crate) fn offer_addresses<'z, const N: usize, const SIZE: usize>(
+    node: &Node<'z>,
     set: &RecordSet<'z>,
-    side: Side<'_, '_, 'z>,
+    side: Side<'_, '_>,
     apex: &Node<'z>,
     steps: &mut Steps<'z>,
     draft: &mut Draft<N, SIZE>,
 ) -> bool
     requires apex { IsApex steps.old.zone apex.now }
-    requires side { IsSide steps.old.zone side }
+    requires node { node.now.zone ≡ steps.old.zone }
     requires valid { HasValidData set.now }
     requires few { length set.now.rdata ≤ 64 }
     requires room { HasRoom steps.old (64 * 128) }
@@ -99,7 +73,7 @@ pub(crate) fn offer_addresses<'z, const N: usize, const SIZE: usize>(
         if draft.is_full() {
             return all;
         }
-        all &= offer_target(set, i, side, apex, steps, draft);
+        all &= offer_target(node, set, i, side, apex, steps, draft);
     }
     all
 }
@@ -107,15 +81,16 @@ pub(crate) fn offer_addresses<'z, const N: usize, const SIZE: usize>(
 // Offers the addresses of the target of a record, if it is meant and did not stand before. False
 // where it is not meant.
 fn offer_target<'z, const N: usize, const SIZE: usize>(
+    node: &Node<'z>,
     set: &RecordSet<'z>,
     i: usize,
-    side: Side<'_, '_, 'z>,
+    side: Side<'_, '_>,
     apex: &Node<'z>,
     steps: &mut Steps<'z>,
     draft: &mut Draft<N, SIZE>,
 ) -> bool
     requires apex { IsApex steps.old.zone apex.now }
-    requires side { IsSide steps.old.zone side }
+    requires node { node.now.zone ≡ steps.old.zone }
     requires valid { HasValidData set.now }
     requires inside { i < length set.now.rdata }
     requires room { HasRoom steps.old 128 }
@@ -134,13 +109,13 @@ fn offer_target<'z, const N: usize, const SIZE: usize>(
     let Some(target) = set.target(i) else {
         return true;
     };
-    let (start, sought) = match side.start(&target, &steps.origin().lent(), apex) {
-        Start::NotMeant => return false,
-        Start::Elsewhere => return true,
-        Start::Node(start, sought) => (start, sought),
-    };
+    // So that a name is known to have at most 127 labels.
+    let _ = target.octets();
+    if !side.takes(&target) {
+        return false;
+    }
     if !stood_before(set, i, &target) {
-        offer_address(&sought, start, steps, draft);
+        offer_address(&target, node.lead(set.rtype(), i), apex, steps, draft);
     }
     true
 }
@@ -165,6 +140,31 @@ fn stood_before(set: &RecordSet<'_>, count: usize, target: &NameRef<'_>) -> bool
 // Offers the addresses of one name, in lower case: its A set, then its AAAA set, below a cut too,
 // never by a wildcard.
 fn offer_address<'z, const N: usize, const SIZE: usize>(
+    target: &NameRef<'_>,
+    lead: Option<Lead<'z>>,
+    apex: &Node<'z>,
+    steps: &mut Steps<'z>,
+    draft: &mut Draft<N, SIZE>,
+)
+    requires lead { IfSome lead (IsLeadTo steps.old.zone false) }
+    requires apex { IsApex steps.old.zone apex.now }
+    requires lower { folded target.now ≡ target.now }
+    requires room { HasRoom steps.old 128 }
+    ensures offers { Offers draft.old draft.new (addresses_of steps.old.zone target.now) }
+    ensures took { Took steps.old steps.new (depth_in steps.old.zone target.now) 1 }
+{
+    match begin(target, lead, steps) {
+        Some((nearer, node)) => offer_from(&nearer, &node, steps, draft),
+        None => {
+            if let Some(sought) = Sought::below(target, &steps.origin().lent()) {
+                offer_from(&sought, apex, steps, draft);
+            }
+        }
+    }
+}
+
+// Offers the addresses of a name on the way down from a node.
+fn offer_from<'z, const N: usize, const SIZE: usize>(
     target: &Sought<'_>,
     start: &Node<'z>,
     steps: &mut Steps<'z>,

@@ -1,5 +1,5 @@
 //! The names sought, one after the other (RFC 1034 4.3.2 step 3a).
-ghost use Rattle.std.specs.Prelude.{◌≡◌, ◌+◌, ◌*◌, ◌≤◌, ◌<◌, ◌⊎◌, [], ◌∷◌, length, drop, All, true, false, IsTrue, IfSome, MatchOption};
+ghost use Rattle.std.specs.Prelude.{◌≡◌, ◌+◌, ◌*◌, ◌≤◌, ◌<◌, ◌⊎◌, ◌||◌, [], ◌∷◌, length, drop, All, true, false, IsTrue, IfSome, MatchOption};
 ghost use Rattle.std.specs.List.{list_any};
 ghost use Rattle.dns_spec.specs.Names.{folded, names_equal, same};
 ghost use Rattle.dns_spec.specs.Data.{type_cname};
@@ -7,18 +7,18 @@ ghost use Rattle.dns_spec.specs.Records.{at, of_type};
 ghost use Rattle.dns_spec.specs.Sets.{set_of};
 ghost use Rattle.dns_spec.specs.Answer.{follows_alias};
 ghost use Rattle.dns_zone.specs.Nodes.{IsSetOf};
-ghost use Rattle.dns_answer.specs.Walks.{IsApex, IsBelow, HasRoom};
+ghost use Rattle.dns_zone.specs.Starts.{IsBelow};
+ghost use Rattle.dns_answer.specs.Walks.{IsApex, IsLeadTo, HasRoom};
 ghost use Rattle.dns_answer.specs.Seeking.{SeeksFrom, TookFrom, Followed, SoughtAs, IsShown, NextIs, names_of, aliases_left};
 
 use crate::draft::Draft;
 use crate::ending::{QTYPE_ANY, Verdict, asked_set, deny, end_with, ended, refer};
 use crate::lookup::{Found, look_up, or_start};
-use crate::sought::Sought;
 use arrayvec::ArrayVec;
 use dns_name::NameRef;
 use dns_rdata::{RType, SetView};
 use dns_wire::{Rcode, Section};
-use dns_zone::{Node, RecordSet, Steps};
+use dns_zone::{Lead, Node, RecordSet, Sought, Steps};
 
 // So many aliases are followed: a limit of this project.
 const MOST_ALIASES: usize = 16;
@@ -28,8 +28,8 @@ const MOST_ALIASES: usize = 16;
 pub(crate) enum Next<'z> {
     /// It is the last one sought.
     Last(Verdict),
-    /// Its alias leads to this name.
-    Alias(Sought<'z>),
+    /// Its alias leads to this name, and where the way to it may begin.
+    Alias(Sought<'z>, Option<Lead<'z>>),
 }
 
 /// What seeking the name of a question comes to.
@@ -58,41 +58,77 @@ pub(crate) fn seek<'q, 'z: 'q, const N: usize, const SIZE: usize>(
     ensures followed { Followed steps.old.zone qtype first.entry.name result.verdict
         result.is_led_on }
 {
+    match seek_one(&first, None, qtype, &[], apex, steps, draft) {
+        Next::Last(verdict) => Ended {
+            verdict,
+            is_led_on: false,
+        },
+        Next::Alias(target, lead) => Ended {
+            verdict: seek_targets(first, target, lead, qtype, apex, steps, draft),
+            is_led_on: true,
+        },
+    }
+}
+
+// Seeks the target of the first alias, and after it those of the others. Most answers follow none,
+// and need no room for the names that were sought.
+#[inline(never)]
+fn seek_targets<'q, 'z: 'q, const N: usize, const SIZE: usize>(
+    first: Sought<'q>,
+    target: Sought<'z>,
+    lead: Option<Lead<'z>>,
+    qtype: u16,
+    apex: &Node<'z>,
+    steps: &mut Steps<'z>,
+    draft: &mut Draft<N, SIZE>,
+) -> Verdict
+    requires apex { IsApex steps.old.zone apex.now }
+    requires below { IsBelow target steps.old.zone.origin }
+    requires lower { folded target.name ≡ target.name }
+    requires lead { IfSome lead (IsLeadTo steps.old.zone true) }
+    requires room { HasRoom steps.old (129 * (15 + 129)) }
+    ensures seeks { SeeksFrom draft.old draft.new steps.old.zone qtype (first.entry.name ∷ [])
+        target.entry.name result }
+    ensures took { TookFrom steps.old.zone steps.old steps.new qtype (first.entry.name ∷ [])
+        target.entry.name }
+{
     let mut earlier: ArrayVec<Sought<'q>, MOST_ALIASES> = ArrayVec::new();
-    let mut sought = first;
+    earlier.push(first);
+    let mut sought = target;
+    let mut lead = lead;
     'names: loop {
-        match seek_one(&sought, qtype, earlier.as_slice(), apex, steps, draft) {
-            Next::Last(verdict) => {
-                return Ended {
-                    verdict,
-                    is_led_on: !earlier.is_empty(),
-                };
-            }
-            Next::Alias(target) => {
+        match seek_one(&sought, lead, qtype, earlier.as_slice(), apex, steps, draft) {
+            Next::Last(verdict) => return verdict,
+            Next::Alias(target, nearer) => {
                 earlier.push(sought);
                 sought = target;
+                lead = nearer;
             }
         }
     }
 }
 
 // Seeks one name: offers the set of its alias, or the sets that it ends an answer with.
+#[inline(always)]
 fn seek_one<'z, const N: usize, const SIZE: usize>(
     sought: &Sought<'_>,
+    lead: Option<Lead<'z>>,
     qtype: u16,
     earlier: &[Sought<'_>],
     apex: &Node<'z>,
     steps: &mut Steps<'z>,
     draft: &mut Draft<N, SIZE>,
 ) -> Next<'z>
+    requires lead { IfSome lead (IsLeadTo steps.old.zone true) }
     requires apex { IsApex steps.old.zone apex.now }
     requires below { IsBelow sought.now steps.old.zone.origin }
     requires room { HasRoom steps.old (129 * (aliases_left (names_of earlier.now) + 129)) }
+    requires low { 0 < length earlier.now → folded sought.now.name ≡ sought.now.name }
     requires lower { All (λ s. folded s.name ≡ s.name) (drop 1 earlier.now) }
     ensures { SoughtAs draft.old draft.new steps.old steps.new qtype (names_of earlier.now)
         sought.now.name result }
 {
-    let node = match look_up(sought, apex, steps) {
+    let node = match look_up(sought, lead, apex, steps) {
         Found::Cut(cut) => return Next::Last(refer(&cut, apex, steps, draft)),
         Found::Nothing => return Next::Last(deny(Rcode::NameError, apex, steps, draft)),
         Found::Records(node) => node,
@@ -103,12 +139,12 @@ fn seek_one<'z, const N: usize, const SIZE: usize>(
     };
     draft.offer(Section::Answer, &sought.name, set.ttl(), &set);
     if !is_alias {
-        return Next::Last(end_with(&set, apex, steps, draft));
+        return Next::Last(end_with(node, &set, apex, steps, draft));
     }
     let Some(target) = next_sought(&set, sought, earlier, &steps.origin().lent()) else {
         return Next::Last(ended(Rcode::NoError, draft));
     };
-    Next::Alias(target)
+    Next::Alias(target, node.lead(RType::CNAME, 0))
 }
 
 // The set that an answer shows of the records at a node, and whether it is an alias, which leads
@@ -149,6 +185,7 @@ fn next_sought<'z>(
     origin: &NameRef<'_>,
 ) -> Option<Sought<'z>>
     requires some { 0 < length alias.now.rdata }
+    requires low { 0 < length earlier.now → folded sought.now.name ≡ sought.now.name }
     requires lower { All (λ s. folded s.name ≡ s.name) (drop 1 earlier.now) }
     ensures { NextIs alias.now (sought.now.name ∷ names_of earlier.now) origin.now result }
 {
@@ -156,23 +193,31 @@ fn next_sought<'z>(
         return None;
     }
     let next = Sought::below(&alias.target(0)?, origin)?;
-    if next.name.same(&sought.name) || is_among(&next.name, earlier) {
+    if is_among(&next.name, sought, earlier) {
         return None;
     }
     Some(next)
 }
 
-// Whether a name in lower case was sought before. All names but the first are targets, in lower case
-// too, so that those are the same only where they are equal.
-fn is_among(name: &NameRef<'_>, earlier: &[Sought<'_>]) -> bool
+// Whether a name in lower case is the last one sought, or was sought before. All names but the first
+// are targets, in lower case too, so that those are the same only where they are equal.
+fn is_among(name: &NameRef<'_>, last: &Sought<'_>, earlier: &[Sought<'_>]) -> bool
     requires name { folded name.now ≡ name.now }
+    requires low { 0 < length earlier.now → folded last.now.name ≡ last.now.name }
     requires lower { All (λ s. folded s.name ≡ s.name) (drop 1 earlier.now) }
-    ensures { result ≡ list_any (λ s. same name.now s.name) earlier.now }
+    ensures { result ≡ (same name.now last.now.name
+        || list_any (λ s. same name.now s.name) earlier.now) }
 {
     let Some((first, targets)) = earlier.split_first() else {
-        return false;
+        return name.same(&last.name);
     };
-    name.same(&first.name) || has_equal(targets, name)
+    if *name == last.name {
+        return true;
+    }
+    if has_equal(targets, name) {
+        return true;
+    }
+    name.same(&first.name)
 }
 
 // Whether a name is one of others, octet by octet.

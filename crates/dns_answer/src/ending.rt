@@ -53,10 +53,10 @@ pub(crate) fn refer<'z, const N: usize, const SIZE: usize>(
         unreachable!();
     };
     draft.offer(Section::Authority, &owner, servers.ttl(), &servers);
-    let are_all_inside = offer_addresses(&servers, Side::Inside(&owner, cut), apex, steps, draft);
+    let are_all_inside = offer_addresses(cut, &servers, Side::Inside(&owner), apex, steps, draft);
     let is_truncated = draft.is_full();
     if !are_all_inside {
-        offer_addresses(&servers, Side::Outside(&owner), apex, steps, draft);
+        offer_addresses(cut, &servers, Side::Outside(&owner), apex, steps, draft);
     }
     Verdict {
         rcode: Rcode::NoError,
@@ -106,11 +106,13 @@ pub(crate) fn ended<const N: usize, const SIZE: usize>(
 /// Ends an answer with a set that was asked for and is offered: offers the addresses of its
 /// targets.
 pub(crate) fn end_with<'z, const N: usize, const SIZE: usize>(
+    node: &Node<'z>,
     set: &RecordSet<'z>,
     apex: &Node<'z>,
     steps: &mut Steps<'z>,
     draft: &mut Draft<N, SIZE>,
 ) -> Verdict
+    requires node { node.now.zone ≡ steps.old.zone }
     requires valid { HasValidData set.now }
     requires few { length set.now.rdata ≤ 64 }
     requires apex { IsApex steps.old.zone apex.now }
@@ -120,7 +122,7 @@ pub(crate) fn end_with<'z, const N: usize, const SIZE: usize>(
 {
     let verdict = ended(Rcode::NoError, draft);
     if has_targets(set.rtype()) {
-        offer_addresses(set, Side::All, apex, steps, draft);
+        offer_addresses(node, set, Side::All, apex, steps, draft);
     }
     verdict
 }

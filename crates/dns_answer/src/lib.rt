@@ -8,7 +8,6 @@ mod draft;
 mod ending;
 mod lookup;
 mod reply;
-mod sought;
 
 pub use draft::Draft;
 pub use reply::{Limit, TcpDraft, UdpDraft, respond, respond_in};

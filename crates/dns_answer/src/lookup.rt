@@ -1,20 +1,16 @@
 //! What a zone has for a name (RFC 1034 4.3.2 step 3).
-ghost use Rattle.std.specs.Prelude.{◌≡◌, ◌+◌, ◌≤◌, ◌<◌, ◌∷◌, ◌&&◌, length, drop, get_or, IsTrue, MatchOption, true, false, is_some};
+ghost use Rattle.std.specs.Prelude.{◌≡◌, ◌+◌, ◌≤◌, ◌<◌, ◌∷◌, ◌&&◌, length, drop, get_or, IsTrue, IfSome, MatchOption, true, false, is_some};
 ghost use Rattle.dns_spec.specs.Data.{type_ns};
 ghost use Rattle.dns_spec.specs.Records.{rrset};
 ghost use Rattle.dns_spec.specs.Sets.{set_of};
 ghost use Rattle.dns_spec.specs.Tree.{exists, asterisk};
 ghost use Rattle.dns_name.specs.WireForm.{labels_of, IsWireForm};
-ghost use Rattle.dns_answer.specs.Starts.{BeginsAt, AreStarts};
-ghost use Rattle.dns_answer.specs.Walks.{IsApex, IsBelow, IsStart, node_or, ends_at_cuts, WalkedTo, FoundAs, HasRoom, Took, TookWay, TookChild, missed};
+ghost use Rattle.dns_zone.specs.Starts.{IsBelow};
+ghost use Rattle.dns_answer.specs.Walks.{IsApex, IsStart, IsUncut, IsLeadTo, IsBegun, node_or, ends_at_cuts, WalkedTo, FoundAs, HasRoom, Took, TookWay, TookChild, missed};
 
-use crate::sought::Sought;
-use dns_name::{Label, first_label};
+use dns_name::{Label, NameRef};
 use dns_rdata::RType;
-use dns_zone::{Node, Steps};
-
-// A name has at most so many labels, since each has two octets or more on the wire.
-const MOST_LABELS: usize = 127;
+use dns_zone::{Lead, MOST_LABELS, Node, Sought, Steps, label_after, put_starts};
 
 /// Where the way from a node down to a name ends.
 #[derive(Drop)]
@@ -45,19 +41,46 @@ pub(crate) enum Found<'z> {
     Records(Option<Node<'z>>),
 }
 
-/// What is found for a name at or below the origin.
+/// What is found for a name at or below the origin, to which a lead of an alias may be kept.
 #[inline(always)]
-pub(crate) fn look_up<'z>(sought: &Sought<'_>, apex: &Node<'z>, steps: &mut Steps<'z>) -> Found<'z>
+pub(crate) fn look_up<'z>(
+    sought: &Sought<'_>,
+    lead: Option<Lead<'z>>,
+    apex: &Node<'z>,
+    steps: &mut Steps<'z>,
+) -> Found<'z>
+    requires lead { IfSome lead (IsLeadTo steps.old.zone true) }
     requires apex { IsApex steps.old.zone apex.now }
     requires below { IsBelow sought.now steps.old.zone.origin }
     requires room { HasRoom steps.old (sought.now.depth + 1) }
     ensures found { FoundAs steps.old.zone apex.now sought.now.name result }
     ensures took { Took steps.old steps.new sought.now.depth 2 }
 {
-    match walk(sought, apex, Cuts::End, steps) {
+    match begin(&sought.name, lead, steps) {
+        None => look_up_from(sought, apex, steps),
+        Some((nearer, node)) => match look_up_from(&nearer, &node, steps) {
+            Found::Records(None) => Found::Records(Some(node)),
+            Found::Records(Some(child)) => Found::Records(Some(child)),
+            Found::Cut(cut) => Found::Cut(cut),
+            Found::Nothing => Found::Nothing,
+        },
+    }
+}
+
+// What is found for a name on the way down from a node.
+#[inline(always)]
+fn look_up_from<'z>(sought: &Sought<'_>, start: &Node<'z>, steps: &mut Steps<'z>) -> Found<'z>
+    requires start { IsStart steps.old.zone start.now }
+    requires uncut { IsUncut steps.old.zone start.now.name }
+    requires below { IsBelow sought.now start.now.name }
+    requires room { HasRoom steps.old (sought.now.depth + 1) }
+    ensures found { FoundAs steps.old.zone start.now sought.now.name result }
+    ensures took { Took steps.old steps.new sought.now.depth 2 }
+{
+    match walk(sought, start, Cuts::End, steps) {
         Way::Cut(node) => Found::Cut(node),
         Way::Name(node) => Found::Records(node),
-        Way::Encloser(node) => match wildcard_below(or_start(&node, &*apex), steps) {
+        Way::Encloser(node) => match wildcard_below(or_start(&node, &*start), steps) {
             Some(node) => Found::Records(Some(node)),
             None => Found::Nothing,
         },
@@ -90,6 +113,23 @@ fn wildcard_below<'z>(encloser: &Node<'z>, steps: &mut Steps<'z>) -> Option<Node
     encloser.down(label, steps)
 }
 
+/// Where the way down to a name may begin: at a lead, where one is kept that the name is at or below.
+/// It is handed out then.
+#[inline(always)]
+pub(crate) fn begin<'n, 'z>(
+    name: &NameRef<'n>,
+    lead: Option<Lead<'z>>,
+    steps: &mut Steps<'z>,
+) -> Option<(Sought<'n>, Node<'z>)>
+    requires { steps.old.visits < 4294967295 }
+    ensures { MatchOption result (steps.new ≡ steps.old) (λ (sought, node).
+        IsBegun steps.old steps.new name.now lead.entry sought node) }
+{
+    let lead = lead?;
+    let sought = Sought::below(name, &lead.name())?;
+    Some((sought, lead.node(steps)))
+}
+
 /// The way from a node down to a name (RFC 1034 4.3.2 step 3b). The labels are taken from the
 /// right.
 #[inline(always)]
@@ -100,7 +140,7 @@ pub(crate) fn walk<'z>(
     steps: &mut Steps<'z>,
 ) -> Way<'z>
     requires start { IsStart steps.old.zone start.now }
-    requires apex { IsTrue (ends_at_cuts cuts) → start.now.name ≡ steps.old.zone.origin }
+    requires uncut { IsTrue (ends_at_cuts cuts) → IsUncut steps.old.zone start.now.name }
     requires below { IsBelow sought.now start.now.name }
     requires room { HasRoom steps.old sought.now.depth }
     ensures way { WalkedTo steps.old.zone start.now (ends_at_cuts cuts) sought.now.name result }
@@ -134,33 +174,4 @@ fn is_end(node: &Node<'_>, cuts: Cuts) -> bool
         Cuts::End => node.set(RType::NS).is_some(),
         Cuts::Pass => false,
     }
-}
-
-// Puts where each of the first labels of a name begins in its wire form, so many of them. They are
-// passed once, since a name may have 127 labels, and are taken from the right.
-fn put_starts(octets: &[u8], count: usize, starts: &mut [u8])
-    requires form { IsWireForm octets.now }
-    requires labels { count ≤ length (labels_of octets.now) }
-    requires room { count ≤ length starts.old }
-    ensures starts { AreStarts octets.now count starts.new }
-    ensures room { length starts.new ≡ length starts.old }
-{
-    let mut start = 0;
-    'labels: for k in 0..count {
-        starts[k] = start;
-        start += 1 + octets[start as usize];
-    }
-}
-
-// The label of a name after the first `count` ones.
-fn label_after<'a>(octets: &'a [u8], starts: &[u8], count: usize) -> Label<'a>
-    requires start { BeginsAt octets.now count (get_or starts.now count 0) }
-    requires known { count < length starts.now }
-    requires inside { count < length (labels_of octets.now) }
-    ensures { drop count (labels_of octets.now) ≡ result ∷ drop (count + 1) (labels_of octets.now) }
-{
-    let Some((label, _)) = first_label(octets.split_at(starts[count] as usize).1) else {
-        unreachable!();
-    };
-    label
 }

@@ -9,15 +9,14 @@ ghost use Rattle.dns_spec.specs.Layout.{layout};
 ghost use Rattle.dns_spec.specs.Reply.{answered, decide, decide_question, is_meta_type, refusal, reply, reply_message, octets_of};
 ghost use Rattle.dns_answer.specs.DraftForm.{blank};
 ghost use Rattle.dns_answer.specs.Limits.{limit_of};
-ghost use Rattle.dns_answer.specs.Walks.{IsBelow};
+ghost use Rattle.dns_zone.specs.Starts.{IsBelow};
 ghost use Rattle.dns_answer.specs.Replies.{JudgedAs, IsReply, Answers, Costs, Responds, visits_for, names_for, comparisons_for};
 
 use crate::chain::{Ended, seek};
 use crate::draft::Draft;
-use crate::sought::Sought;
 use dns_name::Name;
 use dns_wire::{CLASS_IN, Head, QueryRef, QuestionRef, Rcode, lent_query};
-use dns_zone::Steps;
+use dns_zone::{Sought, Steps};
 
 /// How many octets a reply may have.
 #[derive(Clone, Copy, Debug, PartialEq, Eq)]

@@ -33,3 +33,6 @@ pub mod GrowingNames
 pub mod LabelKeys
 pub mod AlikeKeys
 pub mod LowerCase
+pub mod LabelStarts
+pub mod WayLaws
+pub mod LeadRows

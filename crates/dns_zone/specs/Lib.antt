@@ -11,3 +11,4 @@ pub mod OwnerForm
 pub mod ReportedForm
 pub mod KeyForm
 pub mod LabelKey
+pub mod Starts

@@ -1,19 +1,39 @@
 -- What a reader learns here: what the tree of a zone keeps, and which name a row of it stands for.
-use Rattle.std.specs.Prelude.{ℕ, ◌<◌, length}
-use Rattle.dns_spec.specs.Records.{ZoneContents}
-use Rattle.dns_zone.specs.Nodes.{ZoneNode}
+use Rattle.std.specs.Prelude.{◌≡◌, ◌⊎◌, ℕ, ◌<◌, List, map, length, get_or}
+use Rattle.dns_spec.specs.Records.{ResourceRecord, ZoneContents}
+use Rattle.dns_zone.specs.Nodes.{ZoneNode, IsLead}
 use Rattle.dns_zone.specs.ZoneForm.{IsBuilt}
 use Rattle.dns_zone.specs.TreeForm.{IsTree, row_name, row_at}
+use Rattle.dns_zone.specs.declared.row.Row.{Row}
 use Rattle.dns_zone.specs.declared.tree.Tree.{Tree}
 
 -- the zone whose names the tree has
 abbrev pub zone_of_tree : Tree → ZoneContents
 zone_of_tree t = record { origin = t.origin; records = t.records }
 
--- what it keeps
+-- the row of a lead for records of a type
+pub record IsLeadRow (z : ZoneContents) (rows : List Row) (rtype k : ℕ) : Type 0 where
+  pub row : k < length rows
+  pub lead : IsLead z rtype (row_name z.records (row_at rows k))
+
+-- the row of a record's lead, where one is kept; 0 stands for none
+abbrev pub IsLeadAt : ZoneContents → List Row → ℕ → ℕ → Type 0
+IsLeadAt z rows rtype k = (k ≡ 0) ⊎ IsLeadRow z rows rtype k
+
+-- the type of a record
+abbrev pub type_at : List ResourceRecord → ℕ → ℕ
+type_at rs j = get_or (map (λ (r : ResourceRecord). r.rtype) rs) j 0
+
+-- the leads of the first records of a zone
+abbrev pub AreLeads : ZoneContents → List Row → List ℕ → Type 0
+AreLeads z rows leads =
+    (j : ℕ) → j < length leads → IsLeadAt z rows (type_at z.records j) (get_or leads j 0)
+
+-- what the tree of a zone keeps
 pub record IsZoneTree (t : Tree) : Type 0 where
   pub built : IsBuilt (zone_of_tree t)
   pub tree : IsTree t.origin t.records t.rows t.bounds
+  pub leads : AreLeads (zone_of_tree t) t.rows t.leads
 
 -- the node of a row
 abbrev pub node_at : Tree → ℕ → ZoneNode

@@ -1,10 +1,11 @@
 -- What a reader learns here: what is counted while the names of a zone are walked, what a node of
 -- the zone is, and what its sets of records keep.
-use Rattle.std.specs.Prelude.{◌≡◌, ℕ, true, ◌≤◌, length}
-use Rattle.dns_spec.specs.Names.{DomainName, folded}
+use Rattle.std.specs.Prelude.{◌≡◌, ℕ, true, ◌<◌, ◌≤◌, length, None}
+use Rattle.dns_spec.specs.Names.{DomainName, folded, at_or_below}
+use Rattle.dns_spec.specs.Data.{type_cname}
 use Rattle.dns_spec.specs.Records.{ZoneContents, rrset}
 use Rattle.dns_spec.specs.Sets.{RecordSet, HasValidData, records_at}
-use Rattle.dns_spec.specs.Tree.{exists}
+use Rattle.dns_spec.specs.Tree.{exists, cut_of}
 use Rattle.dns_spec.specs.Meaning.{most_ttl}
 use Rattle.dns_zone.specs.ZoneForm.{IsBuilt}
 
@@ -25,6 +26,14 @@ pub record IsNode (z : ZoneContents) (n : DomainName) : Type 0 where
   pub built : IsBuilt z
   pub lower : folded n ≡ n
   pub stands : exists z n ≡ true
+
+-- A name below the origin at which the way to a record's target may begin: it exists, and no cut is at
+-- or above that of an alias (RFC 1034 4.3.2 step 3b).
+pub record IsLead (z : ZoneContents) (rtype : ℕ) (n : DomainName) : Type 0 where
+  pub node : IsNode z n
+  pub inside : at_or_below n z.origin ≡ true
+  pub longer : length z.origin < length n
+  pub uncut : rtype ≡ type_cname → cut_of z n ≡ None
 
 -- RFC 2181 5: at the node's name the set stands for the RRset of its type. It has at most 64
 -- records.

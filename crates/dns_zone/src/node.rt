@@ -6,8 +6,8 @@ ghost use Rattle.dns_spec.specs.Names.{folded, wire};
 ghost use Rattle.dns_spec.specs.Records.{ResourceRecord, at, rrset};
 ghost use Rattle.dns_spec.specs.Sets.{set_of, of_lowest_type};
 ghost use Rattle.dns_spec.specs.Tree.{exists};
-ghost use Rattle.dns_zone.specs.Nodes.{IsNode, IsSetOf};
-ghost use Rattle.dns_zone.specs.NodeForm.{zone_of_tree, IsZoneTree, IsNodeAt};
+ghost use Rattle.dns_zone.specs.Nodes.{IsNode, IsLead, IsSetOf};
+ghost use Rattle.dns_zone.specs.NodeForm.{zone_of_tree, IsZoneTree, node_at, IsNodeAt};
 ghost use Rattle.dns_zone.specs.TreeForm.{kids_at};
 
 use crate::entry::Entry;
@@ -16,7 +16,7 @@ use crate::row::{Row, RowNumber};
 use crate::search::find;
 use crate::set::{RecordSet, lent_set};
 use crate::steps::Steps;
-use crate::tree::Tree;
+use crate::tree::{Tree, octets_of};
 use dns_name::{Label, NameRef};
 use dns_rdata::RType;
 use std::marker::Model;
@@ -42,7 +42,49 @@ impl<'z> Model for Node<'z> {
     ghost invariant = { λ n. IsNodeAt n.tree.now n.row.0 };
 }
 
+/// A node that is not handed out yet: its name alone is known.
+#[derive(Drop)]
+pub struct Lead<'z> {
+    node: Node<'z>,
+}
+
+impl<'z> Model for Lead<'z> {
+    ghost use Rattle.dns_zone.specs.Nodes.{ZoneNode};
+
+    ghost Value = { ZoneNode };
+
+    ghost view = { λ l. l.node };
+}
+
+impl<'z> Lead<'z> {
+    /// The node's name, in lower case, lent out of the zone.
+    pub fn name(&self) -> NameRef<'z>
+        ensures { result ≡ self.now.name }
+    {
+        self.node.name()
+    }
+
+    /// Hands out the node, which is counted. Condition: `visits` is below 4,294,967,295.
+    pub fn node(self, steps: &mut Steps<'z>) -> Node<'z>
+        requires { steps.old.visits < 4294967295 }
+        ensures node { result ≡ self.entry }
+        ensures visits { steps.new ≡ record steps.old { visits = steps.old.visits + 1 } }
+    {
+        let Lead { node } = self;
+        steps.count_visit();
+        node
+    }
+}
+
 impl<'z> Node<'z> {
+    // The node of a row.
+    pub(crate) fn at(tree: &'z Tree, row: RowNumber) -> Node<'z>
+        requires { IsNodeAt tree.now row.0 }
+        ensures { result ≡ node_at tree.now row.0 }
+    {
+        Node { tree, row }
+    }
+
     // The node of the zone's origin.
     pub(crate) fn of_origin(tree: &'z Tree) -> Node<'z>
         requires { IsZoneTree tree.now }
@@ -80,13 +122,33 @@ impl<'z> Node<'z> {
         ensures compared { IfSome result (λ _. steps.old.comparisons < steps.new.comparisons) }
         ensures same_zone { steps.new.zone ≡ steps.old.zone }
     {
-        let (start, kids) = kids_of(self.tree, self.row);
-        let found = find(self.tree.records.lent(), kids, label.octets(), steps)?;
+        let row = kid_of(self.tree, self.row, &label, steps)?;
         steps.count_visit();
         Some(Node {
             tree: self.tree,
-            row: RowNumber(start + found),
+            row,
         })
+    }
+
+    /// The node's name, in lower case, lent out of the zone.
+    pub fn name(&self) -> NameRef<'z>
+        ensures { result ≡ self.now.name }
+    {
+        let row = &self.tree.rows.lent()[self.row.0];
+        NameRef::new(octets_of(self.tree.records.lent(), row))
+    }
+
+    /// A node at which the way to the target of a record may begin, of the record of the type at
+    /// `i`, the first at 0. `None` where none is kept: the way begins at the apex. It is not handed
+    /// out before it is asked for.
+    pub fn lead(&self, rtype: RType, i: usize) -> Option<Lead<'z>>
+        ensures { IfSome result (λ v. (v.zone ≡ self.now.zone)
+            × IsLead self.now.zone rtype.0 v.name) }
+    {
+        let row = &self.tree.rows.lent()[self.row.0];
+        let before = self.own().iter().position(|listed| listed.rtype == rtype)?;
+        let place = (row.first as usize).checked_add(before)?.checked_add(i)?;
+        lead_at(self.tree, place, rtype)
     }
 
     /// The records of a type at the name, by their data octets; `None` where there are none
@@ -128,6 +190,54 @@ impl<'z> Node<'z> {
         let row = &self.tree.rows.lent()[self.row.0];
         &self.tree.records.lent()[row.first as usize..row.own_end as usize]
     }
+}
+
+// The lead of the record at a place, where one is kept and the record is of the type.
+fn lead_at<'z>(tree: &'z Tree, place: usize, rtype: RType) -> Option<Lead<'z>>
+    requires { IsZoneTree tree.now }
+    ensures { IfSome result (λ v. (v.zone ≡ zone_of_tree tree.now)
+        × IsLead (zone_of_tree tree.now) rtype.0 v.name) }
+{
+    let (records, leads) = (tree.records.lent(), tree.leads.lent());
+    if place >= records.len() || place >= leads.len() {
+        return None;
+    }
+    let (record, lead) = (&records[place], leads[place]);
+    if lead == 0 || record.rtype.0 != rtype.0 {
+        return None;
+    }
+    Some(Lead {
+        node: Node::at(tree, RowNumber(lead)),
+    })
+}
+
+// The row of the child of this label, if that name exists. Each comparison of labels is counted.
+pub(crate) fn kid_of(
+    tree: &Tree,
+    row: RowNumber,
+    label: &Label<'_>,
+    steps: &mut Steps<'_>,
+) -> Option<RowNumber>
+    requires at { IsNodeAt tree.now row.0 }
+    requires comparisons { steps.old.comparisons ≤ 4294967278 }
+
+    ensures child { IsSome result ↔ IsTrue
+        (exists (zone_of_tree tree.now) (label.now ∷ (node_at tree.now row.0).name)) }
+    ensures at { IfSome result (λ k. IsNodeAt tree.now k.0) }
+    ensures node { IfSome result (λ k. node_at tree.now k.0 ≡ record {
+      zone = zone_of_tree tree.now;
+      name = map to_ascii_lowercase label.now ∷ (node_at tree.now row.0).name;
+    }) }
+
+    ensures rise { steps.old.comparisons ≤ steps.new.comparisons }
+    ensures bound { steps.new.comparisons ≤ steps.old.comparisons + 17 }
+    ensures compared { IfSome result (λ _. steps.old.comparisons < steps.new.comparisons) }
+    ensures visits { steps.new.visits ≡ steps.old.visits }
+    ensures same_zone { steps.new.zone ≡ steps.old.zone }
+{
+    let (start, kids) = kids_of(tree, row);
+    let found = find(tree.records.lent(), kids, label.octets(), steps)?;
+    Some(RowNumber(start + found))
 }
 
 // The number of the first child of a row, and its children.

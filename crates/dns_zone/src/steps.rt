@@ -2,6 +2,7 @@
 ghost use Rattle.std.specs.Prelude.{◌≡◌, ◌+◌, ◌<◌};
 ghost use Rattle.dns_spec.specs.Names.{folded};
 ghost use Rattle.dns_zone.specs.Nodes.{IsNode};
+ghost use Rattle.dns_zone.specs.NodeForm.{zone_of_tree, IsZoneTree};
 ghost use Rattle.dns_zone.specs.ZoneForm.{IsBuilt};
 
 use crate::node::Node;
@@ -41,8 +42,16 @@ impl<'z> Steps<'z> {
     pub fn new(zone: &'z Zone) -> Steps<'z>
         ensures { result ≡ record { zone = zone.now; visits = 0; comparisons = 0 } }
     {
+        Steps::over(zone.tree())
+    }
+
+    // The same over the tree of a zone that is being made.
+    pub(crate) fn over(tree: &'z Tree) -> Steps<'z>
+        requires { IsZoneTree tree.now }
+        ensures { result ≡ record { zone = zone_of_tree tree.now; visits = 0; comparisons = 0 } }
+    {
         Steps {
-            tree: zone.tree(),
+            tree,
             visits: 0,
             comparisons: 0,
         }

@@ -24,6 +24,8 @@ pub(crate) struct Tree {
     pub(crate) records: Kept<Entry>,
     pub(crate) rows: Kept<Row>,
     pub(crate) bounds: Kept<usize>,
+    /// For each record the row of its lead, or 0.
+    pub(crate) leads: Kept<usize>,
 }
 
 /// Rows, and for each row the number of its first child; the children of the next row follow.

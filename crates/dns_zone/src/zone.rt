@@ -14,6 +14,7 @@ use crate::entry::Entry;
 use crate::fault::BuildFault;
 use crate::faults::faults;
 use crate::kept::Kept;
+use crate::leads::leads_of;
 use crate::ordered::ordered;
 use crate::store::Store;
 use crate::tree::{Rows, Tree, rows_of};
@@ -82,14 +83,15 @@ impl Zone {
             return Err(BuildFault::Faults(found));
         }
         let Rows { rows, bounds } = rows_of(alloc, &origin.lent(), records.as_slice())?;
-        Ok(Zone {
-            tree: Tree {
-                origin,
-                records: Kept::new(records),
-                rows,
-                bounds,
-            },
-        })
+        let mut tree = Tree {
+            origin,
+            records: Kept::new(records),
+            rows,
+            bounds,
+            leads: Kept::new(Vec::new(alloc)),
+        };
+        tree.leads = Kept::new(leads_of(alloc, &tree)?);
+        Ok(Zone { tree })
     }
 
     /// The name at and below which the zone speaks, in lower case.

@@ -1,28 +1,43 @@
-use Rattle.std.proofs.Common.{rules, [], sym, ap, ◌∙◌}
-use Rattle.std.proofs.lemmas.Bool.{false≢true}
-use Rattle.dns_zone.specs.Nodes.{ZoneNode}
-use Rattle.dns_answer.specs.Targets.{addresses_of}
-use Rattle.dns_answer.proofs.Offering.{Offers-is, Offers-nothing, Offers-then}
-use Rattle.dns_answer.proofs.TargetLaws.{none-missing, addresses-folded}
+use Rattle.std.proofs.Common.{◌≡◌, ◌+◌, ◌≤◌, ◌-◌, cond, [], true, false, length, refl, sym, ap, subst, ◌∙◌, arith}
+use Rattle.std.specs.Prelude.{IfSome}
+use Rattle.dns_spec.specs.Names.{DomainName, at_or_below}
+use Rattle.dns_zone.specs.Nodes.{Walk}
+use Rattle.dns_zone.proofs.NameTree.{under-trans}
+use Rattle.dns_answer.specs.Walks.{IsLeadTo, Took}
+use Rattle.dns_answer.proofs.WaySteps.{Took-lead}
+use Rattle.dns_answer.proofs.Offering.{Offers-is, Offers-nothing}
+use Rattle.dns_answer.proofs.TargetLaws.{none-outside}
 use Rattle.dns_answer.proofs.addresses.offer_address.Goals as goal
 
-pub returns-in-Cut : goal.returns-in-Cut
-returns-in-Cut g c = absurd (false≢true c.in-Cut.ensures.way.0)
+pub begin-requires : goal.begin-requires
+begin-requires g c = omega (arith, c.requires.room.visits)
 
-pub returns-in-Encloser-clause-offers : goal.returns-in-Encloser-clause-offers
-returns-in-Encloser-clause-offers g c =
-    Offers-is _ _ [] _ (sym (none-missing c.args.steps.now.zone c.args.target.now.name c.in-Encloser.ensures.way.missing)) (Offers-nothing _)
+pub returns-in-Some-clause-took : goal.returns-in-Some-clause-took
+returns-in-Some-clause-took g c =
+    let z = c.args.steps.now.zone in
+    let m = c.args.target.now in
+    let b = c.in-Some.ensures in
+    let node = c.in-Some.node in
+    let near = c.in-Some.nearer.depth in
+    let depth = length m - length z.origin in
+    let lead = subst (λ o. IfSome o (IsLeadTo z false)) b.at c.requires.lead in
+    let under : at_or_below m z.origin ≡ true =
+    under-trans m node.name z.origin
+    (subst (λ n. at_or_below n node.name ≡ true) b.name b.below.below) lead.inside in
+    let less : near + 1 ≤ depth = omega (arith, b.below.labels, ap length b.name, lead.longer) in
+    subst (λ d. Took c.args.steps.now c.offer_from.new.steps d 1)
+    (sym (ap (λ b. cond b depth 0) under))
+    (Took-lead c.args.steps.now c.begin.new.steps c.offer_from.new.steps near depth 1 b.visits less
+    c.offer_from.ensures.took)
 
-pub offer_type-requires : goal.offer_type-requires
-offer_type-requires g c =
-    (search rules, ap (λ (v : ZoneNode). v.name) (c.or_start-node.ensures ∙ c.in-Name.ensures.way.at_name) ∙ c.requires.lower)
-
-pub offer_type-requires-2 : goal.offer_type-requires-2
-offer_type-requires-2 g c =
-    (search rules, ap (λ (v : ZoneNode). v.name) (c.or_start-node.ensures ∙ c.in-Name.ensures.way.at_name) ∙ c.requires.lower)
-
-pub returns-clause-offers : goal.returns-clause-offers
-returns-clause-offers g c =
-    let node = c.or_start-node.ensures ∙ c.in-Name.ensures.way.at_name in
-    Offers-is _ _ _ _ (ap (λ (v : ZoneNode). addresses_of v.zone v.name) node ∙ addresses-folded c.args.steps.now.zone c.args.target.now.name)
-    (Offers-then _ _ _ _ _ c.offer_type.ensures c.offer_type-2.ensures)
+pub returns-in_default-clause-offers : goal.returns-in_default-clause-offers
+returns-in_default-clause-offers g c =
+    let z = c.args.steps.now.zone in
+    let m = c.args.target.now in
+    let origin_is : c.lent.result ≡ z.origin =
+    c.lent.ensures.value ∙ c.origin.ensures.value
+    ∙ ap (λ (w : Walk). w.zone.origin) c.in-None.ensures in
+    let outside : at_or_below m z.origin ≡ false =
+    ap (λ (o : DomainName). at_or_below m o) (sym origin_is) ∙ c.in_default.ensures in
+    Offers-is _ _ [] _ (sym (none-outside z m c.requires.apex.exists.built outside))
+    (Offers-nothing _)

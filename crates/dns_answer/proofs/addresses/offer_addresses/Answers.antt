@@ -5,7 +5,7 @@ use Rattle.std.specs.List.{filter, filter_map, list_all}
 use Rattle.dns_spec.specs.Names.{Octets}
 use Rattle.dns_answer.specs.DraftForm.{Offers}
 use Rattle.dns_answer.specs.Walks.{Took}
-use Rattle.dns_answer.specs.Targets.{target_items, target_nodes, target_misses, targets_of_first, side_takes, side_nodes, IsSide}
+use Rattle.dns_answer.specs.Targets.{target_items, target_nodes, target_misses, targets_of_first, side_takes, side_nodes}
 use Rattle.dns_answer.proofs.Offering.{Offers-is, Offers-nothing, Offers-then}
 use Rattle.dns_answer.proofs.TargetLaws.{side_items-none, side_items-more, Took-nothing, Took-more, Took-rest, Offers-rest, nodes-more, hits-more, all-more}
 use Rattle.dns_answer.proofs.addresses.offer_addresses.Goals as goal
@@ -26,7 +26,7 @@ offer_target-all-requires g c =
       (
         search rules,
         (
-          subst (λ z. IsSide z c.args.side) (sym inv.took.zone) c.requires.side,
+          c.requires.node ∙ sym inv.took.zone,
           (
             search rules,
             (

@@ -5,10 +5,12 @@ use Rattle.dns_spec.specs.Records.{ZoneContents, at, with_owner}
 use Rattle.dns_spec.specs.Answer.{item, has_any, alias_set, positive, negative, referral_to, outcome_by}
 use Rattle.dns_spec.specs.Reading.{no_error, name_error}
 use Rattle.dns_wire.specs.QueryForm.{code_of}
+use Rattle.dns_spec.specs.Data.{type_cname}
 use Rattle.dns_zone.specs.Nodes.{ZoneNode}
 use Rattle.dns_answer.specs.Ending.{Ends, TookTargets, asked_item}
 use Rattle.dns_answer.specs.Walks.{IsApex, IsBelowCut, AreRecords}
 use Rattle.dns_answer.specs.Seeking.{IsShown, NextIs, names_of, aliases_left}
+use Rattle.dns_answer.proofs.WaySteps.{leads-to}
 use Rattle.dns_answer.proofs.ChainSteps.{ChainEnds, ends-cut, ends-nothing, ends-records}
 use Rattle.dns_answer.proofs.SeekSteps.{seeks-ended, took-ended, took-less, own-cut, found-at, none-followed, none-own, seeks-alias, alias-ends, alias-item, alias-goes_on, has-alias, completes-on}
 use Rattle.dns_answer.specs.DraftForm.{Offers}
@@ -80,15 +82,18 @@ end_with-requires g c =
     let kept = c.in-Some.ensures.kept in (
       search rules,
       (
-        kept.valid,
+        (subst (AreRecords c.args.steps.now.zone c.args.sought.now.name) (sym c.or_start-node.ensures) c.in-Records.ensures.found).zone ∙ sym same_zone,
         (
-          kept.few,
+          kept.valid,
           (
-            subst (λ z. IsApex z c.args.apex.now) (sym same_zone) c.requires.apex,
-            record {
-              visits = omega (arith, took.visits, c.requires.room.visits, below.labels, below.few);
-              comparisons = omega (arith, took.visits, took.comparisons, c.requires.room.comparisons, below.labels, below.few);
-            },
+            kept.few,
+            (
+              subst (λ z. IsApex z c.args.apex.now) (sym same_zone) c.requires.apex,
+              record {
+                visits = omega (arith, took.visits, c.requires.room.visits, below.labels, below.few);
+                comparisons = omega (arith, took.visits, took.comparisons, c.requires.room.comparisons, below.labels, below.few);
+              },
+            ),
           ),
         ),
       ),
@@ -191,6 +196,7 @@ returns g c =
       more = omega (arith, next.0);
       below = next.2;
       lower = next.4;
+      lead = leads-to z at_node.zone type_cname true c.lead.result records.zone (λ _. refl) c.lead.ensures;
       alias = ap (λ b. b && has_any (alias_set z s)) is.0 ∙ has-alias z s at_node records.no_cut here set is.1;
       took = record {
         zone = first.zone;

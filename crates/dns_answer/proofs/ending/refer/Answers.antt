@@ -16,20 +16,14 @@ unreachable-requires g c =
     let below = c.requires.cut.1 in
     false≢true (ap is_some c.in_default.ensures.set ∙ ap (λ (z : ZoneContents). is_some (set_of (rrset z c.args.cut.now.name type_ns))) below.zone ∙ cut-has_servers c.args.steps.now.zone c.requires.cut.0 c.args.cut.now.name below.cut)
 
--- the ways to the targets inside begin at the cut
 pub offer_addresses-are_all_inside-requires : goal.offer_addresses-are_all_inside-requires
 offer_addresses-are_all_inside-requires g c =
-    let below = c.requires.cut.1 in
-    let named = c.in-Some-owner.ensures.name in (
+    let below = c.requires.cut.1 in (
       search rules,
       (
         search rules,
         (
-          record {
-            start = record { zone = below.zone; exists = subst (λ z. IsNode z c.args.cut.now.name) below.zone c.in-Some-owner.ensures.node };
-            name = sym named;
-            below = ap (λ n. at_or_below n c.args.steps.now.zone.origin) named ∙ cut-in_zone c.args.steps.now.zone c.requires.cut.0 c.args.cut.now.name below.cut;
-          },
+          below.zone,
           (
             c.in-Some.ensures.kept.valid,
             (
@@ -51,7 +45,7 @@ offer_addresses-requires g c =
       (
         search rules,
         (
-          tt,
+          c.requires.cut.1.zone ∙ sym bound.zone,
           (
             c.in-Some.ensures.kept.valid,
             (

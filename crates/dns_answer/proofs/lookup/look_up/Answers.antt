@@ -1,35 +1,39 @@
-use Rattle.std.proofs.Common.{◌≡◌, ◌∷◌, true, false, ap, sym, subst}
-use Rattle.dns_spec.specs.Tree.{exists, asterisk}
-use Rattle.dns_zone.specs.Nodes.{ZoneNode, IsNode}
-use Rattle.dns_answer.specs.Walks.{IsBelow}
-use Rattle.dns_answer.proofs.WaySteps.{records-there, records-by_wildcard, nothing-there}
+use Rattle.std.proofs.Common.{true, ◌≡◌, ◌+◌, ◌∙◌, length, refl, sym, ap, subst, arith}
+use Rattle.std.specs.Prelude.{IfSome}
+use Rattle.dns_spec.specs.Records.{ZoneContents}
+use Rattle.dns_zone.specs.Nodes.{Walk, ZoneNode}
+use Rattle.dns_zone.specs.Starts.{IsBelow}
+use Rattle.dns_answer.specs.Walks.{IsLeadTo, IsStart, IsUncut, AreRecords, IsBelowCut, IsNothing, Took}
+use Rattle.dns_answer.proofs.WaySteps.{apex-start, apex-uncut, apex-below, lead-nearer, Took-lead}
 use Rattle.dns_answer.proofs.lookup.look_up.Goals as goal
 
-pub walk-requires-clause-start : goal.walk-requires-clause-start
-walk-requires-clause-start c =
-    let apex = c.requires.apex in
+pub begin-requires : goal.begin-requires
+begin-requires c = omega (arith, c.requires.room.visits)
+
+pub look_up_from-requires-clause-uncut : goal.look_up_from-requires-clause-uncut
+look_up_from-requires-clause-uncut c =
+    let z = c.args.steps.now.zone in
+    subst (λ (w : Walk). IsUncut w.zone c.args.apex.now.name) (sym c.in-None.ensures)
+    (apex-uncut z c.args.apex.now c.requires.apex)
+
+pub look_up_from-requires-in-Some : goal.look_up_from-requires-in-Some
+look_up_from-requires-in-Some c =
+    let z = c.args.steps.now.zone in
+    let b = c.in-Some.ensures in
+    let node = c.in-Some.node in
+    let zone = ap (λ (w : Walk). w.zone) b.visits in
+    let visits = ap (λ (w : Walk). w.visits) b.visits in
+    let comparisons = ap (λ (w : Walk). w.comparisons) b.visits in
+    let lead = subst (λ o. IfSome o (IsLeadTo z true)) b.at c.requires.lead in
+    let less = lead-nearer z true node c.args.sought.now c.in-Some.nearer lead c.requires.below
+    b.name b.below in
     record {
-      zone = ap (λ (v : ZoneNode). v.zone) apex.node;
-      exists = subst (IsNode c.args.steps.now.zone) (ap (λ (v : ZoneNode). v.name) (sym apex.node)) apex.exists;
+      start = subst (λ (y : ZoneContents). IsStart y node) (sym zone) lead.start;
+      uncut = subst (λ (y : ZoneContents). IsUncut y node.name) (sym zone)
+          (record { inside = lead.inside; no_cut = lead.uncut refl });
+      below = b.below;
+      room = record {
+        visits = omega (arith, c.requires.room.visits, visits, less);
+        comparisons = omega (arith, c.requires.room.comparisons, comparisons, less);
+      };
     }
-
-pub walk-requires-clause-apex : goal.walk-requires-clause-apex
-walk-requires-clause-apex c = λ _. ap (λ (v : ZoneNode). v.name) c.requires.apex.node
-
-pub walk-requires-clause-below : goal.walk-requires-clause-below
-walk-requires-clause-below c = subst (IsBelow c.args.sought.now) (ap (λ (v : ZoneNode). v.name) (sym c.requires.apex.node)) c.requires.below
-
-pub returns-in-Cut-clause-found : goal.returns-in-Cut-clause-found
-returns-in-Cut-clause-found c = c.in-Cut.ensures.way.1
-
-pub returns-in-Name-clause-found : goal.returns-in-Name-clause-found
-returns-in-Name-clause-found c = records-there _ _ _ _ c.in-Name.ensures.way
-
-pub returns-in-Some-clause-found : goal.returns-in-Some-clause-found
-returns-in-Some-clause-found c =
-    let w = subst (λ (e : ZoneNode). (exists e.zone (asterisk ∷ e.name) ≡ true) × (c.in-Some.node ≡ record { zone = e.zone; name = asterisk ∷ e.name })) c.or_start.ensures c.in-Some.ensures.node in
-    records-by_wildcard _ _ _ _ c.in-Encloser.ensures.way c.in-Some.node w.0 w.1
-
-pub returns-in-None-clause-found : goal.returns-in-None-clause-found
-returns-in-None-clause-found c =
-    nothing-there _ _ _ _ c.in-Encloser.ensures.way (subst (λ (e : ZoneNode). exists e.zone (asterisk ∷ e.name) ≡ false) c.or_start.ensures c.in-None.ensures.node)

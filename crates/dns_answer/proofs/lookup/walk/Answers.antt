@@ -20,7 +20,7 @@ put_starts-requires-clause-labels c =
 
 pub labels-init : goal.labels-init
 labels-init c = record {
-  there = there-above c.args.steps.now.zone c.args.start.now (ends_at_cuts c.args.cuts) c.args.sought.now c.requires.start c.requires.apex c.requires.below;
+  there = there-above c.args.steps.now.zone c.args.start.now (ends_at_cuts c.args.cuts) c.args.sought.now c.requires.start c.requires.uncut c.requires.below;
   fewer = omega arith;
   zone = refl;
   from = omega arith;
@@ -56,7 +56,7 @@ returns-then-is_end-clause-way c =
     let octets = c.octets-octets.ensures in
     let label = label-before n _ c.label_after-label.result c.labels.before (labels_of_spelled _ _ octets.value octets.is_name) c.labels-test.true c.label_after-label.ensures in
     let both = and_parts ends (is_some (set_of (rrset child.zone child.name type_ns))) (sym c.is_end.ensures ∙ c.if-is_end.true) in
-    let under = under-origin z start ends c.args.sought.now c.labels.before c.requires.apex c.requires.below inv.fewer in (
+    let under = under-origin z start ends c.args.sought.now c.labels.before c.requires.uncut c.requires.below inv.fewer in (
       both.0,
       cut-whole z (c.labels.before - 1) n child
           (subst (λ m. IsBelowCut z m child) (sym label)
@@ -74,7 +74,7 @@ labels-preserved c =
     let down = c.in-Some.ensures in
     let octets = c.octets-octets.ensures in
     let label = label-before n _ c.label_after-label.result c.labels.before (labels_of_spelled _ _ octets.value octets.is_name) c.labels-test.true c.label_after-label.ensures in
-    let under = under-origin z start ends c.args.sought.now c.labels.before c.requires.apex c.requires.below inv.fewer in
+    let under = under-origin z start ends c.args.sought.now c.labels.before c.requires.uncut c.requires.below inv.fewer in
     record {
       there = subst (λ m. IsThere z start ends m (Some child)) (sym label)
           (there-at_child z start ends _ _ c.labels.node c.or_start.result.now child inv.there under c.or_start.ensures down.node (down.child.0 refl) (sym c.is_end.ensures ∙ c.if-is_end.false));

@@ -1,7 +1,8 @@
 use Rattle.std.proofs.Common.{rules, not, ◌&&◌, sym, ap, ◌∙◌, subst, arith}
 use Rattle.dns_spec.specs.Records.{ZoneContents}
 use Rattle.dns_spec.specs.Reading.{MessageQuestion}
-use Rattle.dns_answer.specs.Walks.{IsApex, IsBelow}
+use Rattle.dns_zone.specs.Starts.{IsBelow}
+use Rattle.dns_answer.specs.Walks.{IsApex}
 use Rattle.dns_answer.proofs.PutReplies.{answers-found, answer-costs}
 use Rattle.dns_answer.proofs.reply.offer_answer.Goals as goal
 use Rattle.dns_answer.proofs.reply.offer_answer.Goals.{then-verdict, else-verdict}

@@ -1,7 +1,7 @@
 use Rattle.std.proofs.Common.{◌<◌, ◌∙◌, refl, length, length-set, arith}
 use Rattle.dns_name.specs.WireForm.{labels_of}
-use Rattle.dns_answer.proofs.LabelStarts.{begins-first, begins-next, next-fits, starts-more}
-use Rattle.dns_answer.proofs.lookup.put_starts.Goals as goal
+use Rattle.dns_zone.proofs.LabelStarts.{begins-first, begins-next, next-fits, starts-more}
+use Rattle.dns_zone.proofs.labels.put_starts.Goals as goal
 
 pub labels-init : goal.labels-init
 labels-init c = record {

@@ -7,7 +7,7 @@ use Rattle.dns_spec.specs.Names.{Octets, DomainName}
 use Rattle.dns_spec.proofs.DomainNames.NameLaws.{IsName-is_name}
 use Rattle.dns_name.specs.WireForm.{labels_of, IsWireForm}
 use Rattle.dns_name.proofs.WireLemmas.{BeginsWithLabel-IsWireForm, labels_of-zero, IsWireForm-nil}
-use Rattle.dns_answer.specs.Starts.{BeginsAt, AreStarts}
+use Rattle.dns_zone.specs.Starts.{BeginsAt, AreStarts}
 
 -- a wire form has its length octet
 some-octet : (xs : Octets) → IsWireForm xs → 0 < length xs

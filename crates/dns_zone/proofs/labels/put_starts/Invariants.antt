@@ -1,6 +1,6 @@
 use Rattle.std.proofs.Common.{◌≡◌, length}
-use Rattle.dns_answer.specs.Starts.{BeginsAt, AreStarts}
-use Rattle.dns_answer.proofs.lookup.put_starts.Given as goal
+use Rattle.dns_zone.specs.Starts.{BeginsAt, AreStarts}
+use Rattle.dns_zone.proofs.labels.put_starts.Given as goal
 
 -- the next label, or the root, begins here, and the places of those before are put
 abbrev pub invariant-labels : goal.invariant-labels

@@ -1,15 +1,15 @@
 //! Names that are sought, each from a name above it.
 ghost use Rattle.std.specs.Prelude.{◌≡◌, ◌≤◌, length, false, true, MatchOption};
 ghost use Rattle.dns_spec.specs.Names.{at_or_below};
-ghost use Rattle.dns_answer.specs.Walks.{IsBelow};
+ghost use Rattle.dns_zone.specs.Starts.{IsBelow};
 
 use dns_name::{NameRef, first_label};
 
 /// A name, and how many labels it has below the one from which it is sought.
 #[derive(Drop)]
-pub(crate) struct Sought<'n> {
-    pub(crate) name: NameRef<'n>,
-    pub(crate) depth: usize,
+pub struct Sought<'n> {
+    pub name: NameRef<'n>,
+    pub depth: usize,
 }
 
 impl Default for Sought<'_> {
@@ -24,7 +24,7 @@ impl Default for Sought<'_> {
 
 impl<'n> Sought<'n> {
     /// A name that is sought from another one; `None` where it is not at or below it.
-    pub(crate) fn below(name: &NameRef<'n>, ancestor: &NameRef<'_>) -> Option<Sought<'n>>
+    pub fn below(name: &NameRef<'n>, ancestor: &NameRef<'_>) -> Option<Sought<'n>>
         ensures { MatchOption result (at_or_below name.now ancestor.now ≡ false)
             (λ sought. (sought.name ≡ name.now) × IsBelow sought ancestor.now) }
     {

@@ -1,7 +1,7 @@
 use Rattle.std.proofs.Common.{◌≡◌, ◌+◌, length}
 use Rattle.dns_spec.specs.Names.{at_or_below}
 use Rattle.dns_name.specs.WireForm.{labels_of, IsWireForm}
-use Rattle.dns_answer.proofs.sought.Sought.below.Given as goal
+use Rattle.dns_zone.proofs.sought.Sought.below.Given as goal
 
 -- the suffix is at or below the ancestor as the name is, and has so many labels less
 abbrev pub invariant-labels : goal.invariant-labels

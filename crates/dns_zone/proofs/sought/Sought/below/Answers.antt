@@ -3,7 +3,7 @@ use Rattle.dns_spec.specs.Names.{Octets, DomainName, wire, same, at_or_below}
 use Rattle.dns_spec.proofs.DomainNames.NameLaws.{at_or_below-short, at_or_below-long, same-length, length-is_name}
 use Rattle.dns_name.specs.WireForm.{labels_of, IsWireForm}
 use Rattle.dns_name.proofs.WireLemmas.{IsWireForm-wire, labels_of_spelled}
-use Rattle.dns_answer.proofs.sought.Sought.below.Goals as goal
+use Rattle.dns_zone.proofs.sought.Sought.below.Goals as goal
 
 pub labels-init : goal.labels-init
 labels-init c =

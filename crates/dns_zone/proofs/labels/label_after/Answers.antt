@@ -1,7 +1,7 @@
 use Rattle.std.proofs.Common.{◌∷◌, length, length-drop, sym, ap, ◌∙◌, arith}
 use Rattle.dns_name.specs.WireForm.{labels_of}
-use Rattle.dns_answer.proofs.LabelStarts.{after-label}
-use Rattle.dns_answer.proofs.lookup.label_after.Goals as goal
+use Rattle.dns_zone.proofs.LabelStarts.{after-label}
+use Rattle.dns_zone.proofs.labels.label_after.Goals as goal
 
 pub unreachable-requires : goal.unreachable-requires
 unreachable-requires c =

@@ -1,0 +1,15 @@
+use Rattle.std.proofs.Common.{◌≡◌, ◌≤◌, length}
+use Rattle.dns_spec.specs.Names.{at_or_below}
+use Rattle.dns_zone.specs.NodeForm.{zone_of_tree, IsNodeAt}
+use Rattle.dns_zone.proofs.LeadRows.{IsOnWay}
+use Rattle.dns_zone.proofs.leads.last_on_way.Given as goal
+
+-- the row so far is on the way
+abbrev pub invariant-labels : goal.invariant-labels
+invariant-labels l = record {
+  way : IsOnWay l.tree l.rtype.0 l.row.0;
+  fewer : l.before ≤ l.sought.depth;
+}
+
+abbrev pub decreases-labels : goal.decreases-labels
+decreases-labels l = l.before

@@ -1,0 +1,11 @@
+use Rattle.std.proofs.Common.{◌≡◌, ap, subst, ◌∙◌}
+use Rattle.dns_zone.specs.Nodes.{ZoneNode, IsLead}
+use Rattle.dns_spec.specs.Records.{ZoneContents}
+use Rattle.std.specs.Prelude.{IfSome}
+use Rattle.dns_zone.proofs.node.Node.lead.Goals as goal
+
+pub returns : goal.returns
+returns c =
+    subst (λ (z : ZoneContents). IfSome c.lead_at.result
+    (λ v. (v.zone ≡ z) × IsLead z c.args.rtype.0 v.name))
+    (ap (λ (v : ZoneNode). v.zone) c.self.view_is) c.lead_at.ensures
