@@ -1,6 +1,6 @@
 -- How the way down to a name goes on from the name above it.
-use Rattle.std.proofs.Common.{◌≡◌, ℕ, suc, ◌+◌, ◌-◌, ◌≤◌, Bool, true, false, cond, ◌||◌, ◌&&◌, List, [], ◌∷◌, map, reverse, length, drop, None, Some, refl, sym, ap, ◌∙◌, arith}
-use Rattle.std.proofs.lemmas.Bool.{false≢true, and_parts, ltb-true, false_from_ne_true}
+use Rattle.std.proofs.Common.{◌≡◌, ℕ, suc, ◌+◌, ◌-◌, ◌≤◌, Bool, true, false, cond, ◌||◌, ◌&&◌, ◌⊎◌, inl, inr, List, [], ◌∷◌, map, reverse, length, drop, None, Some, refl, sym, ap, ◌∙◌, arith}
+use Rattle.std.proofs.lemmas.Bool.{false≢true, and_parts, or_cases, or_left, or_right, ltb-true, false_from_ne_true}
 use Rattle.std.proofs.lemmas.List.{length-map, reverse-append}
 use Rattle.std.proofs.lemmas.List.Folds.{find-append}
 use Rattle.std.specs.Prelude.{nat_lt, nat_le, ◌==◌}
@@ -17,8 +17,18 @@ use Rattle.dns_spec.proofs.DomainNames.NameLaws.{at_or_below-cons, same-length}
 use Rattle.dns_zone.proofs.NameOrder.{same-from, lower_twice}
 use Rattle.dns_zone.proofs.NameTree.{under-trans, itself-under}
 use Rattle.dns_zone.proofs.OwnRecords.{own-owns}
-use Rattle.dns_zone.proofs.AboveCuts.{any_weaker}
 use Rattle.dns_zone.proofs.Existing.{exists-lower}
+
+-- what some pass they pass by a weaker test
+any_weaker : {X : Type 0} (p q : X → Bool) (xs : List X) → ((x : X) → p x ≡ true → q x ≡ true)
+    → list_any p xs ≡ true → list_any q xs ≡ true
+any_weaker p q [] f h = h
+any_weaker p q (x ∷ xs) f h = go (or_cases (p x) (list_any p xs) h) (any_weaker p q xs f)
+  where
+    go : (p x ≡ true) ⊎ (list_any p xs ≡ true) → (list_any p xs ≡ true → list_any q xs ≡ true)
+        → (q x || list_any q xs) ≡ true
+    go (inl e) r = or_left (q x) (list_any q xs) (f x e)
+    go (inr e) r = or_right (q x) (list_any q xs) (r e)
 
 -- names above and below
 pub above_under : (l : Octets) (n a : DomainName) (k : ℕ) → at_or_below (l ∷ n) a ≡ true → length (l ∷ n) ≡ length a + suc k → at_or_below n a ≡ true
