@@ -16,7 +16,7 @@ use Rattle.dns_zone.specs.Starts.{IsBelow}
 use Rattle.dns_zone.specs.declared.sought.Sought.{Sought}
 use Rattle.dns_zone.proofs.NameOrder.{same-is, same-from, lower_twice}
 use Rattle.dns_zone.proofs.NameTree.{itself-under, below-cons, same-under}
-use Rattle.dns_zone.proofs.AboveCuts.{any_weaker}
+use Rattle.dns_zone.proofs.WayLaws.{any_weaker}
 use Rattle.dns_zone.proofs.Existing.{exists-lower}
 use Rattle.dns_answer.specs.Walks.{node_of, node_or, IsThere, IsMissing, IsBelowCut, IsNothing, AreRecords, IsStart, IsUncut, IsLeadTo, IsApex, Took}
 use Rattle.dns_zone.proofs.WayLaws.{under_same, no_cut-at_origin, cut-above, cut-here, cut-none, cut-by_set, exists-folded, exists-up, encloser-here, encloser-above, at-folded}

@@ -1,5 +1,5 @@
 -- The rows on the way from the origin to a target.
-use Rattle.std.proofs.Common.{◌≡◌, ◌⊎◌, inl, inr, ℕ, suc, ◌+◌, ◌<◌, ◌≤◌, true, false, Bool, List, [], ◌∷◌, ◌++◌, map, length, length-append, get_or, Option, None, Some, refl, sym, ap, ◌∙◌, subst, arith}
+use Rattle.std.proofs.Common.{◌≡◌, ◌⊎◌, inl, inr, ℕ, ◌<◌, ◌≤◌, true, false, List, [], ◌∷◌, ◌++◌, map, length, length-append, get_or, None, refl, sym, ap, ◌∙◌, subst, arith}
 use Rattle.std.specs.Char.{to_ascii_lowercase}
 use Rattle.std.specs.Option.{is_some}
 use Rattle.std.proofs.lemmas.Bool.{cases_lt}
@@ -9,8 +9,7 @@ use Rattle.dns_spec.specs.Data.{type_ns, type_cname}
 use Rattle.dns_spec.specs.Records.{ResourceRecord, ZoneContents, rrset}
 use Rattle.dns_spec.specs.Sets.{set_of}
 use Rattle.dns_spec.specs.Tree.{cut_of, is_cut}
-use Rattle.dns_zone.specs.Nodes.{IsNode, IsLead}
-use Rattle.dns_zone.specs.NodeForm.{zone_of_tree, node_at, IsNodeAt, IsZoneTree, IsLeadRow, IsLeadAt, AreLeads, type_at}
+use Rattle.dns_zone.specs.NodeForm.{zone_of_tree, IsNodeAt, IsZoneTree, IsLeadRow, IsLeadAt, AreLeads, type_at}
 use Rattle.dns_zone.specs.TreeForm.{row_name, row_at}
 use Rattle.dns_zone.specs.declared.row.Row.{Row}
 use Rattle.dns_zone.specs.declared.tree.Tree.{Tree}

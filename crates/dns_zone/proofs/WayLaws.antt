@@ -20,7 +20,7 @@ use Rattle.dns_zone.proofs.OwnRecords.{own-owns}
 use Rattle.dns_zone.proofs.Existing.{exists-lower}
 
 -- what some pass they pass by a weaker test
-any_weaker : {X : Type 0} (p q : X → Bool) (xs : List X) → ((x : X) → p x ≡ true → q x ≡ true)
+pub any_weaker : {X : Type 0} (p q : X → Bool) (xs : List X) → ((x : X) → p x ≡ true → q x ≡ true)
     → list_any p xs ≡ true → list_any q xs ≡ true
 any_weaker p q [] f h = h
 any_weaker p q (x ∷ xs) f h = go (or_cases (p x) (list_any p xs) h) (any_weaker p q xs f)

@@ -1,9 +1,5 @@
-use Rattle.std.proofs.Common.{◌≡◌, ◌==◌, ◌&&◌, false, ℕ, Bool, true, length, sym, ap, ◌∙◌, subst, arith, eq-eqb}
-use Rattle.std.specs.Option.{is_some}
-use Rattle.dns_spec.specs.Data.{type_ns, type_cname}
-use Rattle.dns_spec.specs.Records.{rrset}
-use Rattle.dns_spec.specs.Sets.{set_of}
-use Rattle.dns_name.specs.WireForm.{labels_of}
+use Rattle.std.proofs.Common.{◌≡◌, ◌==◌, ◌&&◌, false, ℕ, Bool, length, sym, ap, ◌∙◌, arith, eq-eqb}
+use Rattle.dns_spec.specs.Data.{type_cname}
 use Rattle.dns_name.proofs.WireLemmas.{IsWireForm-wire, labels_of_spelled}
 use Rattle.dns_zone.specs.Nodes.{ZoneNode}
 use Rattle.dns_zone.proofs.LeadRows.{begins, goes_on, lead_is}

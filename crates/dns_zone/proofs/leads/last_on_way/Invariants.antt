@@ -1,6 +1,4 @@
-use Rattle.std.proofs.Common.{◌≡◌, ◌≤◌, length}
-use Rattle.dns_spec.specs.Names.{at_or_below}
-use Rattle.dns_zone.specs.NodeForm.{zone_of_tree, IsNodeAt}
+use Rattle.std.proofs.Common.{◌≤◌}
 use Rattle.dns_zone.proofs.LeadRows.{IsOnWay}
 use Rattle.dns_zone.proofs.leads.last_on_way.Given as goal
 

@@ -1,4 +1,4 @@
-use Rattle.std.proofs.Common.{◌≡◌, ◌∷◌, ◌++◌, [], ◌+◌, ◌<◌, ℕ, List, length, length-append, get_or, sym, ap, ◌∙◌, subst, arith}
+use Rattle.std.proofs.Common.{◌≡◌, ◌∷◌, [], ◌+◌, ◌<◌, List, length, length-append, get_or, sym, ap, ◌∙◌, subst}
 use Rattle.dns_spec.specs.Records.{ResourceRecord}
 use Rattle.dns_zone.specs.NodeForm.{zone_of_tree, AreLeads}
 use Rattle.dns_zone.proofs.LeadRows.{leads-more}

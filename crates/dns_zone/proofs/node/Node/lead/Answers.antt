@@ -1,4 +1,4 @@
-use Rattle.std.proofs.Common.{◌≡◌, ap, subst, ◌∙◌}
+use Rattle.std.proofs.Common.{◌≡◌, ap, subst}
 use Rattle.dns_zone.specs.Nodes.{ZoneNode, IsLead}
 use Rattle.dns_spec.specs.Records.{ZoneContents}
 use Rattle.std.specs.Prelude.{IfSome}
