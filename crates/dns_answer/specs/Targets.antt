@@ -1,5 +1,5 @@
 -- What a reader learns here: which addresses are offered for targets, one target after the other.
-use Rattle.std.specs.Prelude.{⊤, ◌≡◌, ℕ, ◌+◌, ◌-◌, ◌≤◌, Bool, true, false, ◌&&◌, not, sum, List, [], ◌∷◌, ◌++◌, map, length, take, if◌then◌else◌}
+use Rattle.std.specs.Prelude.{ℕ, ◌-◌, Bool, true, ◌&&◌, not, sum, List, [], ◌∷◌, ◌++◌, map, length, take, if◌then◌else◌}
 use Rattle.std.specs.Prelude.{Option, None, Some}
 use Rattle.std.specs.List.{list_any, filter, filter_map}
 use Rattle.dns_spec.specs.Names.{Octets, DomainName, same, at_or_below}

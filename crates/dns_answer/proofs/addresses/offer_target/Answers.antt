@@ -1,4 +1,4 @@
-use Rattle.std.proofs.Common.{rules, ◌≡◌, [], sym, ap, ◌∙◌}
+use Rattle.std.proofs.Common.{rules, [], sym, ap, ◌∙◌}
 use Rattle.std.proofs.lemmas.Bool.{false≢true}
 use Rattle.dns_spec.proofs.DomainNames.NameLaws.{length-is_name}
 use Rattle.dns_answer.specs.Targets.{target_items, targets_of_first, side_takes}

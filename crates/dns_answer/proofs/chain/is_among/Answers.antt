@@ -1,7 +1,7 @@
 use Rattle.std.proofs.Common.{◌≡◌, ◌||◌, Bool, true, false, All, drop, length, refl, sym, ap, subst, ◌∙◌, arith}
 use Rattle.std.proofs.lemmas.List.{nil_from_length}
 use Rattle.std.specs.List.{list_any}
-use Rattle.dns_spec.specs.Names.{folded, names_equal, same}
+use Rattle.dns_spec.specs.Names.{folded, same}
 use Rattle.dns_zone.specs.declared.sought.Sought.{Sought}
 use Rattle.dns_answer.proofs.SeekSteps.{any-lower}
 use Rattle.dns_answer.proofs.TargetLaws.{same-lower}

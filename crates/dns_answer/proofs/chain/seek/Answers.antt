@@ -1,4 +1,4 @@
-use Rattle.std.proofs.Common.{rules, ◌≡◌, ◌∷◌, [], All, drop, true, refl, sym, ap, subst, ◌∙◌, arith, length}
+use Rattle.std.proofs.Common.{rules, ◌∷◌, [], true, sym, subst, arith}
 use Rattle.std.specs.Prelude.{IfSome}
 use Rattle.dns_spec.specs.Records.{ZoneContents}
 use Rattle.dns_zone.specs.Starts.{IsBelow}

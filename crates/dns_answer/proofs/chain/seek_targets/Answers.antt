@@ -1,11 +1,11 @@
-use Rattle.std.proofs.Common.{rules, ◌≡◌, ◌∷◌, ◌++◌, [], List, Option, All, drop, true, refl, sym, ap, subst, ◌∙◌, arith, length}
+use Rattle.std.proofs.Common.{◌≡◌, ◌∷◌, ◌++◌, [], List, All, drop, true, refl, sym, ap, subst, ◌∙◌, arith, length}
 use Rattle.std.proofs.lemmas.List.Elements.{All-nil}
 use Rattle.std.specs.Prelude.{IfSome}
 use Rattle.dns_spec.specs.Records.{ZoneContents}
 use Rattle.dns_spec.specs.Names.{folded}
 use Rattle.dns_zone.specs.declared.sought.Sought.{Sought}
 use Rattle.dns_zone.specs.Starts.{IsBelow}
-use Rattle.dns_answer.specs.Walks.{IsLeadTo, IsApex}
+use Rattle.dns_answer.specs.Walks.{IsLeadTo}
 use Rattle.dns_answer.specs.Seeking.{names_of, SeeksFrom, TookFrom, IsLast, LeadsTo, Completes}
 use Rattle.dns_answer.proofs.SeekSteps.{completes-then, names-more, names-count, lower-more}
 use Rattle.dns_answer.proofs.chain.seek_targets.Goals as goal

@@ -1,4 +1,4 @@
-use Rattle.std.proofs.Common.{◌≡◌, ◌+◌, ◌*◌, ◌≤◌, ◌<◌, [], ◌∷◌, All, drop, length, true}
+use Rattle.std.proofs.Common.{◌≡◌, ◌+◌, ◌*◌, ◌≤◌, [], ◌∷◌, All, drop, length, true}
 use Rattle.std.specs.Prelude.{IfSome}
 use Rattle.dns_spec.specs.Names.{folded}
 use Rattle.dns_zone.specs.declared.sought.Sought.{Sought}

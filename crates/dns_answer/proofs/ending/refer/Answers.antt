@@ -1,12 +1,10 @@
-use Rattle.std.proofs.Common.{rules, refl, sym, ap, ◌∙◌, subst, arith}
+use Rattle.std.proofs.Common.{rules, refl, sym, ap, ◌∙◌, arith}
 use Rattle.std.proofs.lemmas.Bool.{false≢true}
 use Rattle.std.specs.Option.{is_some}
-use Rattle.dns_spec.specs.Names.{at_or_below}
 use Rattle.dns_spec.specs.Records.{ZoneContents, rrset}
 use Rattle.dns_spec.specs.Data.{type_ns}
 use Rattle.dns_spec.specs.Sets.{set_of}
-use Rattle.dns_answer.proofs.Endings.{Ends-referred, cut-has_servers, cut-in_zone, Offers-others, Took-referred, servers_targets}
-use Rattle.dns_zone.specs.Nodes.{IsNode}
+use Rattle.dns_answer.proofs.Endings.{Ends-referred, cut-has_servers, Offers-others, Took-referred, servers_targets}
 use Rattle.dns_answer.specs.Targets.{set_targets}
 use Rattle.dns_answer.proofs.TargetLaws.{Took-none}
 use Rattle.dns_answer.proofs.ending.refer.Goals as goal

@@ -1,10 +1,9 @@
-use Rattle.std.proofs.Common.{true, ◌≡◌, ◌+◌, ◌∙◌, length, refl, sym, ap, subst, arith}
+use Rattle.std.proofs.Common.{true, refl, sym, ap, subst, arith}
 use Rattle.std.specs.Prelude.{IfSome}
 use Rattle.dns_spec.specs.Records.{ZoneContents}
-use Rattle.dns_zone.specs.Nodes.{Walk, ZoneNode}
-use Rattle.dns_zone.specs.Starts.{IsBelow}
-use Rattle.dns_answer.specs.Walks.{IsLeadTo, IsStart, IsUncut, AreRecords, IsBelowCut, IsNothing, Took}
-use Rattle.dns_answer.proofs.WaySteps.{apex-start, apex-uncut, apex-below, lead-nearer, Took-lead}
+use Rattle.dns_zone.specs.Nodes.{Walk}
+use Rattle.dns_answer.specs.Walks.{IsLeadTo, IsStart, IsUncut}
+use Rattle.dns_answer.proofs.WaySteps.{apex-uncut, lead-nearer}
 use Rattle.dns_answer.proofs.lookup.look_up.Goals as goal
 
 pub begin-requires : goal.begin-requires

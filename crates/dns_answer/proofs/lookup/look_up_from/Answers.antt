@@ -1,7 +1,6 @@
-use Rattle.std.proofs.Common.{◌≡◌, ◌∷◌, true, false, ap, sym, subst}
+use Rattle.std.proofs.Common.{◌≡◌, ◌∷◌, true, false, subst}
 use Rattle.dns_spec.specs.Tree.{exists, asterisk}
-use Rattle.dns_zone.specs.Nodes.{ZoneNode, IsNode}
-use Rattle.dns_zone.specs.Starts.{IsBelow}
+use Rattle.dns_zone.specs.Nodes.{ZoneNode}
 use Rattle.dns_answer.proofs.WaySteps.{records-there, records-by_wildcard, nothing-there}
 use Rattle.dns_answer.proofs.lookup.look_up_from.Goals as goal
 
