@@ -65,7 +65,10 @@ impl Asked {
         let text = self.text(alloc)?;
         let records = read_zone(alloc, &origin, &mut Tally::new(text.as_slice()))?;
         match Zone::build(alloc, &origin, records) {
-            Ok(zone) => Ok(zone),
+            Ok(mut zone) => {
+                zone.find_leads(alloc)?;
+                Ok(zone)
+            }
             Err(_) => Err(Fault::Unbuilt),
         }
     }

@@ -87,7 +87,10 @@ fn zone_of<R: Files + AllocGlobal>(rt: &R, origin: &str, path: &str) -> Result<Z
         return Err(Fault::Zone);
     };
     match records.build(rt.alloc(), &origin) {
-        Ok(zone) => Ok(zone),
+        Ok(mut zone) => {
+            zone.find_leads(rt.alloc())?;
+            Ok(zone)
+        }
         Err(_) => Err(Fault::Zone),
     }
 }

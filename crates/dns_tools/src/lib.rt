@@ -21,7 +21,7 @@ pub use check::{Flags, check_zone};
 pub use fault::{FAULT_STATUS, FaultWord, Stop, TurnWord, end_of, exit_status, status_of_turns};
 pub use host::{finish, given_words, open_file, say};
 pub use listen::{serve_connections, serve_datagrams, socket_at};
-pub use load::{LoadFault, Refusal, load as load_zone, write_refusal};
+pub use load::{LoadFault, Refusal, load_zone, write_refusal};
 pub use message::run_message;
 pub use once::run_once;
 pub use socket::Socket;

@@ -1,6 +1,8 @@
 //! A zone from its file.
 ghost use Rattle.std.specs.Prelude.{◌≡◌, ◌-◌, ◌^◌, ◌<◌, IfOk};
 ghost use Rattle.dns_name.specs.Counted.{Writes};
+ghost use Rattle.dns_tools.specs.declared.fault.Stop.TheVariants.{Memory};
+ghost use Rattle.dns_tools.specs.declared.load.LoadFault.TheVariants.{Stopped};
 ghost use Rattle.dns_tools.specs.Load.{LoadedAs, failures_after_load, fault_of_read, refusal_report};
 
 use crate::fault::Stop;
@@ -8,7 +10,7 @@ use crate::report::{write_check_faults, write_read_fault};
 use dns_master::{ReadCode, ReadFault};
 use dns_name::{Name, SinkFailed, Tally};
 use dns_zone::{BuildFault, CheckFault, Store, Zone};
-use std::alloc::Global;
+use std::alloc::{AllocError, Global};
 use std::io::{Read, Write};
 
 /// Why a file gives no zone that is served.
@@ -41,12 +43,20 @@ impl From<ReadFault> for LoadFault {
     }
 }
 
+impl From<AllocError> for LoadFault {
+    ghost from_gives = { λ _ refusal. refusal ≡ Stopped Memory };
+
+    fn from(_error: AllocError) -> LoadFault {
+        LoadFault::Stopped(Stop::Memory)
+    }
+}
+
 /// Loads the zone of the origin from the source of its file (RFC 1035 section 5), by the checks of
 /// the checker.
 ///
 /// The file is read relative to the origin in lower case. Its first faulty entry decides; else all
 /// faults of the zone are its refusal. Nothing is read again after a failure.
-pub fn load<R: Read>(alloc: Global, origin: &Name, source: &mut Tally<R>) -> Result<Zone, LoadFault>
+pub(crate) fn load<R: Read>(alloc: Global, origin: &Name, source: &mut Tally<R>) -> Result<Zone, LoadFault>
     requires { source.old.failures < 2 ^ 64 - 1 }
     ensures counted { source.new.failures ≡ failures_after_load source.old.failures result }
     ensures meaning { LoadedAs (R.remaining source.old.device) (R.remaining source.new.device)
@@ -59,6 +69,22 @@ pub fn load<R: Read>(alloc: Global, origin: &Name, source: &mut Tally<R>) -> Res
         Err(BuildFault::Faults(faults)) => Err(LoadFault::Refused(Refusal::Zone(faults))),
         Err(BuildFault::NoMemory) => Err(LoadFault::Stopped(Stop::Memory)),
     }
+}
+
+/// Loads the same zone, to be served: the ways to its targets are known.
+pub fn load_zone<R: Read>(
+    alloc: Global,
+    origin: &Name,
+    source: &mut Tally<R>,
+) -> Result<Zone, LoadFault>
+    requires { source.old.failures < 2 ^ 64 - 1 }
+    ensures counted { source.new.failures ≡ failures_after_load source.old.failures result }
+    ensures meaning { LoadedAs (R.remaining source.old.device) (R.remaining source.new.device)
+        origin.now result }
+{
+    let mut zone = load(alloc, origin, source)?;
+    zone.find_leads(alloc)?;
+    Ok(zone)
 }
 
 /// Writes why a file gives no zone, in the lines of the checker's report.

@@ -1,9 +1,9 @@
 -- What a reader learns here: a name of a zone that is under check.
-use Rattle.std.specs.Prelude.{◌≡◌, ◌==◌, ◌&&◌, Bool, false, List}
+use Rattle.std.specs.Prelude.{◌≡◌, ◌==◌, ◌&&◌, ◌||◌, Bool, false, List}
 use Rattle.std.specs.Option.{option_map_or}
 use Rattle.std.specs.List.Sorted.{IsNonDecreasingBy}
 use Rattle.dns_spec.specs.Names.{DomainName, folded, at_or_below}
-use Rattle.dns_spec.specs.Data.{type_ns, type_cname, target}
+use Rattle.dns_spec.specs.Data.{type_ns, type_cname, type_mx, type_srv, target}
 use Rattle.dns_spec.specs.Checks.{lacks_address}
 use Rattle.dns_spec.specs.Records.{ResourceRecord, ZoneContents, at, owns}
 
@@ -27,3 +27,8 @@ is_server_alias z r = r.rtype == type_ns && option_map_or
 abbrev pub is_server_lost : ZoneContents → DomainName → ResourceRecord → Bool
 is_server_lost z n r = r.rtype == type_ns && option_map_or
     (λ m. at_or_below m z.origin && lacks_address z n m) (target r.rtype r.rdata) false
+
+-- an MX or SRV record whose target is a name of the zone that owns a CNAME
+abbrev pub is_exchange_alias : ZoneContents → ResourceRecord → Bool
+is_exchange_alias z r = (r.rtype == type_mx || r.rtype == type_srv) && option_map_or
+    (λ m. at_or_below m z.origin && owns z m type_cname) (target r.rtype r.rdata) false

@@ -9,7 +9,7 @@ ghost use Rattle.dns_spec.specs.Meaning.{most_records};
 use crate::entry::Entry;
 use crate::key::Key;
 use crate::lookup::count_in_front;
-use crate::order::record_order;
+use crate::order::{own_order, record_order};
 use dns_name::NameRef;
 use std::alloc::{AllocError, Global};
 use std::cmp::Ordering;
@@ -225,5 +225,5 @@ fn sort_run(records: &mut [Entry], at: usize, end: usize)
         return;
     }
     let own = &mut records[at..end];
-    own.sort_unstable_by(|one, other| record_order(one, other));
+    own.sort_unstable_by(|one, other| own_order(one, other));
 }

@@ -13,6 +13,7 @@ use crate::key::Key;
 use crate::names::{CheckedName, checked_names, keys_of};
 use crate::owner::Owner;
 use crate::survey::Survey;
+use crate::target::LastTarget;
 use dns_name::NameRef;
 use std::alloc::{AllocError, Global};
 
@@ -36,44 +37,30 @@ pub(crate) fn faults(
     let names = checked_names(alloc, origin, key.octets(), records, keys.as_slice())?;
     let survey = Survey::new(origin, key.octets(), records, names.as_slice());
     let mut found = Vec::new(alloc);
+    let mut last = LastTarget::new();
     let mut next = 0_usize;
     'names: for one in names.as_slice() {
         next = next.saturating_add(1);
-        report(&survey, one, next, &mut found)?;
+        report(&survey, one, next, &mut last, &mut found)?;
     }
     Ok(found)
 }
 
 // Adds the faults of a name that is checked, with the place of the next.
-fn report(
-    survey: &Survey<'_>,
-    one: &CheckedName<'_>,
+fn report<'a>(
+    survey: &'a Survey<'a>,
+    one: &'a CheckedName<'a>,
     next: usize,
+    last: &mut LastTarget,
     found: &mut Vec<CheckFault>,
 ) -> Result<(), AllocError>
     requires { IsChecked survey.now (name_of survey.now one.now) one.now }
     ensures { OnOk result (found.new.items ≡ found.old.items
         ++ reported_at survey.now (name_of survey.now one.now)) }
 {
-    match survey.own(one).first() {
-        Some(first) => report_at(survey, &first.owner(), one, next, found),
-        None => report_at(survey, survey.origin(), one, next, found),
-    }
-}
-
-// The same of the name itself.
-fn report_at(
-    survey: &Survey<'_>,
-    name: &NameRef<'_>,
-    one: &CheckedName<'_>,
-    next: usize,
-    found: &mut Vec<CheckFault>,
-) -> Result<(), AllocError>
-    requires { IsChecked survey.now name.now one.now }
-    ensures { OnOk result (found.new.items ≡ found.old.items ++ reported_at survey.now name.now) }
-{
-    let failed = Owner::new(survey, name, one, next).judged();
-    add_failed(name, &failed, found)
+    let name = survey.name(one);
+    let failed = Owner::new(survey, &name, one, next).judged(last);
+    add_failed(&name, &failed, found)
 }
 
 // Adds the faults of a name that fails these of the checks from the first on.

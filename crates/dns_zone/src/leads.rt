@@ -17,13 +17,9 @@ use crate::tree::Tree;
 use dns_rdata::RType;
 use std::alloc::{AllocError, Global};
 
-// The way to a target so few labels below the origin is walked again with each question: it costs
-// less than to look for it once while the zone is made.
-const FEW_LABELS: usize = 4;
-
 /// For each record the row of the last name on the way to its target, or 0 where that has none, is
-/// outside of the zone, or is few labels below the origin. The way of an alias ends before a cut.
-/// Memory is taken for 8 octets for each record.
+/// outside of the zone. The way of an alias ends before a cut. Memory is taken for 8 octets for each
+/// record.
 pub(crate) fn leads_of(alloc: Global, tree: &Tree) -> Result<Vec<usize>, AllocError>
     requires { IsZoneTree tree.now }
     ensures { IfOk result (λ leads. AreLeads (zone_of_tree tree.now) tree.now.rows leads.items) }
@@ -43,8 +39,8 @@ fn lead_of(tree: &Tree, record: &Entry) -> usize
 {
     match target(record) {
         Some(name) => match Sought::below(&name, &tree.origin.lent()) {
-            Some(sought) if sought.depth > FEW_LABELS => last_on_way(tree, &sought, record.rtype),
-            _ => 0,
+            Some(sought) => last_on_way(tree, &sought, record.rtype),
+            None => 0,
         },
         None => 0,
     }

@@ -1,7 +1,8 @@
 //! The canonical order of records (RFC 4034 6.1, 6.3).
 ghost use Rattle.std.specs.Prelude.{◌≡◌};
 ghost use Rattle.dns_spec.specs.Names.{folded, name_order};
-ghost use Rattle.dns_spec.specs.Records.{record_order};
+ghost use Rattle.std.specs.Ordering.{nat_cmp, ordering_then};
+ghost use Rattle.dns_spec.specs.Records.{data_order, record_order};
 
 use crate::entry::Entry;
 use dns_name::NameRef;
@@ -11,8 +12,17 @@ use std::cmp::Ordering;
 pub(crate) fn record_order(one: &Entry, other: &Entry) -> Ordering
     ensures { result ≡ record_order one.now other.now }
 {
-    owner_order(&one.owner(), &other.owner())
-        .then_with(|| one.rtype.0.cmp(&other.rtype.0))
+    owner_order(&one.owner(), &other.owner()).then_with(|| own_order(one, other))
+}
+
+// The same of two records of one owner.
+pub(crate) fn own_order(one: &Entry, other: &Entry) -> Ordering
+    ensures { result ≡ ordering_then (nat_cmp one.now.rtype other.now.rtype)
+        (ordering_then (data_order one.now other.now) (nat_cmp one.now.ttl other.now.ttl)) }
+{
+    one.rtype
+        .0
+        .cmp(&other.rtype.0)
         .then_with(|| one.rdata().cmp(other.rdata()))
         .then_with(|| one.ttl.cmp(&other.ttl))
 }

@@ -4,7 +4,7 @@ ghost use Rattle.dns_spec.specs.Records.{owns};
 ghost use Rattle.dns_spec.specs.Tree.{is_cut};
 ghost use Rattle.dns_spec.specs.Checks.{is_origin, count, owns_such, is_address_type, below_cut, checks, no_soa, many_soa, soa_elsewhere, no_ns, outside, cname_and_other, many_cname, ttls_differ, ns_target_alias, ns_target_lost, mx_target_alias, data_at_cut, wildcard_ns, large_set, many_sets};
 ghost use Rattle.dns_spec.specs.Data.{type_ns, type_cname};
-ghost use Rattle.dns_zone.specs.OwnerForm.{is_server_alias, is_server_lost};
+ghost use Rattle.dns_zone.specs.OwnerForm.{is_server_alias, is_server_lost, is_exchange_alias};
 ghost use Rattle.dns_zone.specs.NamesForm.{IsChecked};
 
 use crate::entry::Entry;
@@ -13,6 +13,7 @@ use crate::lookup::has_type;
 use crate::names::CheckedName;
 use crate::sets::{have_large_set, have_many_sets, have_other_ttls};
 use crate::survey::Survey;
+use crate::target::LastTarget;
 use dns_name::NameRef;
 use dns_rdata::RType;
 use std::marker::Model;
@@ -70,10 +71,10 @@ impl<'a> Owner<'a> {
     }
 
     /// Which checks the name fails, by their codes.
-    pub(crate) fn judged(&self) -> [bool; 15]
+    pub(crate) fn judged(&self, last: &mut LastTarget) -> [bool; 15]
         ensures { result ≡ map (λ c. c.1 self.now.zone self.now.name) checks }
     {
-        let (is_alias, is_lost) = self.judged_servers();
+        let (is_alias, is_lost, is_exchange_alias) = self.judged_targets(last);
         [
             self.has_no_soa(),
             self.has_many_soa(),
@@ -85,7 +86,7 @@ impl<'a> Owner<'a> {
             self.has_other_ttls(),
             is_alias,
             is_lost,
-            self.has_mx_target_alias(),
+            is_exchange_alias,
             self.has_data_at_cut(),
             self.has_wildcard_ns(),
             self.has_large_set(),
@@ -144,43 +145,51 @@ impl<'a> Owner<'a> {
         have_other_ttls(self.own)
     }
 
-    // Whether the target of an NS record is an alias, and whether that of one lacks an address.
-    // Each is looked up once.
-    fn judged_servers(&self) -> (bool, bool)
+    // Whether the target of an NS record is an alias, whether that of one lacks an address, and
+    // whether that of an MX or SRV record is an alias. Each is looked up once.
+    fn judged_targets(&self, last: &mut LastTarget) -> (bool, bool, bool)
         ensures alias { result.0 ≡ ns_target_alias self.now.zone self.now.name }
         ensures lost { result.1 ≡ ns_target_lost self.now.zone self.now.name }
+        ensures exchange { result.2 ≡ mx_target_alias self.now.zone self.now.name }
     {
         let owner_is_cut = self.is_cut();
         let mut rest = self.own;
-        let mut has_alias = false;
-        let mut has_lost = false;
-        'servers: while let Some((first, others)) = rest.split_first() {
-            let (is_alias, is_lost) = self.judged_server(first, owner_is_cut);
+        let (mut has_alias, mut has_lost, mut has_exchange) = (false, false, false);
+        'targets: while let Some((first, others)) = rest.split_first() {
+            let (is_alias, is_lost, is_exchange) = self.judged_target(first, owner_is_cut, last);
             has_alias |= is_alias;
             has_lost |= is_lost;
+            has_exchange |= is_exchange;
             rest = others;
         }
-        (has_alias, has_lost)
+        (has_alias, has_lost, has_exchange)
     }
 
     // The same of one record, which may be of any type.
-    fn judged_server(&self, listed: &Entry, owner_is_cut: bool) -> (bool, bool)
+    fn judged_target(
+        &self,
+        record: &Entry,
+        owner_is_cut: bool,
+        last: &mut LastTarget,
+    ) -> (bool, bool, bool)
         requires { owner_is_cut ≡ is_cut self.now.zone self.now.name }
-        ensures alias { result.0 ≡ is_server_alias self.now.zone listed.now }
-        ensures lost { result.1 ≡ is_server_lost self.now.zone self.now.name listed.now }
+        ensures alias { result.0 ≡ is_server_alias self.now.zone record.now }
+        ensures lost { result.1 ≡ is_server_lost self.now.zone self.now.name record.now }
+        ensures exchange { result.2 ≡ is_exchange_alias self.now.zone record.now }
     {
-        if listed.rtype != RType::NS {
-            return (false, false);
+        let is_server = record.rtype == RType::NS;
+        if !is_server && record.rtype != RType::MX && record.rtype != RType::SRV {
+            return (false, false, false);
         }
-        self.survey
-            .judged_target(listed, self.next, self.name, owner_is_cut)
-    }
-
-    fn has_mx_target_alias(&self) -> bool
-        ensures { result ≡ mx_target_alias self.now.zone self.now.name }
-    {
-        self.own.iter().any(|listed| (listed.rtype == RType::MX || listed.rtype == RType::SRV)
-            && self.survey.is_target_alias(listed))
+        let near = if is_server { self.next } else { last.place() };
+        let (is_alias, is_lost) = self
+            .survey
+            .judged_target(record, near, self.name, owner_is_cut, last);
+        if is_server {
+            (is_alias, is_lost, false)
+        } else {
+            (false, false, is_alias)
+        }
     }
 
     fn has_data_at_cut(&self) -> bool

@@ -8,14 +8,13 @@ ghost use Rattle.dns_spec.specs.Data.{type_cname, target};
 ghost use Rattle.dns_spec.specs.Tree.{is_cut};
 ghost use Rattle.dns_spec.specs.Checks.{at_or_below_cut, lacks_address, has_address};
 ghost use Rattle.dns_zone.specs.KeyForm.{name_key};
-ghost use Rattle.dns_zone.specs.NamesForm.{own_in, AreChecked, IsLastUpto};
+ghost use Rattle.dns_zone.specs.NamesForm.{own_in, name_of, AreChecked, IsLastUpto};
 
 use crate::above::is_at_or_below;
 use crate::entry::Entry;
-use crate::key::Key;
 use crate::lookup::has_type;
 use crate::names::{CheckedName, count_upto, is_covered};
-use crate::target::target;
+use crate::target::{LastTarget, target};
 use dns_name::NameRef;
 use dns_rdata::RType;
 use std::marker::Model;
@@ -90,53 +89,46 @@ impl<'a> Survey<'a> {
         one.own(self.records)
     }
 
-    // The last of the names that is not after one at or below the origin, whose key this is.
-    fn last_upto(&self, name: &NameRef<'_>, near: usize, key: &[u8]) -> &'a CheckedName<'a>
-        requires lower { folded name.now ≡ name.now }
-        requires inside { at_or_below name.now self.now.origin ≡ true }
-        requires key { key.now ≡ name_key name.now }
-        ensures { IsLastUpto self.now name.now result.now }
+    /// A name that is checked: the owner of its records, or the origin where it has none.
+    pub(crate) fn name(&self, one: &CheckedName<'_>) -> NameRef<'a>
+        requires rising { one.now.first ≤ one.now.end }
+        requires within { one.now.end ≤ length self.now.records }
+        ensures { result ≡ name_of self.now one.now }
     {
-        let names = self.names;
-        &names[count_upto(names, near, key) - 1]
+        match self.own(one).first() {
+            Some(first) => first.owner(),
+            None => NameRef::new(self.origin.octets()),
+        }
     }
 
-    // The records at a name at or below the origin, whose key this is, by their types, and whether
-    // it is at or below a cut (RFC 1034 4.2).
-    fn at(&self, name: &NameRef<'_>, near: usize, key: &[u8]) -> (&'a [Entry], bool)
-        requires lower { folded name.now ≡ name.now }
-        requires inside { at_or_below name.now self.now.origin ≡ true }
-        requires key { key.now ≡ name_key name.now }
-        ensures own { result.0.now ≡ at self.now name.now }
-        ensures by_types { IsNonDecreasingBy (λ (r : ResourceRecord). r.rtype) result.0.now }
-        ensures cut { result.1 ≡ at_or_below_cut self.now name.now }
+    // The last of the names that is not after a target at or below the origin.
+    fn last_upto(&self, near: usize, target: &mut LastTarget) -> &'a CheckedName<'a>
+        requires lower { folded target.old ≡ target.old }
+        requires inside { at_or_below target.old self.now.origin ≡ true }
+        ensures same { target.new ≡ target.old }
+        ensures last { IsLastUpto self.now target.old result.now }
     {
-        let last = self.last_upto(name, near, key);
+        let names = self.names;
+        let place = count_upto(names, near, target.key()) - 1;
+        target.keep_place(place);
+        &names[place]
+    }
+
+    // The records at a target at or below the origin, by their types, and whether it is at or below
+    // a cut (RFC 1034 4.2).
+    fn at(&self, near: usize, target: &mut LastTarget) -> (&'a [Entry], bool)
+        requires lower { folded target.old ≡ target.old }
+        requires inside { at_or_below target.old self.now.origin ≡ true }
+        ensures own { result.0.now ≡ at self.now target.old }
+        ensures by_types { IsNonDecreasingBy (λ (r : ResourceRecord). r.rtype) result.0.now }
+        ensures cut { result.1 ≡ at_or_below_cut self.now target.old }
+    {
+        let last = self.last_upto(near, target);
+        let key = target.key();
         if last.key == key {
             return (self.own(last), last.cut > 0);
         }
         (&[], is_covered(last.cut, last.key, key))
-    }
-
-    /// Whether the record's target is a name of the zone that owns a CNAME (RFC 2181 10.3).
-    pub(crate) fn is_target_alias(&self, entry: &Entry) -> bool
-        ensures { result ≡ option_map_or (λ m. at_or_below m self.now.origin
-            && owns self.now m type_cname) (target entry.now.rtype entry.now.rdata) false }
-    {
-        match target(entry) {
-            Some(target) => self.is_alias(&target),
-            None => false,
-        }
-    }
-
-    // Whether a name is one of the zone that owns a CNAME.
-    fn is_alias(&self, target: &NameRef<'_>) -> bool
-        requires { folded target.now ≡ target.now }
-        ensures { result ≡ (at_or_below target.now self.now.origin
-            && owns self.now target.now type_cname) }
-    {
-        is_at_or_below(target, self.origin())
-            && has_type(self.at(target, 0, Key::of(target).octets()).0, RType::CNAME)
     }
 
     /// Whether the record's target is a name of the zone that owns a CNAME (RFC 2181 10.3), and
@@ -148,6 +140,7 @@ impl<'a> Survey<'a> {
         near: usize,
         owner: &NameRef<'_>,
         owner_is_cut: bool,
+        last: &mut LastTarget,
     ) -> (bool, bool)
         requires cut { owner_is_cut ≡ is_cut self.now owner.now }
         requires lower { folded owner.now ≡ owner.now }
@@ -159,7 +152,7 @@ impl<'a> Survey<'a> {
             (target entry.now.rtype entry.now.rdata) false }
     {
         match target(entry) {
-            Some(target) => self.judged_name(&target, near, owner, owner_is_cut),
+            Some(target) => self.judged_name(&target, near, owner, owner_is_cut, last),
             None => (false, false),
         }
     }
@@ -170,6 +163,7 @@ impl<'a> Survey<'a> {
         near: usize,
         owner: &NameRef<'_>,
         owner_is_cut: bool,
+        last: &mut LastTarget,
     ) -> (bool, bool)
         requires lower { folded target.now ≡ target.now }
         requires cut { owner_is_cut ≡ is_cut self.now owner.now }
@@ -182,7 +176,8 @@ impl<'a> Survey<'a> {
         if !is_at_or_below(target, self.origin()) {
             return (false, false);
         }
-        let (own, is_under_cut) = self.at(target, near, Key::of(target).octets());
+        last.move_to(target);
+        let (own, is_under_cut) = self.at(near, last);
         let is_lost = !self.has_address(target, own)
             && (!is_under_cut || owner_is_cut && is_at_or_below(target, owner));
         (has_type(own, RType::CNAME), is_lost)

@@ -10,28 +10,28 @@ use Rattle.dns_zone.proofs.survey.Survey.at.Goals as goal
 pub returns-then-eq-clause-own : goal.returns-then-eq-clause-own
 returns-then-eq-clause-own c =
     let z = c.args.self.now in
-    let n = c.args.name.now in
+    let n = c.args.target.now in
     let last = c.last_upto-last.result.now in
-    c.own.ensures ∙ found_at z n c.requires.lower last c.last_upto-last.ensures
-    (found_name z n c.requires.lower last c.last_upto-last.ensures
-    ((octets_equal-decides last.key.now c.args.key.now).0 (sym c.eq.ensures ∙ c.if-eq.true)
-    ∙ c.requires.key))
+    c.own.ensures ∙ found_at z n c.requires.lower last c.last_upto-last.ensures.last
+    (found_name z n c.requires.lower last c.last_upto-last.ensures.last
+    ((octets_equal-decides last.key.now c.key-key.result.now).0 (sym c.eq.ensures ∙ c.if-eq.true)
+    ∙ (c.key-key.ensures ∙ ap name_key c.last_upto-last.ensures.same)))
 
 pub returns-then-eq-clause-cut : goal.returns-then-eq-clause-cut
 returns-then-eq-clause-cut c =
     let z = c.args.self.now in
-    let n = c.args.name.now in
+    let n = c.args.target.now in
     let last = c.last_upto-last.result.now in
-    found_cut z n c.requires.lower last c.last_upto-last.ensures
-    (found_name z n c.requires.lower last c.last_upto-last.ensures
-    ((octets_equal-decides last.key.now c.args.key.now).0 (sym c.eq.ensures ∙ c.if-eq.true)
-    ∙ c.requires.key))
+    found_cut z n c.requires.lower last c.last_upto-last.ensures.last
+    (found_name z n c.requires.lower last c.last_upto-last.ensures.last
+    ((octets_equal-decides last.key.now c.key-key.result.now).0 (sym c.eq.ensures ∙ c.if-eq.true)
+    ∙ (c.key-key.ensures ∙ ap name_key c.last_upto-last.ensures.same)))
 
 pub is_covered-requires : goal.is_covered-requires
 is_covered-requires c =
     let z = c.args.self.now in
     let last = c.last_upto-last.result.now in
-    let checked = c.last_upto-last.ensures.checked in
+    let checked = c.last_upto-last.ensures.last.checked in
     let size : length last.key.now ≡ length (name_key (name_of z last)) = ap length checked.key in
     let fits = topmost_fits z (name_of z last) checked.owner.lower last.cut checked.topmost in
     omega (arith, size, fits)
@@ -39,15 +39,15 @@ is_covered-requires c =
 pub returns-clause-own : goal.returns-clause-own
 returns-clause-own c =
     let last = c.last_upto-last.result.now in
-    sym (none_there c.args.self.now c.args.name.now c.requires.lower last c.last_upto-last.ensures
+    sym (none_there c.args.self.now c.args.target.now c.requires.lower last c.last_upto-last.ensures.last
     (λ e. false≢true (sym c.if-eq.false ∙ c.eq.ensures
-    ∙ (octets_equal-decides last.key.now c.args.key.now).1 (e ∙ sym c.requires.key))))
+    ∙ (octets_equal-decides last.key.now c.key-key.result.now).1 (e ∙ sym (c.key-key.ensures ∙ ap name_key c.last_upto-last.ensures.same)))))
 
 pub returns-clause-cut : goal.returns-clause-cut
 returns-clause-cut c =
     let last = c.last_upto-last.result.now in
     c.is_covered.ensures
-    ∙ covered_cut c.args.self.now c.args.name.now c.requires.lower last c.last_upto-last.ensures
-    c.args.key.now c.requires.key
+    ∙ covered_cut c.args.self.now c.args.target.now c.requires.lower last c.last_upto-last.ensures.last
+    c.key-key.result.now (c.key-key.ensures ∙ ap name_key c.last_upto-last.ensures.same)
     (λ e. false≢true (sym c.if-eq.false ∙ c.eq.ensures
-    ∙ (octets_equal-decides last.key.now c.args.key.now).1 (e ∙ sym c.requires.key)))
+    ∙ (octets_equal-decides last.key.now c.key-key.result.now).1 (e ∙ sym (c.key-key.ensures ∙ ap name_key c.last_upto-last.ensures.same))))

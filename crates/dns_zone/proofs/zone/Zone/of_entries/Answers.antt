@@ -6,7 +6,6 @@ use Rattle.dns_spec.specs.Checks.{faults}
 use Rattle.dns_spec.specs.Records.{ResourceRecord}
 use Rattle.dns_spec.proofs.ZoneChecks.FaultOrder.{folded_folded}
 use Rattle.dns_zone.specs.ZoneForm.{IsBuilt}
-use Rattle.dns_zone.specs.NodeForm.{AreLeads}
 use Rattle.dns_zone.specs.TreeForm.{IsTree}
 use Rattle.dns_zone.proofs.BuiltZone.{found_of_read, built}
 use Rattle.dns_zone.proofs.zone.Zone.of_entries.Goals as goal
@@ -47,29 +46,6 @@ rows_of-requires c =
     (record { origin = c.fold-origin.result; records = xs })) (sym c.as_slice-2.ensures.value)
     kept)
 
-pub leads_of-requires : goal.leads_of-requires
-leads_of-requires c =
-    let empty : vec_len c.in_ok-found.found ≡ 0 =
-    eqb-true (vec_len c.in_ok-found.found) 0 (sym c.is_empty.ensures ∙ c.if-not-is_empty.false)
-    in
-    let kept =
-    built c.args.origin.now c.fold-origin.result c.args.records.items c.in_ok-records.records.items _ c.in_ok-found.found.items c.fold-origin.ensures c.in_ok-records.ensures.records c.as_slice.ensures.value (c.in_ok-found.ensures ∙ ap (λ (o : DomainName). faults (record { origin = o; records = c.as_slice.result.now })) c.lent-2.ensures.value)
-    (omega (arith, c.in_ok-found.found.ok.0)) c.requires c.in_ok-records.ensures.count
-    c.in_ok-records.ensures.in_order c.in_ok-records.ensures.each
-    in
-    record {
-      built = subst (λ (xs : List ResourceRecord). IsBuilt
-          (record { origin = c.fold-origin.result; records = xs })) (sym c.new.ensures) kept;
-      tree =
-          subst (λ (xs : List ResourceRecord). IsTree c.fold-origin.result xs
-          c.in_ok-rows.field-0.rows c.in_ok-rows.field-0.bounds)
-          (c.as_slice-2.ensures.value ∙ sym c.new.ensures)
-          (subst (λ (o : DomainName). IsTree o c.as_slice-2.result.now
-          c.in_ok-rows.field-0.rows c.in_ok-rows.field-0.bounds)
-          c.lent-3.ensures.value c.in_ok-rows.ensures);
-      leads = λ j l. absurd (omega (arith, ap length (c.new-3.ensures ∙ c.new-2.ensures.items), l));
-    }
-
 pub invariant_of-result : goal.invariant_of-result
 invariant_of-result c =
     let empty : vec_len c.in_ok-found.found ≡ 0 =
@@ -82,16 +58,15 @@ invariant_of-result c =
     in
     record {
       built = subst (λ (xs : List ResourceRecord). IsBuilt
-          (record { origin = c.fold-origin.result; records = xs })) (sym c.new.ensures) kept;
+          (record { origin = c.fold-origin.result; records = xs })) (sym c.new-records.ensures) kept;
       tree =
           subst (λ (xs : List ResourceRecord). IsTree c.fold-origin.result xs
           c.in_ok-rows.field-0.rows c.in_ok-rows.field-0.bounds)
-          (c.as_slice-2.ensures.value ∙ sym c.new.ensures)
+          (c.as_slice-2.ensures.value ∙ sym c.new-records.ensures)
           (subst (λ (o : DomainName). IsTree o c.as_slice-2.result.now
           c.in_ok-rows.field-0.rows c.in_ok-rows.field-0.bounds)
           c.lent-3.ensures.value c.in_ok-rows.ensures);
-      leads = subst (AreLeads (record { origin = c.fold-origin.result; records = c.new.result })
-          c.in_ok-rows.field-0.rows) (sym c.new-4.ensures) c.in_ok-leads_of.ensures;
+      leads = λ j l. absurd (omega (arith, ap length (c.new-leads.ensures ∙ c.new.ensures.items), l));
     }
 
 pub returns-clause-passes : goal.returns-clause-passes
