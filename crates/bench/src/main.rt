@@ -1,106 +1,99 @@
 //! How long it takes to read data from the words of a zone file, to write it, and to answer
 //! questions.
 //!
-//! `bench` prints a table of times. `bench count` does each work once and prints what came of it,
-//! with no times. `bench WORK ROUNDS` does one work so often, for a tool that counts instructions.
+//! `bench` prints a table of times. `bench ROUNDS WORK` does each work whose name begins with WORK
+//! so often, for a tool that counts instructions, and prints how many data and octets it had;
+//! `bench ROUNDS` does all. The zones that are asked lie where it runs.
 #![tactic(auto)]
 
-mod fault;
 mod inputs;
-mod replies;
 mod work;
-mod zone;
 
-use fault::Fault;
+use dns_tools::{FaultWord, given_words, say};
 use std::alloc::{AllocError, Global};
-use std::env;
-use std::rt::Env;
+use std::process::ExitCode;
+use std::rt::{Env, Files};
 use std::time::CpuClock;
-use work::{WORKS, Work};
+use work::{Done, WORKS, Work};
 
 // How often a work is timed: the shortest time counts, since other programs can only make it
 // longer.
 const TRIES: u32 = 5;
 
-fn main(rt: HostRuntime) -> Result<(), Fault> {
-    let words = given_words(&rt)?;
-    match words.as_slice() {
-        [] => print_times(&rt),
-        [word] if word.as_str() == "count" => print_counts(&rt),
-        [name, rounds] => print_one(&rt, name.as_str(), rounds.as_str()),
-        _ => Err(Fault::Usage),
-    }
+fn main(rt: HostRuntime) -> ExitCode {
+    ExitCode::from(match measure(&rt) {
+        Ok(()) => 0,
+        Err(word) => say(&rt, word),
+    })
 }
 
-// The words after the program's own name.
-fn given_words<R: Env + AllocGlobal>(rt: &R) -> Result<Vec<String>, Fault> {
-    let mut words = Vec::new(rt.alloc());
-    for word in env::args(rt)?.skip(1) {
-        words.push(word)?;
+fn measure<R: Env + Files + CpuClock + Print + AllocGlobal>(rt: &R) -> Result<(), FaultWord> {
+    let words = given_words(rt)?;
+    let (rounds, name) = match words.as_slice() {
+        [] => return print_times(rt),
+        [rounds] => (rounds.as_str(), ""),
+        [rounds, name] => (rounds.as_str(), name.as_str()),
+        _ => return Err(FaultWord::Usage),
+    };
+    let Ok(rounds) = rounds.parse::<u32>() else {
+        return Err(FaultWord::Usage);
+    };
+    for work in &WORKS {
+        if work.0.starts_with(name) {
+            let Done { data, octets } = work.done(rt, rounds)?;
+            print(rt, format!(in rt.alloc(); "{} {data} {octets}", work.0)?)?;
+        }
     }
-    Ok(words)
+    Ok(())
+}
+
+fn print<R: Print>(rt: &R, line: String) -> Result<(), FaultWord> {
+    println!(rt; "{line}").map_err(|_| FaultWord::SinkFailed)
 }
 
 // The table: a line for each work, with the processor's time for each datum and for each octet of
 // data.
-fn print_times<R: CpuClock + Print + AllocGlobal>(rt: &R) -> Result<(), Fault> {
-    println!(rt;
+fn print_times<R: Files + CpuClock + Print + AllocGlobal>(rt: &R) -> Result<(), FaultWord> {
+    let head = format!(in rt.alloc();
         "{:<20} {:>8} {:>12} {:>12}",
         "work", "octets", "ns a datum", "ns an octet"
-    )?;
+    );
+    print(rt, head?)?;
     for work in &WORKS {
-        print_time(rt, work)?;
+        let rounds = work.rounds();
+        let done = work.done(rt, rounds)?;
+        let start = shortest_time(rt, work, 1)?;
+        let time = shortest_time(rt, work, rounds.saturating_add(1))?.saturating_sub(start);
+        let each = done.octets / done.data.max(1);
+        let datum = quotient(rt.alloc(), time, done.data)?;
+        let octet = quotient(rt.alloc(), time, done.octets)?;
+        print(
+            rt,
+            format!(in rt.alloc(); "{:<20} {each:>8} {datum:>12} {octet:>12}", work.0)?,
+        )?;
     }
     Ok(())
 }
 
-fn print_time<R: CpuClock + Print + AllocGlobal>(rt: &R, work: &Work) -> Result<(), Fault> {
-    let done = work.done(rt.alloc(), work.rounds)?;
+// The processor's time for a work, in nanoseconds: what comes before the first round too.
+fn shortest_time<R: Files + CpuClock + AllocGlobal>(
+    rt: &R,
+    work: &Work,
+    rounds: u32,
+) -> Result<u64, FaultWord> {
     let mut shortest = u64::MAX;
     for _ in 0..TRIES {
-        shortest = shortest.min(time_of(rt, work)?);
+        let start = rt.thread_cpu_time().map_err(|_| FaultWord::SourceFailed)?;
+        work.done(rt, rounds)?;
+        let end = rt.thread_cpu_time().map_err(|_| FaultWord::SourceFailed)?;
+        let time = end.saturating_sub(start).as_nanos();
+        shortest = shortest.min(u64::try_from(time).unwrap_or(u64::MAX));
     }
-    let each = done.octets / done.data.max(1);
-    let datum = quotient(rt.alloc(), shortest, done.data)?;
-    let octet = quotient(rt.alloc(), shortest, done.octets)?;
-    println!(rt; "{:<20} {each:>8} {datum:>12} {octet:>12}", work.name)?;
-    Ok(())
-}
-
-// The processor's time for a work, in nanoseconds.
-fn time_of<R: CpuClock + AllocGlobal>(rt: &R, work: &Work) -> Result<u64, Fault> {
-    let start = rt.thread_cpu_time()?;
-    work.done(rt.alloc(), work.rounds)?;
-    let end = rt.thread_cpu_time()?;
-    let time = end.saturating_sub(start).as_nanos();
-    Ok(u64::try_from(time).unwrap_or(u64::MAX))
+    Ok(shortest)
 }
 
 // A quotient with two decimal places.
 fn quotient(alloc: Global, number: u64, divisor: u64) -> Result<String, AllocError> {
     let hundredths = number.saturating_mul(100) / divisor.max(1);
     format!(in alloc; "{}.{:02}", hundredths / 100, hundredths % 100)
-}
-
-// What comes of each work, once.
-fn print_counts<R: Print + AllocGlobal>(rt: &R) -> Result<(), Fault> {
-    for work in &WORKS {
-        let done = work.done(rt.alloc(), 1)?;
-        println!(rt; "{} {} {}", work.name, done.data, done.octets)?;
-    }
-    Ok(())
-}
-
-fn print_one<R: Print + AllocGlobal>(rt: &R, name: &str, rounds: &str) -> Result<(), Fault> {
-    let Ok(rounds) = rounds.parse::<u32>() else {
-        return Err(Fault::Usage);
-    };
-    for work in &WORKS {
-        if work.name == name {
-            let done = work.done(rt.alloc(), rounds)?;
-            println!(rt; "{} {} {}", work.name, done.data, done.octets)?;
-            return Ok(());
-        }
-    }
-    Err(Fault::Usage)
 }

@@ -1,84 +1,86 @@
-//! Calls that take memory.
+//! Calls that take memory, and calls that take none. Each adds what came of it to what is said.
 
-use crate::samples::{FILE, MESSAGE};
-use dns_master::{Record, read_zone};
-use dns_name::{Name, Tally};
-use dns_tools::{Flags, Stop, check_zone};
-use dns_wire::read_message;
-use dns_zone::{BuildFault, Zone};
-use itoa::Buffer;
+use crate::samples::{CUT_STREAM, FILE, QUERIES, STREAM};
+use dns_answer::{Limit, respond};
+use dns_master::read_zone;
+use dns_name::{Name, NameFault, Tally};
+use dns_serve::serve_stream;
+use dns_tools::{FaultWord, Flags, check_zone};
+use dns_zone::{BuildFault, Steps, Zone};
 use std::alloc::{AllocError, Global};
+use std::str;
 
 /// The origin of all zones here.
-pub(crate) fn example() -> Name {
-    Name::read_text(b"example", &Name::root()).unwrap_or(Name::root())
+pub(crate) fn example() -> Result<Name, NameFault> {
+    Name::read_text(b"example", &Name::root())
 }
 
-/// Prints the file by the checker, and says what came of it and what was written. The room is
-/// handed back.
-pub(crate) fn check(
-    alloc: Global,
-    room: Vec<u8>,
-    said: &mut Vec<u8>,
-) -> Result<Vec<u8>, AllocError> {
+/// Prints the file by the checker.
+pub(crate) fn check(alloc: Global, said: &mut String) -> Result<(), FaultWord> {
     let flags = Flags {
         quiet: false,
         print: true,
     };
+    let mut room = [0; 1_024];
     let mut source = Tally::new(FILE.as_bytes());
-    let mut sink = Tally::new(room);
-    let outcome = check_zone(alloc, &example(), flags, &mut source, &mut sink);
-    said.extend_from_slice(match outcome {
-        Ok(true) => b"check_zone: passes\n".as_slice(),
-        Ok(false) => b"check_zone: fails\n",
-        Err(Stop::Memory) => b"check_zone: no memory\n",
-        Err(Stop::Source) => b"check_zone: the source failed\n",
-        Err(Stop::Sink) => b"check_zone: the sink failed\n",
-    })?;
-    let mut room = sink.into_inner();
-    said.extend_from_slice(room.as_slice())?;
-    room.truncate(0);
-    Ok(room)
+    let mut sink = Tally::new(&mut room[..]);
+    let outcome = check_zone(alloc, &example()?, flags, &mut source, &mut sink);
+    let left = sink.into_inner().len();
+    writeln!(said, "check_zone: {outcome:?}")?;
+    let text = str::from_utf8(written(&room, left)).unwrap_or("no text");
+    Ok(said.push_str(text)?)
 }
 
-/// Reads the file and builds its zone, and says what came of both.
-pub(crate) fn read_and_build(alloc: Global, said: &mut Vec<u8>) -> Result<(), AllocError> {
-    let records = match read_zone(alloc, &example(), &mut Tally::new(FILE.as_bytes())) {
+// The octets of a room of which so many are left.
+fn written(room: &[u8], left: usize) -> &[u8] {
+    room.get(..room.len().saturating_sub(left)).unwrap_or(&[])
+}
+
+/// Reads the file and builds its zone.
+pub(crate) fn read_and_build(alloc: Global, said: &mut String) -> Result<(), FaultWord> {
+    let records = match read_zone(alloc, &example()?, &mut Tally::new(FILE.as_bytes())) {
         Ok(records) => records,
-        Err(fault) => return say(said, b"read_zone: fault ", u32::from(fault.code.number())),
+        Err(fault) => return Ok(writeln!(said, "read_zone: {:?}", fault.code)?),
     };
-    say(
-        said,
-        b"read_zone: the last TTL is ",
-        last_ttl(records.as_slice()),
-    )?;
-    match Zone::build(alloc, &example(), records) {
-        Ok(zone) => say(said, b"build: serial ", zone.serial()),
-        Err(BuildFault::Faults(_)) => said.extend_from_slice(b"build: faults\n"),
-        Err(BuildFault::NoMemory) => said.extend_from_slice(b"build: no memory\n"),
+    let ttl = records.last().map(|record| record.ttl);
+    writeln!(said, "read_zone: the last TTL is {ttl:?}")?;
+    match Zone::build(alloc, &example()?, records) {
+        Ok(zone) => writeln!(said, "build: serial {}", zone.serial())?,
+        Err(BuildFault::Faults(_)) => said.push_str("build: faults\n")?,
+        Err(BuildFault::NoMemory) => said.push_str("build: no memory\n")?,
     }
-}
-
-fn last_ttl(records: &[Record]) -> u32 {
-    match records.last() {
-        Some(record) => record.ttl,
-        None => 0,
-    }
-}
-
-/// Reads a message, and says what came of it.
-pub(crate) fn read_octets(alloc: Global, said: &mut Vec<u8>) -> Result<(), AllocError> {
-    match read_message(alloc, MESSAGE) {
-        Ok(message) => say(said, b"read_message: id ", u32::from(message.head.id)),
-        Err(fault) => say(said, b"read_message: fault ", u32::from(fault.code())),
-    }
-}
-
-// Adds words and a number, and ends the line.
-fn say(said: &mut Vec<u8>, words: &[u8], number: u32) -> Result<(), AllocError> {
-    let mut digits = Buffer::new();
-    said.extend_from_slice(words)?;
-    said.extend_from_slice(digits.format(number).as_bytes())?;
-    said.push(b'\n')?;
     Ok(())
+}
+
+/// Answers each question, over UDP and over TCP.
+pub(crate) fn answer_questions(zone: &Zone, said: &mut String) -> Result<(), AllocError> {
+    let (mut short, mut long) = ([0; 512], [0; 65_535]);
+    for query in QUERIES {
+        let length = respond(&mut Steps::new(zone), query, Limit::Udp, &mut short);
+        add_digits(said, short.get(..length.unwrap_or(0)).unwrap_or(&[]))?;
+        let length = respond(&mut Steps::new(zone), query, Limit::Tcp, &mut long);
+        add_digits(said, long.get(..length.unwrap_or(0)).unwrap_or(&[]))?;
+    }
+    Ok(())
+}
+
+/// Answers each stream.
+pub(crate) fn answer_sessions(zone: &Zone, said: &mut String) -> Result<(), AllocError> {
+    for stream in [STREAM, CUT_STREAM] {
+        let mut room = [0; 1_024];
+        let mut sink = Tally::new(&mut room[..]);
+        let answer = serve_stream(zone, &mut Tally::new(stream), &mut sink, 9);
+        let left = sink.into_inner().len();
+        writeln!(said, "serve_stream: {answer:?}")?;
+        add_digits(said, written(&room, left))?;
+    }
+    Ok(())
+}
+
+// Adds octets in hexadecimal digits, and ends the line.
+fn add_digits(said: &mut String, octets: &[u8]) -> Result<(), AllocError> {
+    for octet in octets {
+        write!(said, "{octet:02x}")?;
+    }
+    said.push('\n')
 }

@@ -1,103 +1,50 @@
 //! What a program answers.
 
-use crate::fault::Fault;
+use crate::case::{Answer, Case};
 use dns_name::Tally;
 use dns_tools::{
-    FAULT_STATUS, FaultWord, Service, Stop, check_words, check_zone, exit_status, load_zone,
-    run_message, run_once, serve_words,
+    FAULT_STATUS, FaultWord, Service, check_words, check_zone, end_of, load_zone, run_message,
+    run_once, serve_words,
 };
-use std::alloc::Global;
+use std::alloc::{AllocError, Global};
 
-/// The status that a run ends with, and what it writes to standard output, or to standard error
-/// where that is 2.
-#[derive(PartialEq, Eq, Drop)]
-pub(crate) struct Answer {
-    pub status: u8,
-    pub written: Vec<u8>,
+/// What the program of a case answers: the report and its status, or the line of a word on standard
+/// error.
+pub(crate) fn answer(alloc: Global, case: &Case<'_>) -> Result<Answer, AllocError> {
+    match report(alloc, case) {
+        Ok(answer) => Ok(answer),
+        Err(word) => Ok(Answer {
+            status: FAULT_STATUS,
+            written: format!(in alloc; "{word}\n")?.into_bytes(),
+        }),
+    }
 }
 
-impl Answer {
-    /// What a program answers to these words, where its file and its standard input have these
-    /// octets.
-    pub(crate) fn of(
-        alloc: Global,
-        words: &[&str],
-        file: &[u8],
-        input: &[u8],
-    ) -> Result<Answer, Fault> {
-        let Some((program, words)) = words.split_first() else {
-            return Err(Fault::Form);
-        };
-        match *program {
-            "zonecheck" => Answer::of_checker(alloc, words, file),
-            "zoneserve" => Answer::of_server(alloc, words, file, input),
-            "dnsmsg" => Answer::of_printer(alloc, input),
-            _ => Err(Fault::Form),
+// Gives the words, the octets of the file and those of standard input to what the program calls. A
+// server answers lines over a zone that passes.
+fn report(alloc: Global, case: &Case<'_>) -> Result<Answer, FaultWord> {
+    let Some((program, words)) = case.words.as_slice().split_first() else {
+        return Err(FaultWord::Usage);
+    };
+    let mut file = Tally::new(case.file.as_slice());
+    let mut input = Tally::new(case.input.as_slice());
+    let mut sink = Tally::new(Vec::new(alloc));
+    let status = end_of(match *program {
+        "zonecheck" => {
+            let words = check_words(alloc, words)?;
+            check_zone(alloc, &words.origin, words.flags, &mut file, &mut sink)
         }
-    }
-
-    fn of_checker(alloc: Global, words: &[&str], file: &[u8]) -> Result<Answer, Fault> {
-        let words = match check_words(alloc, words) {
-            Ok(words) => words,
-            Err(word) => return Answer::of_word(alloc, word),
-        };
-        let mut source = Tally::new(file);
-        let mut sink = Tally::new(Vec::new(alloc));
-        let outcome = check_zone(alloc, &words.origin, words.flags, &mut source, &mut sink);
-        Answer::of_outcome(alloc, outcome, sink.into_inner())
-    }
-
-    // Of a server that answers lines, over a zone that passes.
-    fn of_server(
-        alloc: Global,
-        words: &[&str],
-        file: &[u8],
-        input: &[u8],
-    ) -> Result<Answer, Fault> {
-        let words = match serve_words(alloc, words) {
-            Ok(words) => words,
-            Err(word) => return Answer::of_word(alloc, word),
-        };
-        let Service::Once(limit) = words.service else {
-            return Err(Fault::Form);
-        };
-        let Ok(zone) = load_zone(alloc, &words.origin, &mut Tally::new(file)) else {
-            return Err(Fault::Form);
-        };
-        let mut source = Tally::new(input);
-        let mut sink = Tally::new(Vec::new(alloc));
-        let outcome = run_once(alloc, &zone, limit, &mut source, &mut sink);
-        Answer::of_outcome(alloc, outcome, sink.into_inner())
-    }
-
-    fn of_printer(alloc: Global, input: &[u8]) -> Result<Answer, Fault> {
-        let mut source = Tally::new(input);
-        let mut sink = Tally::new(Vec::new(alloc));
-        let outcome = run_message(alloc, &mut source, &mut sink);
-        Answer::of_outcome(alloc, outcome, sink.into_inner())
-    }
-
-    fn of_outcome(
-        alloc: Global,
-        outcome: Result<bool, Stop>,
-        written: Vec<u8>,
-    ) -> Result<Answer, Fault> {
-        match outcome {
-            Ok(_) => Ok(Answer {
-                status: exit_status(&outcome),
-                written,
-            }),
-            Err(stop) => Answer::of_word(alloc, FaultWord::from(stop)),
+        "zoneserve" => {
+            let words = serve_words(alloc, words)?;
+            let zone = load_zone(alloc, &words.origin, &mut file);
+            let (Service::Once(limit), Ok(zone)) = (words.service, zone) else {
+                return Err(FaultWord::NotBound);
+            };
+            run_once(alloc, &zone, limit, &mut input, &mut sink)
         }
-    }
-
-    // The line of a word on standard error.
-    fn of_word(alloc: Global, word: FaultWord) -> Result<Answer, Fault> {
-        let mut written = Vec::new(alloc);
-        written.extend_from_slice(format!(in alloc; "{word}\n")?.as_str().as_bytes())?;
-        Ok(Answer {
-            status: FAULT_STATUS,
-            written,
-        })
-    }
+        "dnsmsg" => run_message(alloc, &mut input, &mut sink),
+        _ => return Err(FaultWord::Usage),
+    })?;
+    let written = sink.into_inner();
+    Ok(Answer { status, written })
 }

@@ -1,7 +1,7 @@
 //! A case as it is written.
 
-use crate::answer::Answer;
-use crate::fault::Fault;
+use dns_tools::FaultWord;
+use percent_encoding::percent_decode;
 use std::alloc::Global;
 use std::str::Lines;
 
@@ -18,82 +18,54 @@ pub(crate) struct Case<'a> {
     pub wanted: Answer,
 }
 
-/// Reads a case: the line of its words, the lines of its file and of its standard input, the line
-/// of its status, the lines that are written.
-pub(crate) fn read_case(alloc: Global, text: &str) -> Result<Case<'_>, Fault> {
-    let Some((asked, answered)) = text.split_once("\nstatus ") else {
-        return Err(Fault::Form);
-    };
-    let (asked, input) = match asked.split_once("\nstandard input\n") {
-        Some((asked, input)) => (asked, octets_of(alloc, input.lines())?),
-        None => (asked, Vec::new(alloc)),
-    };
-    let (words, file) = head_and_octets(alloc, asked)?;
-    let (status, written) = head_and_octets(alloc, answered)?;
-    let Ok(status) = status.parse() else {
-        return Err(Fault::Form);
-    };
-    Ok(Case {
-        words: words_of(alloc, words)?,
-        file,
-        input,
-        wanted: Answer { status, written },
-    })
+/// The status that a run ends with, and what it writes to standard output, or to standard error
+/// where that is 2.
+#[derive(PartialEq, Eq, Drop)]
+pub(crate) struct Answer {
+    pub status: u8,
+    pub written: Vec<u8>,
 }
 
-fn words_of(alloc: Global, line: &str) -> Result<Vec<&str>, Fault> {
-    let mut words = Vec::new(alloc);
-    for word in line.split_whitespace() {
-        words.push(word)?;
+impl Case<'_> {
+    /// Reads a case: the line of its words, the lines of its file and of its standard input, the
+    /// line of its status, the lines that are written.
+    pub(crate) fn read(alloc: Global, text: &str) -> Result<Case<'_>, FaultWord> {
+        let (asked, answered) = text.split_once("\nstatus ").unwrap_or((text, ""));
+        let (asked, input) = asked
+            .split_once("\nstandard input\n")
+            .unwrap_or((asked, ""));
+        let (mut asked, mut answered) = (asked.lines(), answered.lines());
+        let mut words = Vec::new(alloc);
+        for word in asked.next().unwrap_or("").split_whitespace() {
+            words.push(word)?;
+        }
+        let Ok(status) = answered.next().unwrap_or("").parse() else {
+            return Err(FaultWord::SourceFailed);
+        };
+        Ok(Case {
+            words,
+            file: octets_of(alloc, asked)?,
+            input: octets_of(alloc, input.lines())?,
+            wanted: Answer {
+                status,
+                written: octets_of(alloc, answered)?,
+            },
+        })
     }
-    Ok(words)
 }
 
-// A first line, and the octets that the lines after it spell.
-fn head_and_octets(alloc: Global, text: &str) -> Result<(&str, Vec<u8>), Fault> {
-    let mut lines = text.lines();
-    let Some(head) = lines.next() else {
-        return Err(Fault::Form);
-    };
-    Ok((head, octets_of(alloc, lines)?))
-}
-
-fn octets_of(alloc: Global, lines: Lines<'_>) -> Result<Vec<u8>, Fault> {
+// The octets that lines spell. LF ends each, but not where `%` does.
+fn octets_of(alloc: Global, lines: Lines<'_>) -> Result<Vec<u8>, FaultWord> {
     let mut octets = Vec::new(alloc);
     for line in lines {
         let Some(line) = line.strip_prefix("|") else {
-            return Err(Fault::Form);
+            return Err(FaultWord::SourceFailed);
         };
-        push_line(&mut octets, line)?;
+        let spelled = line.strip_suffix("%");
+        percent_decode(spelled.unwrap_or(line).as_bytes()).append_to(&mut octets)?;
+        if spelled.is_none() {
+            octets.push(b'\n')?;
+        }
     }
     Ok(octets)
-}
-
-// Appends the octets of a line. LF ends it, but not where `%` does.
-fn push_line(octets: &mut Vec<u8>, line: &str) -> Result<(), Fault> {
-    let mut pieces = line.split('%');
-    if let Some(first) = pieces.next() {
-        octets.extend_from_slice(first.as_bytes())?;
-    }
-    for piece in pieces {
-        if piece.is_empty() {
-            return Ok(());
-        }
-        push_escaped(octets, piece)?;
-    }
-    octets.push(b'\n')?;
-    Ok(())
-}
-
-// Appends the octet that two hexadecimal digits spell, and what stands after them.
-fn push_escaped(octets: &mut Vec<u8>, piece: &str) -> Result<(), Fault> {
-    let Some((digits, rest)) = piece.split_at_checked(2) else {
-        return Err(Fault::Form);
-    };
-    let Ok(octet) = u8::from_str_radix(digits, 16) else {
-        return Err(Fault::Form);
-    };
-    octets.push(octet)?;
-    octets.extend_from_slice(rest.as_bytes())?;
-    Ok(())
 }

@@ -7,62 +7,54 @@
 
 mod answer;
 mod case;
-mod fault;
 
-use answer::Answer;
-use case::read_case;
-use dns_tools::given_words;
-use fault::Fault;
+use answer::answer;
+use case::Case;
+use dns_tools::{FaultWord, given_words, say};
 use std::fs;
 use std::io::{self, Write};
+use std::process::ExitCode;
 use std::rt::{Env, Files};
 
-fn main(rt: HostRuntime) -> Result<(), Fault> {
-    let words = given_words(&rt)?;
-    if words.is_empty() {
-        return Err(Fault::Usage);
-    }
-    for file in words.as_slice() {
-        let text = fs::read_to_string(&rt, file.as_str())?;
-        replay(&rt, text.as_str())?;
-    }
-    Ok(())
+fn main(rt: HostRuntime) -> ExitCode {
+    ExitCode::from(match replay(&rt) {
+        Ok(true) => 0,
+        Ok(false) => 1,
+        Err(word) => say(&rt, word),
+    })
 }
 
-// Replays all cases of a file, which empty lines part, and counts them.
-fn replay<R: Print + AllocGlobal>(rt: &R, text: &str) -> Result<(), Fault> {
-    let mut count = 0u32;
-    let mut differing = 0u32;
-    for part in text.split("\n\n") {
-        if part.starts_with('#') {
-            continue;
+// Whether all cases of all files, which empty lines part, are answered as they were recorded.
+fn replay<R: Env + Files + Print + AllocGlobal>(rt: &R) -> Result<bool, FaultWord> {
+    let mut passes = true;
+    for file in given_words(rt)?.as_slice() {
+        let text = fs::read_to_string(rt, file.as_str()).map_err(|_| FaultWord::SourceFailed)?;
+        let (mut count, mut differing) = (0u32, 0u32);
+        for part in text.as_str().split("\n\n") {
+            if part.starts_with('#') {
+                continue;
+            }
+            count = count.saturating_add(1);
+            if !gives_its_answer(rt, part)? {
+                differing = differing.saturating_add(1);
+                passes = false;
+            }
         }
-        count = count.saturating_add(1);
-        if !gives_its_answer(rt, part)? {
-            differing = differing.saturating_add(1);
-        }
+        println!(rt; "{count} cases, {differing} differ").map_err(|_| FaultWord::SinkFailed)?;
     }
-    println!(rt; "{count} cases, {differing} differ")?;
-    if differing > 0 {
-        return Err(Fault::Differs);
-    }
-    Ok(())
+    Ok(passes)
 }
 
 // Whether a case is answered as it was recorded. One that is not is printed, with its answer.
-fn gives_its_answer<R: Print + AllocGlobal>(rt: &R, part: &str) -> Result<bool, Fault> {
-    let alloc = rt.alloc();
-    let case = read_case(alloc, part)?;
-    let answer = Answer::of(
-        alloc,
-        case.words.as_slice(),
-        case.file.as_slice(),
-        case.input.as_slice(),
-    )?;
-    if answer == case.wanted {
+fn gives_its_answer<R: Print + AllocGlobal>(rt: &R, part: &str) -> Result<bool, FaultWord> {
+    let case = Case::read(rt.alloc(), part)?;
+    let given = answer(rt.alloc(), &case)?;
+    if given == case.wanted {
         return Ok(true);
     }
-    println!(rt; "{part}\nbut status {}, and", answer.status)?;
-    io::writer(rt).write_all(answer.written.as_slice())?;
+    let said = println!(rt; "{part}\nbut status {}, and", given.status);
+    said.map_err(|_| FaultWord::SinkFailed)?;
+    let written = io::writer(rt).write_all(given.written.as_slice());
+    written.map_err(|_| FaultWord::SinkFailed)?;
     Ok(false)
 }
