@@ -207,7 +207,8 @@ module _ (rs : List ResourceRecord) (canonical : IsCanonical rs) (n : DomainName
         (λ s h. itself-under s.owner m h)
         (filter_each (is_at m) (take (suc count) (drop next rs)))))
 
-    pub made : is_name m ≡ true → (own count place label key : ℕ) → own ≤ length (drop next rs) → count ≤ length (drop next rs)
+    pub made : is_name m ≡ true → (own count place label key : ℕ)
+        → own ≤ length (drop next rs) → count ≤ length (drop next rs)
         → take own (drop next rs) ≡ filter (is_at m) (drop next rs)
         → take count (drop next rs) ≡ under m (drop next rs)
         → place ≡ length (wire r.owner) - length (wire m) → label ≡ length (first_of m)

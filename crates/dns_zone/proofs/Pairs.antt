@@ -1,4 +1,4 @@
--- Lists whose elements are in order, each with each after it, and what a search by halves finds in them.
+-- Lists whose elements are in order, each with each after it, and what a binary search finds in them.
 use Rattle.std.proofs.Common.{◌≡◌, ℕ, zero, suc, ◌-◌, ◌<◌, ◌≤◌, Bool, true, false, not, cond, ◌⊎◌, inl, inr, List, [], ◌∷◌, length, take, drop, get_or, refl, sym, ap, ◌∙◌, subst, arith, filter}
 use Rattle.std.proofs.lemmas.Bool.{false≢true, false_from_ne_true, cases_lt}
 use Rattle.std.proofs.lemmas.List.{length-take, get_or-take}
@@ -42,7 +42,7 @@ pairs_filter R p (x ∷ xs) h = go (p x) (pairs_filter R p xs h.1)
     go true r = (each_filter (R x) p xs h.0, r)
     go false r = r
 
--- what a search by halves asks
+-- what a binary search asks
 pub parted : {X : Type 0} (p : X → Bool) (xs : List X) → Pairs (λ x y. p y ≡ true → p x ≡ true) xs → IsPartitionedBy p xs
 parted p [] h i j d l m e = absurd (omega arith)
 parted p (x ∷ xs) h zero zero d l m e = e

@@ -1,5 +1,6 @@
 //! Records of a name, found by binary search among records in canonical order.
-ghost use Rattle.std.specs.Prelude.{◌≡◌, ◌<◌, ◌≤◌, ◌==◌, length, take, drop, get_or, true, not, nat_lt, MatchOption};
+ghost use Rattle.std.specs.Prelude.{◌≡◌, ◌≤◌, ◌==◌, length, take, drop, not, nat_lt, IfSome};
+ghost use Rattle.std.specs.Bool.{OnTrue};
 ghost use Rattle.std.specs.List.{list_any, filter, prefix_len};
 ghost use Rattle.std.specs.List.Sorted.{IsPartitionedBy, IsNonDecreasingBy};
 ghost use Rattle.dns_spec.specs.Names.{folded, same, at_or_below};
@@ -32,21 +33,15 @@ pub(crate) fn count_under(records: &[Entry], name: &NameRef<'_>) -> usize
     if let Some(count) = count_before(records, name, NEAR) {
         return count;
     }
-    if let Some(count) = count_before(records, name, records.len().saturating_sub(1)) {
-        return count;
-    }
-    records.len()
+    records.partition_point(|listed| is_under(listed, name))
 }
 
-// The same where the record at `place` is none of them; nothing where it is one, or where no record
-// stands there.
+// The same where the record at `place` is none of them, or nothing.
 fn count_before(records: &[Entry], name: &NameRef<'_>, place: usize) -> Option<usize>
     requires in_front { IsPartitionedBy
         (λ (r : ResourceRecord). at_or_below r.owner name.now) records.now }
     requires lower { folded name.now ≡ name.now }
-    ensures { MatchOption result
-        ((d : ResourceRecord) → place < length records.now
-        → at_or_below (get_or records.now place d).owner name.now ≡ true)
+    ensures { IfSome result
         (λ k. IsFront (λ (r : ResourceRecord). at_or_below r.owner name.now) records.now k) }
 {
     let next = records.get(place)?;
@@ -54,6 +49,21 @@ fn count_before(records: &[Entry], name: &NameRef<'_>, place: usize) -> Option<u
         return None;
     }
     Some(records[..place].partition_point(|listed| is_under(listed, name)))
+}
+
+/// Whether the last of the records has an owner at or below the name: then all have, where these
+/// stand in front.
+pub(crate) fn are_all_under(records: &[Entry], name: &NameRef<'_>) -> bool
+    requires in_front { IsPartitionedBy
+        (λ (r : ResourceRecord). at_or_below r.owner name.now) records.now }
+    requires lower { folded name.now ≡ name.now }
+    ensures { OnTrue result (IsFront (λ (r : ResourceRecord). at_or_below r.owner name.now)
+        records.now (length records.now)) }
+{
+    match records.last() {
+        Some(last) => is_under(last, name),
+        None => false,
+    }
 }
 
 /// How many records stand in front whose owner is the name. They are passed one by one.

@@ -1,8 +1,11 @@
 //! The names of a zone as rows, level by level: the children of a row stand side by side, by their
 //! labels.
 ghost use Rattle.std.specs.Prelude.{◌≡◌, ◌<◌, ◌≤◌, [], length, drop, IfOk, OnOk};
+ghost use Rattle.std.specs.List.Sorted.{IsPartitionedBy};
+ghost use Rattle.dns_spec.specs.Names.{folded, at_or_below};
+ghost use Rattle.dns_spec.specs.Records.{ResourceRecord};
 ghost use Rattle.dns_name.specs.WireForm.{labels_of, IsWireForm};
-ghost use Rattle.dns_zone.specs.ZoneForm.{IsBuilt, IsCanonical};
+ghost use Rattle.dns_zone.specs.ZoneForm.{IsBuilt, IsCanonical, IsFront};
 ghost use Rattle.dns_zone.specs.TreeForm.{row_octets, row_name, row_at, under, IsRow, IsTree};
 ghost use Rattle.dns_zone.specs.TreeSteps.{IsNext, IsKidAt, AddsKids};
 
@@ -10,7 +13,7 @@ use crate::above::shortest_end;
 use crate::entry::Entry;
 use crate::kept::Kept;
 use crate::label_key::{first_octets, label_key};
-use crate::lookup::{count_in_front, count_under};
+use crate::lookup::{are_all_under, count_in_front, count_under};
 use crate::row::Row;
 use dns_name::{Name, NameRef};
 use std::alloc::{AllocError, Global};
@@ -129,9 +132,23 @@ fn kid_at(records: &[Entry], parent: &[u8], next: usize, end: usize) -> Row
     Row {
         first: next as u32,
         own_end: (next + own) as u32,
-        end: (next + (known + count_under(after, &name))) as u32,
+        end: (next + (known + count_more_under(own, after, &name))) as u32,
         place: (owner.octets().len() - name.octets().len()) as u8,
         label_octets: label.len() as u8,
         key: label_key(label),
     }
+}
+
+// How many of the records after those that are known to be at or below a name are so too. On a way
+// of labels that no record owns they mostly all are.
+fn count_more_under(own: usize, after: &[Entry], name: &NameRef<'_>) -> usize
+    requires in_front { IsPartitionedBy
+        (λ (r : ResourceRecord). at_or_below r.owner name.now) after.now }
+    requires lower { folded name.now ≡ name.now }
+    ensures { IsFront (λ (r : ResourceRecord). at_or_below r.owner name.now) after.now result }
+{
+    if own == 0 && are_all_under(after, name) {
+        return after.len();
+    }
+    count_under(after, name)
 }

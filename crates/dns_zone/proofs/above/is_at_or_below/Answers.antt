@@ -13,5 +13,6 @@ returns c =
     let n = c.args.name.now in
     let m = c.args.other.now in
     c.eq.ensures
-    ∙ ap (λ k. names_equal k m) (c.shortest_end.ensures ∙ ap (λ xs. ending (length xs) n) c.octets.ensures.value)
+    ∙ ap (λ k. names_equal k m)
+    (c.shortest_end.ensures ∙ ap (λ xs. ending (length xs) n) c.octets.ensures.value)
     ∙ end_is n m c.requires.name c.requires.other

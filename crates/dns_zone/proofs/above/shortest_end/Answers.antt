@@ -16,7 +16,12 @@ bounds-octets-place c = inside _ _ _ _ c.labels.invariant
 
 pub overflow_add-next-in-labels : goal.overflow_add-next-in-labels
 overflow_add-next-in-labels c =
-    omega (arith, c.labels.invariant.fits, c.octets-octets.ensures.bound, c.type_inv.octets c.labels.place)
+    omega (
+      arith,
+      c.labels.invariant.fits,
+      c.octets-octets.ensures.bound,
+      c.type_inv.octets c.labels.place,
+    )
 
 pub new-requires : goal.new-requires
 new-requires c =

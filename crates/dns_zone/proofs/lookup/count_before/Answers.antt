@@ -17,5 +17,6 @@ returns c =
     let all : c.partition_point.result ≤ length rs = search rules in
     let found = halves p rs _ all
     (near_point p rs n _ long (λ d. ap p (next d) ∙ fails) c.requires.in_front bound
-    (IsPartitionPoint-from_clause p (take n rs) _ c.partition_point.ensures.partitioned (parted_take p rs n c.requires.in_front) (λ a r q k. search rules))) in
+    (IsPartitionPoint-from_clause p (take n rs) _ c.partition_point.ensures.partitioned
+    (parted_take p rs n c.requires.in_front) (λ a r q k. search rules))) in
     record { bound = all; passing = found.0; others = found.1 }

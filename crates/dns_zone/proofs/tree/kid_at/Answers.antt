@@ -21,8 +21,8 @@ count_in_front-own-requires c =
     c.requires.next c.index-records-next.result c.index-records-next.is c.args.parent.now _ _
     c.requires.parent.wire_is c.owner-owner.ensures.value c.shortest_end-name.ensures).lower
 
-pub count_under-requires-clause-in_front : goal.count_under-requires-clause-in_front
-count_under-requires-clause-in_front c =
+pub count_more_under-requires-clause-in_front : goal.count_more_under-requires-clause-in_front
+count_more_under-requires-clause-in_front c =
     let rs = c.args.records.now in
     let n = labels_of c.args.parent.now in
     let next = c.args.next in
@@ -38,8 +38,8 @@ count_under-requires-clause-in_front c =
     (parted_take (is_under m) (drop next rs) (c.args.end - next)
     (under_front rs c.requires.canonical n next c.requires.next r c.index-records-next.is m child)))
 
-pub count_under-requires-clause-lower : goal.count_under-requires-clause-lower
-count_under-requires-clause-lower c =
+pub count_more_under-requires-clause-lower : goal.count_more_under-requires-clause-lower
+count_more_under-requires-clause-lower c =
     (child_there c.args.records.now c.requires.canonical (labels_of c.args.parent.now) c.args.next
     c.requires.next c.index-records-next.result c.index-records-next.is c.args.parent.now _ _
     c.requires.parent.wire_is c.owner-owner.ensures.value c.shortest_end-name.ensures).lower
@@ -70,11 +70,12 @@ returns c =
     c.args.parent.now _ m c.requires.parent.wire_is c.owner-owner.ensures.value
     c.shortest_end-name.ensures in
     let kid_under : at_or_below m n ≡ true =
-    subst (λ (k : DomainName). at_or_below k n ≡ true) (sym child.labels) (cons_under child.label n) in
+    subst (λ (k : DomainName). at_or_below k n ≡ true) (sym child.labels)
+    (cons_under child.label n) in
     let others = span rs next end in
     let own = c.count_in_front-own.result in
     let known = c.max-known.result in
-    let count = c.count_under.result in
+    let count = c.count_more_under.result in
     let before : next ≤ end = let b = c.requires.before in omega arith in
     let own_is : take own others ≡ filter (is_at m) others =
     ap (λ k. take k others) c.count_in_front-own.ensures.value
@@ -83,14 +84,14 @@ returns c =
     (own_front rs c.requires.canonical n next c.requires.next r c.index-records-next.is m child))).0
     in
     let below_is : take count (drop known others) ≡ under m (drop known others) =
-    rw (← c.split_at.ensures.back) c.count_under.ensures.own in
+    rw (← c.split_at.ensures.back) c.count_more_under.ensures.passing in
     let size : length others ≤ length (drop next rs) =
     omega (arith, length-take (end - next) (drop next rs)) in
     let own_fits : own ≤ length others = c.count_in_front-own.ensures.bound in
     let fits : known + count ≤ length others =
     omega (
       arith,
-      c.count_under.ensures.bound,
+      c.count_more_under.ensures.bound,
       ap length c.split_at.ensures.back,
       length-drop known others,
       c.max-known.ensures,
@@ -109,8 +110,8 @@ returns c =
     (omega (arith, own_fits, size)) (omega (arith, fits, size))
     (widened (is_at m) rs next end before (none_at m n (drop end rs) kid_under c.requires.none) own
     own_fits own_is)
-    (widened (is_under m) rs next end before (none_under m n (drop end rs) kid_under c.requires.none)
-    (known + count) fits
+    (widened (is_under m) rs next end before
+    (none_under m n (drop end rs) kid_under c.requires.none) (known + count) fits
     (both_fronts (is_under m) others known count front_is below_is))
     (ap₂ (λ (xs ys : Octets). length xs - length ys)
     (c.octets.ensures.value ∙ ap wire c.owner-owner.ensures.value) c.octets-2.ensures.value)
