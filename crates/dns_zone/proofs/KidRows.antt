@@ -104,22 +104,16 @@ both_fronts p xs a b e u =
 -- the next record, and the name that its child has
 module _ (rs : List ResourceRecord) (canonical : IsCanonical rs) (n : DomainName) (next : ℕ)
     (is_next : IsNext rs n next) (r : ResourceRecord) (r_is : r ≡ get_or rs next r) where
-  pub owner_is : get_or (owners rs) next [] ≡ r.owner
+  owner_is : get_or (owners rs) next [] ≡ r.owner
   owner_is = owner_at rs next r is_next.fits r_is
 
-  pub rest_is : drop next rs ≡ r ∷ drop (next + 1) rs
+  rest_is : drop next rs ≡ r ∷ drop (next + 1) rs
   rest_is = drop_more rs next r is_next.fits ∙ ap (λ s. s ∷ drop (next + 1) rs) (sym r_is)
 
-  read : IsReadRecord r
-  read = subst IsReadRecord (sym r_is) (canonical.each next r is_next.fits)
+  owner_lower : folded r.owner ≡ r.owner
+  owner_lower = (subst IsReadRecord (sym r_is) (canonical.each next r is_next.fits)).lower_owner
 
-  pub owner_name : is_name r.owner ≡ true
-  owner_name = read.owner
-
-  pub owner_lower : folded r.owner ≡ r.owner
-  owner_lower = read.lower_owner
-
-  pub owner_below : below r.owner n ≡ true
+  owner_below : below r.owner n ≡ true
   owner_below = subst (λ (m : DomainName). below m n ≡ true) owner_is is_next.under_it
 
   in_order : Pairs OwnerNotAfter (r ∷ drop (next + 1) rs)
