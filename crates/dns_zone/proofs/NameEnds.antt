@@ -44,11 +44,7 @@ module _ (least : ℕ) (n : DomainName) (xs : Octets) (k : ℕ) (h : GoesOn leas
       ap (λ ys. get_or ys 0 0) (sym h.octets) ∙ get_or-drop k xs 0 0 ∙ ap (λ i. get_or xs i 0) at
 
   pub inside : k < length xs
-  inside = go h.rest size
-    where
-      go : (m : DomainName) → length xs ≡ k + length (wire m) → k < length xs
-      go [] s = omega arith
-      go (l ∷ m) s = omega arith
+  inside = omega (arith, size, some_octets h.rest)
 
   pub next_end : 0 < least → k + 1 + x ≤ length xs - least → GoesOn least n xs (k + 1 + x)
   next_end some fits = go h.rest h.octets size first h.name h.end
