@@ -1,8 +1,7 @@
 -- What passes in a part of a list, where nothing passes past the part.
-use Rattle.std.proofs.Common.{◌≡◌, ℕ, ◌<◌, ◌≤◌, Bool, true, List, [], ◌++◌, length, take, drop, sym, ap, ◌∙◌, subst, arith, filter, length-take}
-use Rattle.std.proofs.lemmas.List.{append-nil, take-append-le, get_or-take}
+use Rattle.std.proofs.Common.{◌≡◌, ℕ, ◌≤◌, Bool, true, List, [], ◌++◌, length, take, drop, sym, ap, ◌∙◌, filter}
+use Rattle.std.proofs.lemmas.List.{append-nil, take-append-le}
 use Rattle.std.proofs.lemmas.List.Elements.{filter-append}
-use Rattle.std.specs.List.Sorted.{IsPartitionedBy}
 use Rattle.dns_spec.specs.Names.{DomainName, at_or_below}
 use Rattle.dns_spec.specs.Records.{ResourceRecord}
 use Rattle.dns_zone.specs.TreeForm.{span, under}
@@ -25,15 +24,6 @@ module _ {X : Type 0} (p : X → Bool) (xs : List X) (a b : ℕ) (h : a ≤ b)
       → take k (span xs a b) ≡ filter p (span xs a b) → take k (drop a xs) ≡ filter p (drop a xs)
   widened k l q =
       ap (take k) (drop_span a b xs h) ∙ take-append-le k (span xs a b) (drop b xs) l ∙ q ∙ passing
-
--- what is first of a list whose passing elements stand in front is such a list too
-pub parted_take : {X : Type 0} (p : X → Bool) (xs : List X) (n : ℕ) → IsPartitionedBy p xs
-    → IsPartitionedBy p (take n xs)
-parted_take p xs n parts i j d a b e =
-    let short : j < n = omega (arith, length-take n xs, b) in
-    let inside : j < length xs = omega (arith, length-take n xs, b) in
-    subst (λ y. p y ≡ true) (sym (get_or-take n xs i d (omega (arith, a, short))))
-    (parts i j d a inside (subst (λ y. p y ≡ true) (get_or-take n xs j d short) e))
 
 -- where no record is at or below a name, none is at or below one that is
 pub none_under : (m n : DomainName) (xs : List ResourceRecord) → at_or_below m n ≡ true

@@ -1,45 +1,28 @@
 -- Names one label below a name.
-use Rattle.std.proofs.Common.{◌≡◌, ℕ, suc, ◌+◌, ◌-◌, ◌<◌, ◌≤◌, true, false, nat_lt, nat_le, ◌⊎◌, inl, inr, List, [], ◌∷◌, ◌++◌, map, reverse, length, drop, refl, sym, ap, ap₂, ◌∙◌, arith, subst, is_gt, Ordering, Less, Equal, Greater, length-append}
-use Rattle.std.proofs.lemmas.Bool.{false≢true, and_parts, and_from, leb-true, lt-ltb, ltb-true, cases_lt}
+use Rattle.std.proofs.Common.{◌≡◌, ℕ, ◌+◌, ◌-◌, ◌<◌, ◌≤◌, Bool, true, false, nat_lt, nat_le, if◌then◌else◌, ◌⊎◌, inl, inr, List, [], ◌∷◌, ◌++◌, map, reverse, length, drop, refl, sym, ap, ap₂, ◌∙◌, arith, is_gt, Ordering, Less, Equal, Greater}
+use Rattle.std.proofs.lemmas.Bool.{false≢true, and_parts, and_from, leb-true, lt-ltb, ltb-true, ltb-false, cases_lt}
 use Rattle.std.proofs.lemmas.Cmp.{nat_list_cmp_total, tied_itself}
-use Rattle.std.proofs.lemmas.List.{drop_at, reverse-append, append_assoc}
+use Rattle.std.proofs.lemmas.List.{reverse-append, append_assoc}
 use Rattle.std.specs.Cmp.Lexicographic.{slice_cmp}
 use Rattle.std.specs.Ordering.{ordering_then}
 use Rattle.std.specs.Char.{to_ascii_lowercase}
 use Rattle.dns_spec.specs.Names.{Octets, DomainName, wire, folded, same, last_labels, at_or_below, below, label_order, name_order}
 use Rattle.dns_spec.proofs.DomainNames.NameLaws.{at_or_below-short, same-length-wire}
-use Rattle.dns_name.specs.WireForm.{labels_of, IsWireForm}
-use Rattle.dns_zone.specs.TreeSteps.{IsChildOf}
-use Rattle.dns_zone.proofs.Spans.{drop_again}
+use Rattle.dns_zone.specs.NameEnd.{ending}
 use Rattle.dns_zone.proofs.NameOrder.{same-is}
 use Rattle.dns_zone.proofs.NameTree.{Under, under-is, under-from, under-trans, below-cons}
 
--- what holds while the first labels of an owner are dropped
-pub record IsSuffix (n : DomainName) (owner suffix : Octets) : Type 0 where
-  pub wire_form : IsWireForm suffix
-  pub fits : length suffix ≤ length owner
-  pub end : drop (length owner - length suffix) owner ≡ suffix
-  pub under_it : below (labels_of suffix) n ≡ true
-  pub lower : folded (labels_of suffix) ≡ labels_of suffix
-  pub above : at_or_below (labels_of owner) (labels_of suffix) ≡ true
+-- a name m one label below n, which an owner is at or below
+pub record IsChildOf (n owner m : DomainName) : Type 0 where
+  pub label : Octets
+  pub labels : m ≡ label ∷ n
+  pub lower : folded m ≡ m
+  pub above : at_or_below owner m ≡ true
+  pub front : Octets
+  pub end : wire owner ≡ front ++ wire m
 
 pub cons_under : (l : Octets) (m : DomainName) → at_or_below (l ∷ m) m ≡ true
 cons_under l m = under-from (l ∷ m) m (map to_ascii_lowercase l ∷ [], refl)
-
-itself-at : (n : DomainName) → at_or_below n n ≡ true
-itself-at n = under-from n n ([], refl)
-
-pub first_suffix : (n : DomainName) (owner : Octets) → IsWireForm owner
-    → below (labels_of owner) n ≡ true → folded (labels_of owner) ≡ labels_of owner
-    → IsSuffix n owner owner
-first_suffix n owner w b low = record {
-  wire_form = w;
-  fits = omega arith;
-  end = ap (λ k. drop k owner) (let e : length owner - length owner ≡ 0 = omega arith in e);
-  under_it = b;
-  lower = low;
-  above = itself-at (labels_of owner);
-}
 
 -- a name at or below another, and not the same, is below it
 below_unless_same : (m n : DomainName) → at_or_below m n ≡ true → (same m n ≡ true → ⊥)
@@ -61,73 +44,49 @@ longer_below : (m n : DomainName) → at_or_below m n ≡ true → length (wire 
 longer_below m n h l =
     below_unless_same m n h (λ whole. let level = same-length-wire m n whole in omega arith)
 
--- one label less
-pub shorter_suffix : (n : DomainName) (owner s rest : Octets) (l : Octets) → IsSuffix n owner s
-    → labels_of s ≡ l ∷ labels_of rest → IsWireForm rest
-    → length (wire n) < length rest → IsSuffix n owner rest
-shorter_suffix n owner s rest l h e w longer =
-    let wired : s ≡ length l ∷ (l ++ rest) =
-    sym h.wire_form.wire_is ∙ ap wire e ∙ ap (λ (o : Octets). length l ∷ (l ++ o)) w.wire_is in
-    let size : length s ≡ suc (length l + length rest) =
-    ap length wired ∙ ap suc (length-append l rest) in
-    let at_rest : at_or_below (labels_of rest) n ≡ true =
-    sym (below-cons l (labels_of rest) n) ∙ ap (λ (m : DomainName). below m n) (sym e) ∙ h.under_it
-    in
-    let long : length (wire n) < length (wire (labels_of rest)) =
-    subst (λ (k : ℕ). length (wire n) < k) (ap length (sym w.wire_is)) longer in
-    record {
-      wire_form = w;
-      fits = let f = h.fits in omega arith;
-      end =
-          let f = h.fits in
-          let k : length owner - length rest ≡ (length owner - length s) + suc (length l) =
-          omega arith in
-          ap (λ i. drop i owner) k
-          ∙ sym (drop_again (length owner - length s) (suc (length l)) owner)
-          ∙ ap (drop (suc (length l))) (h.end ∙ wired) ∙ drop_at l rest _ refl;
-      under_it = longer_below (labels_of rest) n at_rest long;
-      lower = tail_lower (ap folded (sym e) ∙ h.lower ∙ e);
-      above =
-          under-trans (labels_of owner) (labels_of s) (labels_of rest) h.above
-          (subst (λ (m : DomainName). at_or_below m (labels_of rest) ≡ true) (sym e)
-          (cons_under l (labels_of rest)));
-    }
-  where
-    tail_lower : folded (l ∷ labels_of rest) ≡ l ∷ labels_of rest
-        → folded (labels_of rest) ≡ labels_of rest
-    tail_lower e = ap (drop 1) e
-
--- the last one
-pub last_suffix : (n : DomainName) (owner s rest : Octets) (l : Octets) → IsSuffix n owner s
-    → labels_of s ≡ l ∷ labels_of rest → IsWireForm rest
-    → folded n ≡ n → length rest ≤ length (wire n) → IsChildOf n owner s
-last_suffix n owner s rest l h e w low short =
-    let at_rest : at_or_below (labels_of rest) n ≡ true =
-    sym (below-cons l (labels_of rest) n) ∙ ap (λ (m : DomainName). below m n) (sym e) ∙ h.under_it
-    in
-    let fits : length (wire (labels_of rest)) ≤ length (wire n) =
-    subst (λ (k : ℕ). k ≤ length (wire n)) (ap length (sym w.wire_is)) short in
-    let is_same : same (labels_of rest) n ≡ true =
-    sym (at_or_below-short (labels_of rest) n fits) ∙ at_rest in
-    let lower : folded (labels_of rest) ≡ labels_of rest =
-    ap (drop 1) (ap folded (sym e) ∙ h.lower ∙ e) in
-    record {
-      label = l;
-      wire = h.wire_form;
-      labels =
-          e ∙ ap (λ (m : DomainName). l ∷ m) (sym lower ∙ same-is (labels_of rest) n is_same ∙ low);
-      lower = h.lower;
-      fits = h.fits;
-      end = h.end;
-      above = h.above;
-    }
-
-pub no_suffix : (n : DomainName) (owner s : Octets) → IsSuffix n owner s → labels_of s ≡ [] → ⊥
-no_suffix n owner s h e =
-    let none : below [] n ≡ true = ap (λ (m : DomainName). below m n) (sym e) ∙ h.under_it in
+-- the shortest end of an owner that has more octets than a name which the owner is below
+pub child_end : (n owner : DomainName) → below owner n ≡ true → folded owner ≡ owner
+    → folded n ≡ n → IsChildOf n owner (ending (length (wire n) + 1) owner)
+child_end n [] b low lower =
     let less : length n < 0 =
-    ltb-true _ _ (and_parts (nat_lt (length n) 0) (at_or_below [] n) none).0 in
-    omega arith
+    ltb-true _ _ (and_parts (nat_lt (length n) 0) (at_or_below [] n) b).0 in
+    absurd (omega arith)
+child_end n (l ∷ o) b low lower =
+    go (nat_lt (length (wire o)) (length (wire n) + 1)) refl
+    (λ b. child_end n o b (ap (drop 1) low) lower)
+  where
+    at : at_or_below o n ≡ true
+    at = sym (below-cons l o n) ∙ b
+
+    go : (t : Bool) → nat_lt (length (wire o)) (length (wire n) + 1) ≡ t
+        → (below o n ≡ true → IsChildOf n o (ending (length (wire n) + 1) o))
+        → IsChildOf n (l ∷ o) (if t then l ∷ o else ending (length (wire n) + 1) o)
+    go true e r =
+        let short = ltb-true _ _ e in
+        let is_same : same o n ≡ true = sym (at_or_below-short o n (omega arith)) ∙ at in
+        record {
+          label = l;
+          labels =
+              ap (λ (m : DomainName). l ∷ m)
+              (sym (ap (drop 1) low) ∙ same-is o n is_same ∙ lower);
+          lower = low;
+          above = under-from (l ∷ o) (l ∷ o) ([], refl);
+          front = [];
+          end = refl;
+        }
+    go false e r =
+        let long = ltb-false _ _ e in
+        let h = r (longer_below o n at (omega arith)) in
+        record {
+          label = h.label;
+          labels = h.labels;
+          lower = h.lower;
+          above = under-trans (l ∷ o) o _ (cons_under l o) h.above;
+          front = length l ∷ (l ++ h.front);
+          end =
+              ap (λ xs. length l ∷ (l ++ xs)) h.end
+              ∙ ap (λ xs. length l ∷ xs) (sym (append_assoc l h.front _));
+        }
 
 -- an owner has one name of each length above it
 pub one_above : (r a b : DomainName) → at_or_below r a ≡ true → at_or_below r b ≡ true

@@ -1,8 +1,9 @@
 -- The row of a child, among records in canonical order.
-use Rattle.std.proofs.Common.{◌≡◌, ℕ, zero, suc, ◌+◌, ◌-◌, ◌<◌, ◌≤◌, Bool, true, false, not, cond, ◌⊎◌, inl, inr, List, [], ◌∷◌, ◌++◌, length, take, drop, get_or, map, refl, sym, ap, ap₂, ◌∙◌, arith, subst, filter, is_gt, is_lt, Ordering, Less, Equal, Greater, length-take, length-drop}
+use Rattle.std.proofs.Common.{◌≡◌, ℕ, zero, suc, ◌+◌, ◌-◌, ◌<◌, ◌≤◌, max, Bool, true, false, not, cond, ◌⊎◌, inl, inr, List, [], ◌∷◌, ◌++◌, length, take, drop, get_or, map, refl, sym, ap, ap₂, ◌∙◌, arith, subst, filter, is_gt, is_lt, Ordering, Less, Equal, Greater, length-take, length-drop}
 use Rattle.std.proofs.lemmas.Bool.{false≢true, true≢false}
 use Rattle.std.proofs.lemmas.Cmp.{upto}
 use Rattle.std.proofs.lemmas.List.{take-append-drop, get_or-map, get_or-drop, drop_more}
+use Rattle.std.proofs.lemmas.List.Prefix.{end_rest}
 use Rattle.std.proofs.Math.Seq.{take-add}
 use Rattle.std.proofs.lemmas.List.Elements.{filter-append}
 use Rattle.std.specs.Char.{to_ascii_lowercase}
@@ -10,18 +11,18 @@ use Rattle.std.specs.List.Sorted.{IsPartitionedBy}
 use Rattle.std.specs.Ordering.{ordering_reverse}
 use Rattle.dns_spec.specs.Names.{Octets, DomainName, wire, is_name, folded, at_or_below, below, name_order}
 use Rattle.dns_spec.specs.Records.{ResourceRecord, record_order}
-use Rattle.dns_spec.proofs.Records.SortedOnce.{Each, each_weaker}
-use Rattle.dns_name.specs.WireForm.{labels_of}
+use Rattle.dns_spec.proofs.Records.SortedOnce.{Each, each_weaker, filter_each}
 use Rattle.dns_zone.specs.LabelKey.{IsKey}
+use Rattle.dns_zone.specs.NameEnd.{ending}
 use Rattle.dns_zone.specs.ZoneForm.{AreOrdered, IsCanonical}
-use Rattle.dns_zone.specs.TreeForm.{owners, under, row_octets, first_of}
-use Rattle.dns_zone.specs.TreeSteps.{IsChildOf, IsNext, IsKidAt}
+use Rattle.dns_zone.specs.TreeForm.{owners, under, row_octets, first_of, IsRow}
+use Rattle.dns_zone.specs.declared.row.Row.{Row}
+use Rattle.dns_zone.specs.TreeSteps.{IsNext, IsKidAt}
 use Rattle.dns_zone.proofs.Pairs.{Pairs, pairs_of, parted, filter_all, filter_within}
 use Rattle.dns_zone.proofs.NameOrder.{name_order_total}
 use Rattle.dns_zone.proofs.NameTree.{itself-under, under-order, between}
-use Rattle.dns_zone.proofs.ChildNames.{cons_under}
+use Rattle.dns_zone.proofs.ChildNames.{IsChildOf, cons_under, child_end}
 use Rattle.dns_zone.proofs.Spans.{nothing_each, length-filter-le}
-use Rattle.dns_name.proofs.WireLemmas.{labels_of-wire}
 use Rattle.dns_spec.specs.ZonePrinted.{IsReadRecord}
 use Rattle.dns_zone.proofs.AtName.{unmoved, record_order_total, ordered_records, OwnerNotAfter, owners_in_order, is_at, is_before, at_parted}
 
@@ -92,52 +93,27 @@ parted_drop p xs k h i j d a b e =
     (h (k + i) (k + j) d (omega (arith, a)) (omega (arith, long, b))
     (subst (λ y. p y ≡ true) (get_or-drop k xs j d) e))
 
--- what passes q, and so passes p
-pub filter_both : {X : Type 0} (p q : X → Bool) (xs : List X)
-    → ((x : X) → q x ≡ true → p x ≡ true) → filter p (filter q xs) ≡ filter q xs
-filter_both p q [] f = refl
-filter_both p q (x ∷ xs) f = go (q x) refl (filter_both p q xs f)
-  where
-    go : (t : Bool) → q x ≡ t → filter p (filter q xs) ≡ filter q xs
-        → filter p (cond t (x ∷ filter q xs) (filter q xs)) ≡ cond t (x ∷ filter q xs) (filter q xs)
-    go true a r =
-        ap (λ t. cond t (x ∷ filter p (filter q xs)) (filter p (filter q xs))) (f x a)
-        ∙ ap (λ ys. x ∷ ys) r
-    go false a r = r
-
--- the records of a name, and then those below it
-pub own_then_below : (m : DomainName) (xs : List ResourceRecord) (own count : ℕ)
-    → take own xs ≡ filter (is_at m) xs → take count (drop own xs) ≡ under m (drop own xs)
-    → take (own + count) xs ≡ under m xs
-own_then_below m xs own count o u =
-    let whole : under m xs ≡ under m (take own xs) ++ under m (drop own xs) =
-    ap (under m) (sym (take-append-drop own xs))
-    ∙ filter-append (is_under m) (take own xs) (drop own xs) in
-    let front : under m (take own xs) ≡ take own xs =
-    ap (under m) o ∙ filter_both (is_under m) (is_at m) xs (λ s e. itself-under s.owner m e)
-    ∙ sym o in
-    take-add own count xs ∙ ap (λ ys. take own xs ++ ys) u
-    ∙ sym (whole ∙ ap (λ ys. ys ++ under m (drop own xs)) front)
+-- records that pass, and then those of the others that do
+pub both_fronts : {X : Type 0} (p : X → Bool) (xs : List X) (a b : ℕ)
+    → Each (λ x. p x ≡ true) (take a xs) → take b (drop a xs) ≡ filter p (drop a xs)
+    → take (a + b) xs ≡ filter p xs
+both_fronts p xs a b e u =
+    take-add a b xs ∙ ap₂ ◌++◌ (sym (filter_all p (take a xs) e)) u
+    ∙ sym (ap (filter p) (sym (take-append-drop a xs)) ∙ filter-append p (take a xs) (drop a xs))
 
 -- the next record, and the name that its child has
 module _ (rs : List ResourceRecord) (canonical : IsCanonical rs) (n : DomainName) (next : ℕ)
     (is_next : IsNext rs n next) (r : ResourceRecord) (r_is : r ≡ get_or rs next r) where
-  pub owner_is : get_or (owners rs) next [] ≡ r.owner
+  owner_is : get_or (owners rs) next [] ≡ r.owner
   owner_is = owner_at rs next r is_next.fits r_is
 
-  pub rest_is : drop next rs ≡ r ∷ drop (next + 1) rs
+  rest_is : drop next rs ≡ r ∷ drop (next + 1) rs
   rest_is = drop_more rs next r is_next.fits ∙ ap (λ s. s ∷ drop (next + 1) rs) (sym r_is)
 
-  read : IsReadRecord r
-  read = subst IsReadRecord (sym r_is) (canonical.each next r is_next.fits)
+  owner_lower : folded r.owner ≡ r.owner
+  owner_lower = (subst IsReadRecord (sym r_is) (canonical.each next r is_next.fits)).lower_owner
 
-  pub owner_name : is_name r.owner ≡ true
-  owner_name = read.owner
-
-  pub owner_lower : folded r.owner ≡ r.owner
-  owner_lower = read.lower_owner
-
-  pub owner_below : below r.owner n ≡ true
+  owner_below : below r.owner n ≡ true
   owner_below = subst (λ (m : DomainName). below m n ≡ true) owner_is is_next.under_it
 
   in_order : Pairs OwnerNotAfter (r ∷ drop (next + 1) rs)
@@ -152,42 +128,30 @@ module _ (rs : List ResourceRecord) (canonical : IsCanonical rs) (n : DomainName
       (pairs_drop (λ s t. is_gt (record_order s t) ≡ false) next rs
       (ordered_records rs canonical.ordered)))
 
-  module _ (octets : Octets) (child : IsChildOf n (wire r.owner) octets) where
-    m : DomainName
-    m = child.label ∷ n
+  -- the name of its child: the end of its owner with more octets than the name, and fewest of those
+  pub child_there : (parent : Octets) (owner m : DomainName) → wire n ≡ parent → owner ≡ r.owner
+      → m ≡ ending (length parent + 1) owner → IsChildOf n r.owner m
+  child_there parent owner m w o e =
+      subst (IsChildOf n r.owner)
+      (sym (e ∙ ap₂ (λ (xs : Octets) (k : DomainName). ending (length xs + 1) k) (sym w) o))
+      (child_end n r.owner owner_below owner_lower is_next.lower)
 
-    under_it : at_or_below r.owner m ≡ true
-    unfolding m
-    under_it =
-        subst (λ (k : DomainName). at_or_below r.owner k ≡ true) child.labels
-        (subst (λ (k : DomainName). at_or_below k (labels_of octets) ≡ true)
-        (labels_of-wire r.owner owner_name) child.above)
-
-    pub under_front : IsPartitionedBy (is_under (labels_of octets)) (drop next rs)
-    unfolding m
+  module _ (m : DomainName) (child : IsChildOf n r.owner m) where
+    pub under_front : IsPartitionedBy (is_under m) (drop next rs)
     under_front =
-        subst (λ (k : DomainName). IsPartitionedBy (is_under k) (drop next rs)) (sym child.labels)
-        (subst (IsPartitionedBy (is_under m)) (sym rest_is)
-        (under_parted m r (drop (next + 1) rs) in_order under_it))
+        subst (IsPartitionedBy (is_under m)) (sym rest_is)
+        (under_parted m r (drop (next + 1) rs) in_order child.above)
 
-    pub own_front : IsPartitionedBy (is_at (labels_of octets)) (drop next rs)
-    unfolding m
+    pub own_front : IsPartitionedBy (is_at m) (drop next rs)
     own_front =
-        subst (λ (k : DomainName). IsPartitionedBy (is_at k) (drop next rs)) (sym child.labels)
-        (subst (IsPartitionedBy (is_at m)) (sym rest_is)
-        (at_in_front m r (drop (next + 1) rs) in_order under_it ordered_rest))
-
-    lower : folded m ≡ m
-    unfolding m
-    lower = ap folded (sym child.labels) ∙ child.lower ∙ child.labels
-
-    name : is_name m ≡ true
-    unfolding m
-    name = subst (λ (k : DomainName). is_name k ≡ true) child.labels child.wire.is_name
+        subst (IsPartitionedBy (is_at m)) (sym rest_is)
+        (at_in_front m r (drop (next + 1) rs) in_order child.above ordered_rest)
 
     none_before_it : under m (take next rs) ≡ []
-    unfolding m
-    none_before_it = go (is_next.between m lower (cons_under child.label n) refl)
+    none_before_it =
+        go (is_next.between m child.lower
+        (subst (λ (k : DomainName). at_or_below k n ≡ true) (sym child.labels)
+        (cons_under child.label n)) (ap length child.labels))
       where
         go : (under m (take next rs) ≡ []) ⊎ (under m (drop next rs) ≡ [])
             → under m (take next rs) ≡ []
@@ -196,7 +160,7 @@ module _ (rs : List ResourceRecord) (canonical : IsCanonical rs) (n : DomainName
             let first : Each (λ s. is_under m s ≡ false) (r ∷ drop (next + 1) rs) =
             subst (Each (λ s. is_under m s ≡ false)) rest_is
             (nothing_each (is_under m) (drop next rs) b) in
-            absurd (false≢true (sym first.0 ∙ under_it))
+            absurd (false≢true (sym first.0 ∙ child.above))
 
     all_from : under m rs ≡ under m (drop next rs)
     all_from =
@@ -215,17 +179,34 @@ module _ (rs : List ResourceRecord) (canonical : IsCanonical rs) (n : DomainName
         let first : under m (drop next rs) ≡ r ∷ under m (drop (next + 1) rs) =
         ap (under m) rest_is
         ∙ ap (λ t. cond t (r ∷ under m (drop (next + 1) rs)) (under m (drop (next + 1) rs)))
-        under_it
+        child.above
         in
         let size = ap length first in
         omega arith
 
-    pub made : (own count place label key : ℕ) → own ≤ length (drop next rs) → count ≤ length (drop next rs)
-        → take own (drop next rs) ≡ filter (is_at (labels_of octets)) (drop next rs)
-        → take count (drop next rs) ≡ under (labels_of octets) (drop next rs)
-        → place ≡ length (wire r.owner) - length octets
-        → label ≡ length (first_of (labels_of octets))
-        → IsKey key (map to_ascii_lowercase (first_of (labels_of octets)))
+    -- its records, or the next one where it has none, are at or below it
+    pub known_under : (count own : ℕ) → 0 < count
+        → take own (take count (drop next rs)) ≡ filter (is_at m) (take count (drop next rs))
+        → Each (λ s. is_under m s ≡ true) (take (max own 1) (take count (drop next rs)))
+    known_under zero own some e = absurd (omega arith)
+    known_under (suc count) zero some e =
+        subst (λ xs. Each (λ s. is_under m s ≡ true) (take 1 (take (suc count) xs))) (sym rest_is)
+        (child.above, tt)
+    known_under (suc count) (suc own) some e =
+        let most : max (suc own) 1 ≡ suc own = omega arith in
+        subst (λ k. Each (λ s. is_under m s ≡ true) (take k (take (suc count) (drop next rs))))
+        (sym most)
+        (subst (Each (λ s. is_under m s ≡ true)) (sym e)
+        (each_weaker (λ s. is_at m s ≡ true) (λ s. is_under m s ≡ true) _
+        (λ s h. itself-under s.owner m h)
+        (filter_each (is_at m) (take (suc count) (drop next rs)))))
+
+    pub made : is_name m ≡ true → (own count place label key : ℕ)
+        → own ≤ length (drop next rs) → count ≤ length (drop next rs)
+        → take own (drop next rs) ≡ filter (is_at m) (drop next rs)
+        → take count (drop next rs) ≡ under m (drop next rs)
+        → place ≡ length (wire r.owner) - length (wire m) → label ≡ length (first_of m)
+        → IsKey key (map to_ascii_lowercase (first_of m))
         → IsKidAt rs n next (record {
           first = next;
           own_end = next + own;
@@ -234,12 +215,8 @@ module _ (rs : List ResourceRecord) (canonical : IsCanonical rs) (n : DomainName
           label_octets = label;
           key = key;
         })
-    unfolding m row_octets
-    made own count place label key own_fits fits o u p long is_key =
-        let own_is : take own (drop next rs) ≡ filter (is_at m) (drop next rs) =
-        o ∙ ap (λ (k : DomainName). filter (is_at k) (drop next rs)) child.labels in
-        let under_is : take count (drop next rs) ≡ under m (drop next rs) =
-        u ∙ ap (λ (k : DomainName). under k (drop next rs)) child.labels in
+    unfolding row_octets
+    made name own count place label key own_fits fits own_is under_is p long is_key =
         let sizes : length (drop next rs) ≡ length rs - next = length-drop next rs in
         let in_bounds = is_next.fits in
         let count_is = length-take-of count (drop next rs) (under m (drop next rs)) fits under_is in
@@ -255,15 +232,23 @@ module _ (rs : List ResourceRecord) (canonical : IsCanonical rs) (n : DomainName
         let some = some_under in
         let at_count : next + count - next ≡ count = omega arith in
         let at_own : next + own - next ≡ own = omega arith in
+        let row : Row = record {
+          first = next;
+          own_end = next + own;
+          end = next + count;
+          place = place;
+          label_octets = label;
+          key = key;
+        } in
         record {
           kid = record {
             label = child.label;
-            is_row = record {
+            is_row = subst (IsRow rs row) child.labels (record {
               octets =
-                  ap₂ (λ (i : ℕ) (k : DomainName). drop i (wire k)) p owner_is ∙ child.end
-                  ∙ sym child.wire.wire_is ∙ ap wire child.labels;
+                  ap₂ (λ (i : ℕ) (k : DomainName). drop i (wire k)) p owner_is
+                  ∙ end_rest (wire r.owner) (wire m) child.front child.end;
               is_name = name;
-              lower = lower;
+              lower = child.lower;
               some = is_next.fits;
               more = omega arith;
               place = let e = ap (λ (k : DomainName). length (wire k)) owner_is in omega arith;
@@ -271,12 +256,10 @@ module _ (rs : List ResourceRecord) (canonical : IsCanonical rs) (n : DomainName
               own_end = omega arith;
               end_fits = omega arith;
               below = ap (λ i. take i (drop next rs)) at_count ∙ under_is ∙ sym all_from;
-              label_octets = long ∙ ap (λ (k : DomainName). length (first_of k)) child.labels;
-              key =
-                  subst (λ (k : DomainName). IsKey key (map to_ascii_lowercase (first_of k)))
-                  child.labels is_key;
+              label_octets = long;
+              key = is_key;
               own = ap (λ i. take i (drop next rs)) at_own ∙ own_is ∙ sym own_from;
-            };
+            });
           };
           first = refl;
           more = omega arith;

@@ -1,38 +1,101 @@
--- The octets of a name in lower case end in those of each name that it is at or below.
-use Rattle.std.proofs.Common.{◌≡◌, ℕ, ◌-◌, ◌≤◌, Bool, true, false, [], ◌∷◌, ◌++◌, length, drop, refl, sym, ap, ◌∙◌, arith, length-append}
-use Rattle.std.proofs.lemmas.Bool.{false_from_ne_true, false≢true}
-use Rattle.std.proofs.lemmas.List.{append_assoc}
-use Rattle.std.proofs.lemmas.List.Prefix.{end_rest}
-use Rattle.std.specs.Bool.{OnFalse}
-use Rattle.dns_spec.specs.Names.{Octets, DomainName, wire, folded, at_or_below, octets_equal}
-use Rattle.dns_spec.proofs.DomainNames.NameLaws.{octets_equal-decides}
-use Rattle.dns_zone.proofs.NameTree.{under-is}
+-- The shortest end of a name that has so many octets or more.
+use Rattle.std.proofs.Common.{◌≡◌, ℕ, suc, ◌+◌, ◌-◌, ◌<◌, ◌≤◌, Bool, true, false, nat_lt, ◌||◌, if◌then◌else◌, [], ◌∷◌, length, drop, get_or, refl, sym, ap, ap₂, ◌∙◌, arith, length-append, length-drop}
+use Rattle.std.proofs.lemmas.Bool.{false_from_ne_true, ltb-true, ltb-false, lt-ltb, le-ltb}
+use Rattle.std.proofs.Math.Bool.{or-false}
+use Rattle.std.proofs.lemmas.List.{drop_at, drop-drop, get_or-drop}
+use Rattle.dns_spec.specs.Names.{Octets, DomainName, wire, is_name, folded, same, at_or_below, names_equal}
+use Rattle.dns_spec.proofs.DomainNames.NameLaws.{at_or_below-cons, at_or_below-short, at_or_below-long, at_or_below-length-wire, is_name-tail}
+use Rattle.dns_zone.specs.NameEnd.{ending}
 
-wire_ends : (p a : DomainName) → (q : Octets) × (wire (p ++ a) ≡ q ++ wire a)
-wire_ends [] a = ([], refl)
-wire_ends (l ∷ p) a =
-    let r = wire_ends p a in (
-      length l ∷ (l ++ r.0),
-      ap (λ xs. length l ∷ (l ++ xs)) r.1 ∙ ap (λ xs. length l ∷ xs) (sym (append_assoc l r.0 (wire a))),
-    )
+pub some_octets : (n : DomainName) → 0 < length (wire n)
+some_octets [] = omega arith
+some_octets (l ∷ n) = omega arith
 
-pub octets_end : (n a : DomainName) → folded n ≡ n → folded a ≡ a → at_or_below n a ≡ true
-    → (length (wire a) ≤ length (wire n)) × (drop (length (wire n) - length (wire a)) (wire n) ≡ wire a)
-octets_end n a low lower h =
-    let u = under-is n a h in
-    let r = wire_ends u.0 a in
-    let whole : wire n ≡ r.0 ++ wire a = ap wire (sym low ∙ u.1 ∙ ap (λ m. u.0 ++ m) lower) ∙ r.1 in
-    (omega (arith, ap length whole, length-append r.0 (wire a)), end_rest (wire n) (wire a) r.0 whole)
+-- what holds while the labels of a name n are passed: its octets xs go on at place k with an end of
+-- it, whose shortest end is that of n
+pub record GoesOn (least : ℕ) (n : DomainName) (xs : Octets) (k : ℕ) : Type 0 where
+  pub rest : DomainName
+  pub octets : drop k xs ≡ wire rest
+  pub fits : k ≤ length xs
+  pub name : is_name rest ≡ true
+  pub end : ending least rest ≡ ending least n
 
--- so a name whose octets xs do not end in the octets ys of another is not at or below it
-pub other_end : (b : Bool) (n a : DomainName) (xs ys : Octets) (k : ℕ) → xs ≡ wire n → ys ≡ wire a → k ≡ length xs - length ys
-    → b ≡ octets_equal (drop k xs) ys → OnFalse b (folded n ≡ n → folded a ≡ a → at_or_below n a ≡ false)
-other_end true n a xs ys k e f g h = tt
-other_end false n a xs ys k e f g h = λ low lower. false_from_ne_true (at_or_below n a) (λ at. false≢true (h ∙ (octets_equal-decides (drop k xs) ys).1 (ends low lower at)))
+pub first_end : (least : ℕ) (n : DomainName) (xs : Octets) → xs ≡ wire n → is_name n ≡ true
+    → GoesOn least n xs 0
+first_end least n xs e ok = record {
+  rest = n;
+  octets = e;
+  fits = omega arith;
+  name = ok;
+  end = refl;
+}
+
+module _ (least : ℕ) (n : DomainName) (xs : Octets) (k : ℕ) (h : GoesOn least n xs k) where
+  -- how many octets the next label has
+  abbrev x : ℕ
+  x = get_or xs k 0
+
+  size : length xs ≡ k + length (wire h.rest)
+  size = let f = h.fits in omega (arith, ap length h.octets, length-drop k xs)
+
+  first : get_or (wire h.rest) 0 0 ≡ x
+  first =
+      let at : k + 0 ≡ k = omega arith in
+      ap (λ ys. get_or ys 0 0) (sym h.octets) ∙ get_or-drop k xs 0 0 ∙ ap (λ i. get_or xs i 0) at
+
+  pub inside : k < length xs
+  inside = omega (arith, size, some_octets h.rest)
+
+  pub next_end : 0 < least → k + 1 + x ≤ length xs - least → GoesOn least n xs (k + 1 + x)
+  next_end some fits = go h.rest h.octets size first h.name h.end
+    where
+      go : (m : DomainName) → drop k xs ≡ wire m → length xs ≡ k + length (wire m)
+          → get_or (wire m) 0 0 ≡ x → is_name m ≡ true → ending least m ≡ ending least n
+          → GoesOn least n xs (k + 1 + x)
+      go [] w s f ok e = absurd (omega arith)
+      go (l ∷ m) w s f ok e =
+          let long : length xs ≡ k + 1 + x + length (wire m) =
+          omega (arith, length-append l (wire m)) in
+          let at : k + 1 + x ≡ k + suc (length l) = omega arith in
+          record {
+            rest = m;
+            octets =
+                ap (λ i. drop i xs) at ∙ sym (drop-drop (suc (length l)) k xs)
+                ∙ ap (drop (suc (length l))) w ∙ drop_at l (wire m) _ refl;
+            fits = omega arith;
+            name = is_name-tail l m ok;
+            end =
+                sym (ap (λ t. if t then l ∷ m else ending least m)
+                (le-ltb (length (wire m)) least (omega arith))) ∙ e;
+          }
+
+  pub last_end : length xs - least < k + 1 + x → h.rest ≡ ending least n
+  last_end past = go h.rest size first h.end
+    where
+      go : (m : DomainName) → length xs ≡ k + length (wire m) → get_or (wire m) 0 0 ≡ x
+          → ending least m ≡ ending least n → m ≡ ending least n
+      go [] s f e = e
+      go (l ∷ m) s f e =
+          let short : length (wire m) < least = omega (arith, length-append l (wire m)) in
+          sym (ap (λ t. if t then l ∷ m else ending least m)
+          (lt-ltb (length (wire m)) least short)) ∙ e
+
+-- a name in lower case is at or below another where its end of as many octets is that name
+pub end_is : (n m : DomainName) → folded n ≡ n → folded m ≡ m
+    → names_equal (ending (length (wire m)) n) m ≡ at_or_below n m
+end_is [] m low lower = sym (at_or_below-short [] m (some_octets m) ∙ ap (names_equal []) lower)
+end_is (l ∷ n) m low lower =
+    go (nat_lt (length (wire n)) (length (wire m))) refl (end_is n m (ap (drop 1) low) lower)
   where
-    ends : folded n ≡ n → folded a ≡ a → at_or_below n a ≡ true → drop k xs ≡ ys
-    ends low lower at = rw (g, e, f) (octets_end n a low lower at).1
-
-pub no_end : (n a : DomainName) (xs ys : Octets) → xs ≡ wire n → ys ≡ wire a → (length ys ≤ length xs → ⊥)
-    → folded n ≡ n → folded a ≡ a → at_or_below n a ≡ false
-no_end n a xs ys e f none low lower = false_from_ne_true (at_or_below n a) (λ at. none (rw (e, f) (octets_end n a low lower at).0))
+    go : (t : Bool) → nat_lt (length (wire n)) (length (wire m)) ≡ t
+        → names_equal (ending (length (wire m)) n) m ≡ at_or_below n m
+        → names_equal (if t then l ∷ n else ending (length (wire m)) n) m ≡ at_or_below (l ∷ n) m
+    go true e r =
+        let short : length (wire n) < length (wire m) = ltb-true _ _ e in
+        let other : at_or_below n m ≡ false =
+        false_from_ne_true _ (λ at. absurd (omega (arith, at_or_below-length-wire n m at))) in
+        sym (at_or_below-cons l n m ∙ ap (λ t. same (l ∷ n) m || t) other
+        ∙ or-false (same (l ∷ n) m) ∙ ap₂ names_equal low lower)
+    go false e r =
+        let long : length (wire m) ≤ length (wire n) = ltb-false _ _ e in
+        r ∙ sym (at_or_below-long l n m (omega (arith, length-append l (wire n))))

@@ -1,4 +1,4 @@
--- Lists whose elements are in order, each with each after it, and what a search by halves finds in them.
+-- Lists whose elements are in order, each with each after it, and what a binary search finds in them.
 use Rattle.std.proofs.Common.{◌≡◌, ℕ, zero, suc, ◌-◌, ◌<◌, ◌≤◌, Bool, true, false, not, cond, ◌⊎◌, inl, inr, List, [], ◌∷◌, length, take, drop, get_or, refl, sym, ap, ◌∙◌, subst, arith, filter}
 use Rattle.std.proofs.lemmas.Bool.{false≢true, false_from_ne_true, cases_lt}
 use Rattle.std.proofs.lemmas.List.{length-take, get_or-take}
@@ -42,7 +42,7 @@ pairs_filter R p (x ∷ xs) h = go (p x) (pairs_filter R p xs h.1)
     go true r = (each_filter (R x) p xs h.0, r)
     go false r = r
 
--- what a search by halves asks
+-- what a binary search asks
 pub parted : {X : Type 0} (p : X → Bool) (xs : List X) → Pairs (λ x y. p y ≡ true → p x ≡ true) xs → IsPartitionedBy p xs
 parted p [] h i j d l m e = absurd (omega arith)
 parted p (x ∷ xs) h zero zero d l m e = e
@@ -101,11 +101,11 @@ halves p (x ∷ xs) (suc i) l h =
     )
 
 -- where the last one passes, all do
-pub all_parted : {X : Type 0} (p : X → Bool) (xs : List X) → 0 < length xs → ((d : X) → p (get_or xs (length xs - 1) d) ≡ true) → IsPartitionedBy p xs
+pub all_parted : {X : Type 0} (p : X → Bool) (xs : List X) → ((d : X) → length xs - 1 < length xs → p (get_or xs (length xs - 1) d) ≡ true) → IsPartitionedBy p xs
     → (take (length xs) xs ≡ filter p xs) × (drop (length xs) xs ≡ filter (λ x. not (p x)) xs)
-all_parted p xs some passes parts =
+all_parted p xs passes parts =
     halves p xs (length xs) (omega arith) (
-      λ k d a b. parts k (length xs - 1) d (omega arith) (omega arith) (passes d),
+      λ k d a b. parts k (length xs - 1) d (omega arith) (omega arith) (passes d (omega arith)),
       λ k d a b. absurd (omega arith),
     )
 
@@ -124,12 +124,14 @@ near_point {X = X} p xs n i l fails parts bound point = (
     after k d a b (inl m) = subst (λ y. p y ≡ false) (get_or-take n xs k d m) (point.1 k d a (omega (arith, long, m)))
     after k d a b (inr m) = false_from_ne_true (p (get_or xs k d)) (λ e. false≢true (sym (fails d) ∙ parts n k d m b e))
 
-pub near_parted : {X : Type 0} (p : X → Bool) (xs : List X) (n : ℕ) → n < length xs → IsPartitionedBy p xs → IsPartitionedBy p (take n xs)
-near_parted p xs n l parts i j d a b e =
-    let long : length (take n xs) ≡ n = length-take n xs ∙ min-eq_left (omega arith) in
-    let short : j < n = omega (arith, long, b) in
+-- what is first of a list whose passing elements stand in front is such a list too
+pub parted_take : {X : Type 0} (p : X → Bool) (xs : List X) (n : ℕ) → IsPartitionedBy p xs
+    → IsPartitionedBy p (take n xs)
+parted_take p xs n parts i j d a b e =
+    let short : j < n = omega (arith, length-take n xs, b) in
+    let inside : j < length xs = omega (arith, length-take n xs, b) in
     subst (λ y. p y ≡ true) (sym (get_or-take n xs i d (omega (arith, a, short))))
-    (parts i j d a (omega arith) (subst (λ y. p y ≡ true) (get_or-take n xs j d short) e))
+    (parts i j d a inside (subst (λ y. p y ≡ true) (get_or-take n xs j d short) e))
 
 -- a test of a first element
 abbrev pub first_passes : {X : Type 0} → (X → Bool) → List X → Bool

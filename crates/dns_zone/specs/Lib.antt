@@ -12,3 +12,4 @@ pub mod ReportedForm
 pub mod KeyForm
 pub mod LabelKey
 pub mod Starts
+pub mod NameEnd

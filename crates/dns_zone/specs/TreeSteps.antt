@@ -1,20 +1,9 @@
 -- What a reader learns here: what holds while the rows of a name's children are added.
-use Rattle.std.specs.Prelude.{◌≡◌, ℕ, suc, ◌-◌, ◌<◌, ◌≤◌, true, List, [], ◌∷◌, length, take, drop, get_or, ◌⊎◌}
-use Rattle.dns_spec.specs.Names.{Octets, DomainName, folded, at_or_below, below}
+use Rattle.std.specs.Prelude.{◌≡◌, ℕ, suc, ◌<◌, ◌≤◌, true, List, [], length, take, drop, get_or, ◌⊎◌}
+use Rattle.dns_spec.specs.Names.{DomainName, folded, at_or_below, below}
 use Rattle.dns_spec.specs.Records.{ResourceRecord}
-use Rattle.dns_name.specs.WireForm.{labels_of, IsWireForm}
 use Rattle.dns_zone.specs.TreeForm.{owners, under, IsKid, AreKids}
 use Rattle.dns_zone.specs.declared.row.Row.{Row}
-
--- the end of an owner's wire form that is the wire form of a name one label below n
-pub record IsChildOf (n : DomainName) (owner octets : Octets) : Type 0 where
-  pub label : Octets
-  pub wire : IsWireForm octets
-  pub labels : labels_of octets ≡ label ∷ n
-  pub lower : folded (labels_of octets) ≡ labels_of octets
-  pub fits : length octets ≤ length owner
-  pub end : drop (length owner - length octets) owner ≡ octets
-  pub above : at_or_below (labels_of owner) (labels_of octets) ≡ true
 
 -- of each name one label below n, all records stand before a place or none
 abbrev pub IsBetween : List ResourceRecord → DomainName → ℕ → Type 0

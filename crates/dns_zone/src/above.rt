@@ -1,29 +1,35 @@
 //! Whether names in lower case are at or below others.
-ghost use Rattle.std.specs.Prelude.{◌≡◌, false};
-ghost use Rattle.std.specs.Bool.{OnFalse};
+ghost use Rattle.std.specs.Prelude.{◌≡◌, ◌<◌};
 ghost use Rattle.dns_spec.specs.Names.{folded, at_or_below};
+ghost use Rattle.dns_zone.specs.NameEnd.{ending};
 
 use dns_name::NameRef;
 
-/// Whether a name is at or below another, both in lower case. Mostly it is not, and the octets at
-/// its end tell.
+/// Whether a name is at or below another, both in lower case.
 pub(crate) fn is_at_or_below(name: &NameRef<'_>, other: &NameRef<'_>) -> bool
     requires name { folded name.now ≡ name.now }
     requires other { folded other.now ≡ other.now }
     ensures { result ≡ at_or_below name.now other.now }
 {
-    ends_in(name, other) && name.at_or_below(other)
+    shortest_end(name, other.octets().len()) == *other
 }
 
-/// Whether the octets of a name end in those of another, as they do where it is at or below that.
-pub(crate) fn ends_in(name: &NameRef<'_>, other: &NameRef<'_>) -> bool
-    ensures { OnFalse result (folded name.now ≡ name.now → folded other.now ≡ other.now
-        → at_or_below name.now other.now ≡ false) }
+/// The last labels of a name, as few as have `least` octets or more on the wire; all of them where
+/// it has fewer. Of `www.sub.example.` and 10 octets, `sub.example.`
+///
+/// Labels are passed by their lengths alone.
+pub(crate) fn shortest_end<'a>(name: &NameRef<'a>, least: usize) -> NameRef<'a>
+    requires { 0 < least }
+    ensures { result ≡ ending least name.now }
 {
     let octets = name.octets();
-    let end = other.octets();
-    match octets.len().checked_sub(end.len()) {
-        Some(front) => octets.split_at(front).1 == end,
-        None => false,
+    let last = octets.len().saturating_sub(least);
+    let mut place = 0;
+    'labels: loop {
+        let next = place + 1 + octets[place] as usize;
+        if next > last {
+            return NameRef::new(octets.split_at(place).1);
+        }
+        place = next;
     }
 }

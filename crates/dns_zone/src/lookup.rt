@@ -1,13 +1,11 @@
-//! Records of a name, found by halves among records in canonical order.
+//! Records of a name, found by binary search among records in canonical order.
 ghost use Rattle.std.specs.Prelude.{◌≡◌, ◌≤◌, ◌==◌, length, take, drop, not, nat_lt, IfSome};
 ghost use Rattle.std.specs.Bool.{OnTrue};
 ghost use Rattle.std.specs.List.{list_any, filter, prefix_len};
 ghost use Rattle.std.specs.List.Sorted.{IsPartitionedBy, IsNonDecreasingBy};
-ghost use Rattle.std.specs.Ordering.{is_lt};
-ghost use Rattle.dns_spec.specs.Names.{folded, same, at_or_below, name_order};
+ghost use Rattle.dns_spec.specs.Names.{folded, same, at_or_below};
 ghost use Rattle.dns_spec.specs.Records.{ResourceRecord};
-ghost use Rattle.dns_zone.specs.KeyForm.{name_key};
-ghost use Rattle.dns_zone.specs.ZoneForm.{AreOrdered, IsFront};
+ghost use Rattle.dns_zone.specs.ZoneForm.{IsFront};
 
 use crate::above::is_at_or_below;
 use crate::entry::Entry;
@@ -17,41 +15,6 @@ use dns_rdata::RType;
 // How many records are looked at before all are: most owners have few records, and most names few
 // below them.
 const NEAR: usize = 4;
-
-/// How many of the records have the name as owner, where these stand in front.
-pub(crate) fn count_at(records: &[Entry], name: &NameRef<'_>) -> usize
-    requires in_front { IsPartitionedBy
-        (λ (r : ResourceRecord). same r.owner name.now) records.now }
-    requires lower { folded name.now ≡ name.now }
-    ensures bound { result ≤ length records.now }
-    ensures own { take result records.now
-        ≡ filter (λ (r : ResourceRecord). same r.owner name.now) records.now }
-    ensures others { drop result records.now
-        ≡ filter (λ (r : ResourceRecord). not (same r.owner name.now)) records.now }
-{
-    if let Some(count) = count_at_among(records, name, 1) {
-        return count;
-    }
-    if let Some(count) = count_at_among(records, name, NEAR) {
-        return count;
-    }
-    records.partition_point(|listed| is_at(listed, name))
-}
-
-// The same where it is at most `near`, and a record stands there; or nothing.
-fn count_at_among(records: &[Entry], name: &NameRef<'_>, near: usize) -> Option<usize>
-    requires in_front { IsPartitionedBy
-        (λ (r : ResourceRecord). same r.owner name.now) records.now }
-    requires lower { folded name.now ≡ name.now }
-    ensures { IfSome result
-        (λ k. IsFront (λ (r : ResourceRecord). same r.owner name.now) records.now k) }
-{
-    let next = records.get(near)?;
-    if is_at(next, name) {
-        return None;
-    }
-    Some(records[..near].partition_point(|listed| is_at(listed, name)))
-}
 
 /// How many of the records have owners at or below the name, where these stand in front.
 pub(crate) fn count_under(records: &[Entry], name: &NameRef<'_>) -> usize
@@ -64,36 +27,33 @@ pub(crate) fn count_under(records: &[Entry], name: &NameRef<'_>) -> usize
     ensures others { drop result records.now
         ≡ filter (λ (r : ResourceRecord). not (at_or_below r.owner name.now)) records.now }
 {
-    if let Some(count) = count_under_among(records, name, 0) {
+    if let Some(count) = count_before(records, name, 0) {
         return count;
     }
-    if are_all_under(records, name) {
-        return records.len();
-    }
-    if let Some(count) = count_under_among(records, name, NEAR) {
+    if let Some(count) = count_before(records, name, NEAR) {
         return count;
     }
     records.partition_point(|listed| is_under(listed, name))
 }
 
-// The same where it is at most `near`, and a record stands there; or nothing.
-fn count_under_among(records: &[Entry], name: &NameRef<'_>, near: usize) -> Option<usize>
+// The same where the record at `place` is none of them, or nothing.
+fn count_before(records: &[Entry], name: &NameRef<'_>, place: usize) -> Option<usize>
     requires in_front { IsPartitionedBy
         (λ (r : ResourceRecord). at_or_below r.owner name.now) records.now }
     requires lower { folded name.now ≡ name.now }
     ensures { IfSome result
         (λ k. IsFront (λ (r : ResourceRecord). at_or_below r.owner name.now) records.now k) }
 {
-    let next = records.get(near)?;
+    let next = records.get(place)?;
     if is_under(next, name) {
         return None;
     }
-    Some(records[..near].partition_point(|listed| is_under(listed, name)))
+    Some(records[..place].partition_point(|listed| is_under(listed, name)))
 }
 
-// Whether a record stands at the end whose owner is at or below the name: then all are. On a way of
-// labels that no record owns they mostly are.
-fn are_all_under(records: &[Entry], name: &NameRef<'_>) -> bool
+/// Whether the last of the records has an owner at or below the name: then all have, where these
+/// stand in front.
+pub(crate) fn are_all_under(records: &[Entry], name: &NameRef<'_>) -> bool
     requires in_front { IsPartitionedBy
         (λ (r : ResourceRecord). at_or_below r.owner name.now) records.now }
     requires lower { folded name.now ≡ name.now }

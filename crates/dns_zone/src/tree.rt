@@ -1,20 +1,21 @@
 //! The names of a zone as rows, level by level: the children of a row stand side by side, by their
 //! labels.
-ghost use Rattle.std.specs.Prelude.{◌≡◌, ℕ, ◌+◌, ◌<◌, ◌≤◌, [], ◌∷◌, length, take, drop, get_or, true, IfOk, OnOk};
-ghost use Rattle.dns_spec.specs.Names.{folded, at_or_below, below};
+ghost use Rattle.std.specs.Prelude.{◌≡◌, ◌<◌, ◌≤◌, [], length, drop, IfOk, OnOk};
+ghost use Rattle.std.specs.List.Sorted.{IsPartitionedBy};
+ghost use Rattle.dns_spec.specs.Names.{folded, at_or_below};
 ghost use Rattle.dns_spec.specs.Records.{ResourceRecord};
-ghost use Rattle.dns_spec.specs.Meaning.{most_records};
 ghost use Rattle.dns_name.specs.WireForm.{labels_of, IsWireForm};
-ghost use Rattle.dns_zone.specs.ZoneForm.{IsBuilt, IsCanonical};
-ghost use Rattle.dns_zone.specs.TreeForm.{owners, row_octets, row_name, row_at, under, IsRow, IsTree};
-ghost use Rattle.dns_zone.specs.TreeSteps.{IsChildOf, IsNext, IsKidAt, AddsKids};
+ghost use Rattle.dns_zone.specs.ZoneForm.{IsBuilt, IsCanonical, IsFront};
+ghost use Rattle.dns_zone.specs.TreeForm.{row_octets, row_name, row_at, under, IsRow, IsTree};
+ghost use Rattle.dns_zone.specs.TreeSteps.{IsNext, IsKidAt, AddsKids};
 
+use crate::above::shortest_end;
 use crate::entry::Entry;
 use crate::kept::Kept;
 use crate::label_key::{first_octets, label_key};
-use crate::lookup::{count_at, count_under};
+use crate::lookup::{are_all_under, count_in_front, count_under};
 use crate::row::Row;
-use dns_name::{Name, NameRef, first_label};
+use dns_name::{Name, NameRef};
 use std::alloc::{AllocError, Global};
 
 /// The names of a zone, and its records in canonical order.
@@ -69,7 +70,7 @@ fn origin_row(origin: &NameRef<'_>, records: &[Entry]) -> Row
     let label = first_octets(origin);
     Row {
         first: 0,
-        own_end: count_at(records, origin) as u32,
+        own_end: count_in_front(records, origin) as u32,
         end: records.len() as u32,
         place: 0,
         label_octets: label.len() as u8,
@@ -115,45 +116,39 @@ fn kid_at(records: &[Entry], parent: &[u8], next: usize, end: usize) -> Row
     requires canonical { IsCanonical records.now }
     requires parent { IsWireForm parent.now }
     requires next { IsNext records.now (labels_of parent.now) next }
-    requires before { next ≤ end }
+    requires before { next < end }
     requires fits { end ≤ length records.now }
     requires none { under (labels_of parent.now) (drop end records.now) ≡ [] }
     ensures { IsKidAt records.now (labels_of parent.now) next result }
 {
     let record = &records[next];
-    let owner = record.owner().octets();
-    let octets = child_octets(owner, parent);
-    let name = NameRef::new(octets);
+    let owner = record.owner();
+    let name = shortest_end(&owner, parent.len() + 1);
     let others = &records[next..end];
-    let own = count_at(others, &name);
-    let (_, after) = others.split_at(own);
+    let own = count_in_front(others, &name);
+    let known = own.max(1);
+    let (_, after) = others.split_at(known);
     let label = first_octets(&name);
     Row {
         first: next as u32,
         own_end: (next + own) as u32,
-        end: (next + (own + count_under(after, &name))) as u32,
-        place: (owner.len() - octets.len()) as u8,
+        end: (next + (known + count_more_under(own, after, &name))) as u32,
+        place: (owner.octets().len() - name.octets().len()) as u8,
         label_octets: label.len() as u8,
         key: label_key(label),
     }
 }
 
-// The end of an owner's wire form that has one label more than the name of `parent`, which the
-// owner is below.
-fn child_octets<'a>(owner: &'a [u8], parent: &[u8]) -> &'a [u8]
-    requires owner { IsWireForm owner.now }
-    requires parent { IsWireForm parent.now }
-    requires below { below (labels_of owner.now) (labels_of parent.now) ≡ true }
-    requires lower { folded (labels_of owner.now) ≡ labels_of owner.now }
-    requires lower_parent { folded (labels_of parent.now) ≡ labels_of parent.now }
-    ensures { IsChildOf (labels_of parent.now) owner.now result.now }
+// How many of the records after those that are known to be at or below a name are so too. On a way
+// of labels that no record owns they mostly all are.
+fn count_more_under(own: usize, after: &[Entry], name: &NameRef<'_>) -> usize
+    requires in_front { IsPartitionedBy
+        (λ (r : ResourceRecord). at_or_below r.owner name.now) after.now }
+    requires lower { folded name.now ≡ name.now }
+    ensures { IsFront (λ (r : ResourceRecord). at_or_below r.owner name.now) after.now result }
 {
-    let mut suffix = owner;
-    'labels: while let Some((_, rest)) = first_label(suffix) {
-        if rest.len() <= parent.len() {
-            return suffix;
-        }
-        suffix = rest;
+    if own == 0 && are_all_under(after, name) {
+        return after.len();
     }
-    suffix
+    count_under(after, name)
 }

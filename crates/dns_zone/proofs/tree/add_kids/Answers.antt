@@ -33,9 +33,6 @@ kid_at-kid-requires-clause-next c =
     c.kids.next c.kids.invariant
     (subst (λ (r : Row). c.kids.next < r.end) same c.kids-test.true))
 
-pub kid_at-kid-requires-clause-before : goal.kid_at-kid-requires-clause-before
-kid_at-kid-requires-clause-before c = let h = c.kids-test.true in omega arith
-
 pub kid_at-kid-requires-clause-fits : goal.kid_at-kid-requires-clause-fits
 kid_at-kid-requires-clause-fits c =
     let rows = c.args.rows.now.items in

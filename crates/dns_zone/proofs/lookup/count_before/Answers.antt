@@ -1,21 +1,22 @@
 use Rattle.std.proofs.Common.{rules, ◌≡◌, ◌<◌, ◌≤◌, false, length, take, get_or, ap, sym, ◌∙◌}
 use Rattle.std.proofs.lemmas.List.Sorted.{IsPartitionPoint-from_clause}
-use Rattle.dns_zone.proofs.AtName.{is_at}
+use Rattle.dns_spec.specs.Names.{at_or_below}
 use Rattle.dns_spec.specs.Records.{ResourceRecord}
-use Rattle.dns_zone.proofs.Pairs.{halves, near_point, near_parted}
-use Rattle.dns_zone.proofs.lookup.count_at_among.Goals as goal
+use Rattle.dns_zone.proofs.Pairs.{halves, near_point, parted_take}
+use Rattle.dns_zone.proofs.lookup.count_before.Goals as goal
 
 pub returns : goal.returns
 returns c =
-    let p = is_at c.args.name.now in
+    let p = λ (r : ResourceRecord). at_or_below r.owner c.args.name.now in
     let rs = c.args.records.now in
-    let n = c.args.near in
+    let n = c.args.place in
     let long : n < length rs = search rules in
     let next : (d : ResourceRecord) → get_or rs n d ≡ c.in_ok-next.next.now = search rules in
-    let fails : p c.in_ok-next.next.now ≡ false = sym c.is_at.ensures ∙ c.if-is_at.false in
+    let fails : p c.in_ok-next.next.now ≡ false = sym c.is_under.ensures ∙ c.if-is_under.false in
     let bound : c.partition_point.result ≤ length (take n rs) = search rules in
     let all : c.partition_point.result ≤ length rs = search rules in
     let found = halves p rs _ all
     (near_point p rs n _ long (λ d. ap p (next d) ∙ fails) c.requires.in_front bound
-    (IsPartitionPoint-from_clause p (take n rs) _ c.partition_point.ensures.partitioned (near_parted p rs n long c.requires.in_front) (λ a r q k. search rules))) in
+    (IsPartitionPoint-from_clause p (take n rs) _ c.partition_point.ensures.partitioned
+    (parted_take p rs n c.requires.in_front) (λ a r q k. search rules))) in
     record { bound = all; passing = found.0; others = found.1 }
