@@ -1,9 +1,11 @@
 //! Replies that are made in one draft, one after the other.
 
-use super::replies::query;
+use super::replies::{QUERY, joined};
 use super::zones::long;
 use dns_answer::{Limit, TcpDraft, UdpDraft, respond, respond_in};
-use dns_zone::Steps;
+use dns_zone::{Steps, Zone};
+use std::alloc::Global;
+use std::process::Abort;
 use std::test::Fail;
 
 // A long answer of each kind, a name that does not exist, and questions that are refused. What one
@@ -17,27 +19,79 @@ const QUESTIONS: [&[u8]; 6] = [
     b"\x07example\x00",
 ];
 
+/// A draft for each limit.
+#[derive(Drop)]
+struct Drafts {
+    short: UdpDraft,
+    large: TcpDraft,
+}
+
+// The front of the octets, where a reply is made.
+fn front(mut octets: Vec<u8>, length: Option<usize>) -> Option<Vec<u8>> {
+    let length = length?;
+    octets.truncate(length);
+    Some(octets)
+}
+
+// The reply that is made in a new draft.
+fn drafted(
+    alloc: Global,
+    zone: &Zone,
+    limit: Limit,
+    asked: &[u8],
+) -> Result<Option<Vec<u8>>, Fail> {
+    let mut out = vec![in alloc; 0; limit.octets()]?;
+    let length = respond(&mut Steps::new(zone), asked, limit, &mut out);
+    Ok(front(out, length))
+}
+
+// The reply that is made in a draft.
+fn redrafted(
+    alloc: Global,
+    zone: &Zone,
+    drafts: &mut Drafts,
+    limit: Limit,
+    asked: &[u8],
+) -> Result<Option<Vec<u8>>, Fail> {
+    let mut out = vec![in alloc; 0; limit.octets()]?;
+    let mut steps = Steps::new(zone);
+    let length = match limit {
+        Limit::Udp => respond_in(&mut steps, asked, &mut drafts.short, &mut out),
+        Limit::Tcp => respond_in(&mut steps, asked, &mut drafts.large, &mut out),
+    };
+    Ok(front(out, length))
+}
+
+// Whether the reply that is made in a draft is that of a new one.
+fn is_alike(
+    alloc: Global,
+    zone: &Zone,
+    drafts: &mut Drafts,
+    limit: Limit,
+    question: &[u8],
+) -> Result<bool, Fail> {
+    let asked = joined(alloc, &[QUERY, question])?;
+    let wanted = drafted(alloc, zone, limit, asked.as_slice())?;
+    Ok(redrafted(alloc, zone, drafts, limit, asked.as_slice())? == wanted)
+}
+
 #[test]
 fn a_draft_is_used_again(rt: HostRuntime) -> Result<(), Fail> {
     let zone = long(rt.alloc())?;
-    let mut short = UdpDraft::new();
-    let mut large = TcpDraft::new();
+    check_drafts(&rt, rt.alloc(), &zone)
+}
+
+fn check_drafts(rt: &impl Abort, alloc: Global, zone: &Zone) -> Result<(), Fail> {
+    let mut drafts = Drafts {
+        short: UdpDraft::new(),
+        large: TcpDraft::new(),
+    };
     for first in QUESTIONS {
         for second in QUESTIONS {
             for question in [first, second] {
-                let asked = query(rt.alloc(), question)?;
                 for limit in [Limit::Udp, Limit::Tcp] {
-                    let mut wanted = vec![in rt.alloc(); 0; limit.octets()]?;
-                    let mut out = vec![in rt.alloc(); 0; limit.octets()]?;
-                    let length = respond(&mut Steps::new(&zone), &asked, limit, &mut wanted);
-                    let mut steps = Steps::new(&zone);
-                    let again = match limit {
-                        Limit::Udp => respond_in(&mut steps, &asked, &mut short, &mut out),
-                        Limit::Tcp => respond_in(&mut steps, &asked, &mut large, &mut out),
-                    };
-                    assert_eq!(rt; again, length, "{question:?}");
-                    let length = length.unwrap_or(0);
-                    assert!(rt; out.as_slice().get(..length) == wanted.as_slice().get(..length));
+                    let is_alike = is_alike(alloc, zone, &mut drafts, limit, question)?;
+                    assert!(rt; is_alike, "{question:?}");
                 }
             }
         }

@@ -1,12 +1,12 @@
-//! Queries, and their replies by a zone.
+//! Datagrams, and their replies by a zone.
 
 use dns_answer::{Limit, respond};
 use dns_zone::{Steps, Zone};
 use std::alloc::Global;
 use std::test::Fail;
 
-// The header of a query of one question.
-const QUERY: &[u8] = b"\x12\x34\x00\x00\x00\x01\x00\x00\x00\x00\x00\x00";
+/// The header of a query of one question.
+pub(super) const QUERY: &[u8] = b"\x12\x34\x00\x00\x00\x01\x00\x00\x00\x00\x00\x00";
 
 /// Whether a reply is the one that is wanted, and what it took: the nodes that were handed out, and
 /// the labels that were compared.
@@ -15,11 +15,6 @@ pub(super) struct Compared {
     pub(super) is_wanted: bool,
     pub(super) visits: u32,
     pub(super) comparisons: u32,
-}
-
-/// The query of a question.
-pub(super) fn query(alloc: Global, question: &[u8]) -> Result<Vec<u8>, Fail> {
-    joined(alloc, &[QUERY, question])
 }
 
 /// Octets, one piece after the other.
@@ -32,7 +27,7 @@ pub(super) fn joined(alloc: Global, pieces: &[&[u8]]) -> Result<Vec<u8>, Fail> {
 }
 
 /// Compares the reply of a zone to a datagram with the one that is wanted, if any.
-pub(super) fn compare(
+fn compare(
     alloc: Global,
     zone: &Zone,
     limit: Limit,
@@ -54,24 +49,19 @@ pub(super) fn compare(
     })
 }
 
-/// Whether the reply of a zone to a question is these octets.
-pub(super) fn is_reply(
+/// Compares the reply of a zone to a datagram with the one that is wanted, each in pieces: a reply
+/// of no pieces is none.
+pub(super) fn tried(
     alloc: Global,
     zone: &Zone,
     limit: Limit,
-    question: &[u8],
+    sent: &[&[u8]],
     wanted: &[&[u8]],
-) -> Result<bool, Fail> {
-    let asked = query(alloc, question)?;
+) -> Result<Compared, Fail> {
+    let sent = joined(alloc, sent)?;
+    if wanted.is_empty() {
+        return compare(alloc, zone, limit, sent.as_slice(), None);
+    }
     let wanted = joined(alloc, wanted)?;
-    Ok(
-        compare(
-            alloc,
-            zone,
-            limit,
-            asked.as_slice(),
-            Some(wanted.as_slice()),
-        )?
-        .is_wanted,
-    )
+    compare(alloc, zone, limit, sent.as_slice(), Some(wanted.as_slice()))
 }

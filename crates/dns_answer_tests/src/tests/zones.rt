@@ -28,6 +28,9 @@ cut NS big.cut
 _s._tcp SRV 1 2 53 ns
 ";
 
+// What a zone has at least.
+const APEX: &[u8] = b"$TTL 60\n@ SOA ns h 1 2 3 4 5\n@ NS ns\nns A 192.0.2.1\n";
+
 /// The longest string.
 pub(super) const LETTERS: [u8; 255] = [b'a'; 255];
 
@@ -52,89 +55,118 @@ pub(super) fn small(alloc: Global) -> Result<Zone, Fail> {
 /// The small zone, chains of aliases, and sets that end near the limit of UDP or far past it.
 pub(super) fn large(alloc: Global) -> Result<Zone, Fail> {
     let mut text = Vec::new(alloc);
-    text.extend_from_slice(SMALL.as_bytes())?;
-    text.extend_from_slice(MORE.as_bytes())?;
-    for (owner, count) in [(b"t", 216), (b"u", 217)] {
-        text.extend_from_slice(owner)?;
-        text.extend_from_slice(b" TXT ")?;
-        text.extend_from_slice(&LETTERS)?;
-        text.extend_from_slice(b" ")?;
-        text.extend_from_slice(&LETTERS[..count])?;
-        text.extend_from_slice(b"\n")?;
+    push_large(alloc, &mut text)?;
+    zone(alloc, b"example", text.as_slice())
+}
+
+fn push_large(alloc: Global, text: &mut Vec<u8>) -> Result<(), Fail> {
+    push_all(text, &[SMALL.as_bytes(), MORE.as_bytes()])?;
+    for (owner, count) in [(b"t TXT ", 216), (b"u TXT ", 217)] {
+        push_all(text, &[owner, &LETTERS, b" ", &LETTERS[..count], b"\n"])?;
     }
     for number in 1..18_u32 {
-        let alias = format!(in alloc; "c{number} CNAME c{}\n", number + 1)?;
-        text.extend_from_slice(alias.as_bytes())?;
+        push_numbered(alloc, text, "c", number, " CNAME ")?;
+        push_numbered(alloc, text, "c", number + 1, "\n")?;
     }
-    push_addresses(alloc, &mut text, "big")?;
-    push_addresses(alloc, &mut text, "big.cut")?;
-    zone(alloc, b"example", text.as_slice())
+    push_addresses(alloc, text, b"big A ")?;
+    push_addresses(alloc, text, b"big.cut A ")
 }
 
 /// The small zone, and sets that fill a reply over TCP past the reach of pointers.
 pub(super) fn long(alloc: Global) -> Result<Zone, Fail> {
     let mut text = Vec::new(alloc);
-    text.extend_from_slice(SMALL.as_bytes())?;
-    for number in 0..64_u32 {
-        text.extend_from_slice(b"x TXT ")?;
-        text.extend_from_slice(&LETTERS[..253])?;
-        let end = format!(in alloc; "{number:02}\n")?;
-        text.extend_from_slice(end.as_bytes())?;
-    }
-    for number in 10..27_u32 {
-        let service = format!(in alloc; "y SRV 1 2 53 t{number}\n")?;
-        text.extend_from_slice(service.as_bytes())?;
-        let owner = format!(in alloc; "t{number}")?;
-        push_addresses(alloc, &mut text, owner.as_str())?;
-    }
+    push_long(alloc, &mut text)?;
     zone(alloc, b"example", text.as_slice())
+}
+
+fn push_long(alloc: Global, text: &mut Vec<u8>) -> Result<(), Fail> {
+    push_all(text, &[SMALL.as_bytes()])?;
+    for number in 0..64_u8 {
+        let digits = [b'0' + number / 10, b'0' + number % 10];
+        push_all(text, &[b"x TXT ", &LETTERS[..253], &digits, b"\n"])?;
+    }
+    for number in 10..27_u8 {
+        let digits = [b'0' + number / 10, b'0' + number % 10];
+        push_all(text, &[b"y SRV 1 2 53 t", &digits, b"\n"])?;
+        let owner = [b't', digits[0], digits[1], b' ', b'A', b' '];
+        push_addresses(alloc, text, &owner)?;
+    }
+    Ok(())
 }
 
 /// A zone of 100,000 records, most of them at names of their own below the origin.
 pub(super) fn wide(alloc: Global) -> Result<Zone, Fail> {
     let mut text = Vec::new(alloc);
-    text.extend_from_slice(b"$TTL 60\n@ SOA ns h 1 2 3 4 5\n@ NS ns\nns A 192.0.2.1\n")?;
-    for number in 0..99_997_u32 {
-        let line = format!(in alloc; "n{number} A 192.0.2.2\n")?;
-        text.extend_from_slice(line.as_bytes())?;
-    }
+    push_wide(alloc, &mut text)?;
     zone(alloc, b"example", text.as_slice())
+}
+
+fn push_wide(alloc: Global, text: &mut Vec<u8>) -> Result<(), Fail> {
+    push_all(text, &[APEX])?;
+    for number in 0..99_997_u32 {
+        push_numbered(alloc, text, "n", number, " A 192.0.2.2\n")?;
+    }
+    Ok(())
 }
 
 /// A zone at the root, with an address at a name of 127 labels.
 pub(super) fn deep(alloc: Global) -> Result<Zone, Fail> {
     let mut text = Vec::new(alloc);
-    text.extend_from_slice(b"$TTL 3600\n@ SOA a h 1 2 3 4 5\n")?;
-    for line_begins in [b"@ NS ".as_slice(), b""] {
-        text.extend_from_slice(line_begins)?;
-        for _ in 0..127_u8 {
-            text.extend_from_slice(b"a.")?;
-        }
-        text.extend_from_slice(if line_begins.is_empty() {
-            b" A 192.0.2.2\n".as_slice()
-        } else {
-            b"\n"
-        })?;
-    }
+    push_deep(&mut text)?;
     zone(alloc, b".", text.as_slice())
+}
+
+fn push_deep(text: &mut Vec<u8>) -> Result<(), Fail> {
+    push_all(text, &[b"$TTL 3600\n@ SOA a h 1 2 3 4 5\n@ NS "])?;
+    for line_ends in [b"\n".as_slice(), b" A 192.0.2.2\n"] {
+        for _ in 0..127_u8 {
+            push_all(text, &[b"a."])?;
+        }
+        push_all(text, &[line_ends])?;
+    }
+    Ok(())
 }
 
 /// A zone with a cut of 64 servers, which have an address each.
 pub(super) fn many_servers(alloc: Global) -> Result<Zone, Fail> {
     let mut text = Vec::new(alloc);
-    text.extend_from_slice(b"$TTL 60\n@ SOA ns h 1 2 3 4 5\n@ NS ns\nns A 192.0.2.1\n")?;
-    for number in 0..64_u32 {
-        let lines = format!(in alloc; "cut NS n{number}.cut\nn{number}.cut A 192.0.2.2\n")?;
-        text.extend_from_slice(lines.as_bytes())?;
-    }
+    push_servers(alloc, &mut text)?;
     zone(alloc, b"example", text.as_slice())
 }
 
-// 64 addresses at a name.
-fn push_addresses(alloc: Global, text: &mut Vec<u8>, owner: &str) -> Result<(), Fail> {
-    for number in 1..65_u32 {
-        let line = format!(in alloc; "{owner} A 198.51.100.{number}\n")?;
-        text.extend_from_slice(line.as_bytes())?;
+fn push_servers(alloc: Global, text: &mut Vec<u8>) -> Result<(), Fail> {
+    push_all(text, &[APEX])?;
+    for number in 0..64_u32 {
+        push_numbered(alloc, text, "cut NS n", number, ".cut\n")?;
+        push_numbered(alloc, text, "n", number, ".cut A 192.0.2.2\n")?;
     }
+    Ok(())
+}
+
+// 64 addresses, each after these octets.
+fn push_addresses(alloc: Global, text: &mut Vec<u8>, before: &[u8]) -> Result<(), Fail> {
+    for number in 1..65_u32 {
+        push_all(text, &[before])?;
+        push_numbered(alloc, text, "198.51.100.", number, "\n")?;
+    }
+    Ok(())
+}
+
+fn push_all(text: &mut Vec<u8>, pieces: &[&[u8]]) -> Result<(), Fail> {
+    for piece in pieces {
+        text.extend_from_slice(piece)?;
+    }
+    Ok(())
+}
+
+fn push_numbered(
+    alloc: Global,
+    text: &mut Vec<u8>,
+    before: &str,
+    number: u32,
+    after: &str,
+) -> Result<(), Fail> {
+    let piece = format!(in alloc; "{before}{number}{after}")?;
+    text.extend_from_slice(piece.as_bytes())?;
     Ok(())
 }

@@ -1,6 +1,7 @@
 use super::devices::{Kept, Pieces};
 use dns_name::{Name, Tally};
-use dns_tools::{LoadFault, Stop, load_zone, write_refusal};
+use dns_tools::{LoadFault, Refusal, Stop, load_zone, write_refusal};
+use dns_zone::Zone;
 use std::alloc::Global;
 use std::test::Fail;
 
@@ -20,32 +21,59 @@ pub(super) fn example() -> Result<Name, Fail> {
     Ok(Name::read_text(b"example", &Name::root())?)
 }
 
-// Why a text gives no zone, in the words of the report, or the serial of its zone. The text comes
-// in pieces, and is followed by a failure where the calls are used up.
+/// The zone of the sample file.
+pub(super) fn sample(alloc: Global) -> Result<Zone, Fail> {
+    match load_zone(alloc, &example()?, &mut Tally::new(Z0.as_bytes())) {
+        Ok(zone) => Ok(zone),
+        Err(_) => Err("the sample zone is refused".into()),
+    }
+}
+
+// The serial of a text's zone, or why it gives none: no refusal where it can't be read. The text
+// comes in pieces, and is followed by a failure where the calls are used up.
+fn outcome(
+    alloc: Global,
+    text: &[u8],
+    most: usize,
+    calls_left: u32,
+) -> Result<Result<u32, Option<Refusal>>, Fail> {
+    let mut source = Tally::new(Pieces {
+        text,
+        most,
+        calls_left,
+    });
+    match load_zone(alloc, &example()?, &mut source) {
+        Ok(zone) => Ok(Ok(zone.serial())),
+        Err(LoadFault::Refused(refusal)) => Ok(Err(Some(refusal))),
+        Err(LoadFault::Stopped(Stop::Source)) => Ok(Err(None)),
+        Err(LoadFault::Stopped(_)) => Err(Fail::new("no memory")),
+    }
+}
+
+// The report of a refusal.
+fn report(alloc: Global, refusal: &Refusal) -> Result<Vec<u8>, Fail> {
+    let mut sink = Tally::new(Kept {
+        text: Vec::new(alloc),
+        most: 7,
+        calls_left: 1_000_000,
+    });
+    write_refusal(refusal, &mut sink)?;
+    Ok(sink.into_inner().text)
+}
+
+// The serial of a text's zone, or the report of why it gives none: an empty one where it can't be
+// read.
 fn loaded(
     alloc: Global,
     text: &[u8],
     most: usize,
     calls_left: u32,
 ) -> Result<Result<u32, Vec<u8>>, Fail> {
-    let mut source = Tally::new(Pieces {
-        text,
-        most,
-        calls_left,
-    });
-    let refusal = match load_zone(alloc, &example()?, &mut source) {
-        Ok(zone) => return Ok(Ok(zone.serial())),
-        Err(LoadFault::Refused(refusal)) => refusal,
-        Err(LoadFault::Stopped(Stop::Source)) => return Ok(Err(Vec::new(alloc))),
-        Err(LoadFault::Stopped(_)) => return Err(Fail::new("no memory")),
-    };
-    let mut sink = Tally::new(Kept {
-        text: Vec::new(alloc),
-        most: 7,
-        calls_left: 1_000_000,
-    });
-    write_refusal(&refusal, &mut sink)?;
-    Ok(Err(sink.into_inner().text))
+    match outcome(alloc, text, most, calls_left)? {
+        Ok(serial) => Ok(Ok(serial)),
+        Err(None) => Ok(Err(Vec::new(alloc))),
+        Err(Some(refusal)) => Ok(Err(report(alloc, &refusal)?)),
+    }
 }
 
 #[test]

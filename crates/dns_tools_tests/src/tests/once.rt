@@ -1,9 +1,11 @@
 use super::devices::{Kept, Pieces};
-use super::load::{Z0, example};
+use super::load::sample;
 use dns_answer::Limit;
 use dns_name::Tally;
-use dns_tools::{Stop, load_zone, run_once};
+use dns_tools::{Stop, run_once};
+use dns_zone::Zone;
 use std::alloc::Global;
+use std::process::Abort;
 use std::test::Fail;
 
 // What a run over the sample zone, over UDP, writes and answers, for an input in pieces and a
@@ -15,9 +17,18 @@ fn run(
     reads: u32,
     writes: u32,
 ) -> Result<(Vec<u8>, Result<bool, Stop>), Fail> {
-    let Ok(zone) = load_zone(alloc, &example()?, &mut Tally::new(Z0.as_bytes())) else {
-        return Err("the sample zone is refused".into());
-    };
+    let zone = sample(alloc)?;
+    run_over(alloc, &zone, input, most, reads, writes)
+}
+
+fn run_over(
+    alloc: Global,
+    zone: &Zone,
+    input: &[u8],
+    most: usize,
+    reads: u32,
+    writes: u32,
+) -> Result<(Vec<u8>, Result<bool, Stop>), Fail> {
     let mut source = Tally::new(Pieces {
         text: input,
         most,
@@ -28,7 +39,7 @@ fn run(
         most,
         calls_left: writes,
     });
-    let outcome = run_once(alloc, &zone, Limit::Udp, &mut source, &mut sink);
+    let outcome = run_once(alloc, zone, Limit::Udp, &mut source, &mut sink);
     let (source, sink) = (source.into_inner(), sink.into_inner());
     // Both would work again after their failure.
     if (source.calls_left == u32::MAX) != (outcome == Err(Stop::Source)) {
@@ -47,14 +58,15 @@ const WWW_REPLY: &str =
 
 #[test]
 fn replies_over_tcp(rt: HostRuntime) -> Result<(), Fail> {
-    let alloc = rt.alloc();
-    let Ok(zone) = load_zone(alloc, &example()?, &mut Tally::new(Z0.as_bytes())) else {
-        return Err("the sample zone is refused".into());
-    };
+    let zone = sample(rt.alloc())?;
+    check_tcp(&rt, rt.alloc(), &zone)
+}
+
+fn check_tcp(rt: &impl Abort, alloc: Global, zone: &Zone) -> Result<(), Fail> {
     let input = format!(in alloc; "{WWW}\n00\n{WWW}\n")?;
     let mut source = Tally::new(input.as_bytes());
     let mut sink = Tally::new(Vec::new(alloc));
-    let outcome = run_once(alloc, &zone, Limit::Tcp, &mut source, &mut sink);
+    let outcome = run_once(alloc, zone, Limit::Tcp, &mut source, &mut sink);
     assert!(rt; outcome == Ok(true));
     let wanted = format!(in alloc; "{WWW_REPLY}\nnone\n{WWW_REPLY}\n")?;
     assert!(rt; sink.into_inner().as_slice() == wanted.as_bytes());

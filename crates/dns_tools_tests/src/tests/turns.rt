@@ -1,10 +1,11 @@
 //! Turns at a device, one after another.
 ghost use Rattle.std.specs.Prelude.{◌≡◌, None, true};
 
-use super::load::{Z0, example};
-use dns_name::Tally;
+use super::load::sample;
 use dns_serve::{Datagrams, Failed};
-use dns_tools::{load_zone, serve_datagrams};
+use dns_tools::serve_datagrams;
+use dns_zone::Zone;
+use std::process::Abort;
 use std::test::Fail;
 
 const QUERY: &[u8] = b"\x12\x34\x00\x00\x00\x01\x00\x00\x00\x00\x00\x00\x02ns\x07example\x00\
@@ -75,9 +76,12 @@ impl Datagrams for Asker<'_> {
 
 #[test]
 fn turns_go_on_after_one_that_fails(rt: HostRuntime) -> Result<(), Fail> {
-    let Ok(zone) = load_zone(rt.alloc(), &example()?, &mut Tally::new(Z0.as_bytes())) else {
-        return Err("the sample zone is refused".into());
-    };
+    let zone = sample(rt.alloc())?;
+    check_turns(&rt, &zone);
+    Ok(())
+}
+
+fn check_turns<R: Abort + Eprint>(rt: &R, zone: &Zone) {
     // Which call fails, how many replies are sent in three turns, and how many calls are made.
     for (fails_at, replies, calls) in [(9, 3, 6), (0, 2, 5), (3, 2, 6), (5, 2, 6)] {
         let mut asker = Asker {
@@ -88,10 +92,9 @@ fn turns_go_on_after_one_that_fails(rt: HostRuntime) -> Result<(), Fail> {
             calls: 0,
             failures: 0,
         };
-        assert!(rt; serve_datagrams(&rt, &zone, &mut asker, 3));
+        assert!(rt; serve_datagrams(rt, zone, &mut asker, 3));
         assert_eq!(rt; asker.replies, replies, "where call {fails_at} fails");
         assert_eq!(rt; (asker.others, asker.calls), (0, calls));
         assert_eq!(rt; asker.failures(), u64::from(fails_at < 9));
     }
-    Ok(())
 }
