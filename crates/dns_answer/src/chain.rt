@@ -37,7 +37,7 @@ pub(crate) enum Next<'z> {
 pub(crate) struct Ended {
     pub(crate) verdict: Verdict,
     /// Whether that name has an alias that was followed.
-    pub(crate) is_led_on: bool,
+    pub(crate) followed_alias: bool,
 }
 
 /// Seeks the name of a question, and after it the targets of aliases: offers the sets of the
@@ -56,16 +56,16 @@ pub(crate) fn seek<'q, 'z: 'q, const N: usize, const SIZE: usize>(
         result.verdict }
     ensures took { TookFrom steps.old.zone steps.old steps.new qtype [] first.entry.name }
     ensures followed { Followed steps.old.zone qtype first.entry.name result.verdict
-        result.is_led_on }
+        result.followed_alias }
 {
     match seek_one(&first, None, qtype, &[], apex, steps, draft) {
         Next::Last(verdict) => Ended {
             verdict,
-            is_led_on: false,
+            followed_alias: false,
         },
         Next::Alias(target, lead) => Ended {
             verdict: seek_targets(first, target, lead, qtype, apex, steps, draft),
-            is_led_on: true,
+            followed_alias: true,
         },
     }
 }

@@ -259,8 +259,11 @@ fn offer_answer<'q, 'z: 'q, const N: usize, const SIZE: usize>(
     ensures costs { Costs (answered head.now question.now) steps.old steps.new }
 {
     let apex = steps.apex();
-    let Ended { verdict, is_led_on } = seek(sought, question.qtype, &apex, steps, draft);
+    let Ended {
+        verdict,
+        followed_alias,
+    } = seek(sought, question.qtype, &apex, steps, draft);
     // The server speaks for the zone, unless all that it answers is a referral (RFC 1035 4.1.1).
-    let only_refers = verdict.is_referral && !is_led_on;
+    let only_refers = verdict.is_referral && !followed_alias;
     head.reply(!only_refers, verdict.is_truncated, verdict.rcode)
 }

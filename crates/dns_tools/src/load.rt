@@ -56,7 +56,11 @@ impl From<AllocError> for LoadFault {
 ///
 /// The file is read relative to the origin in lower case. Its first faulty entry decides; else all
 /// faults of the zone are its refusal. Nothing is read again after a failure.
-pub(crate) fn load<R: Read>(alloc: Global, origin: &Name, source: &mut Tally<R>) -> Result<Zone, LoadFault>
+pub(crate) fn load<R: Read>(
+    alloc: Global,
+    origin: &Name,
+    source: &mut Tally<R>,
+) -> Result<Zone, LoadFault>
     requires { source.old.failures < 2 ^ 64 - 1 }
     ensures counted { source.new.failures ≡ failures_after_load source.old.failures result }
     ensures meaning { LoadedAs (R.remaining source.old.device) (R.remaining source.new.device)

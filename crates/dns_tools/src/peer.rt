@@ -52,7 +52,7 @@ pub struct Peer<'a, C> {
 
 impl<'a, C: Clock> Peer<'a, C> {
     /// The peer of a connection, before its first message.
-    pub fn new(stream: TcpStream, clock: &'a C) -> Peer<'a, C> {
+    pub(crate) fn new(stream: TcpStream, clock: &'a C) -> Peer<'a, C> {
         Peer {
             stream,
             clock,
@@ -66,7 +66,7 @@ impl<'a, C: Clock> Peer<'a, C> {
     ///
     /// A socket that is closed before all of its input is read resets the connection, and the peer
     /// loses what it has not yet got of the replies (RFC 2525 2.17).
-    pub fn hear_out(&self) -> io::Result<()> {
+    pub(crate) fn hear_out(&self) -> io::Result<()> {
         self.stream.shutdown(Shutdown::Write)?;
         self.set_read_wait(Duration::from_millis(LAST_SILENCE))?;
         let begun = self.clock.monotonic()?;
@@ -230,7 +230,7 @@ pub struct Messages<'a, R, C> {
 
 impl<'a, R: Read, C: Clock> Messages<'a, R, C> {
     /// The messages of a peer, from the first on.
-    pub fn new(source: R, peer: &'a Peer<'a, C>) -> Messages<'a, R, C> {
+    pub(crate) fn new(source: R, peer: &'a Peer<'a, C>) -> Messages<'a, R, C> {
         Messages {
             source,
             peer,

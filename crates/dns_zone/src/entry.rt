@@ -39,19 +39,19 @@ impl Model for Entry {
 
 impl Entry {
     /// The same record as it was read. Memory is taken once, for its octets.
-    pub(crate) fn of(alloc: Global, listed: &Record) -> Result<Entry, AllocError>
-        ensures { IfOk result (λ entry. entry ≡ listed.now) }
+    pub(crate) fn of(alloc: Global, read: &Record) -> Result<Entry, AllocError>
+        ensures { IfOk result (λ entry. entry ≡ read.now) }
     {
-        let owner = listed.owner.octets();
-        let data = listed.rdata.octets();
+        let owner = read.owner.octets();
+        let data = read.rdata.octets();
         let mut octets = Vec::with_capacity(alloc, owner.len() + data.len())?;
         octets.extend_from_slice(owner)?;
         octets.extend_from_slice(data)?;
         Ok(Entry {
             octets,
             owner_octets: owner.len() as u8,
-            rtype: listed.rtype,
-            ttl: listed.ttl,
+            rtype: read.rtype,
+            ttl: read.ttl,
         })
     }
 

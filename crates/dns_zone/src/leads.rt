@@ -33,13 +33,13 @@ pub(crate) fn leads_of(alloc: Global, tree: &Tree) -> Result<Vec<usize>, AllocEr
 }
 
 // The row of a record's lead, or 0.
-fn lead_of(tree: &Tree, record: &Entry) -> usize
+fn lead_of(tree: &Tree, entry: &Entry) -> usize
     requires { IsZoneTree tree.now }
-    ensures { IsLeadAt (zone_of_tree tree.now) tree.now.rows record.now.rtype result }
+    ensures { IsLeadAt (zone_of_tree tree.now) tree.now.rows entry.now.rtype result }
 {
-    match target(record) {
+    match target(entry) {
         Some(name) => match Sought::below(&name, &tree.origin.lent()) {
-            Some(sought) => last_on_way(tree, &sought, record.rtype),
+            Some(sought) => last_on_way(tree, &sought, entry.rtype),
             None => 0,
         },
         None => 0,

@@ -33,7 +33,7 @@ pub(crate) fn count_under(records: &[Entry], name: &NameRef<'_>) -> usize
     if let Some(count) = count_before(records, name, NEAR) {
         return count;
     }
-    records.partition_point(|listed| is_under(listed, name))
+    records.partition_point(|entry| is_under(entry, name))
 }
 
 // The same where the record at `place` is none of them, or nothing.
@@ -48,7 +48,7 @@ fn count_before(records: &[Entry], name: &NameRef<'_>, place: usize) -> Option<u
     if is_under(next, name) {
         return None;
     }
-    Some(records[..place].partition_point(|listed| is_under(listed, name)))
+    Some(records[..place].partition_point(|entry| is_under(entry, name)))
 }
 
 /// Whether the last of the records has an owner at or below the name: then all have, where these
@@ -75,7 +75,7 @@ pub(crate) fn count_in_front(records: &[Entry], name: &NameRef<'_>) -> usize
 {
     records
         .iter()
-        .take_while(|listed| is_at(listed, name))
+        .take_while(|entry| is_at(entry, name))
         .count()
 }
 
@@ -85,10 +85,10 @@ pub(crate) fn has_type(records: &[Entry], rtype: RType) -> bool
     ensures { result ≡ list_any (λ (r : ResourceRecord). r.rtype == rtype.0) records.now }
 {
     if records.len() <= NEAR {
-        return records.iter().any(|listed| listed.rtype == rtype);
+        return records.iter().any(|entry| entry.rtype == rtype);
     }
     match records[count_below(records, rtype)..].first() {
-        Some(listed) => listed.rtype == rtype,
+        Some(entry) => entry.rtype == rtype,
         None => false,
     }
 }
@@ -122,7 +122,7 @@ fn count_of(records: &[Entry], rtype: RType) -> usize
     ensures own { take result records.now
         ≡ filter (λ (r : ResourceRecord). r.rtype == rtype.0) records.now }
 {
-    records.partition_point(|listed| listed.rtype == rtype)
+    records.partition_point(|entry| entry.rtype == rtype)
 }
 
 // How many of the records are of a type below this one.
@@ -132,19 +132,19 @@ fn count_below(records: &[Entry], rtype: RType) -> usize
     ensures others { drop result records.now
         ≡ filter (λ (r : ResourceRecord). not (nat_lt r.rtype rtype.0)) records.now }
 {
-    records.partition_point(|listed| listed.rtype.0 < rtype.0)
+    records.partition_point(|entry| entry.rtype.0 < rtype.0)
 }
 
-fn is_under(listed: &Entry, name: &NameRef<'_>) -> bool
+fn is_under(entry: &Entry, name: &NameRef<'_>) -> bool
     requires { folded name.now ≡ name.now }
-    ensures { result ≡ at_or_below listed.now.owner name.now }
+    ensures { result ≡ at_or_below entry.now.owner name.now }
 {
-    is_at_or_below(&listed.owner(), name)
+    is_at_or_below(&entry.owner(), name)
 }
 
-fn is_at(listed: &Entry, name: &NameRef<'_>) -> bool
+fn is_at(entry: &Entry, name: &NameRef<'_>) -> bool
     requires { folded name.now ≡ name.now }
-    ensures { result ≡ same listed.now.owner name.now }
+    ensures { result ≡ same entry.now.owner name.now }
 {
-    listed.owner() == *name
+    entry.owner() == *name
 }

@@ -146,7 +146,7 @@ impl<'z> Node<'z> {
             × IsLead self.now.zone rtype.0 v.name) }
     {
         let row = &self.tree.rows.lent()[self.row.0];
-        let before = self.own().iter().position(|listed| listed.rtype == rtype)?;
+        let before = self.own().iter().position(|entry| entry.rtype == rtype)?;
         let place = (row.first as usize).checked_add(before)?.checked_add(i)?;
         lead_at(self.tree, place, rtype)
     }

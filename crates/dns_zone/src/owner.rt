@@ -74,7 +74,7 @@ impl<'a> Owner<'a> {
     pub(crate) fn judged(&self, last: &mut LastTarget) -> [bool; 15]
         ensures { result ≡ map (λ c. c.1 self.now.zone self.now.name) checks }
     {
-        let (is_alias, is_lost, is_exchange_alias) = self.judged_targets(last);
+        let (is_alias, is_lost, is_exchange_alias) = self.target_faults(last);
         [
             self.has_no_soa(),
             self.has_many_soa(),
@@ -147,7 +147,7 @@ impl<'a> Owner<'a> {
 
     // Whether the target of an NS record is an alias, whether that of one lacks an address, and
     // whether that of an MX or SRV record is an alias. Each is looked up once.
-    fn judged_targets(&self, last: &mut LastTarget) -> (bool, bool, bool)
+    fn target_faults(&self, last: &mut LastTarget) -> (bool, bool, bool)
         ensures alias { result.0 ≡ ns_target_alias self.now.zone self.now.name }
         ensures lost { result.1 ≡ ns_target_lost self.now.zone self.now.name }
         ensures exchange { result.2 ≡ mx_target_alias self.now.zone self.now.name }
@@ -156,7 +156,7 @@ impl<'a> Owner<'a> {
         let mut rest = self.own;
         let (mut has_alias, mut has_lost, mut has_exchange) = (false, false, false);
         'targets: while let Some((first, others)) = rest.split_first() {
-            let (is_alias, is_lost, is_exchange) = self.judged_target(first, owner_is_cut, last);
+            let (is_alias, is_lost, is_exchange) = self.record_faults(first, owner_is_cut, last);
             has_alias |= is_alias;
             has_lost |= is_lost;
             has_exchange |= is_exchange;
@@ -166,25 +166,25 @@ impl<'a> Owner<'a> {
     }
 
     // The same of one record, which may be of any type.
-    fn judged_target(
+    fn record_faults(
         &self,
-        record: &Entry,
+        entry: &Entry,
         owner_is_cut: bool,
         last: &mut LastTarget,
     ) -> (bool, bool, bool)
         requires { owner_is_cut ≡ is_cut self.now.zone self.now.name }
-        ensures alias { result.0 ≡ is_server_alias self.now.zone record.now }
-        ensures lost { result.1 ≡ is_server_lost self.now.zone self.now.name record.now }
-        ensures exchange { result.2 ≡ is_exchange_alias self.now.zone record.now }
+        ensures alias { result.0 ≡ is_server_alias self.now.zone entry.now }
+        ensures lost { result.1 ≡ is_server_lost self.now.zone self.now.name entry.now }
+        ensures exchange { result.2 ≡ is_exchange_alias self.now.zone entry.now }
     {
-        let is_server = record.rtype == RType::NS;
-        if !is_server && record.rtype != RType::MX && record.rtype != RType::SRV {
+        let is_server = entry.rtype == RType::NS;
+        if !is_server && entry.rtype != RType::MX && entry.rtype != RType::SRV {
             return (false, false, false);
         }
         let near = if is_server { self.next } else { last.place() };
         let (is_alias, is_lost) = self
             .survey
-            .judged_target(record, near, self.name, owner_is_cut, last);
+            .target_faults(entry, near, self.name, owner_is_cut, last);
         if is_server {
             (is_alias, is_lost, false)
         } else {
@@ -234,10 +234,7 @@ impl<'a> Owner<'a> {
     fn count(&self, rtype: RType) -> usize
         ensures { result ≡ count self.now.zone self.now.name rtype.0 }
     {
-        self.own
-            .iter()
-            .filter(|listed| listed.rtype == rtype)
-            .count()
+        self.own.iter().filter(|entry| entry.rtype == rtype).count()
     }
 
     fn is_cut(&self) -> bool
@@ -267,20 +264,20 @@ impl<'a> Owner<'a> {
     fn owns_other_than_cname(&self) -> bool
         ensures { result ≡ owns_such self.now.zone self.now.name (λ t. not (t == type_cname)) }
     {
-        self.own.iter().any(|listed| listed.rtype != RType::CNAME)
+        self.own.iter().any(|entry| entry.rtype != RType::CNAME)
     }
 
     fn owns_other_than_delegation(&self) -> bool
         ensures { result ≡ owns_such self.now.zone self.now.name
             (λ t. not (t == type_ns || is_address_type t)) }
     {
-        self.own.iter().any(|listed| !(listed.rtype == RType::NS || is_address_type(listed.rtype)))
+        self.own.iter().any(|entry| !(entry.rtype == RType::NS || is_address_type(entry.rtype)))
     }
 
     fn owns_other_than_address(&self) -> bool
         ensures { result ≡ owns_such self.now.zone self.now.name (λ t. not (is_address_type t)) }
     {
-        self.own.iter().any(|listed| !is_address_type(listed.rtype))
+        self.own.iter().any(|entry| !is_address_type(entry.rtype))
     }
 }
 

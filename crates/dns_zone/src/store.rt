@@ -84,11 +84,11 @@ impl Store {
     }
 
     /// Adds a record after those that it has. Where no memory was found, it has those that it had.
-    pub fn add(&mut self, listed: &Record) -> Result<(), AllocError>
-        ensures added { OnOk result (self.new ≡ self.old ++ listed.now ∷ []) }
+    pub fn add(&mut self, read: &Record) -> Result<(), AllocError>
+        ensures added { OnOk result (self.new ≡ self.old ++ read.now ∷ []) }
         ensures unchanged { OnErr result (self.new ≡ self.old) }
     {
-        let entry = Entry::of(self.alloc, listed)?;
+        let entry = Entry::of(self.alloc, read)?;
         self.entries.push(entry)?;
         Ok(())
     }

@@ -134,7 +134,7 @@ impl<'a> Survey<'a> {
     /// Whether the record's target is a name of the zone that owns a CNAME (RFC 2181 10.3), and
     /// whether it is one that lacks an address there (RFC 1034 4.2.1). It is looked up once, at
     /// place `near` first.
-    pub(crate) fn judged_target(
+    pub(crate) fn target_faults(
         &self,
         entry: &Entry,
         near: usize,
@@ -152,12 +152,12 @@ impl<'a> Survey<'a> {
             (target entry.now.rtype entry.now.rdata) false }
     {
         match target(entry) {
-            Some(target) => self.judged_name(&target, near, owner, owner_is_cut, last),
+            Some(target) => self.name_faults(&target, near, owner, owner_is_cut, last),
             None => (false, false),
         }
     }
 
-    fn judged_name(
+    fn name_faults(
         &self,
         target: &NameRef<'_>,
         near: usize,

@@ -11,11 +11,11 @@ use dns_rdata::Rdata;
 use std::marker::Model;
 
 /// The first name in the data: of NS the server, of MX the exchange (RFC 1035 3.3.9, 3.3.11).
-pub(crate) fn target(listed: &Entry) -> Option<NameRef<'_>>
-    ensures value { result ≡ target listed.now.rtype listed.now.rdata }
+pub(crate) fn target(entry: &Entry) -> Option<NameRef<'_>>
+    ensures value { result ≡ target entry.now.rtype entry.now.rdata }
     ensures lower { IfSome result (λ m. folded m ≡ m) }
 {
-    Rdata::target_lent(listed.rtype, listed.rdata())
+    Rdata::target_lent(entry.rtype, entry.rdata())
 }
 
 /// The target that was looked for last, with its key, and where it was found. The next is often the

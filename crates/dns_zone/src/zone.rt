@@ -57,8 +57,8 @@ impl Zone {
             (zone_of origin.now records.items)) }
     {
         let mut store = Store::new(alloc);
-        'records: for listed in records.as_slice() {
-            store.add(listed)?;
+        'records: for read in records.as_slice() {
+            store.add(read)?;
         }
         drop(records);
         store.build(alloc, origin)
@@ -144,9 +144,9 @@ fn serial_at(origin: &NameRef<'_>, records: &[Entry]) -> u32
     ensures { result ≡ first_serial
         (filter is_soa (filter (λ (r : ResourceRecord). same r.owner origin.now) records.now)) }
 {
-    'records: for listed in records {
-        if listed.owner().same(origin) && listed.rtype == RType::SOA {
-            return Rdata::soa_serial(listed.rdata());
+    'records: for entry in records {
+        if entry.owner().same(origin) && entry.rtype == RType::SOA {
+            return Rdata::soa_serial(entry.rdata());
         }
     }
     0

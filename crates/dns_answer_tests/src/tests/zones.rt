@@ -34,14 +34,17 @@ const APEX: &[u8] = b"$TTL 60\n@ SOA ns h 1 2 3 4 5\n@ NS ns\nns A 192.0.2.1\n";
 /// The longest string.
 pub(super) const LETTERS: [u8; 255] = [b'a'; 255];
 
-/// The zone of a file.
+/// The zone of a file, as it is served.
 pub(super) fn zone(alloc: Global, origin: &[u8], text: &[u8]) -> Result<Zone, Fail> {
     let origin = Name::read_text(origin, &Name::root())?;
     let Ok(records) = read_zone(alloc, &origin, &mut Tally::new(text)) else {
         return Err(Fail::new("a faulty file"));
     };
     match Zone::build(alloc, &origin, records) {
-        Ok(zone) => Ok(zone),
+        Ok(mut zone) => {
+            zone.find_leads(alloc)?;
+            Ok(zone)
+        }
         Err(BuildFault::Faults(_)) => Err(Fail::new("a faulty zone")),
         Err(BuildFault::NoMemory) => Err(Fail::new("no memory")),
     }

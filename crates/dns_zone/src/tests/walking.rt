@@ -1,7 +1,7 @@
 //! Walks down the names of zones.
 
 use super::texts::{built, file_with};
-use crate::{Node, Steps};
+use crate::{Node, Steps, Zone};
 use dns_name::Label;
 use dns_rdata::{RType, SetView};
 use itoa::Buffer;
@@ -195,4 +195,29 @@ fn has_data(node: &Node<'_>, rtype: RType, wanted: &[&[u8]]) -> bool {
         }
     }
     true
+}
+
+#[test]
+fn the_way_to_a_target_begins_at_the_last_name_on_it(rt: HostRuntime) -> Result<(), Fail> {
+    let text = file_with(rt.alloc(), b"m MX 1 x.y.ent\nm MX 2 www\nm MX 3 nowhere")?;
+    let Some(Ok(mut zone)) = built(rt.alloc(), b"example.", text.as_slice())? else {
+        panic!(rt; "no zone");
+    };
+    zone.find_leads(rt.alloc())?;
+    assert!(rt; leads_to(&zone, 0, b"\x03ent\x07example\x00"));
+    assert!(rt; leads_to(&zone, 1, b"\x03www\x07example\x00"));
+    assert!(rt; !leads_to(&zone, 2, b"\x07example\x00"));
+    Ok(())
+}
+
+// Whether the way to the target of the MX record at `i` of the name m begins at the name.
+fn leads_to(zone: &Zone, i: usize, name: &[u8]) -> bool {
+    let mut steps = Steps::new(zone);
+    match walked(&mut steps, &[b"m"]) {
+        Some((1, node)) => match node.lead(RType::MX, i) {
+            Some(lead) => lead.name().octets() == name,
+            None => false,
+        },
+        _ => false,
+    }
 }

@@ -7,8 +7,8 @@ use Rattle.dns_answer.proofs.PutReplies.{answers-found, answer-costs}
 use Rattle.dns_answer.proofs.reply.offer_answer.Goals as goal
 use Rattle.dns_answer.proofs.reply.offer_answer.Goals.{then-verdict, else-verdict}
 
-pub seek-is_led_on-requires : goal.seek-is_led_on-requires
-seek-is_led_on-requires g c =
+pub seek-followed_alias-requires : goal.seek-followed_alias-requires
+seek-followed_alias-requires g c =
     let apex = c.apex-apex.ensures in (
       search rules,
       (
@@ -25,17 +25,17 @@ seek-is_led_on-requires g c =
 
 pub returns-clause-answers : goal.returns-clause-answers
 returns-clause-answers g c =
-    answers-found c.args.steps.now.zone c.args.head.now c.args.question.now _ _ _ c.args.draft.now c.seek-is_led_on.new.draft c.seek-is_led_on.result.verdict c.seek-is_led_on.result.is_led_on _ c.reply.result
+    answers-found c.args.steps.now.zone c.args.head.now c.args.question.now _ _ _ c.args.draft.now c.seek-followed_alias.new.draft c.seek-followed_alias.result.verdict c.seek-followed_alias.result.followed_alias _ c.reply.result
     c.apex-apex.ensures.zone c.requires.asked (ap (λ (q : MessageQuestion). q.qtype) c.question.view_is)
-    c.seek-is_led_on.ensures.seeks c.seek-is_led_on.ensures.followed
+    c.seek-followed_alias.ensures.seeks c.seek-followed_alias.ensures.followed
     (elim c.if-verdict.branch [
-      | then-verdict w ↦ ap not (w.only_refers-is ∙ ap (λ b. b && not c.seek-is_led_on.result.is_led_on) (sym w.if-verdict.true))
-      | else-verdict w ↦ ap not (w.only_refers-is ∙ w.if-verdict.false ∙ ap (λ b. b && not c.seek-is_led_on.result.is_led_on) (sym w.if-verdict.false))
+      | then-verdict w ↦ ap not (w.only_refers-is ∙ ap (λ b. b && not c.seek-followed_alias.result.followed_alias) (sym w.if-verdict.true))
+      | else-verdict w ↦ ap not (w.only_refers-is ∙ w.if-verdict.false ∙ ap (λ b. b && not c.seek-followed_alias.result.followed_alias) (sym w.if-verdict.false))
     ])
     c.reply.ensures
 
 pub returns-clause-costs : goal.returns-clause-costs
 returns-clause-costs g c =
-    answer-costs c.args.head.now c.args.question.now _ _ c.args.steps.now c.apex-apex.new.self c.seek-is_led_on.new.steps
+    answer-costs c.args.head.now c.args.question.now _ _ c.args.steps.now c.apex-apex.new.self c.seek-followed_alias.new.steps
     c.requires.name c.requires.asked (ap (λ (q : MessageQuestion). q.qtype) c.question.view_is)
-    c.requires.visits c.requires.comparisons c.apex-apex.ensures.visits c.apex-apex.ensures.comparisons c.apex-apex.ensures.zone c.seek-is_led_on.ensures.took
+    c.requires.visits c.requires.comparisons c.apex-apex.ensures.visits c.apex-apex.ensures.comparisons c.apex-apex.ensures.zone c.seek-followed_alias.ensures.took

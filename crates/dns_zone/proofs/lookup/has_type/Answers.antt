@@ -9,7 +9,7 @@ pub returns-in-Some : goal.returns-in-Some
 returns-in-Some c =
     let p = λ (r : ResourceRecord). eqb r.rtype c.args.rtype.0 in
     let rs = c.args.records.now in
-    c.eq.ensures ∙ ap p c.listed.view_is ∙ first_is p c.in-Some.listed.now _ c.in-Some.ensures.value
+    c.eq.ensures ∙ ap p c.entry.view_is ∙ first_is p c.in-Some.entry.now _ c.in-Some.ensures.value
     ∙ ap (first_passes p) (take_rest rs c.count_below.result ∙ c.count_below.ensures.others)
     ∙ sym (found_first (λ (r : ResourceRecord). r.rtype) c.args.rtype.0 rs (pairs_rising (λ (r : ResourceRecord). r.rtype) rs c.requires))
 

@@ -5,4 +5,4 @@ use Rattle.dns_zone.proofs.zone.serial_at.Given as goal
 
 -- the SOA is among those that are left
 abbrev pub invariant-records : goal.invariant-records
-invariant-records l = first_serial (soas_at l.origin (drop l.listed-index l.records)) ≡ first_serial (soas_at l.origin l.records)
+invariant-records l = first_serial (soas_at l.origin (drop l.entry-index l.records)) ≡ first_serial (soas_at l.origin l.records)

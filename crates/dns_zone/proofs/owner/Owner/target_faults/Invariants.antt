@@ -1,7 +1,7 @@
 use Rattle.std.proofs.Common.{◌≡◌, ◌||◌, length}
 use Rattle.std.specs.List.{list_any}
 use Rattle.dns_zone.specs.OwnerForm.{is_server_alias, is_server_lost, is_exchange_alias}
-use Rattle.dns_zone.proofs.owner.Owner.judged_targets.Given as goal
+use Rattle.dns_zone.proofs.owner.Owner.target_faults.Given as goal
 
 -- what was found so far, or is found in the rest, is found in all
 abbrev pub invariant-targets : goal.invariant-targets

@@ -4,7 +4,7 @@ use Rattle.dns_spec.specs.Names.{at_or_below}
 use Rattle.dns_spec.specs.Data.{type_cname}
 use Rattle.dns_spec.specs.Records.{ResourceRecord, at, owns}
 use Rattle.dns_zone.proofs.OwnRecords.{own-owns}
-use Rattle.dns_zone.proofs.survey.Survey.judged_name.Goals as goal
+use Rattle.dns_zone.proofs.survey.Survey.name_faults.Goals as goal
 
 pub returns-clause-alias : goal.returns-clause-alias
 returns-clause-alias c =
