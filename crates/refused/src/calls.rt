@@ -46,7 +46,7 @@ pub(crate) fn read_and_build(alloc: Global, said: &mut String) -> Result<(), Fau
     writeln!(said, "read_zone: the last TTL is {ttl:?}")?;
     match Zone::build(alloc, &example()?, records) {
         Ok(zone) => writeln!(said, "build: serial {}", zone.serial())?,
-        Err(BuildFault::Faults(_)) => said.push_str("build: faults\n")?,
+        Err(BuildFault::Faults(_faults)) => said.push_str("build: faults\n")?,
         Err(BuildFault::NoMemory) => said.push_str("build: no memory\n")?,
     }
     Ok(())

@@ -48,7 +48,7 @@ fn call<R: Env + Files + Print + AllocGlobal>(rt: &R) -> Result<(), FaultWord> {
             answer_sessions(&zone, &mut said)?;
         }
         Err(LoadFault::Stopped(stop)) => writeln!(said, "load_zone: {stop:?}")?,
-        Err(LoadFault::Refused(_)) => said.push_str("load_zone: refused\n")?,
+        Err(LoadFault::Refused(_refusal)) => said.push_str("load_zone: refused\n")?,
     }
     let printed = io::writer(rt).write_all(said.as_bytes());
     printed.map_err(|_| FaultWord::SinkFailed)

@@ -36,9 +36,11 @@ fn report(alloc: Global, case: &Case<'_>) -> Result<Answer, FaultWord> {
         }
         "zoneserve" => {
             let words = serve_words(alloc, words)?;
-            let zone = load_zone(alloc, &words.origin, &mut file);
-            let (Service::Once(limit), Ok(zone)) = (words.service, zone) else {
-                return Err(FaultWord::NotBound);
+            let Service::Once(limit) = words.service else {
+                return Err(FaultWord::Usage);
+            };
+            let Ok(zone) = load_zone(alloc, &words.origin, &mut file) else {
+                return Err(FaultWord::SourceFailed);
             };
             run_once(alloc, &zone, limit, &mut input, &mut sink)
         }
