@@ -1,4 +1,4 @@
-.PHONY: run programs built install uninstall clean package operate examples docs-check test misuse clients speed faults caught hostile messages worst memory bench
+.PHONY: run programs built install uninstall clean package operate examples docs-check test edits misuse clients speed faults caught hostile messages worst memory bench
 
 PREFIX ?= /usr/local
 NAMES = zonecheck zoneserve dnsmsg
@@ -79,6 +79,10 @@ docs-check: built
 
 test:
 	RT_JOBS=$$(tools/lanes) rt ci
+
+# Tries the edits that the gate leaves out: the check has to refuse each. It is no part of the gate.
+edits:
+	RT_JOBS=$$(tools/lanes) tools/edits
 
 # Runs the programs on wrong words, on files that can't be read, on faulty files, and on outputs that take nothing, and sees
 # that callers which misuse a walk over a zone don't compile. It is no part of the gate.
