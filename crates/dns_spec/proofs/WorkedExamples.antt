@@ -1,6 +1,7 @@
 -- Worked examples, computed from the definitions. Zones has what they are asked of.
 pub mod Zones
 pub mod ReadTexts
+pub mod Readings
 pub mod AnswerRows
 pub mod CheckRows
 pub mod CommandRows

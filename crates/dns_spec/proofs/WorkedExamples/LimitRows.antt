@@ -1,20 +1,21 @@
 -- Texts past a limit: with an octet too many, and with a record too many.
-use Rattle.std.proofs.Common.{◌≡◌, ℕ, zero, suc, ◌+◌, ◌*◌, ◌<◌, ◌≤◌, inl, Bool, true, false, List, [], ◌∷◌, ◌++◌, Option, None, Some, refl, sym, ◌∙◌, ap, subst, codes, length, nat_le, take, drop, arith, lit≤, length-append, le-ltb}
+use Rattle.std.proofs.Common.{◌≡◌, ℕ, zero, suc, ◌+◌, ◌*◌, ◌<◌, ◌≤◌, inl, Bool, true, false, List, [], ◌∷◌, ◌++◌, Option, None, Some, refl, sym, ◌∙◌, ap, subst, codes, length, nat_le, nat_lt, take, drop, arith, lit≤, length-append, le-ltb}
 use Rattle.std.specs.Prelude.{MatchOption}
 use Rattle.std.proofs.Math.Seq.{take-append_seam, drop-append_seam}
 use Rattle.std.specs.List.{list_all, prefix_len, filter}
-use Rattle.std.proofs.lemmas.Bool.{and_parts, and_from, lt-ltb, le-leb, lt-leb}
+use Rattle.std.proofs.lemmas.Bool.{and_parts, and_from, lt-ltb, le-leb, lt-leb, ltb-true}
 use Rattle.std.proofs.lemmas.List.{append_assoc, take_all, length-take, drop_all}
 use Rattle.dns_spec.specs.Names.{Octets}
 use Rattle.dns_spec.specs.ZoneText.{Token, blank, word, line_end, most_octets, is_blank, token_front, TokensThen, run_length, Entry, ended, cut_entries, with_end, whole_text, beginning, extent_by, stop_fault, stop_at}
 use Rattle.dns_spec.specs.FileFaults.{bad_escape, bad_octet, bad_owner, too_long, too_many_records, FileFault}
-use Rattle.dns_spec.specs.Meaning.{no_words, KindGives, faulty, gives, fault_at, most_records, OriginIs, NameIs, IsRecord, is_record, line_after, fields, EntryGives, EntriesMean, Means}
+use Rattle.dns_spec.specs.Meaning.{Fields, no_words, KindGives, faulty, gives, fault_at, most_records, OriginIs, NameIs, IsRecord, is_record, line_after, fields, EntryGives, EntriesMean, Means}
 use Rattle.dns_spec.specs.Data.{cut, type_txt}
-use Rattle.dns_spec.specs.DataText.{Word, Says}
+use Rattle.dns_spec.specs.DataText.{Word}
 use Rattle.dns_spec.specs.Records.{ResourceRecord}
 use Rattle.std.specs.Fmt.{digits}
 use mathlib.Core.Bool.{xor}
-use Rattle.dns_spec.proofs.WorkedExamples.ReadTexts.{tokens_in, tokens_spelled, is_plain, plain_string, record_given, record_but_count, given_then}
+use Rattle.dns_spec.proofs.WorkedExamples.ReadTexts.{tokens_in, tokens_spelled, record_given, record_but_count, given_then}
+use Rattle.dns_spec.proofs.WorkedExamples.Readings.{data_in, found_is}
 use Rattle.dns_spec.proofs.WorkedExamples.Zones.{example}
 
 -- blanks alone are one token
@@ -133,35 +134,37 @@ bare cs = record { raw = cs; is_quoted = false }
 abbrev line_record : ResourceRecord
 line_record = record { owner = example; ttl = 7; rtype = type_txt; rdata = 1 ∷ codes "a" }
 
-line_said : Says type_txt (bare (codes "a") ∷ []) example line_record.rdata
-unfolding cut is_plain
-line_said = record {
-  as_spelled = line_record.rdata;
-  said = (line_record.rdata, [], refl, record { quotes = refl; said = (codes "a", lit≤ tt, plain_string (codes "a") refl, refl) }, refl);
-  is_valid = refl;
-  lower = refl;
-}
+-- what a line gives, by whether it is one too many
+abbrev line_fields : Fields
+line_fields = fields (bare (codes "7") ∷ bare (codes "TXT") ∷ bare (codes "a") ∷ [])
 
-is_line_record : (k : ℕ) → IsRecord example (earlier k) (NameIs example (earlier k) (bare (codes "@"))) (fields (bare (codes "7") ∷ bare (codes "TXT") ∷ bare (codes "a") ∷ [])) line_record
-unfolding digits
+abbrev LineRecord : ℕ → ResourceRecord → Type 0
+LineRecord k = IsRecord example (earlier k) (NameIs example (earlier k) (bare (codes "@"))) line_fields
+
+is_line_record : (k : ℕ) → LineRecord k line_record
+unfolding digits cut
 is_line_record k = record {
   owner = (example, (refl, (example, origin_kept k, record { spelled = inl (refl, refl); is_name = refl })), refl);
   ttl = (refl, refl, lit≤ tt);
   rtype = (refl, inl refl, refl);
-  rdata = (type_txt, (refl, inl refl, refl), (example, origin_kept k, line_said));
+  rdata = (
+    type_txt,
+    (refl, inl refl, refl),
+    (example, origin_kept k, found_is (data_in type_txt (bare (codes "a") ∷ []) example) _ refl),
+  );
 }
 
 line_given : (k : ℕ) → k < most_records → EntryGives example (earlier k) line_entry (gives (line_record ∷ []))
 unfolding xor
 line_given k few =
-    record_given example (earlier k) bad_owner (NameIs example (earlier k) (bare (codes "@"))) (fields (bare (codes "7") ∷ bare (codes "TXT") ∷ bare (codes "a") ∷ [])) line_record
-    (is_line_record k) refl (ap (nat_le most_records) (records_counted k) ∙ lt-leb most_records k few)
+    record_given example (earlier k) bad_owner _ line_fields line_record (is_line_record k) refl
+    (ap (nat_le most_records) (records_counted k) ∙ lt-leb most_records k few)
 
 line_refused : (k : ℕ) → k ≡ most_records → EntryGives example (earlier k) line_entry (faulty too_many_records)
 unfolding xor
 line_refused k all =
-    record_but_count example (earlier k) bad_owner (NameIs example (earlier k) (bare (codes "@"))) (fields (bare (codes "7") ∷ bare (codes "TXT") ∷ bare (codes "a") ∷ [])) line_record
-    (faulty too_many_records) (is_line_record k) refl
+    record_but_count example (earlier k) bad_owner _ line_fields line_record (faulty too_many_records)
+    (is_line_record k) refl
     (inl (ap (nat_le most_records) (records_counted k) ∙ le-leb most_records k (omega (arith, all)), refl))
 
 lines_mean : (n k : ℕ) → k + n ≡ most_records → EntriesMean example (earlier k) (entries_of_lines (suc n)) (fault_at too_many_records (suc most_records))
@@ -170,8 +173,8 @@ lines_mean zero k e =
     let all : k ≡ most_records = omega (arith, e) in
     (faulty too_many_records, line_refused k all, ap (λ l. fault_at too_many_records l) (sym (lines_counted k ∙ ap suc all)))
 lines_mean (suc n) k e =
-    given_then example (earlier k) line_entry (entries_of_lines (suc n)) (line_record ∷ []) (fault_at too_many_records (suc most_records)) (line_given k (omega (arith, e)))
-    (lines_mean n (suc k) (omega (arith, e)))
+    given_then example (earlier k) line_entry (entries_of_lines (suc n)) (line_record ∷ []) _
+    (line_given k (omega (arith, e))) (lines_mean n (suc k) (omega (arith, e)))
 
 -- so many lines of records, and one more
 many_lines : (n : ℕ) → n ≡ most_records → Means example (lines (suc n)) (fault_at too_many_records (suc most_records))
@@ -238,24 +241,33 @@ cut_at_limit text ends more code full some goes_on blanks none at_end reports = 
     reported None e = cc
     reported (Some c) e = cc
 
--- an escape that the next octets might end, and one that they can't
-digit_at_limit : (text more : Octets) → length text + 2 ≡ most_octets → 0 < length more → list_all is_blank text ≡ true → Means example (text ++ 92 ∷ 51 ∷ more) (fault_at too_long 1)
-unfolding run_length
-digit_at_limit text more full goes_on blanks = cut_at_limit text (92 ∷ 51 ∷ []) more too_long full (omega (arith, full)) goes_on blanks refl refl refl
+-- so many blanks up to the limit and these octets there, with more after them
+AtLimit : Octets → FileFault → Type 0
+AtLimit ends code = (text more : Octets) → length text + length ends ≡ most_octets → 0 < length more
+    → list_all is_blank text ≡ true → Means example (text ++ (ends ++ more)) (fault_at code 1)
 
-digit_and_letter : (text more : Octets) → length text + 3 ≡ most_octets → 0 < length more → list_all is_blank text ≡ true → Means example (text ++ 92 ∷ 49 ∷ 120 ∷ more) (fault_at bad_escape 1)
-unfolding run_length
-digit_and_letter text more full goes_on blanks = cut_at_limit text (92 ∷ 49 ∷ 120 ∷ []) more bad_escape full (omega (arith, full)) goes_on blanks refl refl refl
+at_limit : (ends : Octets) (code : FileFault) → nat_lt (length ends) most_octets ≡ true
+    → prefix_len is_blank ends ≡ 0 → token_front ends ≡ None
+    → stop_fault beginning false (stop_at ends) ≡ Some code → AtLimit ends code
+unfolding AtLimit
+at_limit ends code few none at_end reports text more full goes_on blanks =
+    cut_at_limit text ends more code full
+    (omega (arith, full, ltb-true (length ends) most_octets few)) goes_on blanks none at_end reports
 
-cr_at_limit : (text more : Octets) → length text + 1 ≡ most_octets → 0 < length more → list_all is_blank text ≡ true → Means example (text ++ 13 ∷ more) (fault_at too_long 1)
-cr_at_limit text more full goes_on blanks = cut_at_limit text (13 ∷ []) more too_long full (omega (arith, full)) goes_on blanks refl refl refl
-
--- an octet that isn't allowed, before the limit
-octet_at_limit : (text more : Octets) → length text + 1 ≡ most_octets → 0 < length more → list_all is_blank text ≡ true → Means example (text ++ 0 ∷ more) (fault_at bad_octet 1)
+limit_rows :
+    -- an escape that the next octets might end, and one that they can't
+    AtLimit (codes "\\3") too_long
+    × AtLimit (codes "\\1x") bad_escape
+    × AtLimit (codes "\r") too_long
+    -- an octet that isn't allowed, before the limit
+    × AtLimit (0 ∷ []) bad_octet
+    -- a string that isn't ended at the limit
+    × AtLimit (codes "\"a") too_long
 unfolding run_length
-octet_at_limit text more full goes_on blanks = cut_at_limit text (0 ∷ []) more bad_octet full (omega (arith, full)) goes_on blanks refl refl refl
-
--- a string that isn't ended at the limit
-string_at_limit : (text more : Octets) → length text + 2 ≡ most_octets → 0 < length more → list_all is_blank text ≡ true → Means example (text ++ 34 ∷ 97 ∷ more) (fault_at too_long 1)
-unfolding run_length
-string_at_limit text more full goes_on blanks = cut_at_limit text (34 ∷ 97 ∷ []) more too_long full (omega (arith, full)) goes_on blanks refl refl refl
+limit_rows = (
+  at_limit _ _ refl refl refl refl,
+  at_limit _ _ refl refl refl refl,
+  at_limit _ _ refl refl refl refl,
+  at_limit _ _ refl refl refl refl,
+  at_limit _ _ refl refl refl refl,
+)

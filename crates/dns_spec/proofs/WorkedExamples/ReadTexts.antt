@@ -1,14 +1,12 @@
--- Texts whose tokens are computed, words that spell themselves, and what makes a record of them.
-use Rattle.std.proofs.Common.{◌≡◌, ◌≢◌, ℕ, zero, suc, inl, inr, Bool, true, false, ◌&&◌, not, ◌==◌, List, [], ◌∷◌, Option, Some, None, refl, sym, ◌∙◌, ap, subst, length, nat_lt, take, drop, reverse, get_or, IsTrue}
+-- Texts whose tokens are computed, and what makes a record of an entry.
+use Rattle.std.proofs.Common.{◌≡◌, ℕ, zero, suc, inr, false, List, [], ◌∷◌, Option, Some, None, refl, sym, ◌∙◌, ap, subst, length, nat_lt, take, IsTrue}
 use Rattle.std.specs.Prelude.{MatchOption}
-use Rattle.std.specs.List.{list_all}
 use Rattle.std.specs.Option.{is_none}
-use Rattle.std.proofs.lemmas.Bool.{and_parts, false≢true, eq-eqb}
-use Rattle.dns_spec.specs.Names.{Octets, DomainName, is_name}
-use Rattle.dns_spec.specs.NameText.{SpellsOctet, LabelThen, SpellsName}
-use Rattle.dns_spec.specs.DataText.{Word, SpellsString}
+use Rattle.std.proofs.lemmas.Bool.{false≢true}
+use Rattle.dns_spec.specs.Names.{Octets, DomainName}
+use Rattle.dns_spec.specs.DataText.{Word}
 use Rattle.dns_spec.specs.Records.{ResourceRecord}
-use Rattle.dns_spec.specs.ZoneText.{Token, most_octets, token_front, TokensThen, Entry, ended, cut_entries, with_end, whole_text, extent_by}
+use Rattle.dns_spec.specs.ZoneText.{Token, most_octets, token_front, TokensThen, Entry, cut_entries, with_end, whole_text, extent_by}
 use Rattle.dns_spec.specs.FileFaults.{too_many_records, FileFault}
 use Rattle.dns_spec.specs.Meaning.{EntryMeaning, gives, Lowest, IsRecord, Fields, TtlIs, TtlSays, IsNoTtl, is_other_class, are_too_many, RecordGives, EntryGives, Meaning, after, EntriesMean, Means}
 use Rattle.dns_spec.proofs.WorkedExamples.Zones.{example}
@@ -37,16 +35,6 @@ tokens_spelled (suc n) text = by_front (token_front text) refl (λ r. tokens_spe
 abbrev pub entries_of : Octets → List Entry
 entries_of text = with_end whole_text (tokens_in 99 text).1 (cut_entries false (tokens_in 99 text).0)
 
--- the entry of a text after so many, those before it, the nearest first, and those from it on
-abbrev pub entry_in : Octets → ℕ → Entry
-entry_in text k = get_or (entries_of text) k (ended [])
-
-abbrev pub earlier_in : Octets → ℕ → List Entry
-earlier_in text k = reverse (take k (entries_of text))
-
-abbrev pub left_in : Octets → ℕ → List Entry
-left_in text k = drop k (entries_of text)
-
 pub means : (text : Octets) (m : Meaning) → take most_octets text ≡ text → nat_lt most_octets (length text) ≡ false → token_front (tokens_in 99 text).1 ≡ None
     → EntriesMean example [] (entries_of text) m → Means example text m
 means text m all within at_end h = (
@@ -60,42 +48,6 @@ means text m all within at_end h = (
   },
   h,
 )
-
--- octets that spell themselves, in a name and in a string
-unfoldable pub is_plain : ℕ → Bool
-is_plain c = not (c == 46) && not (c == 92) && not (c == 64)
-
-pub plain_octet : (c : ℕ) → is_plain c ≡ true → SpellsOctet (c ∷ []) c
-unfolding is_plain
-plain_octet c h =
-    let parts = and_parts (not (c == 46) && not (c == 92)) _ h in
-    let both = and_parts (not (c == 46)) _ parts.0 in
-    (refl, other_than c 46 both.0, other_than c 92 both.1)
-  where
-    other_than : (c k : ℕ) → not (c == k) ≡ true → c ≢ k
-    other_than c k h e = false≢true (sym (ap not (eq-eqb c k e)) ∙ h)
-
-pub plain_label : (cs : Octets) → list_all is_plain cs ≡ true → LabelThen cs cs []
-plain_label [] h = refl
-plain_label (c ∷ cs) h =
-    let parts = and_parts (is_plain c) _ h in
-    (c ∷ [], cs, refl, plain_octet c parts.0, plain_label cs parts.1)
-
-pub plain_string : (cs : Octets) → list_all is_plain cs ≡ true → SpellsString cs cs
-plain_string [] h = refl
-plain_string (c ∷ cs) h =
-    let parts = and_parts (is_plain c) _ h in
-    (c ∷ [], cs, refl, inl (plain_octet c parts.0), plain_string cs parts.1)
-
--- a word of such octets, relative to the origin
-pub plain_name : (origin : DomainName) (cs : Octets) → list_all is_plain cs ≡ true → nat_lt 0 (length cs) ≡ true → is_name (cs ∷ origin) ≡ true
-    → SpellsName origin cs (cs ∷ origin)
-unfolding is_plain
-plain_name origin cs plain some short = record {
-  spelled =
-      inr (inr (λ e. false≢true (sym (ap (list_all is_plain) e) ∙ plain), λ e. false≢true (sym (ap (λ t. nat_lt 0 (length t)) e) ∙ some), inl (plain_label cs plain, refl)));
-  is_name = short;
-}
 
 -- a record that is one is given, where no code of a fault stands before it
 ttl_stated : (earlier : List Entry) (stated : Option Word) (n : ℕ) → TtlIs earlier stated n → IsNoTtl stated → ⊥

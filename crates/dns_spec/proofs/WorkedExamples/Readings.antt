@@ -1,0 +1,509 @@
+-- Readings that compute: what a text or a part of it means, with the proof that it does, or nothing
+-- where the reading can't tell.
+use Rattle.std.proofs.Common.{◌≡◌, ◌≢◌, ℕ, zero, suc, ◌<◌, ◌^◌, ◌⊎◌, inl, inr, Bool, true, false, ◌&&◌, ◌||◌, not, ◌==◌, List, [], ◌∷◌, ◌++◌, Option, Some, None, refl, sym, ◌∙◌, ap, subst, codes, decimal, length, map, take, drop, nat_lt, nat_le, arith}
+use Rattle.std.specs.Prelude.{MatchOption}
+use Rattle.std.specs.Bool.{MatchBool}
+use Rattle.std.specs.Int.{bytes_high_first}
+use Rattle.std.specs.List.{list_all, slice_split, flat_map}
+use Rattle.std.specs.Option.{option_map, is_none}
+use Rattle.std.specs.Str.Parse.{digits_value}
+use Rattle.std.proofs.lemmas.Bool.{and_parts, and_from, false≢true, eqb-true, eqb-false, ltb-true, leb-true, le-leb}
+use Rattle.std.proofs.lemmas.Fmt.{decimal_is_IsNumeral}
+use Rattle.std.proofs.lemmas.Option.{none-some, same_Some}
+use Rattle.dns_spec.specs.Names.{Octets, DomainName, wire, folded, is_name, octets_equal}
+use Rattle.dns_spec.specs.NameText.{SpellsOctet, TextSpells, SpellsName, escape_front}
+use Rattle.dns_spec.specs.TypeText.{text_in_lower_case, type_by_mnemonic, numbered_type, NamesType}
+use Rattle.dns_spec.specs.AddressText.{ipv4_text, SaysIpv4, ipv6_octets}
+use Rattle.dns_spec.specs.Data.{valid, lower_case}
+use Rattle.dns_spec.specs.DataText.{Word, WordForm, number_word, ipv4_word, ipv6_word, name_word, string_word, SpellsString, SaysForm, SaysNumber, may_be_quoted, SaysForms, forms_of, SaysTyped, hex_octets, is_hex_word, SaysUnknown, is_unknown_mark, SaysAsSpelled, Says}
+use Rattle.dns_spec.specs.Records.{ResourceRecord}
+use Rattle.dns_spec.specs.ZoneText.{Entry, most_octets, token_front, lexical_fault}
+use Rattle.dns_spec.specs.FileFaults.{FileFault, unknown_directive, directive_words, bad_owner, no_owner, bad_ttl, other_class, bad_type, no_ttl, bad_data, too_many_records}
+use Rattle.dns_spec.specs.Meaning.{EntryMeaning, faulty, gives, Nothing, EntryKind, no_words, directive, owned, unowned, kind_of, directive_word, owner_word, OriginIs, NameIs, OwnerBefore, most_ttl, TtlSays, ttl_in_force, TtlIs, is_zone_type, TypeIs, DataIs, IsRecord, Fields, fields, IsNoTtl, is_other_class, are_too_many, RecordGives, DirectiveSays, DirectiveGives, KindGives, EntryGives, Meaning, records, fault_at, after, line_after, EntriesMean, Means}
+use Rattle.dns_spec.proofs.DomainNames.NameLaws.{octets_equal-decides}
+use Rattle.dns_spec.proofs.NameTexts.Escapes.{escape_spells}
+use Rattle.dns_spec.proofs.WorkedExamples.ReadTexts.{tokens_in, entries_of, means}
+use Rattle.dns_spec.proofs.WorkedExamples.Zones.{example}
+
+-- a value with what holds of it, where one is found
+abbrev Found : {A : Type 0} → (A → Type 0) → Type 0
+Found {A} P = Option ((v : A) × P v)
+
+abbrev and_then : {A B : Type 0} → Option A → (A → Option B) → Option B
+and_then None f = None
+and_then (Some a) f = f a
+
+-- a test that comes out true
+abbrev holds : (b : Bool) → Option (b ≡ true)
+holds true = Some refl
+holds false = None
+
+abbrev tells : (a b : ℕ) → (a ≡ b) ⊎ (a ≢ b)
+tells a b = go (a == b) refl
+  where
+    go : (t : Bool) → (a == b) ≡ t → (a ≡ b) ⊎ (a ≢ b)
+    go true e = inl (eqb-true a b e)
+    go false e = inr (eqb-false a b e)
+
+abbrev same : (xs ys : Octets) → Option (xs ≡ ys)
+same xs ys = and_then (holds (octets_equal xs ys)) (λ h. Some ((octets_equal-decides xs ys).0 h))
+
+-- the octet that a text begins with, by itself or escaped, and the text after it
+abbrev Begins : Octets → ℕ × Octets → Type 0
+Begins text u = (first : Octets) × (text ≡ first ++ u.1) × SpellsOctet first u.0
+
+pub escaped : (c : ℕ) (cs : Octets) (u : ℕ × Octets) → c ≡ 92 → escape_front cs ≡ Some u
+    → Begins (c ∷ cs) u
+escaped c cs u slash e =
+    let h = (escape_spells cs u.0 u.1).0 e in
+    (92 ∷ h.0, ap (λ x. x ∷ cs) slash ∙ ap (λ t. 92 ∷ t) h.1, h.2)
+
+abbrev octet_in : (text : Octets) → Found (Begins text)
+octet_in [] = None
+octet_in (c ∷ cs) = elim (tells c 92) [
+  | inl slash ↦ go (escape_front cs) refl slash
+  | inr no_slash ↦ elim (tells c 46) [
+    | inl dot ↦ None
+    | inr no_dot ↦ Some ((c, cs), (c ∷ [], refl, (refl, no_dot, no_slash)))
+  ]
+]
+  where
+    go : (o : Option (ℕ × Octets)) → escape_front cs ≡ o → c ≡ 92 → Found (Begins (c ∷ cs))
+    go None e slash = None
+    go (Some u) e slash = Some (u, escaped c cs u slash e)
+
+-- The first label of a text of at most k octets, and the labels after it.
+abbrev FirstLabel : DomainName → Octets → Octets × DomainName → Type 0
+FirstLabel o text r = TextSpells o text (r.0 ∷ r.1)
+
+pub one_more : (o : DomainName) (text : Octets) (u : ℕ × Octets) (r : Octets × DomainName)
+    → Begins text u → FirstLabel o u.1 r → FirstLabel o text (u.0 ∷ r.0, r.1)
+one_more o text u r h (inl (label, e)) = inl ((h.0, u.1, h.1, h.2, label), e)
+one_more o text u r h (inr (others, label, more)) =
+    inr (others, (h.0, u.1, h.1, h.2, label), more)
+
+pub dot_first : (o : DomainName) (c : ℕ) (cs : Octets) (r : Octets × DomainName) → c ≡ 46
+    → FirstLabel o cs r → FirstLabel o (c ∷ cs) ([], r.0 ∷ r.1)
+dot_first o c cs r dot h = inr (cs, ap (λ x. x ∷ cs) dot, h)
+
+pub no_more : (o : DomainName) → FirstLabel o [] ([], o)
+no_more o = inl (refl, refl)
+
+abbrev labels_in : ℕ → (o : DomainName) (text : Octets) → Found (FirstLabel o text)
+labels_in k o [] = Some (([], o), no_more o)
+labels_in zero o (c ∷ cs) = None
+labels_in (suc k) o (c ∷ cs) = elim (tells c 46) [
+  | inl dot ↦ and_then (labels_in k o cs)
+      (λ r. Some (([], r.0.0 ∷ r.0.1), dot_first o c cs r.0 dot r.1))
+  | inr no_dot ↦ and_then (octet_in (c ∷ cs)) (λ u. and_then (labels_in k o u.0.1)
+      (λ r. Some ((u.0.0 ∷ r.0.0, r.0.1), one_more o (c ∷ cs) u.0 r.0 u.1 r.1)))
+]
+
+-- a word that spells a name
+abbrev name_in : (o : DomainName) (text : Octets) → Found (SpellsName o text)
+name_in o text = go (octets_equal text (codes "@")) (octets_equal text []) refl refl
+  where
+    equal : (v : Octets) → text ≡ v → octets_equal text v ≡ true
+    equal v = (octets_equal-decides text v).1
+
+    go : (at none : Bool) → octets_equal text (codes "@") ≡ at → octets_equal text [] ≡ none
+        → Found (SpellsName o text)
+    go true none e f = and_then (holds (is_name o)) (λ h. Some (
+      o,
+      record {
+        spelled = inl ((octets_equal-decides text (codes "@")).0 e, refl);
+        is_name = h;
+      },
+    ))
+    go false true e f = None
+    go false false e f = and_then (labels_in (length text) o text)
+        (λ r. and_then (holds (is_name (r.0.0 ∷ r.0.1))) (λ h. Some (
+          r.0.0 ∷ r.0.1,
+          record {
+            spelled = inr (inr (
+              λ is. false≢true (sym e ∙ equal (codes "@") is),
+              λ is. false≢true (sym f ∙ equal [] is),
+              r.1,
+            ));
+            is_name = h;
+          },
+        )))
+
+-- a word that states a TTL, or none
+is_number : (n : ℕ) (raw : Octets) → n < 2 ^ 64 → raw ≡ decimal n → digits_value 10 raw ≡ n
+is_number n raw small e = ap (digits_value 10) e ∙ (decimal_is_IsNumeral n small).1
+
+abbrev says_ttl : Word → ℕ → Bool
+says_ttl w n = not w.is_quoted && octets_equal w.raw (decimal n) && nat_le n most_ttl
+
+pub ttl_said : (w : Word) (n : ℕ) → says_ttl w n ≡ true → TtlSays w n
+ttl_said w n h =
+    let parts = and_parts (not w.is_quoted && octets_equal w.raw (decimal n)) _ h in
+    let both = and_parts (not w.is_quoted) _ parts.0 in
+    (both.0, (octets_equal-decides w.raw (decimal n)).0 both.1, leb-true n most_ttl parts.1)
+
+pub ttl_tested : (w : Word) (n : ℕ) → TtlSays w n → says_ttl w (digits_value 10 w.raw) ≡ true
+ttl_tested w n (bare, is, few) =
+    subst (λ k. says_ttl w k ≡ true) (sym (is_number n w.raw (omega (arith, few)) is))
+    (and_from _ _ (and_from _ _ bare ((octets_equal-decides w.raw (decimal n)).1 is))
+    (le-leb n most_ttl few))
+
+abbrev ttl_of : (w : Word) → ((n : ℕ) × TtlSays w n) ⊎ Nothing (TtlSays w)
+ttl_of w = go (says_ttl w (digits_value 10 w.raw)) refl
+  where
+    go : (t : Bool) → says_ttl w (digits_value 10 w.raw) ≡ t
+        → ((n : ℕ) × TtlSays w n) ⊎ Nothing (TtlSays w)
+    go true e = inl (digits_value 10 w.raw, ttl_said w _ e)
+    go false e = inr (λ n h. false≢true (sym e ∙ ttl_tested w n h))
+
+-- a string
+abbrev string_in : ℕ → (text : Octets) → Found (SpellsString text)
+string_in k [] = Some ([], refl)
+string_in zero (c ∷ cs) = None
+string_in (suc k) (c ∷ cs) = elim (tells c 46) [
+  | inl dot ↦ and_then (string_in k cs)
+      (λ s. Some (46 ∷ s.0, (c ∷ [], cs, refl, inr (ap (λ x. x ∷ []) dot, refl), s.1)))
+  | inr no_dot ↦ and_then (octet_in (c ∷ cs)) (λ u. and_then (string_in k u.0.1)
+      (λ s. Some (u.0.0 ∷ s.0, (u.1.0, u.0.1, u.1.1, inl u.1.2, s.1))))
+]
+
+-- a word of data, and the words of data
+abbrev number_in : (k : ℕ) (text : Octets) → Found (SaysNumber k text)
+number_in k text =
+    let n = digits_value 10 text in
+    and_then (holds (nat_lt n (256 ^ k))) (λ small. and_then (same text (decimal n))
+    (λ e. Some (bytes_high_first k n, (n, ltb-true n (256 ^ k) small, e, refl))))
+
+abbrev ipv4_in : (text : Octets) → Found (SaysIpv4 text)
+ipv4_in text =
+    let d = map (digits_value 10) (slice_split (λ o. o == 46) text) in
+    and_then (holds (length d == 4)) (λ four.
+    and_then (holds (list_all (λ x. nat_lt x 256) d)) (λ small. and_then (same text (ipv4_text d))
+    (λ e. Some (d, record { four = eqb-true (length d) 4 four; octets = small; spelled = e }))))
+
+abbrev there : {A : Type 0} (o : Option A) → Found (λ (v : A). o ≡ Some v)
+there None = None
+there (Some v) = Some (v, refl)
+
+abbrev form_in : (f : WordForm) (o : DomainName) (text : Octets) → Found (SaysForm f o text)
+form_in (number_word k) o text = number_in k text
+form_in ipv4_word o text = ipv4_in text
+form_in ipv6_word o text = there (ipv6_octets text)
+form_in name_word o text = and_then (name_in o text) (λ n. Some (wire n.0, (n.0, n.1, refl)))
+form_in string_word o text = and_then (string_in (length text) text)
+    (λ s. and_then (holds (nat_le (length s.0) 255))
+    (λ h. Some (length s.0 ∷ s.0, (s.0, leb-true (length s.0) 255 h, s.1, refl))))
+
+abbrev forms_in_words : (fs : List WordForm) (o : DomainName) (ws : List Word)
+    → Found (SaysForms fs o ws)
+forms_in_words [] o [] = Some ([], refl)
+forms_in_words [] o (w ∷ ws) = None
+forms_in_words (f ∷ fs) o [] = None
+forms_in_words (f ∷ fs) o (w ∷ ws) =
+    and_then (holds (may_be_quoted f || not w.is_quoted)) (λ q. and_then (form_in f o w.raw)
+    (λ d. and_then (forms_in_words fs o ws)
+    (λ e. Some (d.0 ++ e.0, (d.0, e.0, refl, record { quotes = q; said = d.1 }, e.1)))))
+
+abbrev typed_in : (t : ℕ) (o : DomainName) (ws : List Word) → Found (SaysTyped t o ws)
+typed_in t o ws = go (forms_of t (length ws))
+  where
+    go : (fs : Option (List WordForm)) → Found (λ d. MatchOption fs ⊥ (λ f. SaysForms f o ws d))
+    go None = None
+    go (Some fs) = forms_in_words fs o ws
+
+abbrev unknown_in : (ws : List Word) → Found (SaysUnknown ws)
+unknown_in [] = None
+unknown_in (w ∷ ws) =
+    and_then (holds (not w.is_quoted)) (λ q. and_then (holds (list_all is_hex_word ws)) (λ hexes.
+    and_then (there (hex_octets (flat_map (λ (v : Word). v.raw) ws)))
+    (λ d. and_then (same w.raw (decimal (length d.0))) (λ e. Some (d.0, (q, e, (hexes, d.1)))))))
+
+abbrev spelled_in : (t : ℕ) (o : DomainName) (ws : List Word) → Found (SaysAsSpelled t o ws)
+spelled_in t o [] = typed_in t o []
+spelled_in t o (w ∷ ws) = go (is_unknown_mark w)
+  where
+    go : (b : Bool) → Found (λ d. MatchBool b (SaysUnknown ws d) (SaysTyped t o (w ∷ ws) d))
+    go true = unknown_in ws
+    go false = typed_in t o (w ∷ ws)
+
+abbrev pub data_in : (t : ℕ) (ws : List Word) (o : DomainName) → Found (Says t ws o)
+data_in t ws o = and_then (spelled_in t o ws) (λ d. and_then (holds (valid t d.0))
+    (λ valid. Some (
+      lower_case t d.0,
+      record { as_spelled = d.0; said = d.1; is_valid = valid; lower = refl },
+    )))
+
+-- What a word of an entry says, after those before it.
+abbrev origin_after : (o : DomainName) (earlier : List Entry) → Found (OriginIs o earlier)
+origin_after o [] = Some (o, refl)
+origin_after o (e ∷ earlier) =
+    go (origin_after o earlier) (directive_word (codes "$origin") (kind_of e))
+  where
+    go : Found (OriginIs o earlier) → (w : Option Word)
+        → Found (λ n. MatchOption w (OriginIs o earlier n)
+        (λ v. (m : DomainName) × OriginIs o earlier m × SpellsName m v.raw n))
+    go before None = before
+    go before (Some w) = and_then before (λ m. and_then (name_in m.0 w.raw)
+        (λ n. Some (n.0, (m.0, m.1, n.1))))
+
+abbrev pub name_after : (o : DomainName) (earlier : List Entry) (w : Word)
+    → Found (NameIs o earlier w)
+name_after o earlier w = and_then (holds (not w.is_quoted)) (λ bare.
+    and_then (origin_after o earlier) (λ m. and_then (name_in m.0 w.raw)
+    (λ n. Some (n.0, (bare, (m.0, m.1, n.1))))))
+
+abbrev owner_before : (o : DomainName) (earlier : List Entry) → Found (OwnerBefore o earlier)
+owner_before o [] = None
+owner_before o (e ∷ earlier) = go (owner_before o earlier) (owner_word (kind_of e))
+  where
+    go : Found (OwnerBefore o earlier) → (w : Option Word)
+        → Found (λ n. MatchOption w (OwnerBefore o earlier n)
+        (λ v. NameIs o earlier v n))
+    go before None = before
+    go before (Some w) = name_after o earlier w
+
+abbrev ttl_after : (earlier : List Entry) (stated : Option Word) → Found (TtlIs earlier stated)
+ttl_after earlier stated = go (ttl_in_force earlier stated)
+  where
+    go : (w : Option Word) → Found (λ n. MatchOption w ⊥ (λ v. TtlSays v n))
+    go None = None
+    go (Some w) = elim (ttl_of w) [ inl n ↦ Some n | inr none ↦ None ]
+
+-- a type, or that the word names none
+abbrev names_type : (raw : Octets) → Found (NamesType raw)
+names_type raw = go (type_by_mnemonic raw) refl
+  where
+    go : (o : Option ℕ) → type_by_mnemonic raw ≡ o → Found (NamesType raw)
+    go (Some t) e = Some (t, inl e)
+    go None e =
+        let t = digits_value 10 (drop 4 raw) in
+        and_then (holds (nat_lt t 65536)) (λ small.
+        and_then (same (text_in_lower_case raw) (text_in_lower_case (numbered_type t)))
+        (λ is. Some (t, inr (ltb-true t 65536 small, is))))
+
+abbrev type_in : (ws : List Word) → Found (TypeIs ws)
+type_in [] = None
+type_in (w ∷ ws) = and_then (holds (not w.is_quoted)) (λ bare. and_then (names_type w.raw)
+    (λ t. and_then (holds (is_zone_type t.0)) (λ h. Some (t.0, (bare, t.1, h)))))
+
+pub no_type_named : (raw : Octets) (t : ℕ) → type_by_mnemonic raw ≡ None
+    → octets_equal (take 4 (text_in_lower_case raw)) (codes "type") ≡ false → NamesType raw t → ⊥
+no_type_named raw t none front (inl e) = none-some t (sym none ∙ e)
+no_type_named raw t none front (inr (small, e)) =
+    let is = octets_equal-decides (take 4 (text_in_lower_case raw)) (codes "type") in
+    false≢true (sym front ∙ is.1 (ap (take 4) e))
+
+abbrev no_type_in : (ws : List Word) → Option (Nothing (TypeIs ws))
+no_type_in [] = Some (λ t h. h)
+no_type_in (w ∷ ws) = go w.is_quoted (type_by_mnemonic w.raw)
+    (octets_equal (take 4 (text_in_lower_case w.raw)) (codes "type")) refl refl refl
+  where
+    go : (q : Bool) (o : Option ℕ) (f : Bool) → w.is_quoted ≡ q → type_by_mnemonic w.raw ≡ o
+        → octets_equal (take 4 (text_in_lower_case w.raw)) (codes "type") ≡ f
+        → Option (Nothing (TypeIs (w ∷ ws)))
+    go true o f quoted e front = Some (λ t h. false≢true (sym (ap not quoted) ∙ h.0))
+    go false None false bare e front = Some (λ t h. no_type_named w.raw t e front h.1)
+    go false None true bare e front = None
+    go false (Some t) f bare e front = None
+
+abbrev data_after : (o : DomainName) (earlier : List Entry) (ws : List Word)
+    → Found (DataIs o earlier ws)
+data_after o earlier ws = and_then (type_in ws) (λ t. and_then (origin_after o earlier)
+    (λ m. and_then (data_in t.0 (drop 1 ws) m.0) (λ d. Some (d.0, (t.0, t.1, (m.0, m.1, d.1))))))
+
+-- whether something holds, or which value it has or that it has none, where that is told
+abbrev Told : Type 0 → Type 0
+Told A = Option (A ⊎ (A → ⊥))
+
+abbrev Known : {A : Type 0} → (A → Type 0) → Type 0
+Known {A} P = Option (((v : A) × P v) ⊎ Nothing P)
+
+abbrev tested : (b : Bool) → Told (b ≡ true)
+tested true = Some (inl refl)
+tested false = Some (inr false≢true)
+
+-- something is found, so it is not that there is nothing
+abbrev pub some : {A : Type 0} {P : A → Type 0} → (v : A) × P v → Nothing P → ⊥
+some f none = none f.0 f.1
+
+abbrev unless : {C : Type 0} {Rest : EntryMeaning → Type 0} (fault : FileFault) → Told C
+    → Found Rest
+    → Found (λ given. (C × (given ≡ faulty fault)) ⊎ ((C → ⊥) × Rest given))
+unless fault None rest = None
+unless fault (Some (inl c)) rest = Some (faulty fault, inl (c, refl))
+unless fault (Some (inr fails)) rest = and_then rest (λ g. Some (g.0, inr (fails, g.1)))
+
+abbrev no_ttl_stated : (stated : Option Word) → Told (IsNoTtl stated)
+no_ttl_stated None = Some (inr (λ h. h))
+no_ttl_stated (Some w) = elim (ttl_of w) [
+  | inl n ↦ Some (inr (some n))
+  | inr none ↦ Some (inl none)
+]
+
+abbrev no_type_told : (ws : List Word) → Told (Nothing (TypeIs ws))
+no_type_told ws = elim (type_in ws) [
+  | Some t ↦ Some (inr (some t))
+  | None ↦ and_then (no_type_in ws) (λ none. Some (inl none))
+]
+
+abbrev whole_record : (o : DomainName) (earlier : List Entry) (Owner : DomainName → Type 0)
+    (f : Fields) → (n : DomainName) × Owner n → (d : Octets) × DataIs o earlier f.others d
+    → Found (λ given. (r : ResourceRecord) × IsRecord o earlier Owner f r
+    × (given ≡ gives (r ∷ [])))
+whole_record o earlier Owner f n d =
+    and_then (ttl_after earlier f.ttl) (λ k. and_then (type_in f.others) (λ t.
+    let r : ResourceRecord = record { owner = folded n.0; ttl = k.0; rtype = t.0; rdata = d.0 } in
+    let is : IsRecord o earlier Owner f r =
+    record { owner = (n.0, n.1, refl); ttl = k.1; rtype = t.1; rdata = d.1 } in
+    Some (gives (r ∷ []), (r, is, refl))))
+
+-- What a record gives: its lowest fault, or itself. That its data is at fault isn't told.
+abbrev record_in : (o : DomainName) (earlier : List Entry) (fault : FileFault)
+    (Owner : DomainName → Type 0) (f : Fields) → Known Owner
+    → Found (RecordGives o earlier fault Owner f)
+record_in o earlier fault Owner f None = None
+record_in o earlier fault Owner f (Some (inr none)) = Some (faulty fault, inl (none, refl))
+record_in o earlier fault Owner f (Some (inl n)) =
+    unless fault (Some (inr (some n)))
+    (unless bad_ttl (no_ttl_stated f.ttl)
+    (unless other_class (tested (is_other_class f.class))
+    (unless bad_type (no_type_told f.others)
+    (unless no_ttl (tested (is_none (ttl_in_force earlier f.ttl)))
+    (and_then (data_after o earlier f.others)
+    (λ d. unless bad_data (Some (inr (some d)))
+    (unless too_many_records (tested (are_too_many earlier))
+    (whole_record o earlier Owner f n d))))))))
+
+-- what a directive gives
+abbrev directive_in : {A : Type 0} (P : A → Word → Type 0)
+    → ((w : Word) → Known (λ v. P v w)) → (ws : List Word)
+    → Found (DirectiveSays P ws)
+directive_in P one [] = Some (faulty directive_words, inl (λ v h. h, refl))
+directive_in P one (w ∷ v ∷ ws) = Some (faulty directive_words, inl (λ v h. h, refl))
+directive_in P one (w ∷ []) = elim (one w) [
+  | None ↦ None
+  | Some found ↦ elim found [
+    | inl v ↦ Some (gives [], inr (some v, refl))
+    | inr none ↦ Some (faulty directive_words, inl (none, refl))
+  ]
+]
+
+-- a name, or that there is none since the word is quoted
+abbrev name_told : (o : DomainName) (earlier : List Entry) (w : Word) → Known (NameIs o earlier w)
+name_told o earlier w = go w.is_quoted refl
+  where
+    go : (q : Bool) → w.is_quoted ≡ q → Known (NameIs o earlier w)
+    go true e = Some (inr (λ n h. false≢true (sym (ap not e) ∙ h.0)))
+    go false e = and_then (name_after o earlier w) (λ n. Some (inl n))
+
+abbrev owner_told : (o : DomainName) (earlier : List Entry) → Known (OwnerBefore o earlier)
+owner_told o [] = Some (inr (λ n h. h))
+owner_told o (e ∷ earlier) = and_then (owner_before o (e ∷ earlier)) (λ n. Some (inl n))
+
+abbrev directive_by : (o : DomainName) (earlier : List Entry) (name : Octets) (ws : List Word)
+    → Found (DirectiveGives o earlier name ws)
+directive_by o earlier name ws =
+    go (octets_equal name (codes "$origin")) (octets_equal name (codes "$ttl"))
+  where
+    go : (a b : Bool) → Found (λ given.
+        MatchBool a (DirectiveSays (λ n w. NameIs o earlier w n) ws given)
+        (MatchBool b (DirectiveSays (λ n w. TtlSays w n) ws given)
+        (given ≡ faulty unknown_directive)))
+    go true b = directive_in (λ n w. NameIs o earlier w n) (name_told o earlier) ws
+    go false true = directive_in (λ n w. TtlSays w n) (λ w. Some (ttl_of w)) ws
+    go false false = Some (faulty unknown_directive, refl)
+
+-- what an entry gives
+abbrev kind_in : (o : DomainName) (earlier : List Entry) (k : EntryKind)
+    → Found (KindGives o earlier k)
+kind_in o earlier no_words = Some (gives [], refl)
+kind_in o earlier (directive name ws) = directive_by o earlier name ws
+kind_in o earlier (owned w ws) =
+    record_in o earlier bad_owner (NameIs o earlier w) (fields ws) (name_told o earlier w)
+kind_in o earlier (unowned ws) =
+    record_in o earlier no_owner (OwnerBefore o earlier) (fields ws) (owner_told o earlier)
+
+abbrev entry_gives : (o : DomainName) (earlier : List Entry) (e : Entry)
+    → Found (EntryGives o earlier e)
+entry_gives o earlier e = go (lexical_fault e)
+  where
+    go : (fault : Option FileFault)
+        → Found (λ given. MatchOption fault (KindGives o earlier (kind_of e) given)
+        (λ f. given ≡ faulty f))
+    go None = kind_in o earlier (kind_of e)
+    go (Some f) = Some (faulty f, refl)
+
+abbrev entry_then : (o : DomainName) (earlier : List Entry) (e : Entry) (es : List Entry)
+    → Found (EntriesMean o (e ∷ earlier) es) → (given : EntryMeaning) → EntryGives o earlier e given
+    → Found (EntriesMean o earlier (e ∷ es))
+entry_then o earlier e es more (faulty f) h =
+    Some (fault_at f (line_after earlier), (faulty f, h, refl))
+entry_then o earlier e es more (gives rs) h =
+    and_then more (λ m. Some (after rs m.0, (gives rs, h, (m.0, m.1, refl))))
+
+abbrev entries_in : (o : DomainName) (earlier es : List Entry) → Found (EntriesMean o earlier es)
+entries_in o earlier [] = Some (records [], refl)
+entries_in o earlier (e ∷ es) = and_then (entry_gives o earlier e)
+    (λ g. entry_then o earlier e es (entries_in o (e ∷ earlier) es) g.0 g.1)
+
+-- what a text means
+abbrev text_in : (text : Octets) → Found (Means example text)
+text_in text = and_then (same (take most_octets text) text) (λ all.
+    go (nat_lt most_octets (length text)) (token_front (tokens_in 99 text).1) refl refl all)
+  where
+    go : (long : Bool) (front : Option _) → nat_lt most_octets (length text) ≡ long
+        → token_front (tokens_in 99 text).1 ≡ front → take most_octets text ≡ text
+        → Found (Means example text)
+    go false None within at_end all = and_then (entries_in example [] (entries_of text))
+        (λ m. Some (m.0, means text m.0 all within at_end m.1))
+    go long front within at_end all = None
+
+-- what is found is v
+pub found_is : {A : Type 0} {P : A → Type 0} (o : Found P) (v : A)
+    → option_map (λ (f : (w : A) × P w). f.0) o ≡ Some v → P v
+found_is None v e = absurd (none-some v e)
+found_is {A} {P} (Some f) v e = subst P (same_Some f.0 v e) f.1
+
+-- of each row the second holds of the first
+pub Rows : {A B : Type 0} → (A → B → Type 0) → List (A × B) → Type 0
+Rows P [] = Unit {0}
+Rows P (r ∷ rows) = P r.0 r.1 × Rows P rows
+
+-- what a reading finds
+abbrev pub value_of : {A : Type 0} {P : A → Type 0} → Found P → Option A
+value_of {A} {P} o = option_map (λ (f : (v : A) × P v). f.0) o
+
+-- a reading that finds the second of each row
+pub are_found : {A B : Type 0} (P : A → B → Type 0) (read : (a : A) → Found (P a))
+    (rows : List (A × B)) → map (λ (r : A × B). value_of (read r.0)) rows
+    ≡ map (λ (r : A × B). Some r.1) rows → Rows P rows
+unfolding Rows
+are_found P read [] e = tt
+are_found {A} {B} P read (r ∷ rows) e =
+    (found_is (read r.0) r.1 (head e), are_found P read rows (ap (drop 1) e))
+  where
+    head : value_of (read r.0) ∷ map (λ (s : A × B). value_of (read s.0)) rows
+        ≡ Some r.1 ∷ map (λ (s : A × B). Some s.1) rows → value_of (read r.0) ≡ Some r.1
+    head e = cc
+
+-- each text means what stands beside it
+abbrev pub Mean : List (Octets × Meaning) → Type 0
+Mean = Rows (Means example)
+
+pub are_read : (rows : List (Octets × Meaning))
+    → map (λ (r : Octets × Meaning). value_of (text_in r.0)) rows
+    ≡ map (λ (r : Octets × Meaning). Some r.1) rows
+    → Mean rows
+are_read = are_found (Means example) text_in
+
+pub reads : (text : Octets) (m : Meaning) → value_of (text_in text) ≡ Some m → Means example text m
+reads text m e = found_is (text_in text) m e
+
+-- of each type these words say this data, relative to `example.`
+abbrev pub SaysOf : ℕ × List Word → Octets → Type 0
+SaysOf said d = Says said.0 said.1 example d
+
+pub are_said : (rows : List ((ℕ × List Word) × Octets))
+    → map (λ (r : (ℕ × List Word) × Octets). value_of (data_in r.0.0 r.0.1 example)) rows
+    ≡ map (λ (r : (ℕ × List Word) × Octets). Some r.1) rows → Rows SaysOf rows
+are_said = are_found SaysOf (λ said. data_in said.0 said.1 example)
