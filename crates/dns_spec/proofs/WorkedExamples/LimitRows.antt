@@ -1,79 +1,43 @@
 -- Texts past a limit: with an octet too many, and with a record too many.
-use Rattle.std.proofs.Common.{◌≡◌, ℕ, zero, suc, ◌+◌, ◌*◌, ◌<◌, ◌≤◌, inl, Bool, true, false, List, [], ◌∷◌, ◌++◌, Option, None, Some, refl, sym, ◌∙◌, ap, subst, codes, length, nat_le, nat_lt, take, drop, arith, lit≤, length-append, le-ltb}
+use Rattle.std.proofs.Common.{◌≡◌, ℕ, zero, suc, ◌+◌, ◌*◌, ◌<◌, ◌≤◌, inl, true, false, List, [], ◌∷◌, ◌++◌, Option, None, Some, refl, sym, ◌∙◌, ap, subst, codes, length, nat_le, nat_lt, take, drop, arith, lit≤, length-append, le-ltb}
 use Rattle.std.specs.Prelude.{MatchOption}
 use Rattle.std.proofs.Math.Seq.{take-append_seam, drop-append_seam}
 use Rattle.std.specs.List.{list_all, prefix_len, filter}
-use Rattle.std.proofs.lemmas.Bool.{and_parts, and_from, lt-ltb, le-leb, lt-leb, ltb-true}
-use Rattle.std.proofs.lemmas.List.{append_assoc, take_all, length-take, drop_all}
+use Rattle.std.proofs.lemmas.Bool.{and_parts, lt-ltb, ltb-true, le-leb, lt-leb}
+use Rattle.std.proofs.lemmas.List.{append_assoc, take_all}
 use Rattle.dns_spec.specs.Names.{Octets}
+use Rattle.dns_spec.specs.NameText.{SpellsName}
 use Rattle.dns_spec.specs.ZoneText.{Token, blank, word, line_end, most_octets, is_blank, token_front, TokensThen, run_length, Entry, ended, cut_entries, with_end, whole_text, beginning, extent_by, stop_fault, stop_at}
 use Rattle.dns_spec.specs.FileFaults.{bad_escape, bad_octet, bad_owner, too_long, too_many_records, FileFault}
-use Rattle.dns_spec.specs.Meaning.{Fields, no_words, KindGives, faulty, gives, fault_at, most_records, OriginIs, NameIs, IsRecord, is_record, line_after, fields, EntryGives, EntriesMean, Means}
+use Rattle.dns_spec.specs.Meaning.{no_words, KindGives, faulty, gives, fault_at, most_records, OriginIs, NameIs, IsRecord, is_record, line_after, Fields, fields, EntryGives, EntriesMean, Means}
 use Rattle.dns_spec.specs.Data.{cut, type_txt}
 use Rattle.dns_spec.specs.DataText.{Word}
 use Rattle.dns_spec.specs.Records.{ResourceRecord}
 use Rattle.std.specs.Fmt.{digits}
 use mathlib.Core.Bool.{xor}
-use Rattle.dns_spec.proofs.WorkedExamples.ReadTexts.{tokens_in, tokens_spelled, record_given, record_but_count, given_then}
+use Rattle.dns_spec.proofs.WorkedExamples.ReadTexts.{record_given, record_but_count, given_then}
 use Rattle.dns_spec.proofs.WorkedExamples.Readings.{data_in, found_is}
 use Rattle.dns_spec.proofs.WorkedExamples.Zones.{example}
 
--- blanks alone are one token
-all_taken : (p : ℕ → Bool) (k : ℕ) (text : Octets) → list_all p text ≡ true → list_all p (take k text) ≡ true
-all_taken p zero text h = refl
-all_taken p (suc k) [] h = refl
-all_taken p (suc k) (o ∷ text) h = let parts = and_parts (p o) _ h in and_from _ _ parts.0 (all_taken p k text parts.1)
-
-all_before : (p : ℕ → Bool) (text : Octets) → list_all p text ≡ true → prefix_len p text ≡ length text
-all_before p [] h = refl
-all_before p (o ∷ text) h = let parts = and_parts (p o) _ h in rw parts.0 (omega (arith, all_before p text parts.1))
-
-blanks_front : (text : Octets) → 0 < length text → list_all is_blank text ≡ true → token_front text ≡ Some (blank, [])
-blanks_front [] some h = absurd (omega (arith, some))
-blanks_front (o ∷ text) some h =
-    let parts = and_parts (is_blank o) _ h in
-    rw parts.0 (ap (λ k. Some (blank, drop k text)) (all_before is_blank text parts.1) ∙ ap (λ rest. Some (blank, rest)) (drop_all (length text) text (omega arith)))
-
--- octet 16,777,217, where nothing else is at fault
-past_limit : (text : Octets) → most_octets < length text → list_all is_blank text ≡ true → Means example text (fault_at too_long 1)
-past_limit text long blanks = (
-  with_end beginning [] (cut_entries false (blank ∷ [])),
-  record {
-    tokens = blank ∷ [];
-    rest = [];
-    spelled = ([], blanks_front (take most_octets text) some (all_taken is_blank most_octets text blanks), refl);
-    at_end = refl;
-    entries = ap (λ b. with_end (extent_by b) [] (cut_entries false (blank ∷ []))) (sym (lt-ltb most_octets (length text) long));
-  },
-  (faulty too_long, refl, refl),
-)
-  where
-    some : 0 < length (take most_octets text)
-    some = omega (arith, length-take most_octets text, long)
-
--- Copies of one line, which states a record, up to one too many. The number of lines is a variable, so that nothing
--- computes them all.
-abbrev line : Octets
-line = codes "@ 7 TXT a\n"
-
+-- Copies of one line, which states a record, up to one too many. The number of lines is a variable,
+-- so that nothing computes them all.
 abbrev line_tokens : List Token
-line_tokens = word (codes "@") ∷ blank ∷ word (codes "7") ∷ blank ∷ word (codes "TXT") ∷ blank ∷ word (codes "a") ∷ line_end ∷ []
+line_tokens =
+    word (codes "@") ∷ blank ∷ word (codes "7") ∷ blank ∷ word (codes "TXT") ∷ blank
+    ∷ word (codes "a")
+    ∷ line_end ∷ []
 
 abbrev line_entry : Entry
 line_entry = ended line_tokens
 
--- so many lines, their tokens, what their tokens are cut into, their entries, and these as they come before another
+-- so many lines, their tokens, their entries, and these as they come before another
 lines : ℕ → Octets
 lines zero = []
-lines (suc n) = line ++ lines n
+lines (suc n) = codes "@ 7 TXT a\n" ++ lines n
 
 tokens_of_lines : ℕ → List Token
 tokens_of_lines zero = []
 tokens_of_lines (suc n) = line_tokens ++ tokens_of_lines n
-
-cut_lines : ℕ → List (List Token)
-cut_lines zero = [] ∷ []
-cut_lines (suc n) = line_tokens ∷ cut_lines n
 
 entries_of_lines : ℕ → List Entry
 entries_of_lines zero = ended [] ∷ []
@@ -86,28 +50,19 @@ earlier (suc k) = line_entry ∷ earlier k
 length-lines : (n : ℕ) → length (lines n) ≡ 10 * n
 unfolding lines
 length-lines zero = refl
-length-lines (suc n) = omega (arith, length-append line (lines n), length-lines n)
-
-joined : (text middle rest : Octets) (ps qs : List Token) → TokensThen text ps middle → TokensThen middle qs rest → TokensThen text (ps ++ qs) rest
-joined text middle rest [] qs h k = subst (λ t. TokensThen t qs rest) (sym h) k
-joined text middle rest (p ∷ ps) qs (others, e, h) k = (others, e, joined others middle rest ps qs h k)
-
-line_spelled : (text : Octets) → TokensThen (line ++ text) line_tokens text
-unfolding tokens_in run_length
-line_spelled text = tokens_spelled 8 (line ++ text)
+length-lines (suc n) =
+    omega (arith, length-append (codes "@ 7 TXT a\n") (lines n), length-lines n)
 
 lines_spelled : (n : ℕ) → TokensThen (lines n) (tokens_of_lines n) []
-unfolding lines tokens_of_lines
+unfolding lines tokens_of_lines run_length
 lines_spelled zero = refl
-lines_spelled (suc n) = joined (line ++ lines n) (lines n) [] line_tokens (tokens_of_lines n) (line_spelled (lines n)) (lines_spelled n)
+lines_spelled (suc n) =
+    let more = lines_spelled n in
+    (_, refl, (_, refl, (_, refl, (_, refl, (_, refl, (_, refl, (_, refl, (_, refl, more))))))))
 
-lines_cut : (n : ℕ) → cut_entries false (tokens_of_lines n) ≡ cut_lines n
-unfolding tokens_of_lines cut_lines
-lines_cut zero = refl
-lines_cut (suc n) = ap (λ es. line_tokens ∷ es) (lines_cut n)
-
-lines_ended : (n : ℕ) → with_end whole_text [] (cut_lines n) ≡ entries_of_lines n
-unfolding cut_lines entries_of_lines
+lines_ended : (n : ℕ)
+    → with_end whole_text [] (cut_entries false (tokens_of_lines n)) ≡ entries_of_lines n
+unfolding tokens_of_lines entries_of_lines
 lines_ended zero = refl
 lines_ended (suc zero) = refl
 lines_ended (suc (suc n)) = ap (λ es. line_entry ∷ es) (lines_ended (suc n))
@@ -128,120 +83,106 @@ unfolding earlier
 lines_counted zero = refl
 lines_counted (suc k) = omega (arith, lines_counted k)
 
+-- what a line gives, which is a fault where it is one too many
 abbrev bare : Octets → Word
 bare cs = record { raw = cs; is_quoted = false }
 
 abbrev line_record : ResourceRecord
 line_record = record { owner = example; ttl = 7; rtype = type_txt; rdata = 1 ∷ codes "a" }
 
--- what a line gives, by whether it is one too many
 abbrev line_fields : Fields
 line_fields = fields (bare (codes "7") ∷ bare (codes "TXT") ∷ bare (codes "a") ∷ [])
 
-abbrev LineRecord : ℕ → ResourceRecord → Type 0
-LineRecord k = IsRecord example (earlier k) (NameIs example (earlier k) (bare (codes "@"))) line_fields
-
-is_line_record : (k : ℕ) → LineRecord k line_record
+is_line_record : (k : ℕ)
+    → IsRecord example (earlier k) (NameIs example (earlier k) (bare (codes "@"))) line_fields
+    line_record
 unfolding digits cut
-is_line_record k = record {
-  owner = (example, (refl, (example, origin_kept k, record { spelled = inl (refl, refl); is_name = refl })), refl);
-  ttl = (refl, refl, lit≤ tt);
-  rtype = (refl, inl refl, refl);
-  rdata = (
-    type_txt,
-    (refl, inl refl, refl),
-    (example, origin_kept k, found_is (data_in type_txt (bare (codes "a") ∷ []) example) _ refl),
-  );
-}
+is_line_record k =
+    let at : SpellsName example (codes "@") example =
+    record { spelled = inl (refl, refl); is_name = refl }
+    in
+    let said = found_is (data_in type_txt (bare (codes "a") ∷ []) example) line_record.rdata refl in
+    record {
+      owner = (example, (refl, (example, origin_kept k, at)), refl);
+      ttl = (refl, refl, lit≤ tt);
+      rtype = (refl, inl refl, refl);
+      rdata = (type_txt, (refl, inl refl, refl), (example, origin_kept k, said));
+    }
 
-line_given : (k : ℕ) → k < most_records → EntryGives example (earlier k) line_entry (gives (line_record ∷ []))
+line_given : (k : ℕ) → k < most_records
+    → EntryGives example (earlier k) line_entry (gives (line_record ∷ []))
 unfolding xor
 line_given k few =
     record_given example (earlier k) bad_owner _ line_fields line_record (is_line_record k) refl
     (ap (nat_le most_records) (records_counted k) ∙ lt-leb most_records k few)
 
-line_refused : (k : ℕ) → k ≡ most_records → EntryGives example (earlier k) line_entry (faulty too_many_records)
+line_refused : (k : ℕ) → k ≡ most_records
+    → EntryGives example (earlier k) line_entry (faulty too_many_records)
 unfolding xor
 line_refused k all =
-    record_but_count example (earlier k) bad_owner _ line_fields line_record (faulty too_many_records)
-    (is_line_record k) refl
-    (inl (ap (nat_le most_records) (records_counted k) ∙ le-leb most_records k (omega (arith, all)), refl))
+    let few = ap (nat_le most_records) (records_counted k) in
+    record_but_count example (earlier k) bad_owner _ line_fields line_record
+    (faulty too_many_records) (is_line_record k) refl
+    (inl (few ∙ le-leb most_records k (omega (arith, all)), refl))
 
-lines_mean : (n k : ℕ) → k + n ≡ most_records → EntriesMean example (earlier k) (entries_of_lines (suc n)) (fault_at too_many_records (suc most_records))
+lines_mean : (n k : ℕ) → k + n ≡ most_records
+    → EntriesMean example (earlier k) (entries_of_lines (suc n))
+    (fault_at too_many_records (suc most_records))
 unfolding entries_of_lines earlier
 lines_mean zero k e =
     let all : k ≡ most_records = omega (arith, e) in
-    (faulty too_many_records, line_refused k all, ap (λ l. fault_at too_many_records l) (sym (lines_counted k ∙ ap suc all)))
+    let line = sym (lines_counted k ∙ ap suc all) in
+    (faulty too_many_records, line_refused k all, ap (λ l. fault_at too_many_records l) line)
 lines_mean (suc n) k e =
     given_then example (earlier k) line_entry (entries_of_lines (suc n)) (line_record ∷ []) _
     (line_given k (omega (arith, e))) (lines_mean n (suc k) (omega (arith, e)))
 
 -- so many lines of records, and one more
-many_lines : (n : ℕ) → n ≡ most_records → Means example (lines (suc n)) (fault_at too_many_records (suc most_records))
+many_lines : (n : ℕ) → n ≡ most_records
+    → Means example (lines (suc n)) (fault_at too_many_records (suc most_records))
 unfolding earlier
-many_lines n all = (
-  entries_of_lines (suc n),
-  record {
-    tokens = tokens_of_lines (suc n);
-    rest = [];
-    spelled = subst (λ t. TokensThen t (tokens_of_lines (suc n)) []) (sym (take_all most_octets (lines (suc n)) within)) (lines_spelled (suc n));
-    at_end = refl;
-    entries =
-        sym (lines_ended (suc n)) ∙ ap (with_end whole_text []) (sym (lines_cut (suc n)))
-        ∙ ap (λ b. with_end (extent_by b) [] (cut_entries false (tokens_of_lines (suc n)))) (sym (le-ltb most_octets (length (lines (suc n))) within));
-  },
-  lines_mean n 0 (omega (arith, all)),
-)
-  where
-    within : length (lines (suc n)) ≤ most_octets
-    within = omega (arith, length-lines (suc n), all)
+many_lines n all =
+    let within : length (lines (suc n)) ≤ most_octets =
+    omega (arith, length-lines (suc n), all)
+    in
+    let es = cut_entries false (tokens_of_lines (suc n)) in (
+      entries_of_lines (suc n),
+      record {
+        tokens = tokens_of_lines (suc n);
+        rest = [];
+        spelled = subst (λ t. TokensThen t (tokens_of_lines (suc n)) [])
+            (sym (take_all most_octets (lines (suc n)) within)) (lines_spelled (suc n));
+        at_end = refl;
+        entries = sym (lines_ended (suc n))
+            ∙ ap (λ b. with_end (extent_by b) [] es)
+            (sym (le-ltb most_octets (length (lines (suc n))) within));
+      },
+      lines_mean n 0 (omega (arith, all)),
+    )
 
 -- record 100,001
 one_record_too_many : Means example (lines 100001) (fault_at too_many_records 100001)
 one_record_too_many = many_lines 100000 refl
 
 -- blanks, and then a text that begins with none
-blanks_then : (text rest : Octets) → 0 < length text → list_all is_blank text ≡ true → prefix_len is_blank rest ≡ 0 → token_front (text ++ rest) ≡ Some (blank, rest)
+blanks_before : (text rest : Octets) → list_all is_blank text ≡ true → prefix_len is_blank rest ≡ 0
+    → prefix_len is_blank (text ++ rest) ≡ length text
+blanks_before [] rest h none = none
+blanks_before (o ∷ text) rest h none =
+    let parts = and_parts (is_blank o) _ h in
+    rw parts.0 (omega (arith, blanks_before text rest parts.1 none))
+
+blanks_then : (text rest : Octets) → 0 < length text → list_all is_blank text ≡ true
+    → prefix_len is_blank rest ≡ 0 → token_front (text ++ rest) ≡ Some (blank, rest)
 blanks_then [] rest some h none = absurd (omega (arith, some))
 blanks_then (o ∷ text) rest some h none =
     let parts = and_parts (is_blank o) _ h in
-    rw parts.0 (ap (λ k. Some (blank, drop k (text ++ rest))) (before_rest text parts.1) ∙ ap (λ r. Some (blank, r)) (drop-append_seam text rest))
-  where
-    before_rest : (xs : Octets) → list_all is_blank xs ≡ true → prefix_len is_blank (xs ++ rest) ≡ length xs
-    before_rest [] h = none
-    before_rest (x ∷ xs) h = let parts = and_parts (is_blank x) _ h in rw parts.0 (omega (arith, before_rest xs parts.1))
+    rw parts.0
+    (ap (λ k. Some (blank, drop k (text ++ rest))) (blanks_before text rest parts.1 none)
+    ∙ ap (λ r. Some (blank, r)) (drop-append_seam text rest))
 
--- The octets at the limit stand after blanks. Where no token begins with them, they decide the fault.
-cut_at_limit : (text ends more : Octets) (code : FileFault) → length text + length ends ≡ most_octets → 0 < length text → 0 < length more → list_all is_blank text ≡ true
-    → prefix_len is_blank ends ≡ 0 → token_front ends ≡ None → stop_fault beginning false (stop_at ends) ≡ Some code → Means example (text ++ (ends ++ more)) (fault_at code 1)
-cut_at_limit text ends more code full some goes_on blanks none at_end reports = (
-  with_end beginning ends (cut_entries false (blank ∷ [])),
-  record {
-    tokens = blank ∷ [];
-    rest = ends;
-    spelled = subst (λ t. TokensThen t (blank ∷ []) ends) (sym taken) (ends, blanks_then text ends some blanks none, refl);
-    at_end = at_end;
-    entries = ap (λ b. with_end (extent_by b) ends (cut_entries false (blank ∷ []))) (sym (lt-ltb most_octets _ long));
-  },
-  (faulty code, reported (stop_fault beginning false (stop_at ends)) reports, refl),
-)
-  where
-    whole : text ++ (ends ++ more) ≡ (text ++ ends) ++ more
-    whole = sym (append_assoc text ends more)
-
-    taken : take most_octets (text ++ (ends ++ more)) ≡ text ++ ends
-    taken =
-        ap (take most_octets) whole ∙ ap (λ k. take k ((text ++ ends) ++ more)) (sym full ∙ sym (length-append text ends))
-        ∙ take-append_seam (text ++ ends) more
-
-    long : most_octets < length (text ++ (ends ++ more))
-    long = omega (arith, ap length whole, length-append (text ++ ends) more, length-append text ends, full, goes_on)
-
-    reported : (o : Option FileFault) → o ≡ Some code → MatchOption o (KindGives example [] no_words (faulty code)) (λ c. faulty code ≡ faulty c)
-    reported None e = cc
-    reported (Some c) e = cc
-
--- so many blanks up to the limit and these octets there, with more after them
+-- Blanks up to the limit and these octets there, and more after them: where no token begins with
+-- the octets, they decide the fault.
 AtLimit : Octets → FileFault → Type 0
 AtLimit ends code = (text more : Octets) → length text + length ends ≡ most_octets → 0 < length more
     → list_all is_blank text ≡ true → Means example (text ++ (ends ++ more)) (fault_at code 1)
@@ -251,12 +192,52 @@ at_limit : (ends : Octets) (code : FileFault) → nat_lt (length ends) most_octe
     → stop_fault beginning false (stop_at ends) ≡ Some code → AtLimit ends code
 unfolding AtLimit
 at_limit ends code few none at_end reports text more full goes_on blanks =
-    cut_at_limit text ends more code full
-    (omega (arith, full, ltb-true (length ends) most_octets few)) goes_on blanks none at_end reports
+    let es = cut_entries false (blank ∷ []) in (
+      with_end beginning ends es,
+      record {
+        tokens = blank ∷ [];
+        rest = ends;
+        spelled = subst (λ t. TokensThen t (blank ∷ []) ends) (sym taken)
+            (ends, blanks_then text ends some blanks none, refl);
+        at_end = at_end;
+        entries = ap (λ b. with_end (extent_by b) ends es) (sym (lt-ltb most_octets _ long));
+      },
+      (faulty code, reported (stop_fault beginning false (stop_at ends)) reports, refl),
+    )
+  where
+    some : 0 < length text
+    some = omega (arith, full, ltb-true (length ends) most_octets few)
+
+    whole : text ++ (ends ++ more) ≡ (text ++ ends) ++ more
+    whole = sym (append_assoc text ends more)
+
+    taken : take most_octets (text ++ (ends ++ more)) ≡ text ++ ends
+    taken =
+        ap (take most_octets) whole
+        ∙ ap (λ k. take k ((text ++ ends) ++ more)) (sym full ∙ sym (length-append text ends))
+        ∙ take-append_seam (text ++ ends) more
+
+    long : most_octets < length (text ++ (ends ++ more))
+    long =
+        omega (
+          arith,
+          ap length whole,
+          length-append (text ++ ends) more,
+          length-append text ends,
+          full,
+          goes_on,
+        )
+
+    reported : (o : Option FileFault) → o ≡ Some code
+        → MatchOption o (KindGives example [] no_words (faulty code)) (λ c. faulty code ≡ faulty c)
+    reported None e = cc
+    reported (Some c) e = cc
 
 limit_rows :
+    -- octet 16,777,217, where nothing else is at fault
+    AtLimit [] too_long
     -- an escape that the next octets might end, and one that they can't
-    AtLimit (codes "\\3") too_long
+    × AtLimit (codes "\\3") too_long
     × AtLimit (codes "\\1x") bad_escape
     × AtLimit (codes "\r") too_long
     -- an octet that isn't allowed, before the limit
@@ -265,6 +246,7 @@ limit_rows :
     × AtLimit (codes "\"a") too_long
 unfolding run_length
 limit_rows = (
+  at_limit _ _ refl refl refl refl,
   at_limit _ _ refl refl refl refl,
   at_limit _ _ refl refl refl refl,
   at_limit _ _ refl refl refl refl,

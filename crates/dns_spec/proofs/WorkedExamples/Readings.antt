@@ -33,20 +33,50 @@ abbrev and_then : {A B : Type 0} → Option A → (A → Option B) → Option B
 and_then None f = None
 and_then (Some a) f = f a
 
+-- what is found by whether there is a value, and by a test
+abbrev matched : {A B : Type 0} {P : B → Type 0} {Q : A → B → Type 0} (o : Option A) → Found P
+    → ((a : A) → Found (Q a)) → Found (λ v. MatchOption o (P v) (λ a. Q a v))
+matched None first second = first
+matched (Some a) first second = second a
+
+abbrev chosen : {B : Type 0} {P Q : B → Type 0} (b : Bool) → Found P → Found Q
+    → Found (λ v. MatchBool b (P v) (Q v))
+chosen true one other = one
+chosen false one other = other
+
 -- a test that comes out true
 abbrev holds : (b : Bool) → Option (b ≡ true)
 holds true = Some refl
 holds false = None
 
-abbrev tells : (a b : ℕ) → (a ≡ b) ⊎ (a ≢ b)
-tells a b = go (a == b) refl
-  where
-    go : (t : Bool) → (a == b) ≡ t → (a ≡ b) ⊎ (a ≢ b)
-    go true e = inl (eqb-true a b e)
-    go false e = inr (eqb-false a b e)
+abbrev fails : (b : Bool) → Option (b ≡ false)
+fails true = None
+fails false = Some refl
+
+-- a value, or that there is none
+abbrev there : {A : Type 0} (o : Option A) → Found (λ (v : A). o ≡ Some v)
+there None = None
+there (Some v) = Some (v, refl)
+
+abbrev missing : {A : Type 0} (o : Option A) → Option (o ≡ None)
+missing None = Some refl
+missing (Some v) = None
+
+-- what a test tells
+abbrev by_test : {P Q : Type 0} (b : Bool) → (b ≡ true → P) → (b ≡ false → Q) → P ⊎ Q
+by_test true f g = inl (f refl)
+by_test false f g = inr (g refl)
+
+abbrev is_or_not : (a b : ℕ) → (a ≡ b) ⊎ (a ≢ b)
+is_or_not a b = by_test (a == b) (eqb-true a b) (eqb-false a b)
+
+abbrev same_or_not : (xs ys : Octets) → (xs ≡ ys) ⊎ (xs ≢ ys)
+same_or_not xs ys =
+    let are = octets_equal-decides xs ys in
+    by_test (octets_equal xs ys) are.0 (λ e h. false≢true (sym e ∙ are.1 h))
 
 abbrev same : (xs ys : Octets) → Option (xs ≡ ys)
-same xs ys = and_then (holds (octets_equal xs ys)) (λ h. Some ((octets_equal-decides xs ys).0 h))
+same xs ys = elim (same_or_not xs ys) [ inl e ↦ Some e | inr apart ↦ None ]
 
 -- the octet that a text begins with, by itself or escaped, and the text after it
 abbrev Begins : Octets → ℕ × Octets → Type 0
@@ -60,17 +90,13 @@ escaped c cs u slash e =
 
 abbrev octet_in : (text : Octets) → Found (Begins text)
 octet_in [] = None
-octet_in (c ∷ cs) = elim (tells c 92) [
-  | inl slash ↦ go (escape_front cs) refl slash
-  | inr no_slash ↦ elim (tells c 46) [
+octet_in (c ∷ cs) = elim (is_or_not c 92) [
+  | inl slash ↦ and_then (there (escape_front cs)) (λ u. Some (u.0, escaped c cs u.0 slash u.1))
+  | inr no_slash ↦ elim (is_or_not c 46) [
     | inl dot ↦ None
     | inr no_dot ↦ Some ((c, cs), (c ∷ [], refl, (refl, no_dot, no_slash)))
   ]
 ]
-  where
-    go : (o : Option (ℕ × Octets)) → escape_front cs ≡ o → c ≡ 92 → Found (Begins (c ∷ cs))
-    go None e slash = None
-    go (Some u) e slash = Some (u, escaped c cs u slash e)
 
 -- The first label of a text of at most k octets, and the labels after it.
 abbrev FirstLabel : DomainName → Octets → Octets × DomainName → Type 0
@@ -92,7 +118,7 @@ no_more o = inl (refl, refl)
 abbrev labels_in : ℕ → (o : DomainName) (text : Octets) → Found (FirstLabel o text)
 labels_in k o [] = Some (([], o), no_more o)
 labels_in zero o (c ∷ cs) = None
-labels_in (suc k) o (c ∷ cs) = elim (tells c 46) [
+labels_in (suc k) o (c ∷ cs) = elim (is_or_not c 46) [
   | inl dot ↦ and_then (labels_in k o cs)
       (λ r. Some (([], r.0.0 ∷ r.0.1), dot_first o c cs r.0 dot r.1))
   | inr no_dot ↦ and_then (octet_in (c ∷ cs)) (λ u. and_then (labels_in k o u.0.1)
@@ -101,33 +127,16 @@ labels_in (suc k) o (c ∷ cs) = elim (tells c 46) [
 
 -- a word that spells a name
 abbrev name_in : (o : DomainName) (text : Octets) → Found (SpellsName o text)
-name_in o text = go (octets_equal text (codes "@")) (octets_equal text []) refl refl
-  where
-    equal : (v : Octets) → text ≡ v → octets_equal text v ≡ true
-    equal v = (octets_equal-decides text v).1
-
-    go : (at none : Bool) → octets_equal text (codes "@") ≡ at → octets_equal text [] ≡ none
-        → Found (SpellsName o text)
-    go true none e f = and_then (holds (is_name o)) (λ h. Some (
-      o,
-      record {
-        spelled = inl ((octets_equal-decides text (codes "@")).0 e, refl);
-        is_name = h;
-      },
-    ))
-    go false true e f = None
-    go false false e f = and_then (labels_in (length text) o text)
-        (λ r. and_then (holds (is_name (r.0.0 ∷ r.0.1))) (λ h. Some (
-          r.0.0 ∷ r.0.1,
-          record {
-            spelled = inr (inr (
-              λ is. false≢true (sym e ∙ equal (codes "@") is),
-              λ is. false≢true (sym f ∙ equal [] is),
-              r.1,
-            ));
-            is_name = h;
-          },
-        )))
+name_in o text = elim (same_or_not text (codes "@")) [
+  | inl at ↦ and_then (holds (is_name o))
+      (λ h. Some (o, record { spelled = inl (at, refl); is_name = h }))
+  | inr not_at ↦ elim (same_or_not text []) [
+    | inl none ↦ None
+    | inr some ↦ and_then (labels_in (length text) o text) (λ r.
+        and_then (holds (is_name (r.0.0 ∷ r.0.1))) (λ h.
+        Some (r.0.0 ∷ r.0.1, record { spelled = inr (inr (not_at, some, r.1)); is_name = h })))
+  ]
+]
 
 -- a word that states a TTL, or none
 is_number : (n : ℕ) (raw : Octets) → n < 2 ^ 64 → raw ≡ decimal n → digits_value 10 raw ≡ n
@@ -149,18 +158,16 @@ ttl_tested w n (bare, is, few) =
     (le-leb n most_ttl few))
 
 abbrev ttl_of : (w : Word) → ((n : ℕ) × TtlSays w n) ⊎ Nothing (TtlSays w)
-ttl_of w = go (says_ttl w (digits_value 10 w.raw)) refl
-  where
-    go : (t : Bool) → says_ttl w (digits_value 10 w.raw) ≡ t
-        → ((n : ℕ) × TtlSays w n) ⊎ Nothing (TtlSays w)
-    go true e = inl (digits_value 10 w.raw, ttl_said w _ e)
-    go false e = inr (λ n h. false≢true (sym e ∙ ttl_tested w n h))
+ttl_of w =
+    let n = digits_value 10 w.raw in
+    by_test (says_ttl w n) (λ e. (n, ttl_said w n e))
+    (λ e k h. false≢true (sym e ∙ ttl_tested w k h))
 
 -- a string
 abbrev string_in : ℕ → (text : Octets) → Found (SpellsString text)
 string_in k [] = Some ([], refl)
 string_in zero (c ∷ cs) = None
-string_in (suc k) (c ∷ cs) = elim (tells c 46) [
+string_in (suc k) (c ∷ cs) = elim (is_or_not c 46) [
   | inl dot ↦ and_then (string_in k cs)
       (λ s. Some (46 ∷ s.0, (c ∷ [], cs, refl, inr (ap (λ x. x ∷ []) dot, refl), s.1)))
   | inr no_dot ↦ and_then (octet_in (c ∷ cs)) (λ u. and_then (string_in k u.0.1)
@@ -180,10 +187,6 @@ ipv4_in text =
     and_then (holds (length d == 4)) (λ four.
     and_then (holds (list_all (λ x. nat_lt x 256) d)) (λ small. and_then (same text (ipv4_text d))
     (λ e. Some (d, record { four = eqb-true (length d) 4 four; octets = small; spelled = e }))))
-
-abbrev there : {A : Type 0} (o : Option A) → Found (λ (v : A). o ≡ Some v)
-there None = None
-there (Some v) = Some (v, refl)
 
 abbrev form_in : (f : WordForm) (o : DomainName) (text : Octets) → Found (SaysForm f o text)
 form_in (number_word k) o text = number_in k text
@@ -205,11 +208,7 @@ forms_in_words (f ∷ fs) o (w ∷ ws) =
     (λ e. Some (d.0 ++ e.0, (d.0, e.0, refl, record { quotes = q; said = d.1 }, e.1)))))
 
 abbrev typed_in : (t : ℕ) (o : DomainName) (ws : List Word) → Found (SaysTyped t o ws)
-typed_in t o ws = go (forms_of t (length ws))
-  where
-    go : (fs : Option (List WordForm)) → Found (λ d. MatchOption fs ⊥ (λ f. SaysForms f o ws d))
-    go None = None
-    go (Some fs) = forms_in_words fs o ws
+typed_in t o ws = matched (forms_of t (length ws)) None (λ fs. forms_in_words fs o ws)
 
 abbrev unknown_in : (ws : List Word) → Found (SaysUnknown ws)
 unknown_in [] = None
@@ -220,11 +219,7 @@ unknown_in (w ∷ ws) =
 
 abbrev spelled_in : (t : ℕ) (o : DomainName) (ws : List Word) → Found (SaysAsSpelled t o ws)
 spelled_in t o [] = typed_in t o []
-spelled_in t o (w ∷ ws) = go (is_unknown_mark w)
-  where
-    go : (b : Bool) → Found (λ d. MatchBool b (SaysUnknown ws d) (SaysTyped t o (w ∷ ws) d))
-    go true = unknown_in ws
-    go false = typed_in t o (w ∷ ws)
+spelled_in t o (w ∷ ws) = chosen (is_unknown_mark w) (unknown_in ws) (typed_in t o (w ∷ ws))
 
 abbrev pub data_in : (t : ℕ) (ws : List Word) (o : DomainName) → Found (Says t ws o)
 data_in t ws o = and_then (spelled_in t o ws) (λ d. and_then (holds (valid t d.0))
@@ -237,14 +232,9 @@ data_in t ws o = and_then (spelled_in t o ws) (λ d. and_then (holds (valid t d.
 abbrev origin_after : (o : DomainName) (earlier : List Entry) → Found (OriginIs o earlier)
 origin_after o [] = Some (o, refl)
 origin_after o (e ∷ earlier) =
-    go (origin_after o earlier) (directive_word (codes "$origin") (kind_of e))
-  where
-    go : Found (OriginIs o earlier) → (w : Option Word)
-        → Found (λ n. MatchOption w (OriginIs o earlier n)
-        (λ v. (m : DomainName) × OriginIs o earlier m × SpellsName m v.raw n))
-    go before None = before
-    go before (Some w) = and_then before (λ m. and_then (name_in m.0 w.raw)
-        (λ n. Some (n.0, (m.0, m.1, n.1))))
+    matched (directive_word (codes "$origin") (kind_of e)) (origin_after o earlier)
+    (λ w. and_then (origin_after o earlier) (λ m. and_then (name_in m.0 w.raw)
+    (λ n. Some (n.0, (m.0, m.1, n.1)))))
 
 abbrev pub name_after : (o : DomainName) (earlier : List Entry) (w : Word)
     → Found (NameIs o earlier w)
@@ -254,32 +244,23 @@ name_after o earlier w = and_then (holds (not w.is_quoted)) (λ bare.
 
 abbrev owner_before : (o : DomainName) (earlier : List Entry) → Found (OwnerBefore o earlier)
 owner_before o [] = None
-owner_before o (e ∷ earlier) = go (owner_before o earlier) (owner_word (kind_of e))
-  where
-    go : Found (OwnerBefore o earlier) → (w : Option Word)
-        → Found (λ n. MatchOption w (OwnerBefore o earlier n)
-        (λ v. NameIs o earlier v n))
-    go before None = before
-    go before (Some w) = name_after o earlier w
+owner_before o (e ∷ earlier) =
+    matched (owner_word (kind_of e)) (owner_before o earlier) (λ w. name_after o earlier w)
 
 abbrev ttl_after : (earlier : List Entry) (stated : Option Word) → Found (TtlIs earlier stated)
-ttl_after earlier stated = go (ttl_in_force earlier stated)
-  where
-    go : (w : Option Word) → Found (λ n. MatchOption w ⊥ (λ v. TtlSays v n))
-    go None = None
-    go (Some w) = elim (ttl_of w) [ inl n ↦ Some n | inr none ↦ None ]
+ttl_after earlier stated = matched (ttl_in_force earlier stated) None
+    (λ w. elim (ttl_of w) [ inl n ↦ Some n | inr none ↦ None ])
 
 -- a type, or that the word names none
 abbrev names_type : (raw : Octets) → Found (NamesType raw)
-names_type raw = go (type_by_mnemonic raw) refl
-  where
-    go : (o : Option ℕ) → type_by_mnemonic raw ≡ o → Found (NamesType raw)
-    go (Some t) e = Some (t, inl e)
-    go None e =
-        let t = digits_value 10 (drop 4 raw) in
-        and_then (holds (nat_lt t 65536)) (λ small.
-        and_then (same (text_in_lower_case raw) (text_in_lower_case (numbered_type t)))
-        (λ is. Some (t, inr (ltb-true t 65536 small, is))))
+names_type raw = elim (there (type_by_mnemonic raw)) [
+  | Some t ↦ Some (t.0, inl t.1)
+  | None ↦
+      let t = digits_value 10 (drop 4 raw) in
+      and_then (holds (nat_lt t 65536)) (λ small.
+      and_then (same (text_in_lower_case raw) (text_in_lower_case (numbered_type t)))
+      (λ is. Some (t, inr (ltb-true t 65536 small, is))))
+]
 
 abbrev type_in : (ws : List Word) → Found (TypeIs ws)
 type_in [] = None
@@ -295,16 +276,12 @@ no_type_named raw t none front (inr (small, e)) =
 
 abbrev no_type_in : (ws : List Word) → Option (Nothing (TypeIs ws))
 no_type_in [] = Some (λ t h. h)
-no_type_in (w ∷ ws) = go w.is_quoted (type_by_mnemonic w.raw)
-    (octets_equal (take 4 (text_in_lower_case w.raw)) (codes "type")) refl refl refl
-  where
-    go : (q : Bool) (o : Option ℕ) (f : Bool) → w.is_quoted ≡ q → type_by_mnemonic w.raw ≡ o
-        → octets_equal (take 4 (text_in_lower_case w.raw)) (codes "type") ≡ f
-        → Option (Nothing (TypeIs (w ∷ ws)))
-    go true o f quoted e front = Some (λ t h. false≢true (sym (ap not quoted) ∙ h.0))
-    go false None false bare e front = Some (λ t h. no_type_named w.raw t e front h.1)
-    go false None true bare e front = None
-    go false (Some t) f bare e front = None
+no_type_in (w ∷ ws) = elim (by_test w.is_quoted (λ e. e) (λ e. e)) [
+  | inl quoted ↦ Some (λ t h. false≢true (sym (ap not quoted) ∙ h.0))
+  | inr bare ↦ and_then (missing (type_by_mnemonic w.raw)) (λ none.
+      and_then (fails (octets_equal (take 4 (text_in_lower_case w.raw)) (codes "type"))) (λ front.
+      Some (λ t h. no_type_named w.raw t none front h.1)))
+]
 
 abbrev data_after : (o : DomainName) (earlier : List Entry) (ws : List Word)
     → Found (DataIs o earlier ws)
@@ -319,8 +296,7 @@ abbrev Known : {A : Type 0} → (A → Type 0) → Type 0
 Known {A} P = Option (((v : A) × P v) ⊎ Nothing P)
 
 abbrev tested : (b : Bool) → Told (b ≡ true)
-tested true = Some (inl refl)
-tested false = Some (inr false≢true)
+tested b = Some (by_test b (λ e. e) (λ e h. false≢true (sym e ∙ h)))
 
 -- something is found, so it is not that there is nothing
 abbrev pub some : {A : Type 0} {P : A → Type 0} → (v : A) × P v → Nothing P → ⊥
@@ -390,11 +366,10 @@ directive_in P one (w ∷ []) = elim (one w) [
 
 -- a name, or that there is none since the word is quoted
 abbrev name_told : (o : DomainName) (earlier : List Entry) (w : Word) → Known (NameIs o earlier w)
-name_told o earlier w = go w.is_quoted refl
-  where
-    go : (q : Bool) → w.is_quoted ≡ q → Known (NameIs o earlier w)
-    go true e = Some (inr (λ n h. false≢true (sym (ap not e) ∙ h.0)))
-    go false e = and_then (name_after o earlier w) (λ n. Some (inl n))
+name_told o earlier w = elim (by_test w.is_quoted (λ e. e) (λ e. e)) [
+  | inl quoted ↦ Some (inr (λ n h. false≢true (sym (ap not quoted) ∙ h.0)))
+  | inr bare ↦ and_then (name_after o earlier w) (λ n. Some (inl n))
+]
 
 abbrev owner_told : (o : DomainName) (earlier : List Entry) → Known (OwnerBefore o earlier)
 owner_told o [] = Some (inr (λ n h. h))
@@ -403,15 +378,11 @@ owner_told o (e ∷ earlier) = and_then (owner_before o (e ∷ earlier)) (λ n. 
 abbrev directive_by : (o : DomainName) (earlier : List Entry) (name : Octets) (ws : List Word)
     → Found (DirectiveGives o earlier name ws)
 directive_by o earlier name ws =
-    go (octets_equal name (codes "$origin")) (octets_equal name (codes "$ttl"))
-  where
-    go : (a b : Bool) → Found (λ given.
-        MatchBool a (DirectiveSays (λ n w. NameIs o earlier w n) ws given)
-        (MatchBool b (DirectiveSays (λ n w. TtlSays w n) ws given)
-        (given ≡ faulty unknown_directive)))
-    go true b = directive_in (λ n w. NameIs o earlier w n) (name_told o earlier) ws
-    go false true = directive_in (λ n w. TtlSays w n) (λ w. Some (ttl_of w)) ws
-    go false false = Some (faulty unknown_directive, refl)
+    chosen (octets_equal name (codes "$origin"))
+    (directive_in (λ n w. NameIs o earlier w n) (name_told o earlier) ws)
+    (chosen (octets_equal name (codes "$ttl"))
+    (directive_in (λ n w. TtlSays w n) (λ w. Some (ttl_of w)) ws)
+    (Some (faulty unknown_directive, refl)))
 
 -- what an entry gives
 abbrev kind_in : (o : DomainName) (earlier : List Entry) (k : EntryKind)
@@ -425,13 +396,8 @@ kind_in o earlier (unowned ws) =
 
 abbrev entry_gives : (o : DomainName) (earlier : List Entry) (e : Entry)
     → Found (EntryGives o earlier e)
-entry_gives o earlier e = go (lexical_fault e)
-  where
-    go : (fault : Option FileFault)
-        → Found (λ given. MatchOption fault (KindGives o earlier (kind_of e) given)
-        (λ f. given ≡ faulty f))
-    go None = kind_in o earlier (kind_of e)
-    go (Some f) = Some (faulty f, refl)
+entry_gives o earlier e =
+    matched (lexical_fault e) (kind_in o earlier (kind_of e)) (λ f. Some (faulty f, refl))
 
 abbrev entry_then : (o : DomainName) (earlier : List Entry) (e : Entry) (es : List Entry)
     → Found (EntriesMean o (e ∷ earlier) es) → (given : EntryMeaning) → EntryGives o earlier e given
@@ -449,14 +415,10 @@ entries_in o earlier (e ∷ es) = and_then (entry_gives o earlier e)
 -- what a text means
 abbrev text_in : (text : Octets) → Found (Means example text)
 text_in text = and_then (same (take most_octets text) text) (λ all.
-    go (nat_lt most_octets (length text)) (token_front (tokens_in 99 text).1) refl refl all)
-  where
-    go : (long : Bool) (front : Option _) → nat_lt most_octets (length text) ≡ long
-        → token_front (tokens_in 99 text).1 ≡ front → take most_octets text ≡ text
-        → Found (Means example text)
-    go false None within at_end all = and_then (entries_in example [] (entries_of text))
-        (λ m. Some (m.0, means text m.0 all within at_end m.1))
-    go long front within at_end all = None
+    and_then (fails (nat_lt most_octets (length text))) (λ within.
+    and_then (missing (token_front (tokens_in 99 text).1)) (λ at_end.
+    and_then (entries_in example [] (entries_of text)) (λ m.
+    Some (m.0, means text m.0 all within at_end m.1)))))
 
 -- what is found is v
 pub found_is : {A : Type 0} {P : A → Type 0} (o : Found P) (v : A)
