@@ -15,7 +15,6 @@ pub mod MeaningRows
 pub mod MessageLineRows
 pub mod MessageRows
 pub mod NameRows
-pub mod ParenthesisRows
 pub mod PrintedRows
 pub mod QueryRows
 pub mod ReadingRows
@@ -23,9 +22,7 @@ pub mod ReportRows
 pub mod Rows
 pub mod SizeRows
 pub mod StreamRows
-pub mod TakenOverRows
 pub mod TextRows
 pub mod TokenRows
 pub mod TypeRows
 pub mod WordRows
-pub mod ZoneRows

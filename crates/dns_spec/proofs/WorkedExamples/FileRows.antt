@@ -1,4 +1,5 @@
--- A small file and its records.
+-- A small file and its records; and a whole zone, with the faults of texts that are its but for one
+-- line.
 use Rattle.std.proofs.Common.{ℕ, List, [], ◌∷◌, ◌++◌, refl, codes}
 use Rattle.std.specs.Fmt.{digits}
 use Rattle.dns_spec.specs.Names.{Octets, DomainName, wire, labels_from}
@@ -7,10 +8,11 @@ use Rattle.dns_spec.specs.DataText.{hex_octets}
 use Rattle.dns_spec.specs.AddressText.{ipv6_groups}
 use Rattle.dns_spec.specs.Records.{ResourceRecord}
 use Rattle.dns_spec.specs.ZoneText.{run_length}
-use Rattle.dns_spec.specs.Meaning.{records, Means}
-use Rattle.dns_spec.proofs.WorkedExamples.Zones.{hex, example, under, net_192, soa_of, strings_data}
+use Rattle.dns_spec.specs.Meaning.{records, fault_at, Means}
+use Rattle.dns_spec.specs.FileFaults.{bad_ttl, bad_type, no_ttl}
+use Rattle.dns_spec.proofs.WorkedExamples.Zones.{hex, example, under, net_192, soa_of, strings_data, small_records}
 use Rattle.dns_spec.proofs.WorkedExamples.ReadTexts.{tokens_in}
-use Rattle.dns_spec.proofs.WorkedExamples.Readings.{reads}
+use Rattle.dns_spec.proofs.WorkedExamples.Readings.{Mean, are_read, reads}
 use mathlib.Core.Bool.{xor}
 
 abbrev pub small_file : Octets
@@ -47,3 +49,41 @@ six_records =
 pub small_file_means : Means example small_file (records six_records)
 unfolding tokens_in run_length xor digits cut labels_from ipv6_groups hex_octets
 small_file_means = reads small_file (records six_records) refl
+
+-- the lines of the zone
+abbrev soa_and_server : Octets
+soa_and_server = codes "@ SOA ns hostmaster 1 7200 900 1209600 300\n" ++ codes "@ NS ns\n"
+
+abbrev first_three : Octets
+first_three = codes "$TTL 3600\n" ++ soa_and_server
+
+abbrev fourth : Octets
+fourth = codes "ns A 192.0.2.1\n"
+
+abbrev fifth_and_sixth : Octets
+fifth_and_sixth = codes "www A 192.0.2.10\n" ++ codes "alias CNAME www\n"
+
+abbrev seventh : Octets
+seventh = codes "*.w TXT \"any\"\n"
+
+abbrev last_three : Octets
+last_three =
+    codes "a.b.ent A 192.0.2.11\n" ++ codes "sub NS ns.sub\n" ++ codes "ns.sub A 192.0.2.53\n"
+
+zone_rows : Mean (
+    (first_three ++ fourth ++ fifth_and_sixth ++ seventh ++ last_three, records small_records)
+    -- a TTL with a unit
+    ∷ (
+      first_three ++ codes "ns 1h A 192.0.2.1\n" ++ fifth_and_sixth ++ seventh ++ last_three,
+      fault_at bad_ttl 4,
+    )
+    -- a word that names no type
+    ∷ (
+      first_three ++ fourth ++ fifth_and_sixth ++ codes "*.w TEXT \"any\"\n" ++ last_three,
+      fault_at bad_type 7,
+    )
+    -- without the line that states a TTL
+    ∷ (soa_and_server ++ fourth ++ fifth_and_sixth ++ seventh ++ last_three, fault_at no_ttl 1)
+    ∷ [])
+unfolding tokens_in run_length xor digits cut labels_from
+zone_rows = are_read _ refl

@@ -1,11 +1,13 @@
 -- What whole texts mean, in the worked cases.
-use Rattle.std.proofs.Common.{◌≡◌, ℕ, inr, inl, false, [], ◌∷◌, ◌++◌, refl, subst, codes, arith, lit<, lit≤}
+use Rattle.std.proofs.Common.{◌≡◌, ℕ, inr, inl, false, List, [], ◌∷◌, ◌++◌, refl, subst, codes, arith, lit<, lit≤}
 use Rattle.std.specs.Fmt.{digits}
 use Rattle.std.proofs.lemmas.Bool.{false≢true}
 use Rattle.std.proofs.lemmas.Fmt.{decimal_injective}
-use Rattle.dns_spec.specs.Names.{Octets, DomainName}
+use Rattle.dns_spec.specs.Names.{Octets, DomainName, labels_from}
 use Rattle.dns_spec.specs.AddressText.{SaysIpv4}
 use Rattle.dns_spec.specs.DataText.{Word, Says}
+use Rattle.dns_spec.specs.Data.{cut, type_txt}
+use Rattle.dns_spec.specs.Records.{ResourceRecord}
 use Rattle.dns_spec.specs.ZoneText.{run_length}
 use Rattle.dns_spec.specs.FileFaults.{bad_data, bad_escape, bad_octet, bad_owner, bad_parenthesis, bad_ttl, bad_type, directive_words, no_owner, no_ttl, other_class, unended_string, unknown_directive}
 use Rattle.dns_spec.specs.Meaning.{faulty, NameIs, DataIs, records, fault_at, Means}
@@ -13,8 +15,16 @@ use Rattle.dns_spec.proofs.DataWords.TypeWords.{one_type}
 use Rattle.dns_spec.proofs.DataWords.OneData.{four_numbers, number_then_dot}
 use Rattle.dns_spec.proofs.WorkedExamples.ReadTexts.{tokens_in, means}
 use Rattle.dns_spec.proofs.WorkedExamples.Readings.{Mean, are_read, name_after, found_is}
-use Rattle.dns_spec.proofs.WorkedExamples.Zones.{example, under}
+use Rattle.dns_spec.proofs.WorkedExamples.Zones.{example, under, strings_data}
 use mathlib.Core.Bool.{xor}
+
+-- a record of strings, and one of `a`
+abbrev txt : Octets → ℕ → List Octets → List ResourceRecord
+txt cs t ss =
+    record { owner = under cs; ttl = t; rtype = type_txt; rdata = strings_data ss } ∷ []
+
+abbrev a_at : Octets → ℕ → List ResourceRecord
+a_at cs t = txt cs t (codes "a" ∷ [])
 
 meaning_rows : Mean (
     -- no text
@@ -61,8 +71,30 @@ meaning_rows : Mean (
     ∷ (codes ") " ++ 0 ∷ [], fault_at bad_parenthesis 1)
     -- three digits past 255
     ∷ (codes "www 60 TXT \"a\\256\"", fault_at bad_escape 1)
+    -- A parenthesis in a string is an octet of it, and one in a comment is nothing; the entry goes
+    -- on after the line end.
+    ∷ (
+      codes "v 60 TXT ( \"a)\" ; )\n\"b\" )\n",
+      records (txt (codes "v") 60 (codes "a)" ∷ codes "b" ∷ [])),
+    )
+    -- a word ends at a parenthesis, without a blank between
+    ∷ (codes "v 60 TXT (a) b", records (txt (codes "v") 60 (codes "a" ∷ codes "b" ∷ [])))
+    -- one that is closed and was not open, and one in another
+    ∷ (codes "v 60 TXT a)", fault_at bad_parenthesis 1)
+    ∷ (codes "v 60 TXT ((a))", fault_at bad_parenthesis 1)
+    -- An owner that is taken over keeps the origin under which it was stated; a TTL is that of
+    -- `$TTL`, though a record after it states another.
+    ∷ (
+      codes "$TTL 5\nw 7 TXT a\n$ORIGIN x\n TXT a\ny TXT a",
+      records (a_at (codes "w") 7 ++ a_at (codes "w") 5 ++ a_at (codes "y.x") 5),
+    )
+    -- without `$TTL` it is the TTL that a record stated last
+    ∷ (
+      codes "w 5 TXT a\nw 7 TXT a\nv TXT a",
+      records (a_at (codes "w") 5 ++ a_at (codes "w") 7 ++ a_at (codes "v") 7),
+    )
     ∷ [])
-unfolding tokens_in run_length xor digits
+unfolding tokens_in run_length xor digits cut labels_from
 meaning_rows = are_read _ refl
 
 -- the last number of the address is past 255

@@ -3,7 +3,6 @@ use Rattle.std.specs.Prelude.{◌≡◌, ℕ, zero, suc, ◌+◌, Bool, true, no
 use Rattle.std.specs.Prelude.{Some}
 use Rattle.std.specs.Option.{is_some, option_map}
 use Rattle.std.specs.List.{list_all}
-use mathlib.Core.Path.{refl}
 use Rattle.dns_spec.specs.Names.{Octets, DomainName}
 use Rattle.dns_spec.specs.Reading.{MessageRecord, DnsMessage}
 use Rattle.dns_spec.specs.ComputedReading.{run, runs_before, name_at, pieces_at, several, message_at}
@@ -11,11 +10,11 @@ use Rattle.dns_spec.specs.Layout.{pointer}
 use Rattle.dns_spec.proofs.WorkedExamples.Zones.{hex, under, example, net_192, soa_of}
 
 -- a reply with an address, whose owner is a pointer at place 29
-abbrev address_reply : Octets
+abbrev pub address_reply : Octets
 address_reply = hex (codes "123484000001000100000000 03777777076578616d706c650000010001 c00c0001000100000e100004c000020a")
 
 -- a name error, with pointers at the places 30, 45 and 58; their runs begin at 30, 42 and 47
-abbrev error_reply : Octets
+abbrev pub error_reply : Octets
 error_reply = hex (codes "123484030001000000010000 046e6f7065076578616d706c650000010001 c011000600010000012c0026 026e73c011 0a686f73746d6173746572c011 00000001 00001c20 00000384 00127500 0000012c")
 
 -- the octets with a pointer to place p at place i
@@ -31,36 +30,33 @@ unfoldable spells_nothing : Octets → Bool
 unfolding run runs_before name_at pieces_at several message_at
 spells_nothing b = not (is_some (message_at b))
 
-read_address : message_at address_reply ≡ Some (record {
-  header = record { id = 4660; flags = 33792 };
-  questions = record { qname = under (codes "www"); qtype = 1; qclass = 1 } ∷ [];
-  answers = record { owner = under (codes "www"); rtype = 1; rclass = 1; ttl = 3600; rdata = net_192 10 } ∷ [];
-  authorities = [];
+-- what they spell; data is read uncompressed
+abbrev message_of : ℕ → Octets → List MessageRecord → List MessageRecord → DnsMessage
+message_of flags cs answers authorities = record {
+  header = record { id = 4660; flags = flags };
+  questions = record { qname = under cs; qtype = 1; qclass = 1 } ∷ [];
+  answers = answers;
+  authorities = authorities;
   additionals = [];
-})
-unfolding run runs_before name_at pieces_at several message_at
-read_address = refl
+}
 
--- data is read uncompressed
-read_error : message_at error_reply ≡ Some (record {
-  header = record { id = 4660; flags = 33795 };
-  questions = record { qname = under (codes "nope"); qtype = 1; qclass = 1 } ∷ [];
-  answers = [];
-  authorities = record {
-    owner = example;
-    rtype = 6;
-    rclass = 1;
-    ttl = 300;
-    rdata = soa_of (under (codes "ns")) (under (codes "hostmaster")) 1 7200 900 1209600 300;
-  } ∷ [];
-  additionals = [];
-})
-unfolding run runs_before name_at pieces_at several message_at
-read_error = refl
+abbrev record_of : DomainName → ℕ → ℕ → Octets → MessageRecord
+record_of n t ttl d = record { owner = n; rtype = t; rclass = 1; ttl = ttl; rdata = d }
+
+abbrev pub address_message : DnsMessage
+address_message =
+    message_of 33792 (codes "www") (record_of (under (codes "www")) 1 3600 (net_192 10) ∷ []) []
+
+abbrev pub error_message : DnsMessage
+error_message =
+    let soa = soa_of (under (codes "ns")) (under (codes "hostmaster")) 1 7200 900 1209600 300 in
+    message_of 33795 (codes "nope") [] (record_of example 6 300 soa ∷ [])
 
 message_rows :
+    (message_at address_reply ≡ Some address_message)
+    × (message_at error_reply ≡ Some error_message)
     -- a pointer into the header, and one to itself
-    (spells_nothing (pointing address_reply 29 11) ≡ true)
+    × (spells_nothing (pointing address_reply 29 11) ≡ true)
     × (spells_nothing (pointing address_reply 29 29) ≡ true)
     -- a reserved label in place of a length
     × (spells_nothing (take 12 address_reply ++ 67 ∷ drop 13 address_reply) ≡ true)

@@ -1,5 +1,5 @@
 -- What is reported of worked zones, octet for octet.
-use Rattle.std.proofs.Common.{◌≡◌, ℕ, true, false, List, [], ◌∷◌, ◌++◌, codes, refl, lit<}
+use Rattle.std.proofs.Common.{◌≡◌, ℕ, Bool, true, false, List, [], ◌∷◌, ◌++◌, codes, refl, lit<}
 use Rattle.std.specs.List.{Contains}
 use Rattle.std.specs.Fmt.{digits}
 use Rattle.dns_spec.specs.NameText.{octet_text}
@@ -17,14 +17,8 @@ use Rattle.dns_spec.proofs.WorkedExamples.FileRows.{small_file, six_records, sma
 use Rattle.dns_spec.proofs.Records.RecordOrder.{all_each}
 use Rattle.dns_spec.proofs.WorkedExamples.Zones.{dotted, example, entry, in_zone, alias, server, soa_of, strings_data, net_192, small_records, small_zone_with}
 
-abbrev no_options : Options
-no_options = record { is_quiet = false; is_printing = false }
-
-abbrev quiet : Options
-quiet = record { is_quiet = true; is_printing = false }
-
-abbrev printing : Options
-printing = record { is_quiet = false; is_printing = true }
+abbrev options : Bool → Bool → Options
+options quiet printing = record { is_quiet = quiet; is_printing = printing }
 
 abbrev passed : Octets → Report
 passed output = record { output = output; passes = true }
@@ -32,85 +26,33 @@ passed output = record { output = output; passes = true }
 abbrev failed : Octets → Report
 failed output = record { output = output; passes = false }
 
-report_rows :
-    -- a zone that passes
-    (report_of_meaning no_options example (records small_records)
-    ≡ passed (codes "zone example/IN: loaded serial 1\nOK\n"))
-    × (report_of_meaning quiet example (records small_records) ≡ passed [])
-unfolding faults labels_from cut octet_text digits
-report_rows = (refl, refl)
+-- what is reported without options, with quiet and with print alone, and with both
+abbrev no_options : Options
+no_options = options false false
 
--- its canonical text
-printed : report_of_meaning printing example (records small_records)
-    ≡ passed (codes "example. 3600 IN SOA ns.example. hostmaster.example. 1 7200 900 1209600 300\n"
-    ++ codes "example. 3600 IN NS ns.example.\n"
-    ++ codes "alias.example. 3600 IN CNAME www.example.\n"
-    ++ codes "a.b.ent.example. 3600 IN A 192.0.2.11\n"
-    ++ codes "ns.example. 3600 IN A 192.0.2.1\n"
-    ++ codes "sub.example. 3600 IN NS ns.sub.example.\n"
-    ++ codes "ns.sub.example. 3600 IN A 192.0.2.53\n"
-    ++ codes "*.w.example. 3600 IN TXT \"any\"\n"
-    ++ codes "www.example. 3600 IN A 192.0.2.10\n")
-unfolding faults labels_from cut zone_text data_text hex_octets octet_text digits
-printed = refl
+abbrev quiet : Options
+quiet = options true false
 
--- data below a cut, and an alias with an address: by owner
-faulty_zone : zone_report no_options (small_zone_with (alias (codes "www") (codes "ns") ∷ in_zone (codes "x.sub") type_txt (strings_data (codes "q" ∷ [])) ∷ []))
-    ≡ failed (codes "x.sub.example. Z12\nwww.example. Z06\n")
-unfolding faults labels_from cut octet_text digits
-faulty_zone = refl
-
-faulty_zone_quietly_rows :
-    (zone_report quiet (small_zone_with (alias (codes "www") (codes "ns") ∷ [])) ≡ failed [])
-    -- an empty file
-    × (report_of_meaning no_options example (records [])
-    ≡ failed (codes "example. Z01\nexample. Z04\n"))
-    -- an empty file for the root, whose faults are reported though the zone itself was asked for
-    × (report_of_meaning printing [] (records []) ≡ failed (codes ". Z01\n. Z04\n"))
-    -- a fault of the file
-    × (report_of_meaning printing example (fault_at bad_ttl 4) ≡ failed (codes "line 4: R09\n"))
-    -- quiet alone reports no fault of the file either
-    × (report_of_meaning quiet example (fault_at bad_ttl 4) ≡ failed [])
-    -- two digits of a code
-    × (report_of_meaning no_options example (fault_at bad_type 7) ≡ failed (codes "line 7: R11\n"))
-unfolding faults labels_from cut octet_text digits
-faulty_zone_quietly_rows = search []
+abbrev printing : Options
+printing = options false true
 
 abbrev quiet_printing : Options
-quiet_printing = record { is_quiet = true; is_printing = true }
+quiet_printing = options true true
 
--- asked for the zone and for quiet, the checker reports faults
-faulty_zone_printing : zone_report quiet_printing (small_zone_with (server example (codes "alias") ∷ []))
-    ≡ failed (codes "example. Z09\nexample. Z10\n")
-unfolding faults labels_from cut octet_text digits
-faulty_zone_printing = refl
-
--- a zone at the root
+-- a zone at the root, and one with a dot in the label of its origin
 abbrev root_records : List ResourceRecord
 root_records =
-    entry [] type_soa (soa_of (dotted (codes "ns")) (dotted (codes "h")) 7 2 3 4 5) ∷ entry [] type_ns (wire (dotted (codes "ns")))
+    entry [] type_soa (soa_of (dotted (codes "ns")) (dotted (codes "h")) 7 2 3 4 5)
+    ∷ entry [] type_ns (wire (dotted (codes "ns")))
     ∷ entry (dotted (codes "ns")) type_a (net_192 1) ∷ []
 
-root_loaded : report_of_meaning no_options [] (records root_records) ≡ passed (codes "zone ./IN: loaded serial 7\nOK\n")
-unfolding faults labels_from cut octet_text digits
-root_loaded = refl
-
--- an origin with a dot in its label
 abbrev dotted_label : DomainName
 dotted_label = codes "a.b" ∷ []
 
-dot_in_origin : report_of_meaning no_options dotted_label
-    (records (entry dotted_label type_soa (soa_of [] [] 8 2 3 4 5) ∷ entry dotted_label type_ns (wire (dotted (codes "ns"))) ∷ []))
-    ≡ passed (codes "zone a\\.b/IN: loaded serial 8\nOK\n")
-unfolding faults labels_from cut octet_text digits
-dot_in_origin = refl
-
--- a record that stands twice is printed once; data comes before data that it begins, and quiet keeps nothing back
-printed_once : zone_report quiet_printing (zone_of [] (root_records
-    ++ entry (dotted (codes "ns")) type_a (net_192 1) ∷ entry [] 65280 (0 ∷ []) ∷ entry [] 65280 [] ∷ []))
-    ≡ passed (codes ". 3600 IN SOA ns. h. 7 2 3 4 5\n. 3600 IN NS ns.\n. 3600 IN TYPE65280 \\# 0\n. 3600 IN TYPE65280 \\# 1 00\nns. 3600 IN A 192.0.2.1\n")
-unfolding faults labels_from cut zone_text data_text hex_octets octet_text digits
-printed_once = refl
+abbrev dotted_records : List ResourceRecord
+dotted_records =
+    entry dotted_label type_soa (soa_of [] [] 8 2 3 4 5)
+    ∷ entry dotted_label type_ns (wire (dotted (codes "ns"))) ∷ []
 
 -- an address with two TTLs
 abbrev address_for : ℕ → ResourceRecord
@@ -122,16 +64,65 @@ once_each = address_for 5 ∷ address_for 7 ∷ []
 abbrev twice_for_7 : List ResourceRecord
 twice_for_7 = address_for 7 ∷ address_for 5 ∷ address_for 7 ∷ []
 
+report_rows :
+    -- a zone that passes
+    (report_of_meaning no_options example (records small_records)
+    ≡ passed (codes "zone example/IN: loaded serial 1\nOK\n"))
+    × (report_of_meaning quiet example (records small_records) ≡ passed [])
+    -- its canonical text
+    × (report_of_meaning printing example (records small_records)
+    ≡ passed (codes "example. 3600 IN SOA ns.example. hostmaster.example. 1 7200 900 1209600 300\n"
+    ++ codes "example. 3600 IN NS ns.example.\n"
+    ++ codes "alias.example. 3600 IN CNAME www.example.\n"
+    ++ codes "a.b.ent.example. 3600 IN A 192.0.2.11\n"
+    ++ codes "ns.example. 3600 IN A 192.0.2.1\n"
+    ++ codes "sub.example. 3600 IN NS ns.sub.example.\n"
+    ++ codes "ns.sub.example. 3600 IN A 192.0.2.53\n"
+    ++ codes "*.w.example. 3600 IN TXT \"any\"\n"
+    ++ codes "www.example. 3600 IN A 192.0.2.10\n"))
+    -- data below a cut, and an alias with an address: by owner
+    × (zone_report no_options (small_zone_with (alias (codes "www") (codes "ns")
+    ∷ in_zone (codes "x.sub") type_txt (strings_data (codes "q" ∷ [])) ∷ []))
+    ≡ failed (codes "x.sub.example. Z12\nwww.example. Z06\n"))
+    × (zone_report quiet (small_zone_with (alias (codes "www") (codes "ns") ∷ [])) ≡ failed [])
+    -- an empty file
+    × (report_of_meaning no_options example (records [])
+    ≡ failed (codes "example. Z01\nexample. Z04\n"))
+    -- an empty file for the root, whose faults are reported though the zone itself was asked for
+    × (report_of_meaning printing [] (records []) ≡ failed (codes ". Z01\n. Z04\n"))
+    -- a fault of the file
+    × (report_of_meaning printing example (fault_at bad_ttl 4) ≡ failed (codes "line 4: R09\n"))
+    -- quiet alone reports no fault of the file either
+    × (report_of_meaning quiet example (fault_at bad_ttl 4) ≡ failed [])
+    -- two digits of a code
+    × (report_of_meaning no_options example (fault_at bad_type 7) ≡ failed (codes "line 7: R11\n"))
+    -- asked for the zone and for quiet, the checker reports faults
+    × (zone_report quiet_printing (small_zone_with (server example (codes "alias") ∷ []))
+    ≡ failed (codes "example. Z09\nexample. Z10\n"))
+    -- a zone at the root
+    × (report_of_meaning no_options [] (records root_records)
+    ≡ passed (codes "zone ./IN: loaded serial 7\nOK\n"))
+    -- an origin with a dot in its label
+    × (report_of_meaning no_options dotted_label (records dotted_records)
+    ≡ passed (codes "zone a\\.b/IN: loaded serial 8\nOK\n"))
+    -- a record that stands twice is printed once; data comes before data that it begins, and quiet
+    -- keeps nothing back
+    × (zone_report quiet_printing (zone_of [] (root_records
+    ++ entry (dotted (codes "ns")) type_a (net_192 1) ∷ entry [] 65280 (0 ∷ []) ∷ entry [] 65280 [] ∷ []))
+    ≡ passed (codes ". 3600 IN SOA ns. h. 7 2 3 4 5\n" ++ codes ". 3600 IN NS ns.\n"
+    ++ codes ". 3600 IN TYPE65280 \\# 0\n" ++ codes ". 3600 IN TYPE65280 \\# 1 00\n"
+    ++ codes "ns. 3600 IN A 192.0.2.1\n"))
+    -- records that differ in nothing but their TTL: the lower goes first
+    × (zone_text (zone_of [] twice_for_7)
+    ≡ codes "ns. 5 IN A 192.0.2.1\nns. 7 IN A 192.0.2.1\n")
+unfolding faults labels_from cut zone_text data_text hex_octets octet_text digits
+report_rows = search []
+
 same_in_another_order : HoldSameRecords once_each twice_for_7
 same_in_another_order = (
   all_each (Contains twice_for_7) once_each ((1, lit< tt, refl), ((0, lit< tt, refl), tt)),
   all_each (Contains once_each) twice_for_7 ((1, lit< tt, refl), ((0, lit< tt, refl), ((1, lit< tt, refl), tt))),
 )
-
--- records that differ in nothing but their TTL: the lower goes first
-lower_ttl_first : zone_text (zone_of [] twice_for_7) ≡ codes "ns. 5 IN A 192.0.2.1\nns. 7 IN A 192.0.2.1\n"
-unfolding zone_text data_text cut octet_text digits
-lower_ttl_first = refl
 
 -- a file of comments, parentheses and relative names, and the text in which its zone is printed
 small_file_printed : Reports example small_file printing (passed (
