@@ -10,7 +10,6 @@ pub mod FileRows
 pub mod LayoutRows
 pub mod LimitRows
 pub mod LineRows
-pub mod LongRows
 pub mod MeaningRows
 pub mod MessageLineRows
 pub mod MessageRows
@@ -20,8 +19,6 @@ pub mod QueryRows
 pub mod ReadingRows
 pub mod ReportRows
 pub mod Rows
-pub mod SizeRows
-pub mod StreamRows
 pub mod TextRows
 pub mod TokenRows
 pub mod TypeRows
