@@ -9,11 +9,9 @@ pub mod DataRows
 pub mod FileRows
 pub mod LayoutRows
 pub mod LimitRows
-pub mod LineRows
 pub mod MeaningRows
 pub mod MessageLineRows
 pub mod MessageRows
-pub mod NameRows
 pub mod PrintedRows
 pub mod QueryRows
 pub mod ReadingRows
@@ -21,5 +19,4 @@ pub mod ReportRows
 pub mod Rows
 pub mod TextRows
 pub mod TokenRows
-pub mod TypeRows
 pub mod WordRows

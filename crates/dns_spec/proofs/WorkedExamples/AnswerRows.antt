@@ -13,7 +13,8 @@ use Rattle.dns_spec.proofs.WorkedExamples.Zones.{dotted, under, entry, in_zone, 
 abbrev exchange : ℕ → Octets → Octets
 exchange k to = bytes_high_first 2 k ++ wire (under to)
 
--- aliases to below a cut, to nothing and to outside; wildcards; exchanges; a cut with a server below it and one elsewhere
+-- aliases to below a cut, to nothing and to outside; wildcards; exchanges; a cut with a server below
+-- it and one elsewhere
 abbrev zone : ZoneContents
 zone =
     small_zone_with (
@@ -40,98 +41,101 @@ unfolding faults labels_from cut
 zone_passes = refl
 
 -- a set by its section, its owner's text, its type and how many records it has
-record Row : Type 0 where
-  section : Section
-  owner : DomainName
-  rtype : ℕ
-  records : ℕ
+abbrev Row : Type 0
+Row = Section × DomainName × ℕ × ℕ
 
-abbrev set : Section → Octets → ℕ → ℕ → Row
-set s cs t k = record { section = s; owner = dotted cs; rtype = t; records = k }
+abbrev in_answer : Octets → ℕ → ℕ → List Row
+in_answer cs t k = (answer, dotted cs, t, k) ∷ []
+
+abbrev in_authority : Octets → ℕ → ℕ → List Row
+in_authority cs t k = (authority, dotted cs, t, k) ∷ []
+
+abbrev added : Octets → ℕ → ℕ → List Row
+added cs t k = (additional, dotted cs, t, k) ∷ []
+
+abbrev soa : List Row
+soa = in_authority (codes "example") 6 1
+
+abbrev referral : List Row
+referral = in_authority (codes "sub.example") 2 1 ++ added (codes "ns.sub.example") 1 1
 
 abbrev row_of : Section → List ResourceRecord → Row
-row_of s [] = record { section = s; owner = []; rtype = 0; records = 0 }
-row_of s (r ∷ rs) = record { section = s; owner = r.owner; rtype = r.rtype; records = length (r ∷ rs) }
+row_of s [] = (s, [], 0, 0)
+row_of s (r ∷ rs) = (s, r.owner, r.rtype, length (r ∷ rs))
 
--- the RCODE, whether the server speaks for the zone, how many sets may not be left out, and the sets
-record Summary : Type 0 where
-  rcode : ℕ
-  authoritative : Bool
-  needed : ℕ
-  sets : List Row
-
-abbrev gives : ℕ → Bool → ℕ → List Row → Summary
-gives rcode authoritative needed sets =
-    record { rcode = rcode; authoritative = authoritative; needed = needed; sets = sets }
-
--- the answer for a name and a type
-unfoldable summary : Octets → ℕ → Summary
+-- the RCODE, whether the server speaks for the zone, how many sets may not be left out, and the
+-- sets, for a name and a type
+unfoldable summary : Octets → ℕ → ℕ × Bool × ℕ × List Row
 unfolding labels_from cut chain_from chain outcome_at outcome extra items required_items
-summary cs t = record {
-  rcode = (outcome zone (dotted cs) t).rcode;
-  authoritative = is_authoritative (outcome zone (dotted cs) t);
-  needed = length (required_items zone (dotted cs) t);
-  sets = map (λ (i : Item). row_of i.section i.records) (items zone (dotted cs) t);
-}
+summary cs t = (
+  (outcome zone (dotted cs) t).rcode,
+  is_authoritative (outcome zone (dotted cs) t),
+  length (required_items zone (dotted cs) t),
+  map (λ (i : Item). row_of i.section i.records) (items zone (dotted cs) t),
+)
 
 answer_rows :
     -- an alias of a name below a cut ends in a referral, which the server still speaks for
     (summary (codes "far.example") 1
-    ≡ gives 0 true 3 (set answer (codes "far.example") 5 1 ∷ set authority (codes "sub.example") 2 1 ∷ set additional (codes "ns.sub.example") 1 1 ∷ []))
+    ≡ (0, true, 3, in_answer (codes "far.example") 5 1 ++ referral))
     -- an alias of a name that does not exist is a name error
-    × (summary (codes "gone.example") 1
-    ≡ gives 3 true 2 (set answer (codes "gone.example") 5 1 ∷ set authority (codes "example") 6 1 ∷ []))
+    × (summary (codes "gone.example") 1 ≡ (3, true, 2, in_answer (codes "gone.example") 5 1 ++ soa))
     -- an alias of a name of another zone ends there
-    × (summary (codes "out.example") 1 ≡ gives 0 true 1 (set answer (codes "out.example") 5 1 ∷ []))
+    × (summary (codes "out.example") 1 ≡ (0, true, 1, in_answer (codes "out.example") 5 1))
     -- a wildcard that only has names below it answers that there is nothing
-    × (summary (codes "q.v.example") 1 ≡ gives 0 true 1 (set authority (codes "example") 6 1 ∷ []))
+    × (summary (codes "q.v.example") 1 ≡ (0, true, 1, soa))
     -- a wildcard does not answer below a name that exists
-    × (summary (codes "z.c.e.example") 1
-    ≡ gives 3 true 1 (set authority (codes "example") 6 1 ∷ []))
+    × (summary (codes "z.c.e.example") 1 ≡ (3, true, 1, soa))
     -- and does elsewhere
-    × (summary (codes "z.e.example") 1 ≡ gives 0 true 1 (set answer (codes "z.e.example") 1 1 ∷ []))
+    × (summary (codes "z.e.example") 1 ≡ (0, true, 1, in_answer (codes "z.e.example") 1 1))
     -- also for a name of several labels
-    × (summary (codes "y.z.e.example") 1
-    ≡ gives 0 true 1 (set answer (codes "y.z.e.example") 1 1 ∷ []))
+    × (summary (codes "y.z.e.example") 1 ≡ (0, true, 1, in_answer (codes "y.z.e.example") 1 1))
     -- an alias by a wildcard
     × (summary (codes "q.k.example") 1
-    ≡ gives 0 true 2 (set answer (codes "q.k.example") 5 1 ∷ set answer (codes "www.example") 1 1 ∷ []))
+    ≡ (0, true, 2, in_answer (codes "q.k.example") 5 1 ++ in_answer (codes "www.example") 1 1))
     -- a wildcard asked for by its own name
     × (summary (codes "*.k.example") 1
-    ≡ gives 0 true 2 (set answer (codes "*.k.example") 5 1 ∷ set answer (codes "www.example") 1 1 ∷ []))
+    ≡ (0, true, 2, in_answer (codes "*.k.example") 5 1 ++ in_answer (codes "www.example") 1 1))
     -- an alias that is asked for is not followed
-    × (summary (codes "alias.example") 5
-    ≡ gives 0 true 1 (set answer (codes "alias.example") 5 1 ∷ []))
+    × (summary (codes "alias.example") 5 ≡ (0, true, 1, in_answer (codes "alias.example") 5 1))
     -- nor where all is asked for
-    × (summary (codes "alias.example") 255
-    ≡ gives 0 true 1 (set answer (codes "alias.example") 5 1 ∷ []))
+    × (summary (codes "alias.example") 255 ≡ (0, true, 1, in_answer (codes "alias.example") 5 1))
     -- glue is no answer
-    × (summary (codes "ns.sub.example") 1
-    ≡ gives 0 false 2 (set authority (codes "sub.example") 2 1 ∷ set additional (codes "ns.sub.example") 1 1 ∷ []))
+    × (summary (codes "ns.sub.example") 1 ≡ (0, false, 2, referral))
     -- nor are the servers at a cut
-    × (summary (codes "sub.example") 2
-    ≡ gives 0 false 2 (set authority (codes "sub.example") 2 1 ∷ set additional (codes "ns.sub.example") 1 1 ∷ []))
+    × (summary (codes "sub.example") 2 ≡ (0, false, 2, referral))
     -- also where all is asked for
-    × (summary (codes "sub.example") 255
-    ≡ gives 0 false 2 (set authority (codes "sub.example") 2 1 ∷ set additional (codes "ns.sub.example") 1 1 ∷ []))
-    -- where all is asked for, one set is the answer, that of the lowest type number: addresses have no targets
-    × (summary (codes "self.example") 255
-    ≡ gives 0 true 1 (set answer (codes "self.example") 1 1 ∷ []))
+    × (summary (codes "sub.example") 255 ≡ (0, false, 2, referral))
+    -- where all is asked for, one set is the answer, that of the lowest type number: addresses have
+    -- no targets
+    × (summary (codes "self.example") 255 ≡ (0, true, 1, in_answer (codes "self.example") 1 1))
     -- an address set of two targets is not repeated
     × (summary (codes "twice.example") 15
-    ≡ gives 0 true 1 (set answer (codes "twice.example") 15 2 ∷ set additional (codes "www.example") 1 1 ∷ []))
+    ≡ (0, true, 1, in_answer (codes "twice.example") 15 2 ++ added (codes "www.example") 1 1))
     -- a name without the type asked for
-    × (summary (codes "www.example") 16 ≡ gives 0 true 1 (set authority (codes "example") 6 1 ∷ []))
+    × (summary (codes "www.example") 16 ≡ (0, true, 1, soa))
     -- the NS set of the origin stands before its SOA
     × (summary (codes "example") 255
-    ≡ gives 0 true 1 (set answer (codes "example") 2 1 ∷ set additional (codes "ns.example") 1 1 ∷ []))
+    ≡ (0, true, 1, in_answer (codes "example") 2 1 ++ added (codes "ns.example") 1 1))
     -- nothing is found where only names below own records
-    × (summary (codes "w.example") 255 ≡ gives 0 true 1 (set authority (codes "example") 6 1 ∷ []))
+    × (summary (codes "w.example") 255 ≡ (0, true, 1, soa))
     -- additional addresses in the order of their targets
     × (summary (codes "mm.example") 15
-    ≡ gives 0 true 1 (set answer (codes "mm.example") 15 2 ∷ set additional (codes "www.example") 1 1 ∷ set additional (codes "ns.example") 1 1 ∷ []))
+    ≡ (
+      0,
+      true,
+      1,
+      in_answer (codes "mm.example") 15 2 ++ added (codes "www.example") 1 1
+          ++ added (codes "ns.example") 1 1,
+    ))
     -- the glue of a referral comes first, and alone may not be left out
     × (summary (codes "x.two.example") 1
-    ≡ gives 0 false 2 (set authority (codes "two.example") 2 2 ∷ set additional (codes "z.two.example") 1 1 ∷ set additional (codes "ns.example") 1 1 ∷ []))
+    ≡ (
+      0,
+      false,
+      2,
+      in_authority (codes "two.example") 2 2 ++ added (codes "z.two.example") 1 1
+          ++ added (codes "ns.example") 1 1,
+    ))
 unfolding summary labels_from cut chain_from chain outcome_at outcome extra items required_items
 answer_rows = search []

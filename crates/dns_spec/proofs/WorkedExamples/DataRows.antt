@@ -8,12 +8,13 @@ use Rattle.std.proofs.lemmas.Fmt.{first_decimal}
 use Rattle.std.proofs.lemmas.Option.{none-some, same_Some}
 use Rattle.dns_spec.specs.Names.{Octets, labels_from}
 use Rattle.dns_spec.specs.NameText.{octet_text}
-use Rattle.dns_spec.specs.Data.{cut, type_a, type_hinfo, type_mx, type_txt, type_aaaa, Valid, valid, parts, octets, name, lower_case}
+use Rattle.dns_spec.specs.Data.{cut, type_a, type_hinfo, type_mx, type_txt, type_aaaa, type_srv, Valid, valid, parts, octets, name, lower_case}
+use Rattle.dns_spec.specs.TypeText.{type_by_mnemonic, type_text}
 use Rattle.dns_spec.specs.DataText.{Word, Says, hex_octets}
 use Rattle.dns_spec.specs.AddressText.{ipv6_groups, SaysIpv6}
 use Rattle.dns_spec.specs.WrittenText.{data_text}
 use Rattle.dns_spec.proofs.WorkedExamples.Readings.{Rows, SaysOf, are_said}
-use Rattle.dns_spec.proofs.WorkedExamples.Zones.{hex, example, under}
+use Rattle.dns_spec.proofs.WorkedExamples.Zones.{hex, dotted, example, under}
 
 -- a word out of quotation marks, the same in them, and `\#`
 abbrev bare : Octets → Word
@@ -132,3 +133,22 @@ refuted = (
   λ d h. let number = h.said.3.said in no_number_010 number.0 number.1 number.2,
   λ d h. h.said.4,
 )
+
+-- words that name types, and data in lower case and in parts
+type_rows :
+    (type_by_mnemonic (codes "aAaA") ≡ Some 28)
+    -- a number is no name of the table
+    × (type_by_mnemonic (codes "TYPE1") ≡ None)
+    × (type_text 33 ≡ codes "SRV")
+    × (type_text 65 ≡ codes "TYPE65")
+    -- MX 10 `Mail.example.`
+    × (lower_case type_mx (hex (codes "000a044d61696c076578616d706c6500"))
+    ≡ hex (codes "000a046d61696c076578616d706c6500"))
+    × (parts type_mx (hex (codes "000a044d61696c076578616d706c6500"))
+    ≡ octets (hex (codes "000a")) ∷ name (dotted (codes "Mail.example")) ∷ [])
+    -- a compressed name, an octet more, and an octet less
+    × (valid type_srv (hex (codes "000100020035c00c")) ≡ false)
+    × (valid type_a (hex (codes "c000020100")) ≡ false)
+    × (valid type_a (hex (codes "c00002")) ≡ false)
+unfolding digits cut labels_from
+type_rows = search []

@@ -1,5 +1,5 @@
 -- What is printed of inputs, octet for octet, computed from the definitions.
-use Rattle.std.proofs.Common.{◌≡◌, ℕ, ◌≤◌, true, false, [], ◌++◌, codes, decimal, refl, sym, ◌∙◌, lit≤, inl, inr}
+use Rattle.std.proofs.Common.{◌≡◌, ℕ, ◌≤◌, true, false, [], ◌∷◌, ◌++◌, codes, decimal, refl, sym, ◌∙◌, lit≤, inl, inr}
 use Rattle.std.specs.Prelude.{Option, None, Some}
 use Rattle.std.specs.Fmt.{digits}
 use Rattle.std.proofs.lemmas.Option.{none-some}
@@ -10,7 +10,7 @@ use Rattle.dns_spec.specs.DataText.{hex_octets}
 use Rattle.dns_spec.specs.WrittenText.{data_text}
 use Rattle.dns_spec.specs.Reading.{DnsMessage}
 use Rattle.dns_spec.specs.ComputedReading.{run, runs_before, name_at, pieces_at, several, message_at}
-use Rattle.dns_spec.specs.Lines.{lines, line_message}
+use Rattle.dns_spec.specs.Lines.{lines, ended_lines, line_message, line_answers, are_messages}
 use Rattle.dns_spec.specs.MessageLines.{section_line, message_text, PrintsMessage, PrintsInput}
 use Rattle.dns_spec.proofs.Messages.MessageReading.{message_at_computes}
 use Rattle.dns_spec.proofs.WorkedExamples.Zones.{hex, under, net_192}
@@ -79,3 +79,34 @@ printed_rows = (
   prints_fault (line_message []) [] 1 refl refl (lit≤ tt) (lit≤ tt),
   refl,
 )
+
+-- lines of an input and their answers
+line_rows :
+    -- after the last LF there is no line, unless octets follow
+    (lines [] ≡ [])
+    × (lines (codes "ab\n\n") ≡ codes "ab" ∷ [] ∷ [])
+    × (lines (codes "ab\n\nc") ≡ codes "ab" ∷ [] ∷ codes "c" ∷ [])
+    × (ended_lines (codes "ab\n\nc") ≡ codes "ab" ∷ [] ∷ [])
+    -- digits are of either case, and of an even number; other octets are none, as CR
+    × (line_message (codes "0aFf") ≡ Some (10 ∷ 255 ∷ []))
+    × (line_message [] ≡ Some [])
+    × (line_message (codes "0aF") ≡ None)
+    × (line_message (codes "0aF\r") ≡ None)
+unfolding lines hex_octets
+line_rows = search []
+
+-- a reply to all messages but the empty one: the message itself
+echo : Octets → Option Octets
+echo [] = None
+echo (o ∷ m) = Some (o ∷ m)
+
+unfoldable answers : Octets → Octets
+unfolding lines hex_octets echo
+answers x = line_answers echo (lines x)
+
+all_answered_rows :
+    (answers (codes "0aFF\n\n0a\r\nab") ≡ codes "0aff\nnone\nbad hex\nab\n")
+    × (are_messages (lines (codes "0aFF\n\n0a\r\nab")) ≡ false)
+    × (are_messages (lines (codes "0aFF\n\nab")) ≡ true)
+unfolding answers lines hex_octets echo
+all_answered_rows = (refl, refl, refl)

@@ -1,7 +1,8 @@
--- Names as they are written, computed from the definitions.
-use Rattle.std.specs.Prelude.{◌≡◌, [], ◌∷◌, codes, Some, None}
+-- Names on the wire and as they are written, computed from the definitions.
+use Rattle.std.specs.Prelude.{◌≡◌, [], ◌∷◌, ◌++◌, replicate, codes, Some, None}
+use Rattle.dns_spec.specs.Names.{labels_from, name_of}
 use Rattle.dns_spec.specs.NameText.{escape_front, octet_text, name_text}
-use Rattle.dns_spec.proofs.WorkedExamples.Zones.{dotted}
+use Rattle.dns_spec.proofs.WorkedExamples.Zones.{dotted, hex}
 
 text_rows :
     (name_text (dotted (codes "ns.example")) ≡ codes "ns.example.")
@@ -24,5 +25,15 @@ text_rows :
     × (escape_front (codes "0461") ≡ Some (46, codes "1"))
     × (escape_front (codes "256") ≡ None)
     × (escape_front (codes "04b") ≡ None)
-unfolding octet_text
+    -- `a.` and what follows it
+    × (name_of (hex (codes "01 61 00 78 79 7a")) ≡ Some (dotted (codes "a"), codes "xyz"))
+    -- the root
+    × (name_of (hex (codes "00 61")) ≡ Some ([], codes "a"))
+    -- a label that isn't whole, and a name without the root's 0
+    × (name_of (hex (codes "02 61")) ≡ None)
+    × (name_of (hex (codes "01 61")) ≡ None)
+    -- a pointer is no label, nor are 64 octets
+    × (name_of (hex (codes "c0 0c")) ≡ None)
+    × (name_of (64 ∷ (replicate 64 97 ++ 0 ∷ [])) ≡ None)
+unfolding octet_text labels_from
 text_rows = search []
