@@ -12,9 +12,6 @@ pub mod LimitRows
 pub mod MeaningRows
 pub mod MessageLineRows
 pub mod MessageRows
-pub mod PrintedRows
-pub mod QueryRows
-pub mod ReadingRows
 pub mod ReportRows
 pub mod Rows
 pub mod TextRows

@@ -13,8 +13,8 @@ use Rattle.dns_spec.proofs.WorkedExamples.Zones.{dotted, under, entry, in_zone, 
 abbrev exchange : ℕ → Octets → Octets
 exchange k to = bytes_high_first 2 k ++ wire (under to)
 
--- aliases to below a cut, to nothing and to outside; wildcards; exchanges; a cut with a server below
--- it and one elsewhere
+-- aliases to below a cut, to nothing and to outside; wildcards; exchanges; a cut with a server
+-- below it and one elsewhere
 abbrev zone : ZoneContents
 zone =
     small_zone_with (

@@ -7,13 +7,13 @@ use Rattle.std.proofs.lemmas.Bool.{false≢true}
 use Rattle.std.proofs.lemmas.Fmt.{first_decimal}
 use Rattle.std.proofs.lemmas.Option.{none-some, same_Some}
 use Rattle.dns_spec.specs.Names.{Octets, labels_from}
-use Rattle.dns_spec.specs.NameText.{octet_text}
+use Rattle.dns_spec.specs.NameText.{SpellsName, octet_text}
 use Rattle.dns_spec.specs.Data.{cut, type_a, type_hinfo, type_mx, type_txt, type_aaaa, type_srv, Valid, valid, parts, octets, name, lower_case}
 use Rattle.dns_spec.specs.TypeText.{type_by_mnemonic, type_text}
-use Rattle.dns_spec.specs.DataText.{Word, Says, hex_octets}
+use Rattle.dns_spec.specs.DataText.{Word, Says, SpellsString, hex_octets}
 use Rattle.dns_spec.specs.AddressText.{ipv6_groups, SaysIpv6}
 use Rattle.dns_spec.specs.WrittenText.{data_text}
-use Rattle.dns_spec.proofs.WorkedExamples.Readings.{Rows, SaysOf, are_said}
+use Rattle.dns_spec.proofs.WorkedExamples.Readings.{Rows, SaysOf, are_found, found_is, said_in, string_in, name_in}
 use Rattle.dns_spec.proofs.WorkedExamples.Zones.{hex, dotted, example, under}
 
 -- a word out of quotation marks, the same in them, and `\#`
@@ -49,7 +49,14 @@ said_rows : Rows SaysOf (
     )
     ∷ [])
 unfolding ipv6_groups digits cut labels_from hex_octets
-said_rows = are_said _ refl
+said_rows = are_found _ said_in _ refl
+
+-- the string and the name among them
+escaped_string : SpellsString escaped (97 ∷ 34 ∷ 98 ∷ 9 ∷ [])
+escaped_string = found_is (string_in 9 escaped) (97 ∷ 34 ∷ 98 ∷ 9 ∷ []) refl
+
+mail_name : SpellsName example (codes "Mail") (under (codes "Mail"))
+mail_name = found_is (name_in example (codes "Mail")) (under (codes "Mail")) refl
 
 data_rows :
     -- a single zero group stays

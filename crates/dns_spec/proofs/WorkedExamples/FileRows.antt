@@ -12,7 +12,7 @@ use Rattle.dns_spec.specs.Meaning.{records, fault_at, Means}
 use Rattle.dns_spec.specs.FileFaults.{bad_ttl, bad_type, no_ttl}
 use Rattle.dns_spec.proofs.WorkedExamples.Zones.{hex, example, under, net_192, soa_of, strings_data, small_records}
 use Rattle.dns_spec.proofs.WorkedExamples.ReadTexts.{tokens_in}
-use Rattle.dns_spec.proofs.WorkedExamples.Readings.{Mean, are_read, reads}
+use Rattle.dns_spec.proofs.WorkedExamples.Readings.{Mean, are_found, text_in, reads}
 use mathlib.Core.Bool.{xor}
 
 abbrev pub small_file : Octets
@@ -86,4 +86,4 @@ zone_rows : Mean (
     ∷ (soa_and_server ++ fourth ++ fifth_and_sixth ++ seventh ++ last_three, fault_at no_ttl 1)
     ∷ [])
 unfolding tokens_in run_length xor digits cut labels_from
-zone_rows = are_read _ refl
+zone_rows = are_found _ text_in _ refl

@@ -42,7 +42,9 @@ header_size_rows :
     (size None [] ≡ 12)
     -- its data shares `example`, at place 16, with its owner
     × (layout head None one_alias
-    ≡ hex (codes "000184000000000100000000 03777777076578616d706c6500 00050001 00000e10 0005 026e73c010"))
+    ≡ hex (codes "000184000000000100000000 03777777076578616d706c6500"
+    ++ codes "00050001 00000e10 0005 026e73c010"))
     × (size None one_alias ≡ 12 + 13 + 10 + 5)
-unfolding size records_size labels_from cut shared_octets data_laid records_octets layout cost data_size
+unfolding size records_size labels_from cut shared_octets data_laid records_octets layout cost
+    data_size
 header_size_rows = (refl, refl, refl)

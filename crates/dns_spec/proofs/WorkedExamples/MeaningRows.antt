@@ -14,7 +14,7 @@ use Rattle.dns_spec.specs.Meaning.{faulty, NameIs, DataIs, records, fault_at, Me
 use Rattle.dns_spec.proofs.DataWords.TypeWords.{one_type}
 use Rattle.dns_spec.proofs.DataWords.OneData.{four_numbers, number_then_dot}
 use Rattle.dns_spec.proofs.WorkedExamples.ReadTexts.{tokens_in, means}
-use Rattle.dns_spec.proofs.WorkedExamples.Readings.{Mean, are_read, name_after, found_is}
+use Rattle.dns_spec.proofs.WorkedExamples.Readings.{Mean, are_found, text_in, name_after, found_is}
 use Rattle.dns_spec.proofs.WorkedExamples.Zones.{example, under, strings_data}
 use mathlib.Core.Bool.{xor}
 
@@ -95,7 +95,7 @@ meaning_rows : Mean (
     )
     ∷ [])
 unfolding tokens_in run_length xor digits cut labels_from
-meaning_rows = are_read _ refl
+meaning_rows = are_found _ text_in _ refl
 
 -- the last number of the address is past 255
 no_address : (d : Octets) → SaysIpv4 (codes "192.0.2.256") d → ⊥

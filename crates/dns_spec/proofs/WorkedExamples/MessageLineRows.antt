@@ -46,7 +46,8 @@ prints_message l b m is_line e = rw is_line (inl (m, (message_at_computes b m).0
 
 prints_fault : (l : Option Octets) (b : Octets) (n : ℕ) → l ≡ Some b → message_at b ≡ None
     → 1 ≤ n → n ≤ 6
-    → PrintsMessage l (record { output = codes "fault " ++ decimal n ++ codes "\n"; passes = false })
+    → PrintsMessage l
+    (record { output = codes "fault " ++ decimal n ++ codes "\n"; passes = false })
 prints_fault l b n is_line e least most =
     rw is_line
     (inr (λ m h. none-some m (sym e ∙ (message_at_computes b m).1 h), (n, least, most, refl)))
@@ -59,7 +60,8 @@ printed_rows :
     -- a name error, with the SOA
     × Prints error_digits
     (codes "header 1234 8403 1 0 1 0\n" ++ codes "question nope.example. IN A\n"
-    ++ codes "authority example. 300 IN SOA ns.example. hostmaster.example. 1 7200 900 1209600 300\n")
+    ++ codes "authority example. 300 IN SOA ns.example. hostmaster.example. 1 7200 900 1209600"
+    ++ codes " 300\n")
     -- a record of another class, with data that would be an address, and an additional one
     × (section_line (codes "additional")
     (record { owner = under (codes "a"); rtype = 1; rclass = 3; ttl = 0; rdata = net_192 10 })
@@ -70,7 +72,8 @@ printed_rows :
     × Refuses [] (codes "fault 1\n")
     -- a line that is no message
     × Refuses (codes "zz\n00") (codes "bad hex\n")
-unfolding run runs_before name_at pieces_at several message_at lines hex_octets octet_text data_text labels_from cut digits
+unfolding run runs_before name_at pieces_at several message_at lines hex_octets octet_text
+    data_text labels_from cut digits
 printed_rows = (
   prints_message (line_message address_digits) (hex address_digits) address_message refl refl,
   prints_message (line_message error_digits) (hex error_digits) error_message refl refl,

@@ -1,21 +1,28 @@
--- Messages read from octets, whole, changed and cut, computed from the definitions.
-use Rattle.std.specs.Prelude.{◌≡◌, ℕ, zero, suc, ◌+◌, Bool, true, not, List, [], ◌∷◌, ◌++◌, take, drop, codes}
-use Rattle.std.specs.Prelude.{Some}
+-- Names, queries and messages read from octets, whole, changed and cut, computed from the
+-- definitions.
+use Rattle.std.specs.Prelude.{◌≡◌, ℕ, zero, suc, ◌+◌, Bool, true, not, List, [], ◌∷◌, ◌++◌, take, drop, replicate, codes}
+use Rattle.std.specs.Prelude.{None, Some}
 use Rattle.std.specs.Option.{is_some, option_map}
 use Rattle.std.specs.List.{list_all}
-use Rattle.dns_spec.specs.Names.{Octets, DomainName}
-use Rattle.dns_spec.specs.Reading.{MessageRecord, DnsMessage}
+use Rattle.dns_spec.specs.Names.{Octets, DomainName, wire}
+use Rattle.dns_spec.specs.Reading.{Header, MessageRecord, DnsMessage}
 use Rattle.dns_spec.specs.ComputedReading.{run, runs_before, name_at, pieces_at, several, message_at}
+use Rattle.dns_spec.specs.Query.{absent, refused_with, query, question_at, query_read}
 use Rattle.dns_spec.specs.Layout.{pointer}
-use Rattle.dns_spec.proofs.WorkedExamples.Zones.{hex, under, example, net_192, soa_of}
+use Rattle.dns_spec.proofs.WorkedExamples.Zones.{hex, dotted, under, example, net_192, soa_of, letters, www_query}
 
 -- a reply with an address, whose owner is a pointer at place 29
 abbrev pub address_reply : Octets
-address_reply = hex (codes "123484000001000100000000 03777777076578616d706c650000010001 c00c0001000100000e100004c000020a")
+address_reply =
+    hex (codes "123484000001000100000000 03777777076578616d706c650000010001"
+    ++ codes "c00c0001000100000e100004c000020a")
 
 -- a name error, with pointers at the places 30, 45 and 58; their runs begin at 30, 42 and 47
 abbrev pub error_reply : Octets
-error_reply = hex (codes "123484030001000000010000 046e6f7065076578616d706c650000010001 c011000600010000012c0026 026e73c011 0a686f73746d6173746572c011 00000001 00001c20 00000384 00127500 0000012c")
+error_reply =
+    hex (codes "123484030001000000010000 046e6f7065076578616d706c650000010001"
+    ++ codes "c011000600010000012c0026 026e73c011 0a686f73746d6173746572c011"
+    ++ codes "00000001 00001c20 00000384 00127500 0000012c")
 
 -- the octets with a pointer to place p at place i
 abbrev pointing : Octets → ℕ → ℕ → Octets
@@ -71,7 +78,8 @@ message_rows :
 unfolding spells_nothing run runs_before name_at pieces_at several message_at
 message_rows = search []
 
--- The place before a pointer is lawful, whatever octets stand there: a label of one octet, and one of 29.
+-- The place before a pointer is lawful, whatever octets stand there: a label of one octet, and one
+-- of 29.
 abbrev authority_owners : DnsMessage → List DomainName
 authority_owners m = owners m.authorities
   where
@@ -83,10 +91,79 @@ one_place_before_rows :
     (option_map authority_owners (message_at (pointing error_reply 30 29))
     ≡ Some (((192 ∷ []) ∷ take 29 (drop 32 error_reply) ∷ []) ∷ []))
     -- each pointer to each place of the header, and to each place from its own run on
-    × (list_all (λ i. list_all (λ p. spells_nothing (pointing error_reply i p)) (places 0 12)) (30 ∷ 45 ∷ 58 ∷ [])
-    ≡ true)
+    × (list_all (λ i. list_all (λ p. spells_nothing (pointing error_reply i p)) (places 0 12))
+    (30 ∷ 45 ∷ 58 ∷ []) ≡ true)
     × (list_all (λ p. spells_nothing (pointing error_reply 30 p)) (places 30 50) ≡ true)
     × (list_all (λ p. spells_nothing (pointing error_reply 45 p)) (places 42 38) ≡ true)
     × (list_all (λ p. spells_nothing (pointing error_reply 58 p)) (places 47 33) ≡ true)
 unfolding run runs_before name_at pieces_at several message_at spells_nothing
 one_place_before_rows = search []
+
+-- octets after a header
+abbrev message : Octets → Octets
+message os = replicate 12 0 ++ os
+
+-- `www` at 12, `x` and a pointer to it at 17, a pointer to that at 21
+abbrev chained : Octets
+chained = message (hex (codes "0377777700 0178c00c c011"))
+
+reading_rows :
+    (name_at chained 21 ≡ Some (dotted (codes "x.www"), 23))
+    -- a name ends after its own octets
+    × (name_at chained 17 ≡ Some (dotted (codes "x.www"), 21))
+    -- a pointer to the run in which it stands
+    × (name_at (message (hex (codes "0161c00c"))) 12 ≡ None)
+    -- also where the run was come to by a pointer, which is lawful itself
+    × (name_at (message (hex (codes "0161c00cc00c"))) 16 ≡ None)
+    -- to itself, forwards, and into the header
+    × (name_at (message (hex (codes "00c00d"))) 13 ≡ None)
+    × (name_at (message (hex (codes "c00e00"))) 12 ≡ None)
+    × (name_at (message (hex (codes "00c00b"))) 13 ≡ None)
+    -- a pointer cut in two, a label cut short, a name without its end, a reserved octet
+    × (name_at (message (hex (codes "00c0"))) 13 ≡ None)
+    × (name_at (message (hex (codes "036161"))) 12 ≡ None)
+    × (name_at (message (hex (codes "0161"))) 12 ≡ None)
+    × (name_at (message (hex (codes "4000"))) 12 ≡ None)
+unfolding run runs_before name_at
+reading_rows = search []
+
+-- a name of 255 octets, and one that a label in front of it makes longer
+abbrev longest : DomainName
+longest = letters 63 ∷ letters 63 ∷ letters 63 ∷ letters 61 ∷ []
+
+abbrev and_longer : Octets
+and_longer = message (wire longest ++ hex (codes "0161c00c"))
+
+of_255_octets_rows :
+    (name_at and_longer 12 ≡ Some (longest, 267))
+    × (name_at and_longer 267 ≡ None)
+unfolding run runs_before name_at
+of_255_octets_rows = search []
+
+-- datagrams read as queries
+abbrev head : ℕ → Header
+head flags = record { id = 4660; flags = flags }
+
+query_rows :
+    -- header and question as they came
+    (query_read www_query
+    ≡ query (head 0) (record { qname = dotted (codes "www.example"); qtype = 1; qclass = 1 }))
+    -- the root, its capitals or any class and type are no matter here; RD is set
+    × (query_read (hex (codes "123401000001000000000000 000041ffff"))
+    ≡ query (head 256) (record { qname = []; qtype = 65; qclass = 65535 }))
+    -- less than a header, and a reply
+    × (query_read (replicate 11 0) ≡ absent)
+    × (query_read (hex (codes "123484000001000000000000 0000010001")) ≡ absent)
+    -- another opcode gives RCODE 4, and the opcode stays (RFC 1035 4.1.1)
+    × (query_read (hex (codes "123410000000000000000000")) ≡ refused_with (head 36868))
+    -- no question, two questions, a record, and an octet after the question give RCODE 1
+    × (query_read (hex (codes "123401000000000000000000")) ≡ refused_with (head 33025))
+    × (query_read (hex (codes "123400000002000000000000 0000010001 0000010001"))
+    ≡ refused_with (head 32769))
+    × (query_read (hex (codes "123400000001000000000001 0000010001 0000290200000000000000"))
+    ≡ refused_with (head 32769))
+    × (query_read (www_query ++ 0 ∷ []) ≡ refused_with (head 32769))
+    -- a name without its end
+    × (query_read (hex (codes "123400000001000000000000 037777")) ≡ refused_with (head 32769))
+unfolding query_read question_at run runs_before name_at
+query_rows = search []

@@ -1,6 +1,6 @@
 -- Readings that compute: what a text or a part of it means, with the proof that it does, or nothing
 -- where the reading can't tell.
-use Rattle.std.proofs.Common.{◌≡◌, ◌≢◌, ℕ, zero, suc, ◌<◌, ◌^◌, ◌⊎◌, inl, inr, Bool, true, false, ◌&&◌, ◌||◌, not, ◌==◌, List, [], ◌∷◌, ◌++◌, Option, Some, None, refl, sym, ◌∙◌, ap, subst, codes, decimal, length, map, take, drop, nat_lt, nat_le, arith}
+use Rattle.std.proofs.Common.{◌≡◌, ◌≢◌, ℕ, zero, suc, ◌^◌, ◌⊎◌, inl, inr, Bool, true, false, ◌&&◌, ◌||◌, not, ◌==◌, List, [], ◌∷◌, ◌++◌, Option, Some, None, refl, sym, ◌∙◌, ap, subst, codes, decimal, length, map, take, drop, nat_lt, nat_le, arith}
 use Rattle.std.specs.Prelude.{MatchOption}
 use Rattle.std.specs.Bool.{MatchBool}
 use Rattle.std.specs.Int.{bytes_high_first}
@@ -13,9 +13,9 @@ use Rattle.std.proofs.lemmas.Option.{none-some, same_Some}
 use Rattle.dns_spec.specs.Names.{Octets, DomainName, wire, folded, is_name, octets_equal}
 use Rattle.dns_spec.specs.NameText.{SpellsOctet, TextSpells, SpellsName, escape_front}
 use Rattle.dns_spec.specs.TypeText.{text_in_lower_case, type_by_mnemonic, numbered_type, NamesType}
-use Rattle.dns_spec.specs.AddressText.{ipv4_text, SaysIpv4, ipv6_octets}
+use Rattle.dns_spec.specs.AddressText.{ipv4_text, ipv6_octets}
 use Rattle.dns_spec.specs.Data.{valid, lower_case}
-use Rattle.dns_spec.specs.DataText.{Word, WordForm, number_word, ipv4_word, ipv6_word, name_word, string_word, SpellsString, SaysForm, SaysNumber, may_be_quoted, SaysForms, forms_of, SaysTyped, hex_octets, is_hex_word, SaysUnknown, is_unknown_mark, SaysAsSpelled, Says}
+use Rattle.dns_spec.specs.DataText.{Word, WordForm, number_word, ipv4_word, ipv6_word, name_word, string_word, SpellsString, SaysForm, may_be_quoted, SaysForms, forms_of, SaysTyped, hex_octets, is_hex_word, SaysUnknown, is_unknown_mark, SaysAsSpelled, Says}
 use Rattle.dns_spec.specs.Records.{ResourceRecord}
 use Rattle.dns_spec.specs.ZoneText.{Entry, most_octets, token_front, lexical_fault}
 use Rattle.dns_spec.specs.FileFaults.{FileFault, unknown_directive, directive_words, bad_owner, no_owner, bad_ttl, other_class, bad_type, no_ttl, bad_data, too_many_records}
@@ -26,7 +26,7 @@ use Rattle.dns_spec.proofs.WorkedExamples.ReadTexts.{tokens_in, entries_of, mean
 use Rattle.dns_spec.proofs.WorkedExamples.Zones.{example}
 
 -- a value with what holds of it, where one is found
-abbrev Found : {A : Type 0} → (A → Type 0) → Type 0
+abbrev pub Found : {A : Type 0} → (A → Type 0) → Type 0
 Found {A} P = Option ((v : A) × P v)
 
 abbrev and_then : {A B : Type 0} → Option A → (A → Option B) → Option B
@@ -108,25 +108,18 @@ one_more o text u r h (inl (label, e)) = inl ((h.0, u.1, h.1, h.2, label), e)
 one_more o text u r h (inr (others, label, more)) =
     inr (others, (h.0, u.1, h.1, h.2, label), more)
 
-pub dot_first : (o : DomainName) (c : ℕ) (cs : Octets) (r : Octets × DomainName) → c ≡ 46
-    → FirstLabel o cs r → FirstLabel o (c ∷ cs) ([], r.0 ∷ r.1)
-dot_first o c cs r dot h = inr (cs, ap (λ x. x ∷ cs) dot, h)
-
-pub no_more : (o : DomainName) → FirstLabel o [] ([], o)
-no_more o = inl (refl, refl)
-
 abbrev labels_in : ℕ → (o : DomainName) (text : Octets) → Found (FirstLabel o text)
-labels_in k o [] = Some (([], o), no_more o)
+labels_in k o [] = Some (([], o), inl (refl, refl))
 labels_in zero o (c ∷ cs) = None
 labels_in (suc k) o (c ∷ cs) = elim (is_or_not c 46) [
   | inl dot ↦ and_then (labels_in k o cs)
-      (λ r. Some (([], r.0.0 ∷ r.0.1), dot_first o c cs r.0 dot r.1))
+      (λ r. Some (([], r.0.0 ∷ r.0.1), inr (cs, ap (λ x. x ∷ cs) dot, r.1)))
   | inr no_dot ↦ and_then (octet_in (c ∷ cs)) (λ u. and_then (labels_in k o u.0.1)
       (λ r. Some ((u.0.0 ∷ r.0.0, r.0.1), one_more o (c ∷ cs) u.0 r.0 u.1 r.1)))
 ]
 
 -- a word that spells a name
-abbrev name_in : (o : DomainName) (text : Octets) → Found (SpellsName o text)
+abbrev pub name_in : (o : DomainName) (text : Octets) → Found (SpellsName o text)
 name_in o text = elim (same_or_not text (codes "@")) [
   | inl at ↦ and_then (holds (is_name o))
       (λ h. Some (o, record { spelled = inl (at, refl); is_name = h }))
@@ -139,9 +132,6 @@ name_in o text = elim (same_or_not text (codes "@")) [
 ]
 
 -- a word that states a TTL, or none
-is_number : (n : ℕ) (raw : Octets) → n < 2 ^ 64 → raw ≡ decimal n → digits_value 10 raw ≡ n
-is_number n raw small e = ap (digits_value 10) e ∙ (decimal_is_IsNumeral n small).1
-
 abbrev says_ttl : Word → ℕ → Bool
 says_ttl w n = not w.is_quoted && octets_equal w.raw (decimal n) && nat_le n most_ttl
 
@@ -153,7 +143,8 @@ ttl_said w n h =
 
 pub ttl_tested : (w : Word) (n : ℕ) → TtlSays w n → says_ttl w (digits_value 10 w.raw) ≡ true
 ttl_tested w n (bare, is, few) =
-    subst (λ k. says_ttl w k ≡ true) (sym (is_number n w.raw (omega (arith, few)) is))
+    let value = ap (digits_value 10) is ∙ (decimal_is_IsNumeral n (omega (arith, few))).1 in
+    subst (λ k. says_ttl w k ≡ true) (sym value)
     (and_from _ _ (and_from _ _ bare ((octets_equal-decides w.raw (decimal n)).1 is))
     (le-leb n most_ttl few))
 
@@ -164,7 +155,7 @@ ttl_of w =
     (λ e k h. false≢true (sym e ∙ ttl_tested w k h))
 
 -- a string
-abbrev string_in : ℕ → (text : Octets) → Found (SpellsString text)
+abbrev pub string_in : ℕ → (text : Octets) → Found (SpellsString text)
 string_in k [] = Some ([], refl)
 string_in zero (c ∷ cs) = None
 string_in (suc k) (c ∷ cs) = elim (is_or_not c 46) [
@@ -175,22 +166,16 @@ string_in (suc k) (c ∷ cs) = elim (is_or_not c 46) [
 ]
 
 -- a word of data, and the words of data
-abbrev number_in : (k : ℕ) (text : Octets) → Found (SaysNumber k text)
-number_in k text =
+abbrev form_in : (f : WordForm) (o : DomainName) (text : Octets) → Found (SaysForm f o text)
+form_in (number_word k) o text =
     let n = digits_value 10 text in
     and_then (holds (nat_lt n (256 ^ k))) (λ small. and_then (same text (decimal n))
     (λ e. Some (bytes_high_first k n, (n, ltb-true n (256 ^ k) small, e, refl))))
-
-abbrev ipv4_in : (text : Octets) → Found (SaysIpv4 text)
-ipv4_in text =
+form_in ipv4_word o text =
     let d = map (digits_value 10) (slice_split (λ o. o == 46) text) in
     and_then (holds (length d == 4)) (λ four.
     and_then (holds (list_all (λ x. nat_lt x 256) d)) (λ small. and_then (same text (ipv4_text d))
     (λ e. Some (d, record { four = eqb-true (length d) 4 four; octets = small; spelled = e }))))
-
-abbrev form_in : (f : WordForm) (o : DomainName) (text : Octets) → Found (SaysForm f o text)
-form_in (number_word k) o text = number_in k text
-form_in ipv4_word o text = ipv4_in text
 form_in ipv6_word o text = there (ipv6_octets text)
 form_in name_word o text = and_then (name_in o text) (λ n. Some (wire n.0, (n.0, n.1, refl)))
 form_in string_word o text = and_then (string_in (length text) text)
@@ -413,7 +398,7 @@ entries_in o earlier (e ∷ es) = and_then (entry_gives o earlier e)
     (λ g. entry_then o earlier e es (entries_in o (e ∷ earlier) es) g.0 g.1)
 
 -- what a text means
-abbrev text_in : (text : Octets) → Found (Means example text)
+abbrev pub text_in : (text : Octets) → Found (Means example text)
 text_in text = and_then (same (take most_octets text) text) (λ all.
     and_then (fails (nat_lt most_octets (length text))) (λ within.
     and_then (missing (token_front (tokens_in 99 text).1)) (λ at_end.
@@ -452,12 +437,6 @@ are_found {A} {B} P read (r ∷ rows) e =
 abbrev pub Mean : List (Octets × Meaning) → Type 0
 Mean = Rows (Means example)
 
-pub are_read : (rows : List (Octets × Meaning))
-    → map (λ (r : Octets × Meaning). value_of (text_in r.0)) rows
-    ≡ map (λ (r : Octets × Meaning). Some r.1) rows
-    → Mean rows
-are_read = are_found (Means example) text_in
-
 pub reads : (text : Octets) (m : Meaning) → value_of (text_in text) ≡ Some m → Means example text m
 reads text m e = found_is (text_in text) m e
 
@@ -465,7 +444,5 @@ reads text m e = found_is (text_in text) m e
 abbrev pub SaysOf : ℕ × List Word → Octets → Type 0
 SaysOf said d = Says said.0 said.1 example d
 
-pub are_said : (rows : List ((ℕ × List Word) × Octets))
-    → map (λ (r : (ℕ × List Word) × Octets). value_of (data_in r.0.0 r.0.1 example)) rows
-    ≡ map (λ (r : (ℕ × List Word) × Octets). Some r.1) rows → Rows SaysOf rows
-are_said = are_found SaysOf (λ said. data_in said.0 said.1 example)
+abbrev pub said_in : (said : ℕ × List Word) → Found (SaysOf said)
+said_in said = data_in said.0 said.1 example

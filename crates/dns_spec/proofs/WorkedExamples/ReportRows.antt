@@ -1,5 +1,5 @@
 -- What is reported of worked zones, octet for octet.
-use Rattle.std.proofs.Common.{◌≡◌, ℕ, Bool, true, false, List, [], ◌∷◌, ◌++◌, codes, refl, lit<}
+use Rattle.std.proofs.Common.{◌≡◌, ℕ, Bool, true, false, List, [], ◌∷◌, ◌++◌, codes, refl, lit<, lit≤, ◌<◌, All}
 use Rattle.std.specs.List.{Contains}
 use Rattle.std.specs.Fmt.{digits}
 use Rattle.dns_spec.specs.NameText.{octet_text}
@@ -11,7 +11,7 @@ use Rattle.dns_spec.specs.Records.{ResourceRecord, HoldSameRecords, zone_of}
 use Rattle.dns_spec.specs.Checks.{faults}
 use Rattle.dns_spec.specs.FileFaults.{bad_ttl, bad_type}
 use Rattle.dns_spec.specs.Meaning.{records, fault_at}
-use Rattle.dns_spec.specs.ZonePrinted.{zone_text}
+use Rattle.dns_spec.specs.ZonePrinted.{zone_text, IsReadRecord, record_line}
 use Rattle.dns_spec.specs.Report.{Options, Report, Reports, report_of_meaning, zone_report}
 use Rattle.dns_spec.proofs.WorkedExamples.FileRows.{small_file, six_records, small_file_means}
 use Rattle.dns_spec.proofs.Records.RecordOrder.{all_each}
@@ -56,7 +56,7 @@ dotted_records =
 
 -- an address with two TTLs
 abbrev address_for : ℕ → ResourceRecord
-address_for ttl = record { owner = dotted (codes "ns"); ttl = ttl; rtype = type_a; rdata = net_192 1 }
+address_for ttl = record (entry (dotted (codes "ns")) type_a (net_192 1)) { ttl = ttl }
 
 abbrev once_each : List ResourceRecord
 once_each = address_for 5 ∷ address_for 7 ∷ []
@@ -108,7 +108,8 @@ report_rows :
     -- a record that stands twice is printed once; data comes before data that it begins, and quiet
     -- keeps nothing back
     × (zone_report quiet_printing (zone_of [] (root_records
-    ++ entry (dotted (codes "ns")) type_a (net_192 1) ∷ entry [] 65280 (0 ∷ []) ∷ entry [] 65280 [] ∷ []))
+    ++ entry (dotted (codes "ns")) type_a (net_192 1) ∷ entry [] 65280 (0 ∷ [])
+    ∷ entry [] 65280 [] ∷ []))
     ≡ passed (codes ". 3600 IN SOA ns. h. 7 2 3 4 5\n" ++ codes ". 3600 IN NS ns.\n"
     ++ codes ". 3600 IN TYPE65280 \\# 0\n" ++ codes ". 3600 IN TYPE65280 \\# 1 00\n"
     ++ codes "ns. 3600 IN A 192.0.2.1\n"))
@@ -121,7 +122,8 @@ report_rows = search []
 same_in_another_order : HoldSameRecords once_each twice_for_7
 same_in_another_order = (
   all_each (Contains twice_for_7) once_each ((1, lit< tt, refl), ((0, lit< tt, refl), tt)),
-  all_each (Contains once_each) twice_for_7 ((1, lit< tt, refl), ((0, lit< tt, refl), ((1, lit< tt, refl), tt))),
+  all_each (Contains once_each) twice_for_7
+      ((1, lit< tt, refl), ((0, lit< tt, refl), ((1, lit< tt, refl), tt))),
 )
 
 -- a file of comments, parentheses and relative names, and the text in which its zone is printed
@@ -134,3 +136,33 @@ small_file_printed : Reports example small_file printing (passed (
     ++ codes "ns.example. 60 IN AAAA 2001:db8::1:0:0:1\n"))
 unfolding faults labels_from cut zone_text data_text hex_octets octet_text digits
 small_file_printed = (records six_records, small_file_means, refl)
+
+-- a record that may be printed, with octets in its owner and data that need a backslash
+odd_record : ResourceRecord
+odd_record = record {
+  owner = (36 ∷ 7 ∷ 46 ∷ []) ∷ codes "a" ∷ [];
+  ttl = 0;
+  rtype = type_txt;
+  rdata = 3 ∷ 34 ∷ 10 ∷ 255 ∷ [];
+}
+
+its_line : record_line odd_record ≡ codes "\\$\\007\\..a. 0 IN TXT \"\\\"\\010\\255\"\n"
+unfolding odd_record octet_text data_text digits
+its_line = refl
+
+it_is_read : IsReadRecord odd_record
+unfolding odd_record cut labels_from
+it_is_read = record {
+  owner_octets = all_each (All (λ o. o < 256)) odd_record.owner (
+    all_each (λ o. o < 256) (36 ∷ 7 ∷ 46 ∷ []) (lit< tt, (lit< tt, (lit< tt, tt))),
+    (all_each (λ o. o < 256) (codes "a") (lit< tt, tt), tt),
+  );
+  owner = refl;
+  lower_owner = refl;
+  ttl = lit≤ tt;
+  rtype = lit< tt;
+  rdata_octets = all_each (λ o. o < 256) odd_record.rdata
+      (lit< tt, (lit< tt, (lit< tt, (lit< tt, tt))));
+  rdata = refl;
+  lower_data = refl;
+}

@@ -20,7 +20,7 @@ text_rows :
     × (name_text ((0 ∷ 32 ∷ 127 ∷ 255 ∷ []) ∷ []) ≡ codes "\\000\\032\\127\\255.")
     -- the digit after an octet's three is an octet of its own
     × (name_text ((9 ∷ 49 ∷ []) ∷ []) ≡ codes "\\0091.")
-    -- escapes, after their backslash: one octet, three digits, three digits past 255, and two digits
+    -- escapes, after their backslash: one octet, three digits, three past 255, and two digits
     × (escape_front (codes ".b") ≡ Some (46, codes "b"))
     × (escape_front (codes "0461") ≡ Some (46, codes "1"))
     × (escape_front (codes "256") ≡ None)

@@ -14,7 +14,8 @@ word_rows :
     -- nothing, or nothing in quotation marks
     × (stands_alone (plain []) ≡ false)
     × (stands_alone (between []) ≡ true)
-    -- a space ends a word, a semicolon begins a comment, parentheses join lines, a quotation mark begins a string
+    -- a space ends a word, a semicolon begins a comment, parentheses join lines, a quotation mark
+    -- begins a string
     × (stands_alone (plain (codes "a b")) ≡ false)
     × (stands_alone (plain (codes "a;b")) ≡ false)
     × (stands_alone (plain (codes "(a")) ≡ false)

@@ -64,10 +64,13 @@ net_192 k = 192 ∷ 0 ∷ 2 ∷ k ∷ []
 
 abbrev pub soa_of : DomainName → DomainName → ℕ → ℕ → ℕ → ℕ → ℕ → Octets
 soa_of m r serial refresh retry expire minimum =
-    wire m ++ wire r ++ flat_map (bytes_high_first 4) (serial ∷ refresh ∷ retry ∷ expire ∷ minimum ∷ [])
+    wire m ++ wire r
+    ++ flat_map (bytes_high_first 4) (serial ∷ refresh ∷ retry ∷ expire ∷ minimum ∷ [])
 
 abbrev pub example_soa : ResourceRecord
-example_soa = entry example type_soa (soa_of (under (codes "ns")) (under (codes "hostmaster")) 1 7200 900 1209600 300)
+example_soa =
+    entry example type_soa
+    (soa_of (under (codes "ns")) (under (codes "hostmaster")) 1 7200 900 1209600 300)
 
 -- ns, www, alias, *.w, a.b.ent, and the cut sub with its server below it
 abbrev pub small_records : List ResourceRecord
@@ -101,7 +104,8 @@ decimal k = if nat_lt k 10 then (48 + k) ∷ [] else (48 + k / 10) ∷ (48 + k %
 -- c1 to ck, each an alias of the next
 abbrev pub aliases : ℕ → List ResourceRecord
 aliases zero = []
-aliases (suc k) = aliases k ++ alias (codes "c" ++ decimal (suc k)) (codes "c" ++ decimal (suc (suc k))) ∷ []
+aliases (suc k) =
+    aliases k ++ alias (codes "c" ++ decimal (suc k)) (codes "c" ++ decimal (suc (suc k))) ∷ []
 
 abbrev pub letters : ℕ → Octets
 letters k = replicate k 97
