@@ -1,13 +1,11 @@
 -- Worked examples, computed from the definitions. Zones has what they are asked of.
 pub mod Zones
-pub mod ReadTexts
 pub mod Readings
 pub mod AnswerRows
 pub mod CheckRows
 pub mod CommandRows
 pub mod DataRows
 pub mod FileRows
-pub mod LayoutRows
 pub mod LimitRows
 pub mod MeaningRows
 pub mod MessageLineRows

@@ -11,8 +11,7 @@ use Rattle.dns_spec.specs.ZoneText.{run_length}
 use Rattle.dns_spec.specs.Meaning.{records, fault_at, Means}
 use Rattle.dns_spec.specs.FileFaults.{bad_ttl, bad_type, no_ttl}
 use Rattle.dns_spec.proofs.WorkedExamples.Zones.{hex, example, under, net_192, soa_of, strings_data, small_records}
-use Rattle.dns_spec.proofs.WorkedExamples.ReadTexts.{tokens_in}
-use Rattle.dns_spec.proofs.WorkedExamples.Readings.{Mean, are_found, text_in, reads}
+use Rattle.dns_spec.proofs.WorkedExamples.Readings.{tokens_in, Mean, are_found, text_in, reads}
 use mathlib.Core.Bool.{xor}
 
 abbrev pub small_file : Octets

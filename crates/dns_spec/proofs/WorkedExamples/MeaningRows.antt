@@ -13,8 +13,7 @@ use Rattle.dns_spec.specs.FileFaults.{bad_data, bad_escape, bad_octet, bad_owner
 use Rattle.dns_spec.specs.Meaning.{faulty, NameIs, DataIs, records, fault_at, Means}
 use Rattle.dns_spec.proofs.DataWords.TypeWords.{one_type}
 use Rattle.dns_spec.proofs.DataWords.OneData.{four_numbers, number_then_dot}
-use Rattle.dns_spec.proofs.WorkedExamples.ReadTexts.{tokens_in, means}
-use Rattle.dns_spec.proofs.WorkedExamples.Readings.{Mean, are_found, text_in, name_after, found_is}
+use Rattle.dns_spec.proofs.WorkedExamples.Readings.{tokens_in, means, Mean, are_found, text_in, name_after, found_is}
 use Rattle.dns_spec.proofs.WorkedExamples.Zones.{example, under, strings_data}
 use mathlib.Core.Bool.{xor}
 

@@ -14,7 +14,7 @@ use Rattle.dns_spec.specs.Lines.{lines, ended_lines, line_message, line_answers,
 use Rattle.dns_spec.specs.MessageLines.{section_line, message_text, PrintsMessage, PrintsInput}
 use Rattle.dns_spec.proofs.Messages.MessageReading.{message_at_computes}
 use Rattle.dns_spec.proofs.WorkedExamples.Zones.{hex, under, net_192}
-use Rattle.dns_spec.proofs.WorkedExamples.MessageRows.{address_message, error_message}
+use Rattle.dns_spec.proofs.WorkedExamples.MessageRows.{address_digits, address_message, error_digits, error_message}
 
 -- the lines of a message, and of none
 abbrev Prints : Octets → Octets → Type 0
@@ -23,18 +23,7 @@ Prints input output = PrintsInput input (record { output = output; passes = true
 abbrev Refuses : Octets → Octets → Type 0
 Refuses input output = PrintsInput input (record { output = output; passes = false })
 
--- the digits of an address's reply, of a name error, and of a reply with a pointer to itself
-abbrev address_digits : Octets
-address_digits =
-    codes "12348400000100010000000003777777076578616d706c650000010001"
-    ++ codes "c00c0001000100000e100004c000020a"
-
-abbrev error_digits : Octets
-error_digits =
-    codes "123484030001000000010000046e6f7065076578616d706c650000010001"
-    ++ codes "c011000600010000012c0026026e73c0110a686f73746d6173746572c011"
-    ++ codes "0000000100001c2000000384001275000000012c"
-
+-- the digits of a reply with a pointer to itself
 abbrev pointer_digits : Octets
 pointer_digits =
     codes "12348400000100010000000003777777076578616d706c650000010001"

@@ -12,17 +12,23 @@ use Rattle.dns_spec.specs.Layout.{pointer}
 use Rattle.dns_spec.proofs.WorkedExamples.Zones.{hex, dotted, under, example, net_192, soa_of, letters, www_query}
 
 -- a reply with an address, whose owner is a pointer at place 29
-abbrev pub address_reply : Octets
-address_reply =
-    hex (codes "123484000001000100000000 03777777076578616d706c650000010001"
-    ++ codes "c00c0001000100000e100004c000020a")
+abbrev pub address_digits : Octets
+address_digits =
+    codes "12348400000100010000000003777777076578616d706c650000010001"
+    ++ codes "c00c0001000100000e100004c000020a"
+
+abbrev address_reply : Octets
+address_reply = hex address_digits
 
 -- a name error, with pointers at the places 30, 45 and 58; their runs begin at 30, 42 and 47
-abbrev pub error_reply : Octets
-error_reply =
-    hex (codes "123484030001000000010000 046e6f7065076578616d706c650000010001"
-    ++ codes "c011000600010000012c0026 026e73c011 0a686f73746d6173746572c011"
-    ++ codes "00000001 00001c20 00000384 00127500 0000012c")
+abbrev pub error_digits : Octets
+error_digits =
+    codes "123484030001000000010000046e6f7065076578616d706c650000010001"
+    ++ codes "c011000600010000012c0026026e73c0110a686f73746d6173746572c011"
+    ++ codes "0000000100001c2000000384001275000000012c"
+
+abbrev error_reply : Octets
+error_reply = hex error_digits
 
 -- the octets with a pointer to place p at place i
 abbrev pointing : Octets → ℕ → ℕ → Octets

@@ -30,10 +30,7 @@ paired (h ∷ l ∷ ds) = (16 * h + l) ∷ paired ds
 abbrev pub hex : Octets → Octets
 hex cs = paired (hex_digits cs)
 
--- names by their text, the last ones relative to `example.`
-abbrev pub named : Octets → DomainName
-named cs = dotted cs
-
+-- names relative to `example.`
 abbrev pub example : DomainName
 example = dotted (codes "example")
 
