@@ -4,6 +4,7 @@ pub mod ReadTokens
 pub mod ReadOctets
 pub mod ReadRecords
 pub mod ReadWords
+pub mod GivenRecords
 pub mod OneMeaning
 pub mod SomeMeaning
 pub mod Beginnings

@@ -25,7 +25,7 @@ use Rattle.dns_spec.proofs.Records.SortedOnce.{Each}
 use Rattle.dns_spec.proofs.NameTexts.WrittenNames.{name_spelled}
 use Rattle.dns_spec.proofs.DataWords.SaidAgain.{entry_passes, data_said}
 use Rattle.dns_spec.proofs.PrintedZones.PrintedLines.{line_tokens, line_pieces_read, line_cut, line_parentheses, line_words_again}
-use Rattle.dns_spec.proofs.WorkedExamples.Readings.{record_given, given_then}
+use Rattle.dns_spec.proofs.ZoneTexts.GivenRecords.{record_given, given_then}
 
 -- the tokens of the lines, one line after the other
 lines_tokens : List ResourceRecord → List Token

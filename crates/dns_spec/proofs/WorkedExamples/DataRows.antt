@@ -31,11 +31,11 @@ abbrev escaped : Octets
 escaped = codes "a\\\"b\\009"
 
 abbrev single_zero : Octets
-single_zero = hex (codes "0001 0000 0002 0003 0004 0005 0006 0007")
+single_zero = codes "0001 0000 0002 0003 0004 0005 0006 0007"
 
 said_rows : Rows SaysOf (
     -- a single zero group stays
-    ((type_aaaa, bare (codes "1:0:2:3:4:5:6:7") ∷ []), single_zero)
+    ((type_aaaa, bare (codes "1:0:2:3:4:5:6:7") ∷ []), hex single_zero)
     -- an address in the form for any type
     ∷ ((type_a, mark ∷ bare (codes "4") ∷ bare (codes "C0000201") ∷ []), hex (codes "c0000201"))
     -- no octets of a type without a name
@@ -58,25 +58,34 @@ escaped_string = found_is (string_in 9 escaped) (97 ∷ 34 ∷ 98 ∷ 9 ∷ []) 
 mail_name : SpellsName example (codes "Mail") (under (codes "Mail"))
 mail_name = found_is (name_in example (codes "Mail")) (under (codes "Mail")) refl
 
+-- an address read of a text and written as one, and data written
+abbrev Reads : Octets → Octets → Type 0
+Reads text digits = SaysIpv6 text (hex digits)
+
+abbrev Writes : ℕ → Octets → Octets → Type 0
+Writes t digits text = data_text t (hex digits) ≡ text
+
+abbrev mail_exchange : Octets
+mail_exchange = codes "000a 046d61696c 076578616d706c65 00"
+
+abbrev capital_exchange : Octets
+capital_exchange = codes "000a 044d61696c 076578616d706c65 00"
+
 data_rows :
     -- a single zero group stays
-    SaysIpv6 (codes "1:0:2:3:4:5:6:7") single_zero
-    × (data_text type_aaaa single_zero ≡ codes "1:0:2:3:4:5:6:7")
+    Reads (codes "1:0:2:3:4:5:6:7") single_zero
+    × Writes type_aaaa single_zero (codes "1:0:2:3:4:5:6:7")
     -- the first of two equal runs, and capitals
-    × SaysIpv6 (codes "2001:DB8:0:0:1:0:0:1")
-    (hex (codes "2001 0db8 0000 0000 0001 0000 0000 0001"))
-    × (data_text type_aaaa (hex (codes "2001 0db8 0000 0000 0001 0000 0000 0001"))
-    ≡ codes "2001:db8::1:0:0:1")
+    × Reads (codes "2001:DB8:0:0:1:0:0:1") (codes "2001 0db8 0000 0000 0001 0000 0000 0001")
+    × Writes type_aaaa (codes "2001 0db8 0000 0000 0001 0000 0000 0001") (codes "2001:db8::1:0:0:1")
     -- `::` for one group alone is read, and not written
-    × (SaysIpv6 (codes "1:2:3:4:5:6:7::") (hex (codes "0001 0002 0003 0004 0005 0006 0007 0000")))
-    × (data_text type_aaaa (hex (codes "0001 0002 0003 0004 0005 0006 0007 0000"))
-    ≡ codes "1:2:3:4:5:6:7:0")
+    × Reads (codes "1:2:3:4:5:6:7::") (codes "0001 0002 0003 0004 0005 0006 0007 0000")
+    × Writes type_aaaa (codes "0001 0002 0003 0004 0005 0006 0007 0000") (codes "1:2:3:4:5:6:7:0")
     -- all groups, and none
-    × (SaysIpv6 (codes "::") (hex (codes "0000 0000 0000 0000 0000 0000 0000 0000")))
-    × (data_text type_aaaa (hex (codes "0000 0000 0000 0000 0000 0000 0000 0000")) ≡ codes "::")
+    × Reads (codes "::") (codes "0000 0000 0000 0000 0000 0000 0000 0000")
+    × Writes type_aaaa (codes "0000 0000 0000 0000 0000 0000 0000 0000") (codes "::")
     -- the longest run, at the end
-    × (data_text type_aaaa (hex (codes "0001 0000 0000 0002 0003 0000 0000 0000"))
-    ≡ codes "1:0:0:2:3::")
+    × Writes type_aaaa (codes "0001 0000 0000 0002 0003 0000 0000 0000") (codes "1:0:0:2:3::")
     -- eight groups leave nothing for `::`
     × (ipv6_groups (codes "1:2:3:4:5:6:7:8::") ≡ None)
     -- an IPv4 address is no group
@@ -86,20 +95,18 @@ data_rows :
     × (ipv6_groups (codes "1:2:3:4:5:6:7:00008") ≡ None)
     × (ipv6_groups (codes ":1:2:3:4:5:6:7") ≡ None)
     -- an address in the form for any type, and in that form no octets, and octets
-    × (data_text type_a (hex (codes "c0000201")) ≡ codes "192.0.2.1")
-    × (data_text 65280 [] ≡ codes "\\# 0")
-    × (data_text 65280 (hex (codes "0aFF")) ≡ codes "\\# 2 0aff")
+    × Writes type_a (codes "c0000201") (codes "192.0.2.1")
+    × Writes 65280 [] (codes "\\# 0")
+    × Writes 65280 (codes "0aFF") (codes "\\# 2 0aff")
     -- a string with escapes
-    × (data_text type_txt (hex (codes "0461226209")) ≡ codes "\"" ++ escaped ++ codes "\"")
+    × Writes type_txt (codes "0461226209") (codes "\"" ++ escaped ++ codes "\"")
     -- a mail exchange
-    × (data_text type_mx (hex (codes "000a 046d61696c 076578616d706c65 00"))
-    ≡ codes "10 mail.example.")
-    × (parts type_mx (hex (codes "000a 046d61696c 076578616d706c65 00"))
+    × Writes type_mx mail_exchange (codes "10 mail.example.")
+    × (parts type_mx (hex mail_exchange)
     ≡ octets (hex (codes "000a")) ∷ name (under (codes "mail")) ∷ [])
     -- the same data as it comes in a message
-    × Valid type_mx (hex (codes "000a 044d61696c 076578616d706c65 00"))
-    × (lower_case type_mx (hex (codes "000a 044d61696c 076578616d706c65 00"))
-    ≡ hex (codes "000a 046d61696c 076578616d706c65 00"))
+    × Valid type_mx (hex capital_exchange)
+    × (lower_case type_mx (hex capital_exchange) ≡ hex mail_exchange)
 unfolding ipv6_groups data_text digits labels_from octet_text cut
 data_rows = search []
 

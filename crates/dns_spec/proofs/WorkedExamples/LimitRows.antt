@@ -15,7 +15,8 @@ use Rattle.dns_spec.specs.DataText.{Word}
 use Rattle.dns_spec.specs.Records.{ResourceRecord}
 use Rattle.std.specs.Fmt.{digits}
 use mathlib.Core.Bool.{xor}
-use Rattle.dns_spec.proofs.WorkedExamples.Readings.{record_given, record_but_count, given_then, data_in, found_is}
+use Rattle.dns_spec.proofs.ZoneTexts.GivenRecords.{record_given, record_but_count, given_then}
+use Rattle.dns_spec.proofs.WorkedExamples.Readings.{data_in, found_is}
 use Rattle.dns_spec.proofs.WorkedExamples.Zones.{example}
 
 -- Copies of one line, which states a record, up to one too many. The number of lines is a variable,

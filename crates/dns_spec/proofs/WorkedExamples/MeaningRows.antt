@@ -1,5 +1,5 @@
 -- What whole texts mean, in the worked cases.
-use Rattle.std.proofs.Common.{◌≡◌, ℕ, inr, inl, false, List, [], ◌∷◌, ◌++◌, refl, subst, codes, arith, lit<, lit≤}
+use Rattle.std.proofs.Common.{Some, ◌≡◌, ℕ, inr, inl, false, List, [], ◌∷◌, ◌++◌, refl, subst, codes, arith, lit<, lit≤}
 use Rattle.std.specs.Fmt.{digits}
 use Rattle.std.proofs.lemmas.Bool.{false≢true}
 use Rattle.std.proofs.lemmas.Fmt.{decimal_injective}
@@ -13,7 +13,7 @@ use Rattle.dns_spec.specs.FileFaults.{bad_data, bad_escape, bad_octet, bad_owner
 use Rattle.dns_spec.specs.Meaning.{faulty, NameIs, DataIs, records, fault_at, Means}
 use Rattle.dns_spec.proofs.DataWords.TypeWords.{one_type}
 use Rattle.dns_spec.proofs.DataWords.OneData.{four_numbers, number_then_dot}
-use Rattle.dns_spec.proofs.WorkedExamples.Readings.{tokens_in, means, Mean, are_found, text_in, name_after, found_is}
+use Rattle.dns_spec.proofs.WorkedExamples.Readings.{tokens_in, text_with, Mean, are_found, text_in, name_after, found_is}
 use Rattle.dns_spec.proofs.WorkedExamples.Zones.{example, under, strings_data}
 use mathlib.Core.Bool.{xor}
 
@@ -120,20 +120,26 @@ no_data t o d e =
 bad_address : Means example (codes "www 60 A 192.0.2.256") (fault_at bad_data 1)
 unfolding tokens_in run_length digits
 bad_address =
-    means (codes "www 60 A 192.0.2.256") (fault_at bad_data 1) refl refl refl (
-      faulty bad_data,
-      inr (
-        λ n. n _ owner,
+    found_is (text_with (codes "www 60 A 192.0.2.256") (Some (
+      fault_at bad_data 1,
+      (
+        faulty bad_data,
         inr (
-          λ n. n 60 (refl, refl, lit≤ tt),
+          λ n. n _ owner,
           inr (
-            false≢true,
-            inr (λ n. n 1 (refl, inl refl, refl), inr (false≢true, inl (none, refl))),
+            λ n. n 60 (refl, refl, lit≤ tt),
+            inr (
+              false≢true,
+              inr (
+                λ n. n 1 (refl, inl refl, refl),
+                inr (false≢true, inl (none, refl)),
+              ),
+            ),
           ),
         ),
+        refl,
       ),
-      refl,
-    )
+    ))) _ refl
   where
     owner : NameIs example [] (bare (codes "www")) (under (codes "www"))
     owner = found_is (name_after example [] (bare (codes "www"))) _ refl

@@ -1,7 +1,6 @@
 -- Readings that compute: what a text or a part of it means, with the proof that it does, or nothing
--- where the reading can't tell. Before them are the tokens of a text, and what makes a record of an
--- entry.
-use Rattle.std.proofs.Common.{◌≡◌, ◌≢◌, ℕ, zero, suc, ◌^◌, ◌⊎◌, inl, inr, Bool, true, false, ◌&&◌, ◌||◌, not, ◌==◌, List, [], ◌∷◌, ◌++◌, Option, Some, None, refl, sym, ◌∙◌, ap, subst, codes, decimal, length, map, take, drop, nat_lt, nat_le, arith, IsTrue}
+-- where the reading can't tell.
+use Rattle.std.proofs.Common.{◌≡◌, ◌≢◌, ℕ, zero, suc, ◌^◌, ◌⊎◌, inl, inr, Bool, true, false, ◌&&◌, ◌||◌, not, ◌==◌, List, [], ◌∷◌, ◌++◌, Option, Some, None, refl, sym, ◌∙◌, ap, subst, codes, decimal, length, map, take, drop, nat_lt, nat_le, arith}
 use Rattle.std.specs.Prelude.{MatchOption}
 use Rattle.std.specs.Bool.{MatchBool}
 use Rattle.std.specs.Int.{bytes_high_first}
@@ -20,101 +19,10 @@ use Rattle.dns_spec.specs.DataText.{Word, WordForm, number_word, ipv4_word, ipv6
 use Rattle.dns_spec.specs.Records.{ResourceRecord}
 use Rattle.dns_spec.specs.ZoneText.{Entry, most_octets, token_front, lexical_fault, Token, TokensThen, cut_entries, with_end, whole_text, extent_by}
 use Rattle.dns_spec.specs.FileFaults.{FileFault, unknown_directive, directive_words, bad_owner, no_owner, bad_ttl, other_class, bad_type, no_ttl, bad_data, too_many_records}
-use Rattle.dns_spec.specs.Meaning.{EntryMeaning, faulty, gives, Nothing, EntryKind, no_words, directive, owned, unowned, kind_of, directive_word, owner_word, OriginIs, NameIs, OwnerBefore, most_ttl, TtlSays, ttl_in_force, TtlIs, is_zone_type, TypeIs, DataIs, IsRecord, Fields, fields, IsNoTtl, is_other_class, are_too_many, RecordGives, DirectiveSays, DirectiveGives, KindGives, EntryGives, Meaning, records, fault_at, after, line_after, EntriesMean, Means, Lowest}
+use Rattle.dns_spec.specs.Meaning.{EntryMeaning, faulty, gives, Nothing, EntryKind, no_words, directive, owned, unowned, kind_of, directive_word, owner_word, OriginIs, NameIs, OwnerBefore, most_ttl, TtlSays, ttl_in_force, TtlIs, is_zone_type, TypeIs, DataIs, IsRecord, Fields, fields, IsNoTtl, is_other_class, are_too_many, RecordGives, DirectiveSays, DirectiveGives, KindGives, EntryGives, Meaning, records, fault_at, after, line_after, EntriesMean, Means}
 use Rattle.dns_spec.proofs.DomainNames.NameLaws.{octets_equal-decides}
 use Rattle.dns_spec.proofs.NameTexts.Escapes.{escape_spells}
 use Rattle.dns_spec.proofs.WorkedExamples.Zones.{example}
-
--- at most n tokens of a text, and what is after them
-abbrev pub before : Option (Token × Octets) → (Octets → List Token × Octets) → Octets
-    → List Token × Octets
-before None more text = ([], text)
-before (Some r) more text = (r.0 ∷ (more r.1).0, (more r.1).1)
-
-unfoldable pub tokens_in : ℕ → Octets → List Token × Octets
-tokens_in zero text = ([], text)
-tokens_in (suc n) text = before (token_front text) (tokens_in n) text
-
-abbrev pub Spelled : Octets → List Token × Octets → Type 0
-Spelled text r = TokensThen text r.0 r.1
-
-pub tokens_spelled : (n : ℕ) (text : Octets) → Spelled text (tokens_in n text)
-unfolding tokens_in
-tokens_spelled zero text = refl
-tokens_spelled (suc n) text = by_front (token_front text) refl (λ r. tokens_spelled n r.1)
-  where
-    by_front : (front : Option (Token × Octets)) → token_front text ≡ front
-        → ((r : Token × Octets) → Spelled r.1 (tokens_in n r.1))
-        → Spelled text (before front (tokens_in n) text)
-    by_front None e more = refl
-    by_front (Some r) e more = (r.1, e, more r)
-
--- A text within its limit that has at most 99 tokens means what its entries mean.
-abbrev pub entries_of : Octets → List Entry
-entries_of text =
-    with_end whole_text (tokens_in 99 text).1 (cut_entries false (tokens_in 99 text).0)
-
-pub means : (text : Octets) (m : Meaning) → take most_octets text ≡ text
-    → nat_lt most_octets (length text) ≡ false → token_front (tokens_in 99 text).1 ≡ None
-    → EntriesMean example [] (entries_of text) m → Means example text m
-means text m all within at_end h =
-    let r = tokens_in 99 text in (
-      entries_of text,
-      record {
-        tokens = r.0;
-        rest = r.1;
-        spelled = subst (λ t. TokensThen t r.0 r.1) (sym all) (tokens_spelled 99 text);
-        at_end = at_end;
-        entries = ap (λ b. with_end (extent_by b) r.1 (cut_entries false r.0)) (sym within);
-      },
-      h,
-    )
-
--- a record that is one is given, where no code of a fault stands before it
-ttl_stated : (earlier : List Entry) (stated : Option Word) (n : ℕ) → TtlIs earlier stated n
-    → IsNoTtl stated → ⊥
-ttl_stated earlier None n h none = none
-ttl_stated earlier (Some w) n h none = none n h
-
-ttl_known : (o : Option Word) (n : ℕ) → MatchOption o ⊥ (λ w. TtlSays w n) → IsTrue (is_none o) → ⊥
-ttl_known None n h none = h
-ttl_known (Some w) n h none = false≢true none
-
--- a record is one but for how many there are
-pub record_but_count : (o : DomainName) (earlier : List Entry) (code : FileFault)
-    (Owner : DomainName → Type 0) (f : Fields) (r : ResourceRecord) (answer : EntryMeaning)
-    → IsRecord o earlier Owner f r → is_other_class f.class ≡ false
-    → Lowest ((too_many_records, IsTrue (are_too_many earlier)) ∷ [])
-    (λ a. (s : ResourceRecord) × IsRecord o earlier Owner f s × (a ≡ gives (s ∷ []))) answer
-    → RecordGives o earlier code Owner f answer
-record_but_count o earlier code Owner f r answer h class rest =
-    inr (
-      λ none. none h.owner.0 h.owner.1,
-      inr (
-        ttl_stated earlier f.ttl r.ttl h.ttl,
-        inr (
-          λ e. false≢true (sym class ∙ e),
-          inr (
-            λ none. none r.rtype h.rtype,
-            inr (ttl_known _ r.ttl h.ttl, inr (λ none. none r.rdata h.rdata, rest)),
-          ),
-        ),
-      ),
-    )
-
-pub record_given : (o : DomainName) (earlier : List Entry) (code : FileFault)
-    (Owner : DomainName → Type 0) (f : Fields) (r : ResourceRecord)
-    → IsRecord o earlier Owner f r → is_other_class f.class ≡ false
-    → are_too_many earlier ≡ false → RecordGives o earlier code Owner f (gives (r ∷ []))
-record_given o earlier code Owner f r h class few =
-    record_but_count o earlier code Owner f r (gives (r ∷ [])) h class
-    (inr (λ e. false≢true (sym few ∙ e), (r, h, refl)))
-
--- an entry gives records, and those after it mean what they mean
-pub given_then : (o : DomainName) (earlier : List Entry) (e : Entry) (es : List Entry)
-    (rs : List ResourceRecord) (later : Meaning) → EntryGives o earlier e (gives rs)
-    → EntriesMean o (e ∷ earlier) es later → EntriesMean o earlier (e ∷ es) (after rs later)
-given_then o earlier e es rs later given more = (gives rs, given, (later, more, refl))
 
 -- a value with what holds of it, where one is found
 abbrev pub Found : {A : Type 0} → (A → Type 0) → Type 0
@@ -168,6 +76,25 @@ same_or_not xs ys =
 
 abbrev same : (xs ys : Octets) → Option (xs ≡ ys)
 same xs ys = elim (same_or_not xs ys) [ inl e ↦ Some e | inr apart ↦ None ]
+
+-- at most n tokens of a text, and what is after them
+abbrev pub Spelled : Octets → List Token × Octets → Type 0
+Spelled text r = TokensThen text r.0 r.1
+
+unfoldable pub tokens_in : ℕ → (text : Octets) → (r : List Token × Octets) × Spelled text r
+tokens_in zero text = (([], text), refl)
+tokens_in (suc n) text = elim (there (token_front text)) [
+  | None ↦ (([], text), refl)
+  | Some r ↦
+      let more = tokens_in n r.0.1 in
+      ((r.0.0 ∷ more.0.0, more.0.1), (r.0.1, r.1, more.1))
+]
+
+-- A text within its limit that has at most 99 tokens means what its entries mean.
+abbrev pub entries_of : Octets → List Entry
+entries_of text =
+    let r = (tokens_in 99 text).0 in
+    with_end whole_text r.1 (cut_entries false r.0)
 
 -- the octet that a text begins with, by itself or escaped, and the text after it
 abbrev Begins : Octets → ℕ × Octets → Type 0
@@ -488,13 +415,30 @@ entries_in o earlier [] = Some (records [], refl)
 entries_in o earlier (e ∷ es) = and_then (entry_gives o earlier e)
     (λ g. entry_then o earlier e es (entries_in o (e ∷ earlier) es) g.0 g.1)
 
--- what a text means
-abbrev pub text_in : (text : Octets) → Found (Means example text)
-text_in text = and_then (same (take most_octets text) text) (λ all.
+-- what a text means, where its entries mean something, and what it means
+abbrev pub text_with : (text : Octets) → Found (EntriesMean example [] (entries_of text))
+    → Found (Means example text)
+text_with text entries =
+    let r = tokens_in 99 text in
+    and_then (same (take most_octets text) text) (λ all.
     and_then (fails (nat_lt most_octets (length text))) (λ within.
-    and_then (missing (token_front (tokens_in 99 text).1)) (λ at_end.
-    and_then (entries_in example [] (entries_of text)) (λ m.
-    Some (m.0, means text m.0 all within at_end m.1)))))
+    and_then (missing (token_front r.0.1)) (λ at_end. and_then entries (λ m. Some (
+      m.0,
+      (
+        entries_of text,
+        record {
+          tokens = r.0.0;
+          rest = r.0.1;
+          spelled = subst (λ t. Spelled t r.0) (sym all) r.1;
+          at_end = at_end;
+          entries = ap (λ b. with_end (extent_by b) r.0.1 (cut_entries false r.0.0)) (sym within);
+        },
+        m.1,
+      ),
+    )))))
+
+abbrev pub text_in : (text : Octets) → Found (Means example text)
+text_in text = text_with text (entries_in example [] (entries_of text))
 
 -- what is found is v
 pub found_is : {A : Type 0} {P : A → Type 0} (o : Found P) (v : A)

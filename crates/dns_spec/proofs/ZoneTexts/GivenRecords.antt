@@ -1,0 +1,57 @@
+-- A record that is one is given, where no code of a fault stands before it.
+use Rattle.std.proofs.Common.{◌≡◌, ℕ, inr, false, List, [], ◌∷◌, Option, Some, None, refl, sym, ◌∙◌, IsTrue}
+use Rattle.std.specs.Prelude.{MatchOption}
+use Rattle.std.specs.Option.{is_none}
+use Rattle.std.proofs.lemmas.Bool.{false≢true}
+use Rattle.dns_spec.specs.Names.{DomainName}
+use Rattle.dns_spec.specs.DataText.{Word}
+use Rattle.dns_spec.specs.Records.{ResourceRecord}
+use Rattle.dns_spec.specs.ZoneText.{Entry}
+use Rattle.dns_spec.specs.FileFaults.{FileFault, too_many_records}
+use Rattle.dns_spec.specs.Meaning.{EntryMeaning, gives, TtlSays, TtlIs, IsRecord, Fields, IsNoTtl, is_other_class, are_too_many, RecordGives, EntryGives, Meaning, after, EntriesMean, Lowest}
+
+-- a TTL that is stated, and one that is known
+ttl_stated : (earlier : List Entry) (stated : Option Word) (n : ℕ) → TtlIs earlier stated n
+    → IsNoTtl stated → ⊥
+ttl_stated earlier None n h none = none
+ttl_stated earlier (Some w) n h none = none n h
+
+ttl_known : (o : Option Word) (n : ℕ) → MatchOption o ⊥ (λ w. TtlSays w n) → IsTrue (is_none o) → ⊥
+ttl_known None n h none = h
+ttl_known (Some w) n h none = false≢true none
+
+-- a record is one but for how many there are
+pub record_but_count : (o : DomainName) (earlier : List Entry) (code : FileFault)
+    (Owner : DomainName → Type 0) (f : Fields) (r : ResourceRecord) (answer : EntryMeaning)
+    → IsRecord o earlier Owner f r → is_other_class f.class ≡ false
+    → Lowest ((too_many_records, IsTrue (are_too_many earlier)) ∷ [])
+    (λ a. (s : ResourceRecord) × IsRecord o earlier Owner f s × (a ≡ gives (s ∷ []))) answer
+    → RecordGives o earlier code Owner f answer
+record_but_count o earlier code Owner f r answer h class rest =
+    inr (
+      λ none. none h.owner.0 h.owner.1,
+      inr (
+        ttl_stated earlier f.ttl r.ttl h.ttl,
+        inr (
+          λ e. false≢true (sym class ∙ e),
+          inr (
+            λ none. none r.rtype h.rtype,
+            inr (ttl_known _ r.ttl h.ttl, inr (λ none. none r.rdata h.rdata, rest)),
+          ),
+        ),
+      ),
+    )
+
+pub record_given : (o : DomainName) (earlier : List Entry) (code : FileFault)
+    (Owner : DomainName → Type 0) (f : Fields) (r : ResourceRecord)
+    → IsRecord o earlier Owner f r → is_other_class f.class ≡ false
+    → are_too_many earlier ≡ false → RecordGives o earlier code Owner f (gives (r ∷ []))
+record_given o earlier code Owner f r h class few =
+    record_but_count o earlier code Owner f r (gives (r ∷ [])) h class
+    (inr (λ e. false≢true (sym few ∙ e), (r, h, refl)))
+
+-- an entry gives records, and those after it mean what they mean
+pub given_then : (o : DomainName) (earlier : List Entry) (e : Entry) (es : List Entry)
+    (rs : List ResourceRecord) (later : Meaning) → EntryGives o earlier e (gives rs)
+    → EntriesMean o (e ∷ earlier) es later → EntriesMean o earlier (e ∷ es) (after rs later)
+given_then o earlier e es rs later given more = (gives rs, given, (later, more, refl))
