@@ -1,9 +1,10 @@
 //! Data of records (RFC 1035 3.2.1): octets without compression, names in lower case.
-ghost use Rattle.std.specs.Prelude.{◌≡◌, ◌≤◌, All, false, length, map, IsTrue, IfOk, MatchResult, IfSome, if◌then◌else◌};
+ghost use Rattle.std.specs.Prelude.{◌≡◌, ◌≤◌, All, None, false, length, map, IfOk, MatchOption, MatchResult, IfSome, if◌then◌else◌};
+ghost use Rattle.std.specs.Bool.{OnTrue};
 ghost use Rattle.std.specs.Option.{is_some};
-ghost use Rattle.dns_spec.specs.Data.{valid, Valid, parts, pieces_of, target, lower_case, part_folded, joined, piece_front};
-ghost use Rattle.dns_rdata.specs.TypeRows.{piece_of};
-ghost use Rattle.dns_rdata.specs.Parts.{AreCut, HasName, LowersFront, NameStandsAfter, parts_left};
+ghost use Rattle.dns_spec.specs.Data.{valid, Valid, parts, pieces_of, target, lower_case, part_folded, joined, cut, piece_front};
+ghost use Rattle.dns_rdata.specs.TypeRows.{piece_of, pieces_in};
+ghost use Rattle.dns_rdata.specs.Parts.{HasName, LowersFront, NameStandsAfter, parts_left};
 
 use crate::fault::RdataFault;
 use crate::parts::{Part, Parts, are_cut, first_part};
@@ -52,8 +53,7 @@ impl Rdata {
         if !is_valid(rtype, octets) {
             return Err(RdataFault::NotOfType);
         }
-        let octets = copied(alloc, octets)?;
-        Ok(data_of(rtype, octets))
+        Rdata::from_octets(rtype, copied(alloc, octets)?)
     }
 
     /// A second datum of the same octets. Memory is taken once.
@@ -73,8 +73,11 @@ impl Rdata {
             × (d ≡ lower_case rtype.0 octets.items))
             (λ fault. (valid rtype.0 octets.items ≡ false) × (fault ≡ RdataFault.NotOfType)) }
     {
-        if is_valid(rtype, octets.as_slice()) {
-            Ok(data_of(rtype, octets))
+        let mut octets = octets;
+        if octets.len() <= MAX_OCTETS
+            && cut_in_lower_case(pieces_of_type(rtype), octets.as_mut_slice())
+        {
+            Ok(Rdata { octets })
         } else {
             Err(RdataFault::NotOfType)
         }
@@ -176,49 +179,34 @@ fn copied(alloc: Global, octets: &[u8]) -> Result<Vec<u8>, AllocError>
     Ok(copy)
 }
 
-// Valid data with its names in lower case, in the memory that it has.
-fn data_of(rtype: RType, octets: Vec<u8>) -> Rdata
-    requires { Valid rtype.0 octets.items }
-    ensures value { result ≡ lower_case rtype.0 octets.items }
-    ensures valid { Valid rtype.0 result }
+// Whether octets are cut into these pieces. The names among them are lowered as they are found.
+fn cut_in_lower_case(pieces: &[Piece], octets: &mut [u8]) -> bool
+    ensures cut { result ≡ is_some (cut (pieces_in pieces.now) octets.old) }
+    ensures lower { OnTrue result
+        (octets.new ≡ joined (map part_folded (parts_left pieces.now octets.old))) }
 {
-    Rdata {
-        octets: lowered(rtype, octets),
-    }
-}
-
-fn lowered(rtype: RType, octets: Vec<u8>) -> Vec<u8>
-    requires { Valid rtype.0 octets.items }
-    ensures { result.items ≡ lower_case rtype.0 octets.items }
-{
-    let mut octets = octets;
-    lower_names(pieces_of_type(rtype), octets.as_mut_slice());
-    octets
-}
-
-// Lowers the names of octets that are cut into these pieces.
-fn lower_names(pieces: &[Piece], octets: &mut [u8])
-    requires { AreCut pieces.now octets.old }
-    ensures { octets.new ≡ joined (map part_folded (parts_left pieces.now octets.old)) }
-{
-    let mut start = 0;
-    'pieces: for piece in pieces {
-        start += lower_first(*piece, &mut octets[start..]);
+    let Some((piece, others)) = pieces.split_first() else {
+        return octets.is_empty();
+    };
+    match lower_first(*piece, octets) {
+        Some(end) => cut_in_lower_case(others, octets.split_at_mut(end).1),
+        None => false,
     }
 }
 
 // Lowers the piece that octets begin with where it is a name, and answers how many octets it has.
-fn lower_first(piece: Piece, octets: &mut [u8]) -> usize
-    requires { IsTrue (is_some (piece_front (piece_of piece) octets.old)) }
-    ensures { LowersFront (piece_front (piece_of piece) octets.old) octets.new result }
+// `None` where they begin with no such piece.
+fn lower_first(piece: Piece, octets: &mut [u8]) -> Option<usize>
+    ensures { MatchOption result (piece_front (piece_of piece) octets.old ≡ None)
+        (λ n. LowersFront (piece_front (piece_of piece) octets.old) octets.new n) }
 {
     match first_part(piece, octets) {
         Some((Part::Name(name), _)) => {
             let end = name.len();
             octets[..end].make_ascii_lowercase();
-            end
+            Some(end)
         }
-        Some((Part::Octets(run), _)) => run.len(),
-        None => unreachable!(),
+        Some((Part::Octets(run), _)) => Some(run.len()),
+        None => None,
     }
 }
