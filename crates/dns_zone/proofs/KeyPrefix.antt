@@ -6,11 +6,10 @@ use Rattle.std.proofs.lemmas.List.Concat.{flat_map-cons}
 use Rattle.std.proofs.Math.Seq.{take-append_seam}
 use Rattle.std.specs.Char.{to_ascii_lowercase}
 use Rattle.std.specs.List.{flat_map, starts_with}
-use Rattle.dns_spec.specs.Names.{Octets, DomainName, folded, at_or_below, below, wire}
+use Rattle.dns_spec.specs.Names.{Octets, DomainName, folded, at_or_below, below}
 use Rattle.dns_spec.proofs.DomainNames.NameLaws.{octets_equal-decides, same_tests}
-use Rattle.dns_name.specs.WireForm.{labels_of}
-use Rattle.dns_zone.specs.KeyForm.{raised, ended, name_key, IsSibling}
-use Rattle.dns_zone.proofs.KeyOrder.{IsLow, low_octet, raised_some, raised_less, key_flat, key_length, map_reverse}
+use Rattle.dns_zone.specs.KeyForm.{raised, ended, name_key}
+use Rattle.dns_zone.proofs.KeyOrder.{IsLow, low_octet, raised_some, raised_less, key_flat, map_reverse}
 use Rattle.dns_zone.proofs.NameTree.{Under, under-is, under-from}
 
 pub key_append : (n m : DomainName) → name_key (n ++ m) ≡ name_key m ++ name_key n
@@ -157,28 +156,3 @@ module _ (n m : DomainName) (key other : Octets) (p : folded n ≡ n) (q : folde
               ∙ length-append (name_key m) (name_key ks) in
               let other_is : length other ≡ length (name_key m) = ap length f in
               some ks (omega (arith, size, s)) (omega (arith, keys, other_is, l))
-
--- the key of a sibling
-module _ (n m : DomainName) (key xs ys l : Octets) (k : ℕ) (e : key ≡ name_key m) where
-  pub sibling_key : labels_of xs ≡ n → labels_of ys ≡ m → IsSibling (labels_of xs) (labels_of ys) l k
-      → take k key ++ ended l ≡ name_key n
-  sibling_key f g s =
-      let whole : key ≡ name_key s.end ++ ended s.other =
-      e ∙ ap name_key (sym g ∙ s.other_is) in
-      let front : take k key ≡ name_key s.end =
-      ap (λ i. take i key) s.count ∙ ap (take (length (name_key s.end))) whole
-      ∙ take-append_seam (name_key s.end) (ended s.other) in
-      ap (λ x. x ++ ended l) front ∙ ap name_key (sym s.name_is ∙ f)
-
-  pub sibling_room : xs ≡ wire n → ys ≡ wire m → length xs ≤ 255 → labels_of xs ≡ n
-      → labels_of ys ≡ m → IsSibling (labels_of xs) (labels_of ys) l k
-      → (k ≤ length key) × (k + length l < 255)
-  sibling_room w v b f g s =
-      let whole : length key ≡ length (name_key s.end) + length (ended s.other) =
-      ap length (e ∙ ap name_key (sym g ∙ s.other_is))
-      ∙ length-append (name_key s.end) (ended s.other) in
-      let count = s.count in
-      let size : length xs ≡ length (wire (l ∷ s.end)) = ap length (w ∙ ap wire (sym f ∙ s.name_is)) in
-      let own : length (l ++ wire s.end) ≡ length l + length (wire s.end) =
-      length-append l (wire s.end) in
-      (omega (arith, whole, count), omega (arith, size, own, count, b, key_length s.end))

@@ -27,6 +27,7 @@ pub mod FoundKid
 pub mod NodeRows
 pub mod KeyOrder
 mod KeyPrefix
+pub mod CommonEnds
 pub mod TopmostCut
 pub mod CheckedNames
 pub mod GrowingNames

@@ -9,7 +9,7 @@ ghost use Rattle.dns_spec.specs.Meaning.{most_records};
 use crate::entry::Entry;
 use crate::key::Key;
 use crate::lookup::count_in_front;
-use crate::order::{own_order, record_order};
+use crate::order::own_order;
 use dns_name::NameRef;
 use std::alloc::{AllocError, Global};
 use std::cmp::Ordering;
@@ -17,13 +17,14 @@ use std::cmp::Ordering;
 // How many octets of an owner's key, after that of the origin, are kept beside it.
 const FRONT_OCTETS: usize = 24;
 
-// Records of one owner that stand side by side, from one place up to another, and the first octets
-// of the owner's key after that of the origin.
+// Records of one owner that stand side by side, from one place up to another, the first octets of the
+// owner's key after that of the origin, and where the key stands among those that are longer.
 #[derive(Drop)]
 struct Run {
     front: [u64; 3],
     at: u32,
     end: u32,
+    key: usize,
 }
 
 /// Moves records into the order of their owners. With the records of each owner in order that is the
@@ -39,14 +40,20 @@ pub(crate) fn arrange(
     requires { length records.old ≤ most_records }
     ensures { IsPermutation records.old records.new }
 {
-    let runs = runs(alloc, origin, records)?;
-    let mut places = places(alloc, runs, records)?;
+    let mut keys = Vec::new(alloc);
+    let runs = runs(alloc, origin, records, &mut keys)?;
+    let mut places = places(alloc, runs, records, keys.as_slice())?;
     put_in_places(records, places.as_mut_slice());
     Ok(())
 }
 
-// The runs of records of one owner.
-fn runs(alloc: Global, origin: &NameRef<'_>, records: &[Entry]) -> Result<Vec<Run>, AllocError>
+// The runs of records of one owner. The keys that are longer than what stands beside a run are added.
+fn runs(
+    alloc: Global,
+    origin: &NameRef<'_>,
+    records: &[Entry],
+    keys: &mut Vec<u8>,
+) -> Result<Vec<Run>, AllocError>
     requires { length records.now ≤ most_records }
     ensures { IfOk result (λ runs.
         All (λ (r : Run). r.end ≤ length records.now) runs.items) }
@@ -67,7 +74,11 @@ fn runs(alloc: Global, origin: &NameRef<'_>, records: &[Entry]) -> Result<Vec<Ru
             front: front_of(base.octets(), key.octets()),
             at: at as u32,
             end: end as u32,
+            key: keys.len(),
         })?;
+        if key.octets().len() > base.octets().len() + FRONT_OCTETS {
+            keys.extend_from_slice(key.octets())?;
+        }
         last = owner;
         at = end;
     }
@@ -132,11 +143,16 @@ fn front_of(origin: &[u8], key: &[u8]) -> [u64; 3] {
 }
 
 // For each place the one from which its record comes. Owners whose fronts are alike are compared.
-fn places(alloc: Global, mut runs: Vec<Run>, records: &[Entry]) -> Result<Vec<usize>, AllocError>
+fn places(
+    alloc: Global,
+    mut runs: Vec<Run>,
+    records: &[Entry],
+    keys: &[u8],
+) -> Result<Vec<usize>, AllocError>
     requires { All (λ (r : Run). r.end ≤ length records.now) runs.items }
     ensures { IfOk result (λ places. All (λ p. p < length records.now) places.items) }
 {
-    runs.sort_by(|one, other| run_order(records, one, other))?;
+    runs.sort_by(|one, other| run_order(records, keys, one, other))?;
     places_of(alloc, runs.as_slice(), records.len())
 }
 
@@ -154,18 +170,26 @@ fn places_of(alloc: Global, runs: &[Run], count: usize) -> Result<Vec<usize>, Al
     Ok(places)
 }
 
-fn run_order(records: &[Entry], one: &Run, other: &Run) -> Ordering {
+fn run_order(records: &[Entry], keys: &[u8], one: &Run, other: &Run) -> Ordering {
     let ([a, b, c], [x, y, z]) = (one.front, other.front);
     if a != x {
         return a.cmp(&x);
     }
-    b.cmp(&y).then_with(|| c.cmp(&z)).then_with(|| match (
-        records.get(one.at as usize),
-        records.get(other.at as usize),
-    ) {
-        (Some(one), Some(other)) => record_order(one, other),
-        _ => Ordering::Equal,
-    })
+    b.cmp(&y).then_with(|| c.cmp(&z)).then_with(|| key_at(records, keys, one).cmp(key_at(
+        records, keys, other,
+    )))
+}
+
+// The key of a run's owner, where it is among those that are kept.
+fn key_at<'a>(records: &[Entry], keys: &'a [u8], run: &Run) -> &'a [u8] {
+    let (Some(first), Some((_, key))) = (
+        records.get(run.at as usize),
+        keys.split_at_checked(run.key),
+    ) else {
+        return &[];
+    };
+    let octets = first.owner().octets().len().saturating_sub(1);
+    key.get(..octets).unwrap_or(&[])
 }
 
 // Moves to each place the record that comes there.

@@ -1,11 +1,11 @@
 //! Keys of names: octets whose plain order is the canonical order of the names.
-ghost use Rattle.std.specs.Prelude.{◌≡◌, ◌+◌, ◌<◌, ◌≤◌, ◌++◌, [], length, take, IfSome};
+ghost use Rattle.std.specs.Prelude.{◌≡◌, ◌+◌, ◌<◌, ◌++◌, [], length};
 ghost use Rattle.dns_spec.specs.Names.{DomainName, folded, at_or_below, below};
 ghost use Rattle.dns_name.specs.WireForm.{labels_of, IsWireForm};
-ghost use Rattle.dns_zone.specs.KeyForm.{raised, ended, name_key, IsSibling};
+ghost use Rattle.dns_zone.specs.KeyForm.{raised, ended, name_key, EndsWith};
 
 use arrayvec::ArrayVec;
-use dns_name::{Label, NameRef, are_equal, first_label};
+use dns_name::{Name, NameRef, are_equal, first_label};
 use std::marker::Model;
 
 const MAX_OCTETS: usize = 255;
@@ -41,46 +41,25 @@ impl Key {
         ensures { result ≡ name_key name.now }
     {
         let mut key = Key::new();
-        key.set_to(name);
+        key.move_to(&Name::root().lent(), name);
         key
     }
 
-    /// Makes the key of one name that of another. Of a sibling only the first label is put, so that
-    /// names which are alike but for that one take little time, however many labels they have.
+    /// Makes the key of one name that of another. The labels that both end with stay, so that names
+    /// which are alike but for their first labels take little time, however many they have.
     pub(crate) fn move_to(&mut self, from: &NameRef<'_>, name: &NameRef<'_>)
         requires { self.old ≡ name_key from.now }
         ensures { self.new ≡ name_key name.now }
     {
-        match label_of_sibling(name.octets(), from.octets()) {
-            Some((label, kept)) => self.put_last(label.octets(), kept),
-            None => self.set_to(name),
-        }
-    }
-
-    // Puts a label after so many octets.
-    fn put_last(&mut self, label: &[u8], kept: usize)
-        requires inside { kept ≤ length self.old }
-        requires room { kept + length label.now < 255 }
-        ensures { self.new ≡ take kept self.old ++ ended label.now }
-    {
-        self.octets.truncate(kept);
-        if self.octets.try_extend_from_slice(label).is_err() {
-            unreachable!();
-        }
-        self.octets.push(0);
-        put_label(label, &mut self.octets.as_mut_slice()[kept..]);
-    }
-
-    /// Makes it the key of a name. Where many are made in turn, that moves no octets but theirs.
-    pub(crate) fn set_to(&mut self, name: &NameRef<'_>)
-        ensures { self.new ≡ name_key name.now }
-    {
         let octets = name.octets();
-        self.octets.clear();
-        if self.octets.try_extend_from_slice(&octets[1..]).is_err() {
+        let end = common_end(after_first_label(octets), after_first_label(from.octets()));
+        let kept = end.len() - 1;
+        self.octets.truncate(kept);
+        let (front, _) = octets.split_at(octets.len() - end.len());
+        if self.octets.try_extend_from_slice(front).is_err() {
             unreachable!();
         }
-        put_labels(octets, self.octets.as_mut_slice());
+        put_labels(octets, end, self.octets.as_mut_slice().split_at_mut(kept).1);
     }
 
     /// Its octets, one fewer than the wire form of the name has.
@@ -108,35 +87,55 @@ pub(crate) fn is_below(key: &[u8], other: &[u8]) -> bool
     key.len() > other.len() && is_under(key, other)
 }
 
-// The first label of a name, where it is a sibling of another, and how many octets the key of the
-// name has that both are directly below.
-fn label_of_sibling<'a>(name: &'a [u8], other: &[u8]) -> Option<(Label<'a>, usize)>
+// The most labels that both names in wire form end with, as they stand in the first.
+fn common_end<'a>(name: &'a [u8], other: &'a [u8]) -> &'a [u8]
     requires name { IsWireForm name.now }
     requires other { IsWireForm other.now }
-    ensures { IfSome result (λ r. IsSibling (labels_of name.now) (labels_of other.now) r.0 r.1) }
+    ensures wire { IsWireForm result.now }
+    ensures name { EndsWith (labels_of name.now) (labels_of result.now) }
+    ensures other { EndsWith (labels_of other.now) (labels_of result.now) }
 {
-    let (label, end) = first_label(name)?;
-    let (_, other_end) = first_label(other)?;
-    if !are_equal(end, other_end) {
-        return None;
+    if name.len() > other.len() {
+        common_end(after_first_label(name), other)
+    } else if name.len() < other.len() {
+        common_end(name, after_first_label(other))
+    } else if are_equal(name, other) {
+        name
+    } else {
+        common_end(after_first_label(name), after_first_label(other))
     }
-    Some((label, end.len() - 1))
 }
 
-// Puts the labels of a name in wire form into a key, from its end.
-fn put_labels(octets: &[u8], key: &mut [u8])
-    requires wire { IsWireForm octets.now }
-    requires room { length octets.now ≡ length key.old + 1 }
-    ensures { key.new ≡ name_key (labels_of octets.now) }
+// A name in wire form without its first label. The root has none.
+fn after_first_label(name: &[u8]) -> &[u8]
+    requires { IsWireForm name.now }
+    ensures wire { IsWireForm result.now }
+    ensures end { EndsWith (labels_of name.now) (labels_of result.now) }
+    ensures shorter { 1 < length name.now → length result.now < length name.now }
 {
-    let mut rest = octets;
-    let mut end = key.len();
-    'labels: while let Some((label, after)) = first_label(rest) {
-        let begin = end - (label.octets().len() + 1);
-        put_label(label.octets(), &mut key[begin..end]);
-        end = begin;
-        rest = after;
+    match first_label(name) {
+        Some((_, after)) => after,
+        None => name,
     }
+}
+
+// Puts the labels of a name in wire form into the part of a key after that of an end of the name.
+fn put_labels(octets: &[u8], end: &[u8], key: &mut [u8])
+    requires wire { IsWireForm octets.now }
+    requires end { IsWireForm end.now }
+    requires ends { EndsWith (labels_of octets.now) (labels_of end.now) }
+    requires room { length octets.now ≡ length key.old + length end.now }
+    ensures { name_key (labels_of octets.now) ≡ name_key (labels_of end.now) ++ key.new }
+{
+    if key.is_empty() {
+        return;
+    }
+    let Some((label, after)) = first_label(octets) else {
+        unreachable!();
+    };
+    let (others, own) = key.split_at_mut(after.len() - end.len());
+    put_label(label.octets(), own);
+    put_labels(after, end, others);
 }
 
 // Puts a label and its end.
