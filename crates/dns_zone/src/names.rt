@@ -174,14 +174,18 @@ pub(crate) fn is_covered(cut: usize, last: &[u8], key: &[u8]) -> bool
     cut > 0 && key.starts_with(&last[..cut])
 }
 
-/// How many of the names are not after the one whose key this is. Whether the one at place `near`
-/// is the last of them is looked at first: a server mostly stands directly after its cut.
-pub(crate) fn count_upto(names: &[CheckedName<'_>], near: usize, key: &[u8]) -> usize
+/// How many of the names are not after the one whose key this is. Whether one at a place that is
+/// `probable` is the last of them is looked at first.
+pub(crate) fn count_upto(names: &[CheckedName<'_>], probable: [usize; 2], key: &[u8]) -> usize
     requires { IsPartitionedBy (is_upto key.now) names.now }
     ensures { IsFront (is_upto key.now) names.now result }
 {
-    if is_last_upto(names, near, key) {
-        return near + 1;
+    let [first, second] = probable;
+    if is_last_upto(names, first, key) {
+        return first + 1;
+    }
+    if is_last_upto(names, second, key) {
+        return second + 1;
     }
     names.partition_point(|one| is_upto(one, key))
 }
@@ -216,7 +220,7 @@ fn add_origin<'a>(
     ensures { OnOk result (AreChecked (record { origin = origin.now; records = records.now })
         names.new.items) }
 {
-    let place = count_upto(names.as_slice(), names.len(), key);
+    let place = count_upto(names.as_slice(), [names.len(); 2], key);
     if place > 0 && names[place - 1].key == key {
         return Ok(());
     }

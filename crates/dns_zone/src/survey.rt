@@ -109,7 +109,7 @@ impl<'a> Survey<'a> {
         ensures last { IsLastUpto self.now target.old result.now }
     {
         let names = self.names;
-        let place = count_upto(names, near, target.key()) - 1;
+        let place = count_upto(names, [near, target.place()], target.key()) - 1;
         target.keep_place(place);
         &names[place]
     }

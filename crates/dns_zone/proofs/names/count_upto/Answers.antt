@@ -7,8 +7,11 @@ use Rattle.dns_zone.proofs.names.count_upto.Goals as goal
 
 pub returns-then-is_last_upto : goal.returns-then-is_last_upto
 returns-then-is_last_upto c =
-    last_front (is_upto c.args.key.now) c.args.names.now c.args.near c.requires
-    c.if-is_last_upto.ensures
+    last_front (is_upto c.args.key.now) c.args.names.now _ c.requires c.if-is_last_upto.ensures
+
+pub returns-then-is_last_upto-2 : goal.returns-then-is_last_upto-2
+returns-then-is_last_upto-2 c =
+    last_front (is_upto c.args.key.now) c.args.names.now _ c.requires c.if-is_last_upto-2.ensures
 
 pub returns : goal.returns
 returns c =
