@@ -1,7 +1,7 @@
 //! Records brought near to canonical order by few moves.
 //!
-//! A sort compares whole names, which takes time. So places are sorted in the records' stead, by
-//! short keys first, and each record is moved once.
+//! A sort compares whole names, which takes time. So places are sorted in the records' stead, by the
+//! fronts of keys first and then by keys, and each record is moved once.
 ghost use Rattle.std.specs.Prelude.{◌≡◌, ◌<◌, ◌≤◌, All, length, IfOk};
 ghost use Rattle.std.specs.List.Sorted.{IsPermutation};
 ghost use Rattle.dns_spec.specs.Meaning.{most_records};
@@ -17,8 +17,8 @@ use std::cmp::Ordering;
 // How many octets of an owner's key, after that of the origin, are kept beside it.
 const FRONT_OCTETS: usize = 24;
 
-// Records of one owner that stand side by side, from one place up to another, the first octets of the
-// owner's key after that of the origin, and where the key stands among those that are longer.
+// Records of one owner that stand side by side, from one place up to another; the first octets of the
+// owner's key after that of the origin, and where a longer key stands among those that are kept.
 #[derive(Drop)]
 struct Run {
     front: [u64; 3],
@@ -30,8 +30,9 @@ struct Run {
 /// Moves records into the order of their owners. With the records of each owner in order that is the
 /// canonical order, but nothing here says so: who needs it looks, and sorts where they are not.
 ///
-/// Memory is taken for 32 octets for each run of records of one owner, for as much again where the
-/// runs are not in order, and for 8 octets for each record.
+/// Memory is taken for 40 octets for each run of records of one owner, for as much again where the
+/// runs are not in order, for each key that is longer than its front, and for 8 octets for each
+/// record.
 pub(crate) fn arrange(
     alloc: Global,
     origin: &NameRef<'_>,
