@@ -1,21 +1,16 @@
 -- Data of an SOA is two names and five numbers of four octets, and is written as these are.
-use Rattle.std.proofs.Common.{◌≡◌, ℕ, ◌+◌, ◌-◌, ◌≤◌, All, Bool, true, false, cond, nat_le, List, [], ◌∷◌, ◌++◌, length, take, drop, Option, None, Some, option_map, is_some, unwrap_or, refl, sym, ap, ◌∙◌, subst, arith, append-nil, append_assoc, length-append, take_at, drop_at, take-append-drop, ◌==◌}
+use Rattle.std.proofs.Common.{◌≡◌, ℕ, ◌+◌, ◌-◌, ◌≤◌, Bool, true, false, cond, nat_le, List, [], ◌∷◌, ◌++◌, length, take, drop, Option, None, Some, option_map, is_some, unwrap_or, refl, sym, ap, ◌∙◌, subst, arith, append-nil, length-append, take_at, drop_at, take-append-drop, ◌==◌}
 use Rattle.std.proofs.lemmas.Bool.{false≢true, and_parts, leb-true, eqb-true}
 use Rattle.std.proofs.lemmas.List.{length-drop}
-use Rattle.std.proofs.lemmas.List.Elements.{All-nil, All-cons}
 use Rattle.std.specs.List.{find}
 use Rattle.dns_spec.specs.Names.{Octets, DomainName, wire, is_name, name_of}
 use Rattle.dns_spec.specs.Data.{domain, fixed, numbers, type_mx, type_soa, Part, octets, name, piece_front, cut, pieces_of, laid_parts, compresses, valid, TypeRow, type_table, other_type}
-use Rattle.dns_spec.specs.Layout.{Placed, Laid, laid_front, shared_octets, data_laid}
 use Rattle.dns_spec.proofs.DomainNames.WireNames.{name_read}
 use Rattle.std.specs.Borrow.{Bor}
 use Rattle.dns_name.specs.WireForm.{labels_of, IsWireForm}
-use Rattle.dns_rdata.specs.Parts.{HasName, Cuts, IsLent, part_for}
+use Rattle.dns_rdata.specs.Parts.{Cuts, IsLent, part_for}
 use Rattle.dns_rdata.specs.declared.parts.Part as Lent
 use Rattle.dns_rdata.specs.declared.parts.Part.TheVariants.{Name}
-use Rattle.dns_wire.specs.Kept.{Kept}
-use Rattle.dns_wire.specs.Writing.{IsWritten}
-use Rattle.dns_wire.proofs.DataWritten.{data-name, written_after}
 use Rattle.dns_wire.proofs.DataNames.{cut-some, cut-none, cut-end, cut-nothing, was_some}
 
 numbers_cut : (d : Octets) → is_some (cut (fixed (numbers 5 4) ∷ []) d) ≡ true → (length d ≡ 20) × (cut (fixed (numbers 5 4) ∷ []) d ≡ Some (octets d ∷ []))
@@ -87,19 +82,6 @@ authority_laid d rest n ok front =
       parts = ap (λ o. unwrap_or o (octets d ∷ [])) (some ∙ ap (option_map (λ xs. name n ∷ xs)) two.parts);
     }
 
-pub authority_names : (d : Octets) → valid type_soa d ≡ true → All HasName (laid_parts type_soa d)
-authority_names d ok = go (name_of d) refl
-  where
-    go : (y : Option (DomainName × Octets)) → name_of d ≡ y → All HasName (laid_parts type_soa d)
-    go None e = absurd (server_some d ok (ap (option_map (λ (r : DomainName × Octets). (name r.0, r.1))) e))
-    go (Some (n, rest)) e =
-        let read = name_read d n rest e in
-        let laid = authority_laid d rest n ok (ap (option_map (λ (r : DomainName × Octets). (name r.0, r.1))) e) in
-        let o = octets (drop (length rest - 20) rest) in
-        let end = All-cons HasName o [] tt (All-nil HasName) in
-        let more = All-cons HasName (name laid.mailbox) (o ∷ []) laid.is_name end in
-        subst (All HasName) (sym laid.parts) (All-cons HasName (name n) (name laid.mailbox ∷ o ∷ []) read.0 more)
-
 -- the first name is lent
 pub record ServerLent (server rest d : Octets) : Type 0 where
   pub lent : IsWireForm server
@@ -111,18 +93,6 @@ server_lent d r part rest server ok some named cuts =
     let cut = subst (λ x. Cuts x (piece_front domain d)) some cuts in
     let front = subst (λ x. piece_front domain d ≡ Some (part_for x, rest.now)) named cut.0 in
     record { lent = subst IsLent named cut.1; laid = authority_laid d rest.now (labels_of server.now) ok front }
-
--- parts after a name that is written
-pub name_then : {head : Octets → ℕ} {limit : ℕ} {ms : List Placed} {b b' b'' : Octets} {ks : List Kept} {fits : Bool} (n : DomainName) (ps : List Part) → b' ≡ b ++ shared_octets ms n
-    → IsWritten head limit (ms ++ (n, length b) ∷ []) b' (data_laid (ms ++ (n, length b) ∷ []) (length b') ps) fits b'' ks
-    → IsWritten head limit ms b (data_laid ms (length b) (name n ∷ ps)) fits b'' ks
-name_then {ms = ms} {b} {b'} n ps e done =
-    let w = shared_octets ms n in
-    let more = ms ++ (n, length b) ∷ [] in
-    let at : length b + length w ≡ length b' = sym (ap length e ∙ length-append b w) in
-    let laid = data-name ms (length b) n ps ∙ ap (λ p. laid_front w ((n, length b) ∷ []) (data_laid more p ps)) at in
-    written_after w e (ap (λ (l : Laid). l.written) laid)
-    (ap (λ (l : Laid). ms ++ l.names) laid ∙ sym (append_assoc ms ((n, length b) ∷ []) (data_laid more (length b') ps).names)) done
 
 -- Of the types whose names take part in compression only MX and SOA have more than one name as data.
 IsOne : ℕ → TypeRow → Type 0

@@ -1,16 +1,9 @@
 -- Data that is one name, or ends with one after a number, is written as that name is.
-use Rattle.std.proofs.Common.{◌≡◌, ◌↔◌, ℕ, ◌+◌, ◌≤◌, Bool, true, false, cond, nat_le, List, [], ◌∷◌, ◌++◌, length, take, drop, Option, None, Some, option_map, is_some, unwrap_or, refl, sym, ap, ◌∙◌, subst, arith, append-nil, length-append}
+use Rattle.std.proofs.Common.{◌≡◌, ℕ, ◌≤◌, Bool, true, false, cond, nat_le, List, [], ◌∷◌, ◌++◌, length, take, drop, Option, None, Some, option_map, is_some, unwrap_or, refl, sym, ap, ◌∙◌, subst, append-nil}
 use Rattle.std.proofs.lemmas.Bool.{false≢true, and_parts, leb-true}
-use Rattle.std.specs.Bool.{OnTrue}
 use Rattle.dns_spec.specs.Names.{Octets, DomainName, wire, is_name, name_of}
 use Rattle.dns_spec.specs.Data.{Piece, domain, fixed, numbers, type_mx, Part, octets, name, piece_front, cut, pieces_of, parts, laid_parts, compresses, valid}
-use Rattle.dns_spec.specs.Layout.{Placed, Laid, laid_front, shared_octets, data_laid}
-use Rattle.dns_spec.specs.LayoutSize.{cost}
 use Rattle.dns_spec.proofs.DomainNames.WireNames.{name_read}
-use Rattle.dns_spec.proofs.Layouts.LayoutSize.{length-shared_octets}
-use Rattle.dns_wire.specs.Kept.{Kept}
-use Rattle.dns_wire.specs.Writing.{Holds, IsWritten}
-use Rattle.dns_wire.proofs.DataWritten.{data-octets, data-name, data-none, written_after}
 
 -- octets are cut piece by piece
 module _ (p : Piece) (ps : List Piece) (os : Octets) where
@@ -76,27 +69,6 @@ one_name_laid t d pieces shared ok =
       parts = ap (λ b. cond b (parts t d) (octets d ∷ [])) shared ∙ ap (λ ps. unwrap_or (cut ps d) (octets d ∷ [])) pieces ∙ ap (λ o. unwrap_or o (octets d ∷ [])) one.parts;
     }
 
--- one name is laid out as a name is
-data-one : (ms : List Placed) (p : ℕ) (n : DomainName) → data_laid ms p (name n ∷ []) ≡ record { written = shared_octets ms n; names = (n, p) ∷ [] }
-data-one ms p n =
-    let w = shared_octets ms n in
-    let laid : data_laid ms p (name n ∷ []) ≡ record { written = w ++ []; names = (n, p) ∷ [] } =
-    data-name ms p n [] ∙ ap (laid_front w ((n, p) ∷ [])) (data-none (ms ++ (n, p) ∷ []) (p + length w)) in
-    laid ∙ ap (λ z. record { written = z; names = (n, p) ∷ [] }) (append-nil w)
-
-pub one_written : {head : Octets → ℕ} {limit : ℕ} {ms : List Placed} {b b' : Octets} {ks' : List Kept} {fits : Bool} (n : DomainName) → ((fits ≡ true) ↔ (length b + cost ms n ≤ limit))
-    → OnTrue fits (b' ≡ b ++ shared_octets ms n) → OnTrue fits (Holds head (ms ++ (n, length b) ∷ []) b' ks') → IsWritten head limit ms b (data_laid ms (length b) (name n ∷ [])) fits b' ks'
-one_written {head} {limit} {ms} {b} {b'} {ks'} {fits} n exactly written holds =
-    let size = length-shared_octets ms n in
-    subst (λ l. IsWritten head limit ms b l fits b' ks') (sym (data-one ms (length b) n)) (record {
-      exactly = (
-        λ yes. let h = exactly.0 yes in omega (arith, h, size, length-append b (shared_octets ms n)),
-        λ h. exactly.1 (omega (arith, h, size, length-append b (shared_octets ms n))),
-      );
-      written = written;
-      holds = holds;
-    })
-
 -- the parts of data that is a number of two octets and a name
 pub record NumberAndName (d : Octets) (ps : List Part) : Type 0 where
   pub own : DomainName
@@ -126,11 +98,3 @@ exchange_laid d ok = go (nat_le 2 (length d)) refl
           whole = one.whole;
           parts = ap (λ o. unwrap_or o (octets d ∷ [])) (some ∙ ap (option_map (λ xs. octets (take 2 d) ∷ xs)) one.parts);
         }
-
--- a name after octets that are written
-pub name_after : {head : Octets → ℕ} {limit : ℕ} {ms : List Placed} {b b' b'' : Octets} {ks : List Kept} {fits : Bool} (o : Octets) (n : DomainName) → b' ≡ b ++ (o ++ [])
-    → IsWritten head limit ms b' (data_laid ms (length b') (name n ∷ [])) fits b'' ks → IsWritten head limit ms b (data_laid ms (length b) (octets o ∷ name n ∷ [])) fits b'' ks
-name_after {ms = ms} {b} {b'} o n e done =
-    let at : length b + length o ≡ length b' = omega (arith, ap length e, length-append b (o ++ []), ap length (append-nil o)) in
-    let laid = data-octets ms (length b) o (name n ∷ []) ∙ ap (λ p. laid_front o [] (data_laid ms p (name n ∷ []))) at in
-    written_after o (e ∙ ap (λ z. b ++ z) (append-nil o)) (ap (λ (l : Laid). l.written) laid) (ap (λ (l : Laid). ms ++ l.names) laid) done

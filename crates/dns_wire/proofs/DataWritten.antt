@@ -1,159 +1,164 @@
--- Data and records are written part by part: what is written and what is to come are the whole.
-use Rattle.std.proofs.Common.{◌≡◌, ◌↔◌, ℕ, ◌+◌, ◌<◌, ◌≤◌, Bool, true, false, List, [], ◌∷◌, ◌++◌, length, refl, sym, ap, ap₂, ◌∙◌, subst, arith, append_assoc, append-nil, length-append}
-use Rattle.std.proofs.lemmas.Bool.{false≢true}
-use Rattle.std.specs.Bool.{OnTrue}
-use Rattle.dns_spec.specs.Names.{Octets, DomainName}
+-- Data and records are written part by part.
+use Rattle.std.proofs.Common.{◌≡◌, ◌+◌, ◌-◌, ◌≤◌, ◌∙◌, ℕ, Bool, true, false, List, [], ◌∷◌, ◌++◌, length, take, drop, refl, sym, ap, ap₂, subst, subst₂, arith, append_assoc, append-nil, length-append}
+use borrow.Rule.Slice.PartMut.{put_mid}
+use Rattle.std.specs.List.{between, refill}
+use Rattle.std.proofs.lemmas.List.{take_at, drop_at, drop-drop, drop_all, length-take, length-drop}
+use Rattle.std.proofs.lemmas.Slice.{between_to_end}
+use Rattle.std.proofs.Math.Seq.{take-append-add}
+use Rattle.dns_spec.specs.Names.{Octets}
 use Rattle.dns_spec.specs.Data.{class_in, Part, octets, name, laid_parts}
-use Rattle.dns_spec.specs.Layout.{Placed, Laid, laid_front, octets16, octets32, shared_octets, data_laid, record_laid, record_tail}
-use Rattle.dns_spec.specs.LayoutSize.{cost}
-use Rattle.dns_spec.proofs.Layouts.LayoutSize.{length-shared_octets, length-record_tail}
+use Rattle.dns_spec.specs.Layout.{Placed, Laid, laid_front, octets16, octets32, data_laid}
+use Rattle.dns_wire.specs.declared.room.Room.{Room}
 use Rattle.dns_wire.specs.Kept.{Kept}
-use Rattle.dns_wire.specs.Writing.{Holds, IsWritten, shown, tail_laid}
+use Rattle.dns_wire.specs.SuffixNumbers.{suffix_number}
+use Rattle.dns_wire.specs.Writing.{Extends, Holds, Layout, octets_laid, name_laid, both_laid, parts_laid, tail_laid}
+use Rattle.dns_wire.specs.Rooms.{IsSoundRoom, known_in, Writes}
+use Rattle.dns_wire.proofs.AskedLemmas.{kept_same, take_patched}
 use Rattle.dns_wire.proofs.NameWritten.{holds_octets}
+use Rattle.dns_wire.proofs.Steps.{grows_again, writes_as, writes_both, writes_past}
 
--- data after octets, and after a name
-pub data-octets : (ms : List Placed) (p : ℕ) (o : Octets) (ps : List Part) → data_laid ms p (octets o ∷ ps) ≡ laid_front o [] (data_laid ms (p + length o) ps)
+abbrev pub part_laid : Part → Layout
+part_laid (octets o) = octets_laid o
+part_laid (name n) = name_laid n
+
+-- the layout of parts
+abbrev pub all_laid : List Part → Layout
+all_laid ps ms p = data_laid ms p ps
+
+data_none : (ms : List Placed) (p : ℕ) → data_laid ms p [] ≡ record { written = []; names = [] }
 unfolding data_laid
-data-octets ms p o ps = refl
+data_none ms p = refl
 
-pub data-name : (ms : List Placed) (p : ℕ) (n : DomainName) (ps : List Part)
-    → data_laid ms p (name n ∷ ps) ≡ laid_front (shared_octets ms n) ((n, p) ∷ []) (data_laid (ms ++ (n, p) ∷ []) (p + length (shared_octets ms n)) ps)
+data_more : (x : Part) (ps : List Part) (ms : List Placed) (p : ℕ) → both_laid (part_laid x) (all_laid ps) ms p ≡ data_laid ms p (x ∷ ps)
 unfolding data_laid
-data-name ms p n ps = refl
+data_more (octets o) ps ms p = ap (λ m. laid_front o [] (data_laid m (p + length o) ps)) (append-nil ms)
+data_more (name n) ps ms p = refl
 
-pub data-none : (ms : List Placed) (p : ℕ) → data_laid ms p [] ≡ record { written = []; names = [] }
-unfolding data_laid
-data-none ms p = refl
-
--- What is laid out after octets b₀ ends with what is laid out after octets b.
-pub record Goes (head : Octets → ℕ) (whole : Laid) (ms₀ : List Placed) (b₀ : Octets) (rest : List Placed → ℕ → Laid) (b : Octets) (ks : List Kept) : Type 0 where
-  pub ms : List Placed
-  pub holds : Holds head ms b ks
-  pub written : b₀ ++ whole.written ≡ b ++ (rest ms (length b)).written
-  pub names : ms₀ ++ whole.names ≡ ms ++ (rest ms (length b)).names
-
--- nothing is to come
-pub all_written : {head : Octets → ℕ} {limit : ℕ} {ms₀ : List Placed} {b₀ b : Octets} {ks : List Kept} {all : Laid}
-    {rest : List Placed → ℕ → Laid} → length b ≤ limit → ((ms : List Placed) → rest ms (length b) ≡ record { written = []; names = [] })
-    → Goes head all ms₀ b₀ rest b ks → IsWritten head limit ms₀ b₀ all true b ks
-all_written {head} {limit} {ms₀} {b₀} {b} {ks} within empty g =
-    let none = empty g.ms in
-    let whole = g.written ∙ ap (λ (l : Laid). b ++ l.written) none ∙ append-nil b in
-    let names = g.names ∙ ap (λ (l : Laid). g.ms ++ l.names) none ∙ append-nil g.ms in
-    record {
-      exactly = (λ yes. omega (arith, ap length whole, within), λ fits. refl);
-      written = sym whole;
-      holds = subst (λ x. Holds head x b ks) (sym names) g.holds;
-    }
-
-pub past_octets : (limit : ℕ) (ms : List Placed) (b o : Octets) (ps : List Part) → limit < length b + (length o + 0) → limit < length (b ++ (data_laid ms (length b) (octets o ∷ ps)).written)
-past_octets limit ms b o ps past =
-    let rest = (data_laid ms (length b + length o) ps).written in
-    omega (arith, past, ap (λ (l : Laid). length (b ++ l.written)) (data-octets ms (length b) o ps), length-append b (o ++ rest), length-append o rest)
-
-pub past_name : (limit : ℕ) (ms : List Placed) (b : Octets) (n : DomainName) (ps : List Part) → limit < length b + cost ms n → limit < length (b ++ (data_laid ms (length b) (name n ∷ ps)).written)
-past_name limit ms b n ps past =
-    let w = shared_octets ms n in
-    let rest = (data_laid (ms ++ (n, length b) ∷ []) (length b + length w) ps).written in
-    omega (arith, past, length-shared_octets ms n, ap (λ (l : Laid). length (b ++ l.written)) (data-name ms (length b) n ps), length-append b (w ++ rest), length-append w rest)
-
--- octets that are no name to a writer
-pub octets_written : {head : Octets → ℕ} {limit : ℕ} {ms : List Placed} {b b' : Octets} {ks ks' : List Kept} (o : Octets) (fits : Bool) → Holds head ms b ks
-    → ((fits ≡ true) ↔ (length b + (length o + 0) ≤ limit)) → OnTrue fits (b' ≡ b ++ (o ++ [])) → ks' ≡ ks
-    → IsWritten head limit ms b (data_laid ms (length b) (octets o ∷ [])) fits b' ks'
-octets_written {head} {limit} {ms} {b} {b'} {ks} {ks'} o fits holds exactly written places =
-    let laid : data_laid ms (length b) (octets o ∷ []) ≡ record { written = o ++ []; names = [] } =
-    data-octets ms (length b) o [] ∙ ap (laid_front o []) (data-none ms (length b + length o)) in
-    subst (λ l. IsWritten head limit ms b l fits b' ks') (sym laid) (record {
-      exactly = (λ yes. let h = exactly.0 yes in omega (arith, h, length-append b (o ++ []), length-append o []), λ h. exactly.1 (omega (arith, h, length-append b (o ++ []), length-append o [])));
-      written = written;
-      holds = go fits written;
-    })
-  where
-    go : (t : Bool) → OnTrue t (b' ≡ b ++ (o ++ [])) → OnTrue t (Holds head (ms ++ []) b' ks')
-    go false e = tt
-    go true e =
-        subst (λ x. Holds head x b' ks') (sym (append-nil ms))
-        (subst (λ x. Holds head ms b' x) (sym places) (subst (λ x. Holds head ms x ks) (sym e) (holds_octets (o ++ []) holds)))
-
--- what is written after octets that were written, and what does not fit
-pub written_after : {head : Octets → ℕ} {limit : ℕ} {ms ms' : List Placed} {b b' b'' : Octets} {ks : List Kept} {laid laid' : Laid} {fits : Bool} (w : Octets) → b' ≡ b ++ w
-    → laid.written ≡ w ++ laid'.written → ms ++ laid.names ≡ ms' ++ laid'.names → IsWritten head limit ms' b' laid' fits b'' ks → IsWritten head limit ms b laid fits b'' ks
-written_after {head} {limit} {ms} {ms'} {b} {b'} {b''} {ks} {laid} {laid'} {fits} w e f names done =
-    let whole : b' ++ laid'.written ≡ b ++ laid.written = ap (λ z. z ++ laid'.written) e ∙ append_assoc b w laid'.written ∙ ap (λ z. b ++ z) (sym f) in
-    record {
-      exactly = (λ yes. let h = done.exactly.0 yes in omega (arith, h, ap length whole), λ h. done.exactly.1 (omega (arith, h, ap length whole)));
-      written = subst (λ x. OnTrue fits (b'' ≡ x)) whole done.written;
-      holds = subst (λ x. OnTrue fits (Holds head x b'' ks)) (sym names) done.holds;
-    }
-
-pub not_written : {head : Octets → ℕ} {limit : ℕ} {ms : List Placed} {b b' : Octets} {ks : List Kept} {laid : Laid} → limit < length (b ++ laid.written) → IsWritten head limit ms b laid false b' ks
-not_written past = record { exactly = (λ no. absurd (false≢true no), λ h. absurd (omega (arith, h, past))); written = tt; holds = tt }
-
--- the length of data, by writing it 10 octets further on
-measured_place : (b b' z : Octets) → b' ≡ b ++ z → length z ≡ 10 → length b' ≡ length b + 10
-measured_place b b' z e ten = ap length e ∙ length-append b z ∙ ap (λ k. length b + k) ten
+data_last : (x : Part) (ms : List Placed) (p : ℕ) → part_laid x ms p ≡ data_laid ms p (x ∷ [])
+data_last x ms p =
+    let l = part_laid x ms p in
+    ap₂ (λ o ns. record { written = o; names = ns }) (sym (append-nil l.written)) (sym (append-nil l.names))
+    ∙ ap (laid_front l.written l.names) (sym (data_none (ms ++ l.names) (p + length l.written))) ∙ data_more x [] ms p
 
 -- what follows an owner
 abbrev pub numbers_of : ℕ → ℕ → ℕ → Octets
 numbers_of t ttl k = octets16 t ++ octets16 class_in ++ octets32 ttl ++ octets16 k
 
-pub tail_written : {head : Octets → ℕ} {limit : ℕ} {ms : List Placed} {b b' b'' : Octets} {ks : List Kept} {fits : Bool} (t ttl k : ℕ) (o : Octets) → b' ≡ b ++ (numbers_of t ttl k ++ [])
-    → k ≡ length (data_laid ms (length b + 10) (laid_parts t o)).written → IsWritten head limit ms b' (data_laid ms (length b') (laid_parts t o)) fits b'' ks
-    → IsWritten head limit ms b (tail_laid ms (length b) t ttl o) fits b'' ks
-tail_written {head} {limit} {ms} {b} {b'} {b''} {ks} {fits} t ttl k o e long done =
-    let own = e ∙ ap (λ z. b ++ z) (append-nil (numbers_of t ttl k)) in
-    let at = measured_place b b' (numbers_of t ttl k) own refl in
-    let same = subst (λ p. IsWritten head limit ms b' (data_laid ms p (laid_parts t o)) fits b'' ks) at done in
-    written_after (numbers_of t ttl k) own (ap (λ j. numbers_of t ttl j ++ (data_laid ms (length b + 10) (laid_parts t o)).written) (sym long)) refl same
-
 -- where nothing is shared the numbers and the data come at once
-pub plain_written : {head : Octets → ℕ} {limit : ℕ} {ms : List Placed} {b b' : Octets} {ks ks' : List Kept} {fits : Bool} (t ttl : ℕ) (o x : Octets) → x ≡ numbers_of t ttl (length o)
-    → laid_parts t o ≡ octets o ∷ [] → Holds head ms b ks → ((fits ≡ true) ↔ (length b + (length x + length o) ≤ limit)) → OnTrue fits (b' ≡ b ++ (x ++ o)) → ks' ≡ ks
-    → IsWritten head limit ms b (tail_laid ms (length b) t ttl o) fits b' ks'
-plain_written {head} {limit} {ms} {b} {b'} {ks} {ks'} {fits} t ttl o x own whole holds exactly written places =
-    let z = b ++ (x ++ []) in
-    let e : z ≡ b ++ (numbers_of t ttl (length o) ++ []) = ap (λ y. b ++ (y ++ [])) own in
-    let ten : length x ≡ 10 = ap length own in
-    let at : length z ≡ length b + 10 = omega (arith, length-append b (x ++ []), length-append x [], ten) in
-    let done = octets_written {head = head} {limit = limit} {ms = ms} {b = z} {b' = b'} {ks = ks} {ks' = ks'} o fits (holds_octets (x ++ []) holds)
-    (λ yes. let h = exactly.0 yes in omega (arith, h, at, ten), λ h. exactly.1 (omega (arith, h, at, ten))) (go fits written) places in
-    let p = length b + 10 in
-    let laid : data_laid ms p (octets o ∷ []) ≡ record { written = o ++ []; names = [] } = data-octets ms p o [] ∙ ap (laid_front o []) (data-none ms (p + length o)) in
-    let long : length (data_laid ms p (laid_parts t o)).written ≡ length o =
-    ap (λ ps. length (data_laid ms p ps).written) whole ∙ ap (λ (l : Laid). length l.written) laid ∙ ap length (append-nil o) in
-    tail_written t ttl (length o) o e (sym long) (subst (λ ps. IsWritten head limit ms z (data_laid ms (length z) ps) fits b' ks') (sym whole) done)
-  where
-    go : (f : Bool) → OnTrue f (b' ≡ b ++ (x ++ o)) → OnTrue f (b' ≡ (b ++ (x ++ [])) ++ (o ++ []))
-    go false h = tt
-    go true h = h ∙ ap₂ (λ y w. b ++ (y ++ w)) (sym (append-nil x)) (sym (append-nil o)) ∙ sym (append_assoc b (x ++ []) (o ++ []))
+pub plain_laid : (t ttl : ℕ) (o x : Octets) → x ≡ numbers_of t ttl (length o) → laid_parts t o ≡ octets o ∷ [] → (ms : List Placed) (p : ℕ) → octets_laid (x ++ o) ms p ≡ tail_laid t ttl o ms p
+plain_laid t ttl o x own whole ms p =
+    ap (λ z. octets_laid (z ++ o) ms p) own
+    ∙ ap (λ (l : Laid). record { written = numbers_of t ttl (length l.written) ++ l.written; names = l.names }) (data_last (octets o) ms (p + 10) ∙ ap (data_laid ms (p + 10)) (sym whole))
 
-pub longer_by_numbers : (b b' x o : Octets) (fits : Bool) → length x ≡ 10 → OnTrue fits (b' ≡ b ++ (x ++ o)) → OnTrue fits (length b + 10 ≤ length b')
-longer_by_numbers b b' x o false ten e = tt
-longer_by_numbers b b' x o true ten e = omega (arith, ten, ap length e, length-append b (x ++ o), length-append x o)
+-- two octets of a list, written through a part of it that goes to its end
+pub put_over : (xs r ys o : Octets) (a : ℕ) → r ≡ xs → length o ≡ 2 → a + 2 ≤ length xs → ys ≡ o ++ drop 2 (between a (length r) r)
+    → refill (length xs) xs (put_mid a (length r - a) r ys) ≡ take a xs ++ (o ++ drop (a + 2) xs)
+put_over xs r ys o a whole two inside is =
+    let part : between a (length r) r ≡ drop a xs = ap (λ z. between a (length z) z) whole ∙ between_to_end xs a (length xs) (omega arith) in
+    let own : ys ≡ o ++ drop (a + 2) xs = is ∙ ap (λ z. o ++ drop 2 z) part ∙ ap (λ z. o ++ z) (drop-drop 2 a xs) in
+    let none : drop (length xs - a) (drop a xs) ≡ [] = drop_all (length xs - a) (drop a xs) (omega (arith, length-drop a xs)) in
+    let list = take a xs ++ (o ++ drop (a + 2) xs) in
+    let now : put_mid a (length r - a) r ys ≡ list =
+    ap (λ z. put_mid a (length z - a) z ys) whole ∙ ap (λ z. take a xs ++ (ys ++ z)) none ∙ ap (λ z. take a xs ++ z) (append-nil ys) ∙ ap (λ z. take a xs ++ z) own in
+    let long : length list ≡ length xs =
+    omega (arith, inside, two, length-append (take a xs) (o ++ drop (a + 2) xs), length-append o (drop (a + 2) xs), length-take a xs, length-drop (a + 2) xs) in
+    ap (refill (length xs) xs) now ∙ take_at list (drop (length list) xs) (length xs) long
 
-pub tail_past : (limit : ℕ) (ms : List Placed) (b : Octets) (t ttl : ℕ) (o : Octets) → limit < length b + (10 + length (data_laid ms (length b + 10) (laid_parts t o)).written)
-    → limit < length (b ++ (tail_laid ms (length b) t ttl o).written)
-tail_past limit ms b t ttl o past =
-    let d = (data_laid ms (length b + 10) (laid_parts t o)).written in
-    omega (arith, past, length-append b (record_tail (shown [] t ttl o) d), length-record_tail (shown [] t ttl o) d)
+-- the eighth and ninth of ten octets are written over, and those after them stay
+patched : (b y z w after now : Octets) → length y ≡ 8 → length z ≡ 2 → after ≡ (b ++ (y ++ z)) ++ w
+    → now ≡ take (length b + 8) after ++ (octets16 (length after - length b - 10) ++ drop (length b + 10) after)
+    → now ≡ b ++ ((y ++ octets16 (length w)) ++ w)
+patched b y z w after now eight two is set =
+    let split : after ≡ ((b ++ y) ++ z) ++ w = is ∙ ap (λ x. x ++ w) (sym (append_assoc b y z)) in
+    let whole : after ≡ (b ++ y) ++ (z ++ w) = split ∙ append_assoc (b ++ y) z w in
+    let first : length (b ++ y) ≡ length b + 8 = length-append b y ∙ ap (λ k. length b + k) eight in
+    let both : length ((b ++ y) ++ z) ≡ length b + 10 = omega (arith, length-append (b ++ y) z, first, two) in
+    let front : take (length b + 8) after ≡ b ++ y = ap (take (length b + 8)) whole ∙ take_at (b ++ y) (z ++ w) (length b + 8) first in
+    let back : drop (length b + 10) after ≡ w = ap (drop (length b + 10)) split ∙ drop_at ((b ++ y) ++ z) w (length b + 10) both in
+    let long : length after - length b - 10 ≡ length w = omega (arith, ap length split, length-append ((b ++ y) ++ z) w, both) in
+    let n = octets16 (length w) in
+    set ∙ ap₂ (λ x k. x ++ (octets16 k ++ drop (length b + 10) after)) front long ∙ ap (λ x. (b ++ y) ++ (n ++ x)) back
+    ∙ append_assoc b y (n ++ w) ∙ ap (λ x. b ++ x) (sym (append_assoc y n w))
 
--- a record
-pub record_written : {head : Octets → ℕ} {limit : ℕ} {ms : List Placed} {b b' b'' : Octets} {ks : List Kept} {fits : Bool} (n : DomainName) (t ttl : ℕ) (o : Octets) → b' ≡ b ++ shared_octets ms n
-    → IsWritten head limit (ms ++ (n, length b) ∷ []) b' (tail_laid (ms ++ (n, length b) ∷ []) (length b') t ttl o) fits b'' ks
-    → IsWritten head limit ms b (record_laid ms (length b) (shown n t ttl o)) fits b'' ks
-record_written {head} {limit} {ms} {b} {b'} {b''} {ks} {fits} n t ttl o e done =
-    let w = shared_octets ms n in
-    let more = ms ++ (n, length b) ∷ [] in
-    let at : length b' ≡ length b + length w = ap length e ∙ length-append b w in
-    let d = data_laid more (length b + length w + 10) (laid_parts t o) in
-    let same = subst (λ p. IsWritten head limit more b' (tail_laid more p t ttl o) fits b'' ks) at done in
-    written_after w e refl (sym (append_assoc ms ((n, length b) ∷ []) d.names)) same
+-- what stands before those ten octets stays as well
+patched_extends : (b after now : Octets) (ks ks' ks'' : List Kept) (x : Octets) → Extends b ks after ks' → now ≡ take (length b + 8) after ++ x → ks'' ≡ ks'
+    → Extends b ks now ks''
+patched_extends b after now ks ks' ks'' x grown set same =
+    let more = grown.more_octets in
+    let front : take (length b + 8) after ≡ b ++ take 8 more = ap (take (length b + 8)) grown.octets ∙ take-append-add b more 8 in
+    record {
+      more_octets = take 8 more ++ x;
+      octets = set ∙ ap (λ z. z ++ x) front ∙ append_assoc b (take 8 more) x;
+      more_places = grown.more_places;
+      places = same ∙ grown.places;
+    }
 
-pub record_past : (limit : ℕ) (ms : List Placed) (b : Octets) (n : DomainName) (t ttl : ℕ) (o : Octets) → limit < length b + cost ms n
-    → limit < length (b ++ (record_laid ms (length b) (shown n t ttl o)).written)
-record_past limit ms b n t ttl o past =
-    let w = shared_octets ms n in
-    let d = (data_laid (ms ++ (n, length b) ∷ []) (length b + length w + 10) (laid_parts t o)).written in
-    let tail = record_tail (shown n t ttl o) d in
-    omega (arith, past, length-shared_octets ms n, length-append b (w ++ tail), length-append w tail)
+-- the places of names are those of any octets that spell the names there
+holds_again : {head : Octets → ℕ} {ms : List Placed} {b b' : Octets} {ks ks' : List Kept} → Holds head ms b ks → Holds head ms b' ks' → Holds head ms b' ks
+holds_again here there = record { spelled = there.spelled; before = there.before; after_header = there.after_header; answers = here.answers }
+
+module _ {N size : ℕ} where
+  -- parts after one that was written, and the last part
+  pub writes_more : {head head' head'' : Octets → ℕ} {r r' r'' : Room N size} {t fits : Bool} (x : Part) (ps : List Part) → t ≡ true → Writes head head' r r' (part_laid x) t
+      → Writes head' head'' r' r'' (all_laid ps) fits → Writes head head'' r r'' (all_laid (x ∷ ps)) fits
+  writes_more x ps is first next =
+      writes_as (both_laid (part_laid x) (all_laid ps)) (all_laid (x ∷ ps)) (data_more x ps) (writes_both (part_laid x) (all_laid ps) is first next)
+
+  pub writes_last : {head head' : Octets → ℕ} {r r' : Room N size} {fits : Bool} (x : Part) → Writes head head' r r' (part_laid x) fits → Writes head head' r r' (all_laid (x ∷ [])) fits
+  writes_last x w = writes_as (part_laid x) (all_laid (x ∷ [])) (data_last x) w
+
+  -- where a part does not fit
+  pub writes_short : {head head' : Octets → ℕ} {r r' : Room N size} {t fits : Bool} (x : Part) (ps : List Part) → t ≡ false → fits ≡ false → Writes head head' r r' (part_laid x) t
+      → Writes head head' r r' (all_laid (x ∷ ps)) fits
+  writes_short x ps is is_too w = writes_past (part_laid x) (all_laid (x ∷ ps)) is is_too w.grows
+      (λ ms p. let l = part_laid x ms p in omega (arith, ap (λ (z : Laid). length z.written) (data_more x ps ms p), length-append l.written (data_laid (ms ++ l.names) (p + length l.written) ps).written)) w
+
+  -- The length of data is written after the data, into octets that no name passes over.
+  pub tail_written : {head head' : Octets → ℕ} {r r' r'' r''' : Room N size} (t ttl : ℕ) (o : Octets) → IsSoundRoom r → Writes head head r r' (octets_laid (numbers_of t ttl 0)) true
+      → Writes head head' r' r'' (parts_laid t o) true
+      → r'''.octets.items ≡ take (length r.octets.items + 8) r''.octets.items
+      ++ (octets16 (length r''.octets.items - length r.octets.items - 10) ++ drop (length r.octets.items + 10) r''.octets.items)
+      → r'''.places ≡ r''.places → r'''.asked_end ≡ r''.asked_end → r'''.limit ≡ r''.limit → IsSoundRoom r''' → Writes head head' r r''' (tail_laid t ttl o) true
+  tail_written {head} {head'} {r} {r'} {r''} {r'''} t ttl o sound first next set places asked limit sound' =
+      let number = suffix_number head in
+      let b = r.octets.items in
+      let b'' = r''.octets.items in
+      let rest = octets16 (length b'' - length b - 10) ++ drop (length b + 10) b'' in
+      let grown = grows_again first.grows next.grows in
+      record {
+        grows = record { extends = patched_extends b b'' _ _ _ _ rest grown.extends set places; asked = asked ∙ grown.asked; limit = limit ∙ grown.limit; sound = sound' };
+        same = next.same;
+        written = λ ms holds.
+            let one = first.written ms holds in
+            let b' = r'.octets.items in
+            let ks' = known_in number r' in
+            let there : Holds number ms b' ks' = subst₂ (λ m x. Holds number m x ks') (append-nil ms) (sym one.written) (one.stands b refl holds) in
+            let two = next.written ms there in
+            let place : length b' ≡ length b + 10 = ap length one.written ∙ length-append b (numbers_of t ttl 0) in
+            let d = parts_laid t o ms (length b + 10) in
+            let same : parts_laid t o ms (length b') ≡ d = ap (parts_laid t o ms) place in
+            let w = d.written in
+            let numbers = numbers_of t ttl (length w) in
+            let after : b'' ≡ b' ++ w = two.written ∙ ap (λ (l : Laid). b' ++ l.written) same in
+            let laid : r'''.octets.items ≡ b ++ (numbers ++ w) =
+            patched b (octets16 t ++ octets16 class_in ++ octets32 ttl) (octets16 0) w b'' r'''.octets.items refl refl (after ∙ ap (λ x. x ++ w) one.written) set in
+            let fits = two.exactly.0 refl in
+            let long = ap length after ∙ length-append b' w in
+            let inside = sound.asked.inside in
+            let same_limit = first.grows.limit in
+            let front : take r''.asked_end r'''.octets.items ≡ take r''.asked_end b'' =
+            take_patched r''.asked_end (length b + 8) b'' rest _ set (omega (arith, inside, grown.asked)) (omega (arith, long, place)) in
+            let kept = kept_same number _ _ _ _ _ _ front asked places in
+            record {
+              exactly = (
+                λ yes. omega (arith, fits, place, same_limit, ap (λ (l : Laid). length (b' ++ l.written)) same, length-append b' w, length-append b (numbers ++ w), length-append numbers w),
+                λ h. refl,
+              );
+              written = laid;
+              stands = λ x long_x known.
+                  let here : Holds number ms (x ++ numbers) ks' = holds_again there (holds_octets numbers known) in
+                  let all = two.stands (x ++ numbers) (omega (arith, long_x, place, length-append x numbers)) here in
+                  subst₂ (λ z k. Holds number (ms ++ d.names) z k) (append_assoc x numbers w) (sym kept)
+                  (subst (λ (l : Laid). Holds number (ms ++ l.names) ((x ++ numbers) ++ l.written) (known_in number r'')) same all);
+            };
+      }

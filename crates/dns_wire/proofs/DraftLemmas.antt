@@ -1,17 +1,16 @@
 -- A set more in a draft: its size is that of the layout, and it has one set more.
-use Rattle.std.proofs.Common.{◌≡◌, ◌↔◌, ℕ, ◌+◌, ◌≤◌, ◌^◌, Bool, true, false, cond, List, [], ◌∷◌, ◌++◌, length, take, drop, replicate, filter, Option, refl, sym, ap, ap₂, ◌∙◌, subst, arith, All, IfSome, append_assoc, append-nil, length-append, add-zero, ◌<◌, lt_of_not-le}
+use Rattle.std.proofs.Common.{◌≡◌, ◌↔◌, ℕ, ◌+◌, ◌≤◌, ◌^◌, Bool, true, false, cond, List, [], ◌∷◌, ◌++◌, length, take, drop, replicate, filter, Option, refl, sym, ap, ap₂, ◌∙◌, subst, subst₂, arith, All, IfSome, append_assoc, append-nil, length-append, ◌<◌, lt_of_not-le}
 use Rattle.std.proofs.lemmas.Bool.{false≢true}
 use Rattle.std.proofs.lemmas.List.{length-map, length-drop}
 use Rattle.std.proofs.lemmas.List.Concat.{flat_map-append}
 use Rattle.std.proofs.Math.Seq.{take-append-add}
 use Rattle.dns_spec.specs.Names.{Octets, DomainName}
-use Rattle.dns_spec.specs.Records.{ResourceRecord}
 use Rattle.dns_spec.specs.Sets.{RecordSet, records_at}
 use Rattle.std.specs.Option.{option_to_list}
 use Rattle.dns_spec.specs.Reading.{Header, MessageQuestion, Spells}
 use Rattle.dns_spec.specs.Layout as Layout
 use Rattle.dns_spec.specs.Layout.{Item, Placed, Laid, laid_front, record_laid, records_octets, records_of, in_section, is_section, asked_octets, asked_placed, answer, authority, additional, layout, header_octets, reply_header, message_of}
-use Rattle.dns_spec.specs.LayoutSize.{size, records_size}
+use Rattle.dns_spec.specs.LayoutSize.{size}
 use Rattle.dns_spec.specs.Sharing.{Sharing}
 use Rattle.dns_spec.specs.Laws.{IsWritable, IsAskable, sections_in_order}
 use Rattle.dns_spec.proofs.Layouts.SharedLayout.{layout_spells}
@@ -22,29 +21,7 @@ use Rattle.dns_wire.specs.Kept.{Kept}
 use Rattle.dns_wire.specs.Writing.{Holds, IsWritten, records_laid, shown}
 use Rattle.dns_wire.specs.SuffixNumbers.{suffix_number}
 use Rattle.dns_wire.specs.Draft.{Draft, known_places, IsDraft, section_of, counted, item_of, names_so_far}
-use Rattle.dns_wire.proofs.RecordsWritten.{octets_of_records, records-more, records-none}
-
--- records after others
-records_split : (ms : List Placed) (p : ℕ) (rs ss : List ResourceRecord)
-    → records_laid ms p (rs ++ ss) ≡ laid_front (records_laid ms p rs).written (records_laid ms p rs).names (records_laid (ms ++ (records_laid ms p rs).names) (p + length (records_laid ms p rs).written) ss)
-records_split ms p [] ss =
-    let none = records-none ms p in
-    ap₂ (λ m k. records_laid m k ss) (sym (append-nil ms)) (sym (add-zero p))
-    ∙ ap (λ (l : Laid). laid_front l.written l.names (records_laid (ms ++ l.names) (p + length l.written) ss)) (sym none)
-records_split ms p (r ∷ rs) ss =
-    let l = record_laid ms p r in
-    let later = ms ++ l.names in
-    let place = p + length l.written in
-    let rest = records_laid later place rs in
-    let more = records_laid (later ++ rest.names) (place + length rest.written) ss in
-    let split = records_split later place rs ss in
-    let at : place + length rest.written ≡ p + length (l.written ++ rest.written) = omega (arith, length-append l.written rest.written) in
-    let moved = ap₂ (λ m k. records_laid m k ss) (append_assoc ms l.names rest.names) at in
-    records-more ms p r (rs ++ ss)
-    ∙ ap (λ (x : Laid). laid_front l.written l.names x) split
-    ∙ ap₂ (λ w n. record { written = w; names = n }) (sym (append_assoc l.written rest.written more.written)) (sym (append_assoc l.names rest.names more.names))
-    ∙ ap (λ (x : Laid). laid_front (l.written ++ rest.written) (l.names ++ rest.names) x) moved
-    ∙ ap (λ (x : Laid). laid_front x.written x.names (records_laid (ms ++ x.names) (p + length x.written) ss)) (sym (records-more ms p r rs))
+use Rattle.dns_wire.proofs.RecordsWritten.{octets_of_records, records_none, records_split}
 
 records_pushed : (items : List Item) (i : Item) → records_of (items ++ i ∷ []) ≡ records_of items ++ i.records
 records_pushed items i = flat_map-append (λ (x : Item). x.records) items (i ∷ []) ∙ ap (λ z. records_of items ++ z) (append-nil i.records)
@@ -71,35 +48,35 @@ section_counted s items section owner ttl set =
 
 module _ (head : Octets → ℕ) (q : Option MessageQuestion) (items : List Item) (d : Draft) (draft : IsDraft head q items d) where
   abbrev so_far : Laid
-  so_far = records_laid (asked_placed q) (12 + length (asked_octets q)) (records_of items)
+  so_far = records_laid (records_of items) (asked_placed q) (12 + length (asked_octets q))
 
-  next_place : length d.octets ≡ 12 + length (asked_octets q) + length (records_laid (asked_placed q) (12 + length (asked_octets q)) (records_of items)).written
+  next_place : length d.octets ≡ 12 + length (asked_octets q) + length (records_laid (records_of items) (asked_placed q) (12 + length (asked_octets q))).written
   next_place =
-      let w = (records_laid (asked_placed q) (12 + length (asked_octets q)) (records_of items)).written in
+      let w = (records_laid (records_of items) (asked_placed q) (12 + length (asked_octets q))).written in
       ap length draft.written ∙ omega (arith, length-append (replicate 12 0 ++ asked_octets q) w, length-append (replicate 12 0) (asked_octets q))
 
-  whole : (i : Item) → records_laid (asked_placed q) (12 + length (asked_octets q)) (records_of (items ++ i ∷ []))
-      ≡ laid_front (records_laid (asked_placed q) (12 + length (asked_octets q)) (records_of items)).written (records_laid (asked_placed q) (12 + length (asked_octets q)) (records_of items)).names (records_laid (names_so_far q items) (length d.octets) i.records)
+  whole : (i : Item) → records_laid (records_of (items ++ i ∷ [])) (asked_placed q) (12 + length (asked_octets q))
+      ≡ laid_front (records_laid (records_of items) (asked_placed q) (12 + length (asked_octets q))).written (records_laid (records_of items) (asked_placed q) (12 + length (asked_octets q))).names (records_laid i.records (names_so_far q items) (length d.octets))
   whole i =
       let ms = asked_placed q in
       let p : ℕ = 12 + length (asked_octets q) in
-      let l = records_laid ms p (records_of items) in
-      ap (records_laid ms p) (records_pushed items i) ∙ records_split ms p (records_of items) i.records
-      ∙ ap (λ k. laid_front l.written l.names (records_laid (names_so_far q items) k i.records)) (sym next_place)
+      let l = records_laid (records_of items) ms p in
+      ap (λ rs. records_laid rs ms p) (records_pushed items i) ∙ sym (records_split (records_of items) i.records ms p)
+      ∙ ap (λ k. laid_front l.written l.names (records_laid i.records (names_so_far q items) k)) (sym next_place)
 
-  pub draft_size : (i : Item) → size q (items ++ i ∷ []) ≡ length (d.octets ++ (records_laid (names_so_far q items) (length d.octets) i.records).written)
+  pub draft_size : (i : Item) → size q (items ++ i ∷ []) ≡ length (d.octets ++ (records_laid i.records (names_so_far q items) (length d.octets)).written)
   unfolding size
   draft_size i =
       let ms = asked_placed q in
       let p : ℕ = 12 + length (asked_octets q) in
-      let l = (records_laid ms p (records_of items)).written in
-      let more = (records_laid (names_so_far q items) (length d.octets) i.records).written in
+      let l = (records_laid (records_of items) ms p).written in
+      let more = (records_laid i.records (names_so_far q items) (length d.octets)).written in
       let rs = records_of (items ++ i ∷ []) in
       let written = sym (length-records_octets ms p rs) ∙ ap length (sym (octets_of_records ms p rs)) ∙ ap (λ (x : Laid). length x.written) (whole i) in
       omega (arith, written, next_place, length-append l more, length-append d.octets more)
 
   pub draft_put : (limit : ℕ) (section : Section) (owner : DomainName) (ttl : ℕ) (set : RecordSet) (d' : Draft)
-      → IsWritten (suffix_number head) limit (names_so_far q items) d.octets (records_laid (names_so_far q items) (length d.octets) (records_at owner ttl set)) true d'.octets (known_places (suffix_number head) d')
+      → IsWritten (suffix_number head) limit (names_so_far q items) d.octets (known_places (suffix_number head) d) (records_laid (records_at owner ttl set) (names_so_far q items) (length d.octets)) true d'.octets (known_places (suffix_number head) d')
       → d'.questions ≡ d.questions → d'.answers ≡ d.answers + counted answer section (length set.rdata)
       → d'.authorities ≡ d.authorities + counted authority section (length set.rdata) → d'.additionals ≡ d.additionals + counted additional section (length set.rdata)
       → IsDraft head q (items ++ item_of section owner ttl set ∷ []) d'
@@ -107,13 +84,15 @@ module _ (head : Octets → ℕ) (q : Option MessageQuestion) (items : List Item
       let i = item_of section owner ttl set in
       let ms = asked_placed q in
       let p : ℕ = 12 + length (asked_octets q) in
-      let l = records_laid ms p (records_of items) in
-      let more = records_laid (names_so_far q items) (length d.octets) i.records in
+      let l = records_laid (records_of items) ms p in
+      let more = records_laid i.records (names_so_far q items) (length d.octets) in
       let all = whole i in
       let front = replicate 12 0 ++ asked_octets q in
       record {
         written = done.written ∙ ap (λ z. z ++ more.written) draft.written ∙ append_assoc front l.written more.written ∙ ap (λ (x : Laid). front ++ x.written) (sym all);
-        holds = subst (λ x. Holds (suffix_number head) x d'.octets (known_places (suffix_number head) d')) (append_assoc ms l.names more.names ∙ ap (λ (x : Laid). ms ++ x.names) (sym all)) done.holds;
+        holds =
+            subst₂ (λ x b. Holds (suffix_number head) x b (known_places (suffix_number head) d')) (append_assoc ms l.names more.names ∙ ap (λ (x : Laid). ms ++ x.names) (sym all)) (sym done.written)
+            (done.stands d.octets refl draft.holds);
         questions = questions ∙ draft.questions;
         answers = answers ∙ ap (λ k. k + counted answer section (length set.rdata)) draft.answers ∙ sym (section_counted answer items section owner ttl set);
         authorities = authorities ∙ ap (λ k. k + counted authority section (length set.rdata)) draft.authorities ∙ sym (section_counted authority items section owner ttl set);
@@ -124,7 +103,7 @@ module _ (head : Octets → ℕ) (q : Option MessageQuestion) (items : List Item
 -- A set was put exactly where the layout with it is within the limit.
 pub put_fits : {head : Octets → ℕ} {t u : Bool} {b : Octets} {ks : List Kept} {d now : Draft} (q : Option MessageQuestion) (items : List Item) (section : Section)
     (owner : DomainName) (ttl : ℕ) (set : RecordSet) → d ≡ now → IsDraft head q items now
-    → ((ms : List Placed) → Holds (suffix_number head) ms d.octets (known_places (suffix_number head) d) → IsWritten (suffix_number head) d.limit ms d.octets (records_laid ms (length d.octets) (records_at owner ttl set)) t b ks)
+    → ((ms : List Placed) → Holds (suffix_number head) ms d.octets (known_places (suffix_number head) d) → IsWritten (suffix_number head) d.limit ms d.octets (known_places (suffix_number head) d) (records_laid (records_at owner ttl set) ms (length d.octets)) t b ks)
     → t ≡ u → (u ≡ true) ↔ (size q (items ++ item_of section owner ttl set ∷ []) ≤ now.limit)
 put_fits {head} {t} {u} {b} {ks} {d} {now} q items section owner ttl set view draft written is =
     let here = subst (IsDraft head q items) (sym view) draft in
@@ -138,21 +117,21 @@ put_fits {head} {t} {u} {b} {ks} {d} {now} q items section owner ttl set view dr
 -- a set that was put
 pub put_in : {head : Octets → ℕ} {limit : ℕ} {t : Bool} {d now d' : Draft} (q : Option MessageQuestion) (items : List Item) (section : Section)
     (owner : DomainName) (ttl : ℕ) (set : RecordSet) → d ≡ now → IsDraft head q items now
-    → ((ms : List Placed) → Holds (suffix_number head) ms d.octets (known_places (suffix_number head) d) → IsWritten (suffix_number head) limit ms d.octets (records_laid ms (length d.octets) (records_at owner ttl set)) t d'.octets (known_places (suffix_number head) d'))
+    → ((ms : List Placed) → Holds (suffix_number head) ms d.octets (known_places (suffix_number head) d) → IsWritten (suffix_number head) limit ms d.octets (known_places (suffix_number head) d) (records_laid (records_at owner ttl set) ms (length d.octets)) t d'.octets (known_places (suffix_number head) d'))
     → t ≡ true → d'.questions ≡ d.questions → d'.answers ≡ d.answers + counted answer section (length set.rdata)
     → d'.authorities ≡ d.authorities + counted authority section (length set.rdata) → d'.additionals ≡ d.additionals + counted additional section (length set.rdata)
     → IsDraft head q (items ++ item_of section owner ttl set ∷ []) d'
 put_in {head} {limit} {t} {d} {now} {d'} q items section owner ttl set view draft written put questions answers authorities additionals =
     let here = subst (IsDraft head q items) (sym view) draft in
     let ms = names_so_far q items in
-    let done = subst (λ u. IsWritten (suffix_number head) limit ms d.octets (records_laid ms (length d.octets) (records_at owner ttl set)) u d'.octets (known_places (suffix_number head) d')) put (written ms here.holds) in
+    let done = subst (λ u. IsWritten (suffix_number head) limit ms d.octets (known_places (suffix_number head) d) (records_laid (records_at owner ttl set) ms (length d.octets)) u d'.octets (known_places (suffix_number head) d')) put (written ms here.holds) in
     draft_put head q items d here limit section owner ttl set d' done questions answers authorities additionals
 
 -- a draft without sets
 pub draft_begins : (head : Octets → ℕ) (q : Option MessageQuestion) (d : Draft) → d.octets ≡ replicate 12 0 ++ asked_octets q → Holds (suffix_number head) (asked_placed q) d.octets (known_places (suffix_number head) d)
     → d.questions ≡ length (option_to_list q) → d.answers ≡ 0 → d.authorities ≡ 0 → d.additionals ≡ 0 → IfSome q IsAskable → IsDraft head q [] d
 draft_begins head q d octets holds questions answers authorities additionals askable =
-    let none = records-none (asked_placed q) (12 + length (asked_octets q)) in
+    let none = records_none (asked_placed q) (12 + length (asked_octets q)) in
     let front = replicate 12 0 ++ asked_octets q in
     record {
       written = octets ∙ sym (append-nil front) ∙ ap (λ (l : Laid). front ++ l.written) (sym none);
@@ -169,7 +148,7 @@ pub draft_laid : {head : Octets → ℕ} (h : Header) (q : Option MessageQuestio
     → header_octets h d.questions d.answers d.authorities d.additionals ++ drop 12 d.octets ≡ layout h q items
 unfolding layout
 draft_laid h q items d draft =
-    let rest = (records_laid (asked_placed q) (12 + length (asked_octets q)) (records_of items)).written in
+    let rest = (records_laid (records_of items) (asked_placed q) (12 + length (asked_octets q))).written in
     let body : drop 12 d.octets ≡ asked_octets q ++ rest = ap (drop 12) draft.written in
     let front = reply_header h q items in
     let counts : header_octets h d.questions d.answers d.authorities d.additionals ≡ front =

@@ -9,11 +9,10 @@ mod ChainLemmas
 mod SpelledLemmas
 mod CommonFront
 mod Suffixes
-mod Grown
 mod NameWritten
 mod AskedLemmas
+mod Steps
 mod DataWritten
-mod DataPatched
 mod DataNames
 mod AuthorityLaid
 mod RecordsWritten

@@ -28,9 +28,9 @@ front_short ms (l ∷ n) = go (shared_place ms (l ∷ n)) refl (front_short ms n
     go None e h = let f = front-none ms l n e in omega (arith, f, h, length-append l (wire n))
     go (Some p) e h = let f = front-some ms l n p e in omega (arith, f)
 
-pub name_laid : (ms : List Placed) (n : DomainName) → shared_octets ms n ≡ take (front_size ms n) (wire n) ++ end_octets (pointed_place ms n)
-name_laid ms [] = shared_root ms ∙ ap₂ (λ k o. take k (wire []) ++ end_octets o) (sym (front-root ms)) (sym (pointed-root ms))
-name_laid ms (l ∷ n) = go (shared_place ms (l ∷ n)) refl (name_laid ms n)
+pub shared_cut : (ms : List Placed) (n : DomainName) → shared_octets ms n ≡ take (front_size ms n) (wire n) ++ end_octets (pointed_place ms n)
+shared_cut ms [] = shared_root ms ∙ ap₂ (λ k o. take k (wire []) ++ end_octets o) (sym (front-root ms)) (sym (pointed-root ms))
+shared_cut ms (l ∷ n) = go (shared_place ms (l ∷ n)) refl (shared_cut ms n)
   where
     go : (x : Option ℕ) → shared_place ms (l ∷ n) ≡ x → shared_octets ms n ≡ take (front_size ms n) (wire n) ++ end_octets (pointed_place ms n)
         → shared_octets ms (l ∷ n) ≡ take (front_size ms (l ∷ n)) (wire (l ∷ n)) ++ end_octets (pointed_place ms (l ∷ n))
@@ -48,7 +48,7 @@ name_laid ms (l ∷ n) = go (shared_place ms (l ∷ n)) refl (name_laid ms n)
 
 pub cost_is : (ms : List Placed) (n : DomainName) → cost ms n ≡ front_size ms n + length (end_octets (pointed_place ms n))
 cost_is ms n =
-    sym (length-shared_octets ms n) ∙ ap length (name_laid ms n) ∙ length-append (take (front_size ms n) (wire n)) (end_octets (pointed_place ms n))
+    sym (length-shared_octets ms n) ∙ ap length (shared_cut ms n) ∙ length-append (take (front_size ms n) (wire n)) (end_octets (pointed_place ms n))
     ∙ ap (λ k. k + length (end_octets (pointed_place ms n))) (length-take-le (front_size ms n) (wire n) (let s = front_short ms n in omega (arith, s)))
 
 -- what is read stays, whatever comes after

@@ -12,7 +12,7 @@ use Rattle.dns_spec.specs.Reading.{pointer_place}
 use Rattle.dns_spec.specs.Reading.RunAt.{ends, goes_on, jumps}
 use Rattle.dns_wire.proofs.Runs.{GoesOn, at_end, at_label, at_pointer, goes_on_at}
 use Rattle.dns_wire.specs.Kept.{Kept, HasPlace, SpelledAt, SpellsName, NoneSpelled}
-use Rattle.dns_wire.specs.Writing.{front_size, pointed_place, new_places, Holds, Grows, Extends}
+use Rattle.dns_wire.specs.Writing.{front_size, pointed_place, new_places, Holds, HasMore, Extends}
 
 -- how a name is laid out, by whether its first suffix is shared
 module _ (ms : List Placed) (l : Octets) (n : DomainName) where
@@ -324,11 +324,11 @@ root_cut o others k (l ∷ n) e first short =
     let same : k ∷ others ≡ length l ∷ (l ++ wire n) = sym first ∙ e in
     absurd (omega (arith, ap (λ x. get_or x 0 0) same, ap length same, length-append l (wire n), short))
 
-pub grows_none : (ks : List Kept) → Grows ks ks
-grows_none ks = record { more = []; places = sym (append-nil ks) }
+pub more_none : (ks : List Kept) → HasMore ks ks
+more_none ks = record { more = []; places = sym (append-nil ks) }
 
-pub grows_more : {ks ks' ks'' : List Kept} (x : Kept) → Grows ks ks' → ks'' ≡ ks' ++ x ∷ [] → Grows ks ks''
-grows_more {ks} x g e = record { more = g.more ++ x ∷ []; places = e ∙ ap (λ z. z ++ x ∷ []) g.places ∙ append_assoc ks g.more (x ∷ []) }
+pub more_again : {ks ks' ks'' : List Kept} (x : Kept) → HasMore ks ks' → ks'' ≡ ks' ++ x ∷ [] → HasMore ks ks''
+more_again {ks} x g e = record { more = g.more ++ x ∷ []; places = e ∙ ap (λ z. z ++ x ∷ []) g.places ∙ append_assoc ks g.more (x ∷ []) }
 
 pub extends_none : (b : Octets) (ks : List Kept) → Extends b ks b ks
 extends_none b ks = record { more_octets = []; octets = sym (append-nil b); more_places = []; places = sym (append-nil ks) }

@@ -64,14 +64,14 @@ known_places number d = asked_places number d.octets d.asked_end ++ d.kept
 abbrev pub names_so_far : Option MessageQuestion → List Item → List Placed
 names_so_far q items =
     asked_placed q
-    ++ (records_laid (asked_placed q) (12 + length (asked_octets q)) (records_of items)).names
+    ++ (records_laid (records_of items) (asked_placed q) (12 + length (asked_octets q))).names
 
 -- The draft has this question, and these sets, laid out, and the question fits its fields.
 pub record IsDraft (head : Octets → ℕ) (q : Option MessageQuestion) (items : List Item)
     (d : Draft) : Type 0 where
   pub written : d.octets
       ≡ replicate 12 0 ++ asked_octets q
-      ++ (records_laid (asked_placed q) (12 + length (asked_octets q)) (records_of items)).written
+      ++ (records_laid (records_of items) (asked_placed q) (12 + length (asked_octets q))).written
   pub holds : Holds (suffix_number head) (names_so_far q items) d.octets
       (known_places (suffix_number head) d)
   pub questions : d.questions ≡ length (option_to_list q)

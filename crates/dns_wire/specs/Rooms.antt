@@ -1,9 +1,9 @@
 -- What a reader learns here: what is said of a room before and after a call.
-use Rattle.std.specs.Prelude.{◌≡◌, ℕ, List, ◌++◌, Bool}
+use Rattle.std.specs.Prelude.{◌≡◌, ℕ, List, ◌++◌, Bool, length}
 use Rattle.dns_spec.specs.Names.{Octets}
-use Rattle.dns_spec.specs.Layout.{Placed, Laid}
+use Rattle.dns_spec.specs.Layout.{Placed}
 use Rattle.dns_wire.specs.Kept.{Kept}
-use Rattle.dns_wire.specs.Writing.{asked_places, Extends, Holds, IsSound, IsWritten}
+use Rattle.dns_wire.specs.Writing.{asked_places, Extends, Holds, IsSound, IsWritten, Layout}
 use Rattle.dns_wire.specs.SuffixNumbers.{suffix_number}
 use Rattle.dns_wire.specs.declared.room.Room.{Room}
 
@@ -21,17 +21,21 @@ module _ {N size : ℕ} where
   HasNames r head ms =
       Holds (suffix_number head) ms r.octets.items (known_in (suffix_number head) r)
 
-  -- octets and places came after those that were there, within the same limit, and the name of the
-  -- question ends where it did
-  pub record HasGrown (old new : Room N size) : Type 0 where
+  -- What a step of writing keeps: octets and places came after those that were there, within the
+  -- same limit, and the name of the question ends where it did.
+  pub record Grows (old new : Room N size) : Type 0 where
     pub extends : Extends old.octets.items old.places new.octets.items new.places
     pub asked : new.asked_end ≡ old.asked_end
     pub limit : new.limit ≡ old.limit
     pub sound : IsSoundRoom new
 
-  -- what is laid out was written exactly where it fits the limit
-  abbrev pub HasWritten : Room N size → Room N size → (Octets → ℕ) → List Placed → Laid
-      → Bool → Type 0
-  HasWritten old new head ms laid fits =
-      IsWritten (suffix_number head) old.limit ms old.octets.items laid fits new.octets.items
-      (known_in (suffix_number head) new)
+  -- A step that writes what is laid out, exactly where it fits the limit. The hash that is lent has
+  -- the same numbers before it and after it.
+  pub record Writes (head head' : Octets → ℕ) (old new : Room N size) (layout : Layout)
+      (fits : Bool) : Type 0 where
+    pub grows : Grows old new
+    pub same : head' ≡ head
+    pub written : (ms : List Placed) → HasNames old head ms
+        → IsWritten (suffix_number head) old.limit ms old.octets.items
+        (known_in (suffix_number head) old) (layout ms (length old.octets.items)) fits
+        new.octets.items (known_in (suffix_number head) new)

@@ -8,7 +8,7 @@ use Rattle.dns_spec.specs.Names.{Octets, DomainName, wire, is_name}
 use Rattle.dns_spec.specs.Data.{laid_parts}
 use Rattle.dns_spec.specs.Records.{ResourceRecord}
 use Rattle.dns_spec.specs.Reading.{RunAt}
-use Rattle.dns_spec.specs.Layout.{Placed, Laid, laid_front, data_laid, record_laid, record_tail, pointer, place_of, last_place, shared_place}
+use Rattle.dns_spec.specs.Layout.{Placed, Laid, laid_front, data_laid, record_laid, record_tail, pointer, place_of, last_place, shared_octets, shared_place}
 use Rattle.dns_name.specs.WireForm.{labels_of, IsWireForm}
 use Rattle.dns_wire.specs.Kept.{Kept, IsKept, SpelledAt}
 
@@ -113,30 +113,50 @@ pub record Extends (b : Octets) (ks : List Kept) (b' : Octets) (ks' : List Kept)
   pub places : ks' ≡ ks ++ more_places
 
 -- places come after those that were there
-pub record Grows (ks ks' : List Kept) : Type 0 where
+pub record HasMore (ks ks' : List Kept) : Type 0 where
   pub more : List Kept
   pub places : ks' ≡ ks ++ more
 
--- What was laid out after these octets is written exactly where it fits the limit, and its names
--- are earlier names then.
-pub record IsWritten (number : Octets → ℕ) (limit : ℕ) (ms : List Placed) (b : Octets) (laid : Laid)
-    (fits : Bool) (b' : Octets) (ks' : List Kept) : Type 0 where
+-- What was laid out after these octets is written exactly where it fits the limit. Its names are
+-- earlier names then, in whatever octets of that length the earlier ones are.
+pub record IsWritten (number : Octets → ℕ) (limit : ℕ) (ms : List Placed) (b : Octets)
+    (ks : List Kept) (laid : Laid) (fits : Bool) (b' : Octets) (ks' : List Kept) : Type 0 where
   pub exactly : IsTrue fits ↔ (length (b ++ laid.written) ≤ limit)
   pub written : OnTrue fits (b' ≡ b ++ laid.written)
-  pub holds : OnTrue fits (Holds number (ms ++ laid.names) b' ks')
+  pub stands : OnTrue fits ((x : Octets) → length x ≡ length b → Holds number ms x ks
+      → StandsIn number ms x laid ks')
+
+-- what is laid out from a place on after earlier names
+abbrev pub Layout : Type 0
+Layout = List Placed → ℕ → Laid
+
+abbrev pub octets_laid : Octets → Layout
+octets_laid o ms p = record { written = o; names = [] }
+
+abbrev pub name_laid : DomainName → Layout
+name_laid n ms p = record { written = shared_octets ms n; names = (n, p) ∷ [] }
+
+-- one after the other
+abbrev pub both_laid : Layout → Layout → Layout
+both_laid f g ms p =
+    let l = f ms p in
+    laid_front l.written l.names (g (ms ++ l.names) (p + length l.written))
 
 -- a record, and what is laid out of it after its owner
 abbrev pub shown : DomainName → ℕ → ℕ → Octets → ResourceRecord
 shown owner rtype ttl rdata = record { owner = owner; ttl = ttl; rtype = rtype; rdata = rdata }
 
-abbrev pub tail_laid : List Placed → ℕ → ℕ → ℕ → Octets → Laid
-tail_laid ms p rtype ttl rdata =
-    let d = data_laid ms (p + 10) (laid_parts rtype rdata) in
+abbrev pub parts_laid : ℕ → Octets → Layout
+parts_laid rtype rdata ms p = data_laid ms p (laid_parts rtype rdata)
+
+abbrev pub tail_laid : ℕ → ℕ → Octets → Layout
+tail_laid rtype ttl rdata ms p =
+    let d = parts_laid rtype rdata ms (p + 10) in
     record { written = record_tail (shown [] rtype ttl rdata) d.written; names = d.names }
 
 -- records laid out from place p on, with their names
-unfoldable pub records_laid : List Placed → ℕ → List ResourceRecord → Laid
-records_laid ms p [] = record { written = []; names = [] }
-records_laid ms p (r ∷ rs) =
+unfoldable pub records_laid : List ResourceRecord → Layout
+records_laid [] ms p = record { written = []; names = [] }
+records_laid (r ∷ rs) ms p =
     let l = record_laid ms p r in
-    laid_front l.written l.names (records_laid (ms ++ l.names) (p + length l.written) rs)
+    laid_front l.written l.names (records_laid rs (ms ++ l.names) (p + length l.written))

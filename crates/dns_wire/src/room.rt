@@ -6,9 +6,9 @@ ghost use Rattle.dns_spec.specs.Names.{Octets, DomainName, wire, is_name};
 ghost use Rattle.dns_spec.specs.Data.{Valid, class_in, compresses, laid_parts, type_mx, type_soa};
 ghost use Rattle.dns_spec.specs.Layout.{Placed, question_octets, octets16, octets32, pointer, shared_octets, data_laid, record_laid};
 ghost use Rattle.dns_spec.specs.LayoutSize.{cost};
-ghost use Rattle.dns_wire.specs.Writing.{name_before, IsAsked, asked_places, NotAsked, IsLastOf, front_size, pointed_place, new_places, end_octets, Grows, AfterLabel, Holds, StandsIn, shown, tail_laid, records_laid};
+ghost use Rattle.dns_wire.specs.Writing.{name_before, IsAsked, asked_places, NotAsked, IsLastOf, front_size, pointed_place, new_places, end_octets, HasMore, AfterLabel, Holds, shown, octets_laid, name_laid, parts_laid, tail_laid, records_laid};
 ghost use Rattle.dns_wire.specs.Kept.{HasPlace, SpellsName, NoneSpelled};
-ghost use Rattle.dns_wire.specs.Rooms.{IsSoundRoom, known_in, HasNames, HasGrown, HasWritten};
+ghost use Rattle.dns_wire.specs.Rooms.{IsSoundRoom, HasNames, Grows, Writes};
 ghost use Rattle.dns_wire.specs.SuffixNumbers.{suffix_number};
 ghost use Rattle.dns_spec.specs.Sets.{records_at};
 ghost use Rattle.dns_spec.specs.Laws.{IsAskable};
@@ -105,7 +105,9 @@ impl<const N: usize, const SIZE: usize> Room<N, SIZE> {
             ≡ self.old.octets.items ++ (front.now ++ end.now)) }
         ensures unchanged { OnFalse result (self.new.octets.items ≡ self.old.octets.items) }
         ensures places { self.new.places ≡ self.old.places }
-        ensures grown { HasGrown self.old self.new }
+        ensures grows { Grows self.old self.new }
+        ensures writes { (head : Octets → ℕ) → Writes head head self.old self.new
+            (octets_laid (front.now ++ end.now)) result }
     {
         let room = self.limit - self.octets.len();
         if room < front.len() || room - front.len() < end.len() {
@@ -123,7 +125,7 @@ impl<const N: usize, const SIZE: usize> Room<N, SIZE> {
         requires room { length self.old.octets.items + length octets.now ≤ self.old.limit }
         ensures octets { self.new.octets.items ≡ self.old.octets.items ++ octets.now }
         ensures places { self.new.places ≡ self.old.places }
-        ensures grown { HasGrown self.old self.new }
+        ensures grows { Grows self.old self.new }
     {
         if self.octets.try_extend_from_slice(octets).is_err() {
             unreachable!();
@@ -135,19 +137,12 @@ impl<const N: usize, const SIZE: usize> Room<N, SIZE> {
     /// the limit.
     pub(crate) fn put_name<H: SuffixHash>(&mut self, hash: &mut H, name: &[u8]) -> bool
         requires { IsSoundRoom self.old }
-        ensures fits { (ms : List Placed) (n : DomainName)
-            → HasNames self.old (H.numbers hash.old) ms → name.now ≡ wire n → IsTrue (is_name n)
-            → IsTrue result ↔ (length self.old.octets.items + cost ms n ≤ self.old.limit) }
-        ensures octets { (ms : List Placed) (n : DomainName)
-            → HasNames self.old (H.numbers hash.old) ms → name.now ≡ wire n → IsTrue (is_name n)
-            → OnTrue result (self.new.octets.items ≡ self.old.octets.items ++ shared_octets ms n) }
-        ensures holds { (ms : List Placed) (n : DomainName)
-            → HasNames self.old (H.numbers hash.old) ms → name.now ≡ wire n → IsTrue (is_name n)
-            → OnTrue result (HasNames self.new (H.numbers hash.old)
-            (ms ++ (n, length self.old.octets.items) ∷ [])) }
+        ensures writes { (n : DomainName) → name.now ≡ wire n → IsTrue (is_name n)
+            → Writes (H.numbers hash.old) (H.numbers hash.new) self.old self.new (name_laid n)
+            result }
         ensures unchanged { OnFalse result ((self.new.octets.items ≡ self.old.octets.items)
             × (self.new.places ≡ self.old.places)) }
-        ensures grown { HasGrown self.old self.new }
+        ensures grows { Grows self.old self.new }
         ensures same { H.numbers hash.new ≡ H.numbers hash.old }
     {
         let message = self.octets.as_slice();
@@ -167,19 +162,8 @@ impl<const N: usize, const SIZE: usize> Room<N, SIZE> {
         requires sound { IsSoundRoom self.old }
         requires valid { Valid rtype.0 rdata.now }
         requires shared { IsTrue (compresses rtype.0) }
-        ensures written { (ms : List Placed) → HasNames self.old (H.numbers hash.old) ms
-            → HasWritten self.old self.new (H.numbers hash.old) ms
-            (data_laid ms (length self.old.octets.items) (laid_parts rtype.0 rdata.now)) result }
-        ensures elsewhere { (ms : List Placed) (b : Octets)
-            → HasNames self.old (H.numbers hash.old) ms
-            → Holds (suffix_number (H.numbers hash.old)) ms b
-            (known_in (suffix_number (H.numbers hash.old)) self.old)
-            → length b ≡ length self.old.octets.items
-            → OnTrue result (StandsIn (suffix_number (H.numbers hash.old)) ms b
-            (data_laid ms (length b) (laid_parts rtype.0 rdata.now))
-            (known_in (suffix_number (H.numbers hash.old)) self.new)) }
-        ensures grown { HasGrown self.old self.new }
-        ensures same { H.numbers hash.new ≡ H.numbers hash.old }
+        ensures { Writes (H.numbers hash.old) (H.numbers hash.new) self.old self.new
+            (parts_laid rtype.0 rdata.now) result }
     {
         if rtype == RType::SOA {
             return self.put_authority(hash, rdata);
@@ -194,11 +178,8 @@ impl<const N: usize, const SIZE: usize> Room<N, SIZE> {
     fn put_exchange<H: SuffixHash>(&mut self, hash: &mut H, rdata: &[u8]) -> bool
         requires sound { IsSoundRoom self.old }
         requires valid { Valid type_mx rdata.now }
-        ensures written { (ms : List Placed) → HasNames self.old (H.numbers hash.old) ms
-            → HasWritten self.old self.new (H.numbers hash.old) ms
-            (data_laid ms (length self.old.octets.items) (laid_parts type_mx rdata.now)) result }
-        ensures grown { HasGrown self.old self.new }
-        ensures same { H.numbers hash.new ≡ H.numbers hash.old }
+        ensures { Writes (H.numbers hash.old) (H.numbers hash.new) self.old self.new
+            (parts_laid type_mx rdata.now) result }
     {
         let (preference, exchange) = rdata.split_at(2);
         self.append(preference, &[]) && self.put_name(hash, exchange)
@@ -209,11 +190,8 @@ impl<const N: usize, const SIZE: usize> Room<N, SIZE> {
     fn put_authority<H: SuffixHash>(&mut self, hash: &mut H, rdata: &[u8]) -> bool
         requires sound { IsSoundRoom self.old }
         requires valid { Valid type_soa rdata.now }
-        ensures written { (ms : List Placed) → HasNames self.old (H.numbers hash.old) ms
-            → HasWritten self.old self.new (H.numbers hash.old) ms
-            (data_laid ms (length self.old.octets.items) (laid_parts type_soa rdata.now)) result }
-        ensures grown { HasGrown self.old self.new }
-        ensures same { H.numbers hash.new ≡ H.numbers hash.old }
+        ensures { Writes (H.numbers hash.old) (H.numbers hash.new) self.old self.new
+            (parts_laid type_soa rdata.now) result }
     {
         let Some((part, rest)) = first_part(Piece::Domain, rdata) else {
             unreachable!();
@@ -254,16 +232,12 @@ impl<const N: usize, const SIZE: usize> Room<N, SIZE> {
         set: &S,
     ) -> bool
         requires { IsSoundRoom self.old }
-        ensures written { (ms : List Placed) → HasNames self.old (H.numbers hash.old) ms
-            → HasWritten self.old self.new (H.numbers hash.old) ms
-            (records_laid ms (length self.old.octets.items)
-            (records_at owner.now ttl (S.set set.now))) result }
+        ensures writes { Writes (H.numbers hash.old) (H.numbers hash.new) self.old self.new
+            (records_laid (records_at owner.now ttl (S.set set.now))) result }
         ensures unchanged { OnFalse result ((self.new.octets.items ≡ self.old.octets.items)
             × (self.new.places ≡ self.old.places)) }
         ensures longer { OnTrue result (length self.old.octets.items + length (S.set set.now).rdata
             ≤ length self.new.octets.items) }
-        ensures grown { HasGrown self.old self.new }
-        ensures same { H.numbers hash.new ≡ H.numbers hash.old }
     {
         if self.is_too_small(set.len()) {
             return false;
@@ -289,16 +263,12 @@ impl<const N: usize, const SIZE: usize> Room<N, SIZE> {
         set: &S,
     ) -> bool
         requires { IsSoundRoom self.old }
-        ensures written { (ms : List Placed) → HasNames self.old (H.numbers hash.old) ms
-            → HasWritten self.old self.new (H.numbers hash.old) ms
-            (records_laid ms (length self.old.octets.items)
-            (records_at owner.now ttl (S.set set.now))) result }
+        ensures writes { Writes (H.numbers hash.old) (H.numbers hash.new) self.old self.new
+            (records_laid (records_at owner.now ttl (S.set set.now))) result }
         ensures unchanged { OnFalse result ((self.new.octets.items ≡ self.old.octets.items)
             × (self.new.places ≡ self.old.places)) }
         ensures longer { OnTrue result (length self.old.octets.items + length (S.set set.now).rdata
             ≤ length self.new.octets.items) }
-        ensures grown { HasGrown self.old self.new }
-        ensures same { H.numbers hash.new ≡ H.numbers hash.old }
     {
         let octets = self.octets.len();
         let places = self.places.len();
@@ -322,14 +292,10 @@ impl<const N: usize, const SIZE: usize> Room<N, SIZE> {
     ) -> bool
         requires sound { IsSoundRoom self.old }
         requires valid { Valid rtype.0 rdata.now }
-        ensures written { (ms : List Placed) → HasNames self.old (H.numbers hash.old) ms
-            → HasWritten self.old self.new (H.numbers hash.old) ms
-            (record_laid ms (length self.old.octets.items)
-            (shown owner.now rtype.0 ttl rdata.now)) result }
+        ensures writes { Writes (H.numbers hash.old) (H.numbers hash.new) self.old self.new
+            (λ ms p. record_laid ms p (shown owner.now rtype.0 ttl rdata.now)) result }
         ensures longer { OnTrue result (length self.old.octets.items + 10
             ≤ length self.new.octets.items) }
-        ensures grown { HasGrown self.old self.new }
-        ensures same { H.numbers hash.new ≡ H.numbers hash.old }
     {
         self.put_name(hash, owner.octets()) && self.put_tail(hash, rtype, ttl, rdata)
     }
@@ -344,13 +310,10 @@ impl<const N: usize, const SIZE: usize> Room<N, SIZE> {
     ) -> bool
         requires sound { IsSoundRoom self.old }
         requires valid { Valid rtype.0 rdata.now }
-        ensures written { (ms : List Placed) → HasNames self.old (H.numbers hash.old) ms
-            → HasWritten self.old self.new (H.numbers hash.old) ms
-            (tail_laid ms (length self.old.octets.items) rtype.0 ttl rdata.now) result }
+        ensures writes { Writes (H.numbers hash.old) (H.numbers hash.new) self.old self.new
+            (tail_laid rtype.0 ttl rdata.now) result }
         ensures longer { OnTrue result (length self.old.octets.items + 10
             ≤ length self.new.octets.items) }
-        ensures grown { HasGrown self.old self.new }
-        ensures same { H.numbers hash.new ≡ H.numbers hash.old }
     {
         if rtype.compresses() {
             self.put_shared_tail(hash, rtype, ttl, rdata)
@@ -370,13 +333,10 @@ impl<const N: usize, const SIZE: usize> Room<N, SIZE> {
         requires sound { IsSoundRoom self.old }
         requires valid { Valid rtype.0 rdata.now }
         requires shared { IsTrue (compresses rtype.0) }
-        ensures written { (ms : List Placed) → HasNames self.old (H.numbers hash.old) ms
-            → HasWritten self.old self.new (H.numbers hash.old) ms
-            (tail_laid ms (length self.old.octets.items) rtype.0 ttl rdata.now) result }
+        ensures writes { Writes (H.numbers hash.old) (H.numbers hash.new) self.old self.new
+            (tail_laid rtype.0 ttl rdata.now) result }
         ensures longer { OnTrue result (length self.old.octets.items + 10
             ≤ length self.new.octets.items) }
-        ensures grown { HasGrown self.old self.new }
-        ensures same { H.numbers hash.new ≡ H.numbers hash.old }
     {
         let at = self.octets.len();
         if !self.append(&record_numbers(rtype, ttl, 0), &[]) {
@@ -417,7 +377,7 @@ impl<const N: usize, const SIZE: usize> Room<N, SIZE> {
             ≡ self.old.octets.items ++ (front.now ++ end_octets place)) }
         ensures unchanged { OnFalse result (self.new.octets.items ≡ self.old.octets.items) }
         ensures places { self.new.places ≡ self.old.places }
-        ensures grown { HasGrown self.old self.new }
+        ensures grows { Grows self.old self.new }
     {
         match place {
             Some(place) => self.append(front, &pointer_octets(place)),
@@ -592,7 +552,7 @@ fn keep_suffixes<H: SuffixHash, const N: usize>(
         → places.new ≡ places.old
         ++ new_places (suffix_number (H.numbers hash.old)) ms n at }
     ensures few { 2 * length places.new ≤ at + front }
-    ensures grows { Grows places.old places.new }
+    ensures more { HasMore places.old places.new }
     ensures same { H.numbers hash.new ≡ H.numbers hash.old }
 {
     if front == 0 {

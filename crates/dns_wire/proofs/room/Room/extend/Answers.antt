@@ -3,8 +3,8 @@ use Rattle.dns_wire.proofs.AskedLemmas.{is_asked_more}
 use Rattle.dns_wire.proofs.Suffixes.{octets_added}
 use Rattle.dns_wire.proofs.room.Room.extend.Goals as goal
 
-pub returns-clause-grown : goal.returns-clause-grown
-returns-clause-grown g c =
+pub returns-clause-grows : goal.returns-clause-grows
+returns-clause-grows g c =
     let b = c.args.self.now.octets.items in
     let more : c.try_extend_from_slice.new.self.items ≡ b ++ c.args.octets.now = search rules in
     let s = c.requires.sound in

@@ -2,7 +2,7 @@ use Rattle.std.proofs.Common.{◌≡◌, ◌+◌, ◌-◌, ◌∙◌, refl, ap, 
 use Rattle.std.proofs.lemmas.List.{length-take, length-drop}
 use Rattle.dns_wire.proofs.AskedLemmas.{is_asked_same, take_patched}
 use Rattle.dns_spec.specs.Layout.{octets16}
-use Rattle.dns_wire.proofs.DataPatched.{put_over}
+use Rattle.dns_wire.proofs.DataWritten.{put_over}
 use Rattle.dns_wire.proofs.room.Room.put_length.Goals as goal
 
 pub returns-clause-octets : goal.returns-clause-octets

@@ -33,12 +33,12 @@ module _ (g : given.Over) (c : goal.After-append g) where
         ap length c.octets.ensures.value,
         short,
         room,
-        c.extend.ensures.grown.limit,
+        c.extend.ensures.grows.limit,
       )))
       c.append.ensures.octets
 
   end_is : c.append.new.self.asked_end ≡ 12 + length (wire asked)
-  end_is = c.append.ensures.grown.asked ∙ c.len-self.ensures.value ∙ ap length (name_octets) ∙ length-append (replicate 12 0) (wire asked)
+  end_is = c.append.ensures.grows.asked ∙ c.len-self.ensures.value ∙ ap length (name_octets) ∙ length-append (replicate 12 0) (wire asked)
 
 pub returns-clause-octets : goal.returns-clause-octets
 returns-clause-octets g c =
@@ -73,7 +73,7 @@ returns-clause-askable g c =
 
 pub append-requires : goal.append-requires
 append-requires g c =
-    let s = c.extend.ensures.grown.sound in
+    let s = c.extend.ensures.grows.sound in
     let n = c.question.inside.name in
     let own : c.extend.new.self.octets.items ≡ replicate 12 0 ++ wire n = c.extend.ensures.octets ∙ ap₂ ◌++◌ c.requires.blank c.octets.ensures.value in
     let short = c.octets.ensures.bound in (

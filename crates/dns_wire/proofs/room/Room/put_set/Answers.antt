@@ -1,15 +1,13 @@
-use Rattle.std.proofs.Common.{arith}
-use Rattle.dns_wire.proofs.DataWritten.{not_written}
-use Rattle.dns_wire.proofs.RecordsWritten.{records_over}
-use Rattle.dns_wire.proofs.Grown.{grows_not}
+use Rattle.std.proofs.Common.{◌*◌, arith, length}
+use Rattle.dns_spec.specs.Sets.{records_at}
+use Rattle.dns_wire.specs.Writing.{records_laid}
+use Rattle.dns_wire.proofs.RecordsWritten.{set_long}
+use Rattle.dns_wire.proofs.Steps.{never_written}
 use Rattle.dns_wire.proofs.room.Room.put_set.Goals as goal
 
-pub returns-then-is_too_small-clause-written : goal.returns-then-is_too_small-clause-written
-returns-then-is_too_small-clause-written g c = λ ms holds.
+pub returns-then-is_too_small-clause-writes : goal.returns-then-is_too_small-clause-writes
+returns-then-is_too_small-clause-writes g c =
     let set = g.S.SetView.set c.args.set.now in
-    let b = c.args.self.now.octets.items in
     let over = c.is_too_small.ensures c.if-is_too_small.true in
-    not_written (records_over c.args.self.now.limit ms b c.args.owner.now c.args.ttl set (omega (arith, over, c.len.ensures.value)))
-
-pub returns-then-is_too_small-clause-grown : goal.returns-then-is_too_small-clause-grown
-returns-then-is_too_small-clause-grown g c = grows_not c.args.self.now c.requires
+    never_written (g.H.SuffixHash.numbers c.args.hash.now) c.args.self.now (records_laid (records_at c.args.owner.now c.args.ttl set)) (10 * length set.rdata) c.requires (omega (arith, over, c.len.ensures.value))
+    (set_long c.args.owner.now c.args.ttl set)
