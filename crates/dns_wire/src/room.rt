@@ -239,39 +239,12 @@ impl<const N: usize, const SIZE: usize> Room<N, SIZE> {
         ensures longer { OnTrue result (length self.old.octets.items + length (S.set set.now).rdata
             ≤ length self.new.octets.items) }
     {
-        if self.is_too_small(set.len()) {
-            return false;
-        }
-        self.put_records(hash, owner, ttl, set)
-    }
-
-    // Whether so many records don't fit, however short they are: each has 10 octets after its
-    // owner.
-    fn is_too_small(&self, count: usize) -> bool
-        requires { IsSoundRoom self.now }
-        ensures { IsTrue result → self.now.limit < length self.now.octets.items + 10 * count }
-    {
-        (self.limit - self.octets.len()) / 10 < count
-    }
-
-    // Writes the records of a set, one after the other, until one does not fit.
-    fn put_records<H: SuffixHash, S: SetView>(
-        &mut self,
-        hash: &mut H,
-        owner: &NameRef<'_>,
-        ttl: u32,
-        set: &S,
-    ) -> bool
-        requires { IsSoundRoom self.old }
-        ensures writes { Writes (H.numbers hash.old) (H.numbers hash.new) self.old self.new
-            (records_laid (records_at owner.now ttl (S.set set.now))) result }
-        ensures unchanged { OnFalse result ((self.new.octets.items ≡ self.old.octets.items)
-            × (self.new.places ≡ self.old.places)) }
-        ensures longer { OnTrue result (length self.old.octets.items + length (S.set set.now).rdata
-            ≤ length self.new.octets.items) }
-    {
         let octets = self.octets.len();
         let places = self.places.len();
+        // However short they are, each has 10 octets after its owner.
+        if (self.limit - octets) / 10 < set.len() {
+            return false;
+        }
         'records: for i in 0..set.len() {
             if !self.put_record(hash, owner, set.rtype(), ttl, set.rdata(i)) {
                 self.take_back(octets, places);
@@ -297,24 +270,9 @@ impl<const N: usize, const SIZE: usize> Room<N, SIZE> {
         ensures longer { OnTrue result (length self.old.octets.items + 10
             ≤ length self.new.octets.items) }
     {
-        self.put_name(hash, owner.octets()) && self.put_tail(hash, rtype, ttl, rdata)
-    }
-
-    // Writes what follows the owner of a record.
-    fn put_tail<H: SuffixHash>(
-        &mut self,
-        hash: &mut H,
-        rtype: RType,
-        ttl: u32,
-        rdata: &[u8],
-    ) -> bool
-        requires sound { IsSoundRoom self.old }
-        requires valid { Valid rtype.0 rdata.now }
-        ensures writes { Writes (H.numbers hash.old) (H.numbers hash.new) self.old self.new
-            (tail_laid rtype.0 ttl rdata.now) result }
-        ensures longer { OnTrue result (length self.old.octets.items + 10
-            ≤ length self.new.octets.items) }
-    {
+        if !self.put_name(hash, owner.octets()) {
+            return false;
+        }
         if rtype.compresses() {
             self.put_shared_tail(hash, rtype, ttl, rdata)
         } else {

@@ -1,30 +1,49 @@
-use Rattle.std.proofs.Common.{◌+◌, ◌≤◌, ◌++◌, Bool, true, false, refl, ap, arith, length, length-append}
-use Rattle.std.specs.Bool.{OnTrue}
+use Rattle.std.proofs.Common.{◌≡◌, ◌∙◌, ◌+◌, ◌++◌, ◌∷◌, [], refl, sym, ap, arith, cond, length, length-append}
+use Rattle.dns_spec.specs.Data.{octets, parts, laid_parts}
 use Rattle.dns_spec.specs.Layout.{record_laid}
-use Rattle.dns_wire.specs.Writing.{name_laid, both_laid, tail_laid, shown}
-use Rattle.dns_wire.proofs.Steps.{writes_as, writes_both, writes_past}
+use Rattle.dns_wire.specs.Writing.{octets_laid, name_laid, both_laid, tail_laid, shown}
+use Rattle.dns_wire.proofs.DataWritten.{plain_laid}
+use Rattle.dns_wire.proofs.Steps.{on_then, writes_as, writes_both, writes_past}
 use Rattle.dns_wire.proofs.room.Room.put_record.Goals as goal
 
-pub returns-then-put_name-clause-writes : goal.returns-then-put_name-clause-writes
-returns-then-put_name-clause-writes g c =
+pub returns-then-not-put_name-clause-writes : goal.returns-then-not-put_name-clause-writes
+returns-then-not-put_name-clause-writes g c =
     let n = c.args.owner.now in
-    let tail = tail_laid c.args.rtype.0 c.args.ttl c.args.rdata.now in
-    writes_as (both_laid (name_laid n) tail) (λ ms p. record_laid ms p (shown n c.args.rtype.0 c.args.ttl c.args.rdata.now)) (λ ms p. refl)
-    (writes_both (name_laid n) tail c.if-put_name.true (c.put_name.ensures.writes n c.octets.ensures.value c.octets.ensures.is_name) c.put_tail.ensures.writes)
-
-pub returns-else-put_name-clause-writes : goal.returns-else-put_name-clause-writes
-returns-else-put_name-clause-writes g c =
-    let n = c.args.owner.now in
-    writes_past (name_laid n) (λ ms p. record_laid ms p (shown n c.args.rtype.0 c.args.ttl c.args.rdata.now)) c.if-put_name.false c.if-put_name.false c.put_name.ensures.grows
+    writes_past (name_laid n) (λ ms p. record_laid ms p (shown n c.args.rtype.0 c.args.ttl c.args.rdata.now)) c.if-not-put_name.true refl c.put_name.ensures.grows
     (λ ms p.
     let l = name_laid n ms p in
     omega (arith, length-append l.written (tail_laid c.args.rtype.0 c.args.ttl c.args.rdata.now (ms ++ l.names) (p + length l.written)).written))
     (c.put_name.ensures.writes n c.octets.ensures.value c.octets.ensures.is_name)
 
-pub returns-then-put_name-clause-longer : goal.returns-then-put_name-clause-longer
-returns-then-put_name-clause-longer g c = go c.put_tail.result c.put_tail.ensures.longer
-  where
-    go : (t : Bool) → OnTrue t (length c.put_name.new.self.octets.items + 10 ≤ length c.put_tail.new.self.octets.items)
-        → OnTrue t (length c.args.self.now.octets.items + 10 ≤ length c.put_tail.new.self.octets.items)
-    go false h = tt
-    go true h = omega (arith, h, ap length c.put_name.ensures.grows.extends.octets, length-append c.args.self.now.octets.items c.put_name.ensures.grows.extends.more_octets)
+pub returns-then-compresses-clause-writes : goal.returns-then-compresses-clause-writes
+returns-then-compresses-clause-writes g c =
+    let n = c.args.owner.now in
+    let tail = tail_laid c.args.rtype.0 c.args.ttl c.args.rdata.now in
+    writes_as (both_laid (name_laid n) tail) (λ ms p. record_laid ms p (shown n c.args.rtype.0 c.args.ttl c.args.rdata.now)) (λ ms p. refl)
+    (writes_both (name_laid n) tail c.if-not-put_name.false (c.put_name.ensures.writes n c.octets.ensures.value c.octets.ensures.is_name) c.put_shared_tail.ensures.writes)
+
+pub returns-else-compresses-clause-writes : goal.returns-else-compresses-clause-writes
+returns-else-compresses-clause-writes g c =
+    let n = c.args.owner.now in
+    let t = c.args.rtype.0 in
+    let d = c.args.rdata.now in
+    let x = c.record_numbers.result in
+    let tail = tail_laid t c.args.ttl d in
+    let whole : laid_parts t d ≡ octets d ∷ [] = ap (λ b. cond b (parts t d) (octets d ∷ [])) (sym c.compresses.ensures ∙ c.if-compresses.false) in
+    let last = writes_as (octets_laid (x ++ d)) tail (plain_laid t c.args.ttl d x c.record_numbers.ensures whole) (c.append.ensures.writes (g.H.SuffixHash.numbers c.put_name.new.hash)) in
+    writes_as (both_laid (name_laid n) tail) (λ ms p. record_laid ms p (shown n t c.args.ttl d)) (λ ms p. refl)
+    (writes_both (name_laid n) tail c.if-not-put_name.false (c.put_name.ensures.writes n c.octets.ensures.value c.octets.ensures.is_name) last)
+
+pub returns-then-compresses-clause-longer : goal.returns-then-compresses-clause-longer
+returns-then-compresses-clause-longer g c =
+    let more = c.put_name.ensures.grows.extends in
+    on_then c.put_shared_tail.result (λ long. omega (arith, long, ap length more.octets, length-append c.args.self.now.octets.items more.more_octets)) c.put_shared_tail.ensures.longer
+
+pub returns-else-compresses-clause-longer : goal.returns-else-compresses-clause-longer
+returns-else-compresses-clause-longer g c =
+    let more = c.put_name.ensures.grows.extends in
+    let x = c.record_numbers.result in
+    let d = c.args.rdata.now in
+    on_then c.append.result
+    (λ e. omega (arith, ap length c.record_numbers.ensures, ap length e, length-append c.put_name.new.self.octets.items (x ++ d), length-append x d, ap length more.octets, length-append c.args.self.now.octets.items more.more_octets))
+    c.append.ensures.octets

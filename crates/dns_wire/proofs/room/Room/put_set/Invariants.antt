@@ -2,7 +2,7 @@ use Rattle.std.proofs.Common.{true, ◌≤◌, ◌+◌, take, length}
 use Rattle.dns_spec.specs.Sets.{records_at}
 use Rattle.dns_wire.specs.Rooms.{Writes}
 use Rattle.dns_wire.specs.Writing.{records_laid}
-use Rattle.dns_wire.proofs.room.Room.put_records.Given as goal
+use Rattle.dns_wire.proofs.room.Room.put_set.Given as goal
 
 -- so many records of the set are written
 abbrev pub invariant-records : goal.invariant-records
