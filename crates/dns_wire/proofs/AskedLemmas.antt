@@ -1,7 +1,7 @@
 -- The name of the question has the places of its suffixes, whatever comes after it; each of them stands so far before its end.
 use Rattle.std.proofs.Common.{◌≡◌, ℕ, zero, suc, ◌+◌, ◌-◌, ◌<◌, ◌≤◌, Bool, true, false, ◌⊎◌, inl, inr, List, [], ◌∷◌, ◌++◌, length, take, drop, refl, sym, ap, ◌∙◌, subst, arith, append_assoc, length-append, take-append-drop, take_at, drop_at, replicate, ap₂}
 use Rattle.std.proofs.lemmas.Bool.{and_parts}
-use Rattle.std.proofs.lemmas.List.{drop-drop, drop-take, take-append-le, length-take, length-drop}
+use Rattle.std.proofs.lemmas.List.{drop-take, take-append-le, length-take, length-drop}
 use Rattle.std.specs.Bool.{OnTrue, OnFalse}
 use Rattle.std.specs.List.{list_all}
 use Rattle.dns_spec.specs.Names.{Octets, DomainName, wire, is_name, is_label}
@@ -213,13 +213,11 @@ pub record LastNow (n : DomainName) (rest : Octets) (count : ℕ) : Type 0 where
 
 pub record Last (name rest : Octets) (count : ℕ) : Type 0 where
   pub shorter : length rest ≤ length name
-  pub end : rest ≡ drop (length name - length rest) name
   pub all : (n : DomainName) → name ≡ wire n → is_name n ≡ true → LastNow n rest count
 
 pub last_begins : (name : Octets) (count : ℕ) → Last name name count
 last_begins name count = record {
   shorter = omega arith;
-  end = ap (λ k. drop k name) {x = 0} {y = length name - length name} (omega arith);
   all = λ n e ok. record { front = []; left = n; whole = refl; spelled = e; is_name = ok; ahead = λ f t l is long. (f, is) };
 }
 
@@ -227,13 +225,9 @@ pub last_label : {name rest others after : Octets} {count : ℕ} (k : ℕ) → L
     → count < length rest → Last name after count
 last_label {name} {rest} {others} {after} {count} k last first some fits cut longer = record {
   shorter = let s = last.shorter in omega (arith, s, ap length first, ap length cut, length-drop k others);
-  end = cut ∙ sym (ap (λ (o : Octets). drop (suc k) o) first) ∙ ap (drop (suc k)) last.end ∙ drop-drop (suc k) (length name - length rest) name ∙ ap (λ m. drop m name) count_of;
   all = all;
 }
   where
-    count_of : length name - length rest + suc k ≡ length name - length after
-    count_of = let s = last.shorter in omega (arith, s, fits, ap length first, ap length cut, length-drop k others)
-
     all : (n : DomainName) → name ≡ wire n → is_name n ≡ true → LastNow n after count
     all n e ok =
         let a = last.all n e ok in
@@ -258,7 +252,7 @@ longer_wire : (g s : DomainName) → length (wire s) ≤ length (wire (g ++ s))
 longer_wire [] s = omega arith
 longer_wire (l ∷ g) s = let h = longer_wire g s in omega (arith, h, length-append l (wire (g ++ s)))
 
-pub last_here : {name rest : Octets} {count : ℕ} → Last name rest count → length rest ≡ count → (n front t : DomainName) (l : Octets) → name ≡ wire n → is_name n ≡ true → n ≡ front ++ l ∷ t
+pub last_here : {name rest : Octets} {count : ℕ} → Last name rest count → length rest ≤ count → (n front t : DomainName) (l : Octets) → name ≡ wire n → is_name n ≡ true → n ≡ front ++ l ∷ t
     → length (wire (l ∷ t)) ≡ count → rest ≡ wire (l ∷ t)
 last_here {name} {rest} {count} last here n front t l e ok whole long =
     let a = last.all n e ok in
@@ -270,14 +264,6 @@ last_here {name} {rest} {count} last here n front t l e ok whole long =
     go left (x ∷ g) spelled is =
         let more = longer_wire g (l ∷ t) in
         absurd (omega (arith, here, long, more, ap length spelled, ap (λ y. length (wire y)) is, length-append x (wire (g ++ l ∷ t))))
-
-pub last_short : {name rest : Octets} {count : ℕ} → Last name rest count → length rest < count → (n front t : DomainName) (l : Octets) → name ≡ wire n → is_name n ≡ true → n ≡ front ++ l ∷ t
-    → length (wire (l ∷ t)) ≡ count → ⊥
-last_short {count = count} last short n front t l e ok whole long =
-    let a = last.all n e ok in
-    let h = a.ahead front t l whole long in
-    let more = longer_wire h.0 (l ∷ t) in
-    omega (arith, short, long, more, ap length a.spelled, ap (λ y. length (wire y)) h.1)
 
 pub last_root : {name rest : Octets} {count : ℕ} → Last name rest count → ((m : DomainName) → rest ≡ wire m → is_name m ≡ true → m ≡ []) → (n front t : DomainName) (l : Octets) → name ≡ wire n
     → is_name n ≡ true → n ≡ front ++ l ∷ t → length (wire (l ∷ t)) ≡ count → ⊥

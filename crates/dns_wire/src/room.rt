@@ -441,10 +441,9 @@ fn place_before(message: &[u8], end: usize, suffix: &[u8]) -> Option<u16>
         return None;
     }
     let name = name_before(message, end)?;
-    if !has_end(name, suffix) {
+    if !has_last_labels(name, suffix) {
         return None;
     }
-    last_labels(name, suffix.len())?;
     Some((end - suffix.len()) as u16)
 }
 
@@ -458,38 +457,22 @@ fn name_before(message: &[u8], end: usize) -> Option<&[u8]>
     Some(name)
 }
 
-// Whether octets end with others.
-fn has_end(octets: &[u8], end: &[u8]) -> bool
-    ensures yes { IsTrue result → (length end.now ≤ length octets.now)
-        × (drop (length octets.now - length end.now) octets.now ≡ end.now) }
-    ensures no { result ≡ false → (front : Octets) → octets.now ≡ front ++ end.now → ⊥ }
-{
-    let Some(start) = octets.len().checked_sub(end.len()) else {
-        return false;
-    };
-    let (_, last) = octets.split_at(start);
-    are_equal(last, end)
-}
-
-// So many octets at the end of a name, where they begin with one of its labels: the octets of a
-// suffix may stand inside a label as well.
-fn last_labels(name: &[u8], count: usize) -> Option<&[u8]>
-    ensures some { IfSome result (λ last. IsLastOf name.now last.now) }
-    ensures long { IfSome result (λ last. length last.now ≡ count) }
-    ensures end { IfSome result (λ last. last.now ≡ drop (length name.now - count) name.now) }
-    ensures all { (n front t : DomainName) (l : Octets) → name.now ≡ wire n → IsTrue (is_name n)
-        → n ≡ front ++ l ∷ t → length (wire (l ∷ t)) ≡ count
-        → MatchOption result ⊥ (λ last. last.now ≡ wire (l ∷ t)) }
+// Whether a name ends with these octets, which begin with one of its labels: the octets of a suffix
+// may stand inside a label as well.
+fn has_last_labels(name: &[u8], suffix: &[u8]) -> bool
+    ensures yes { IsTrue result
+        → (length suffix.now ≤ length name.now) × IsLastOf name.now suffix.now }
+    ensures no { result ≡ false → (n front t : DomainName) (l : Octets) → name.now ≡ wire n
+        → IsTrue (is_name n) → n ≡ front ++ l ∷ t → wire (l ∷ t) ≡ suffix.now → ⊥ }
 {
     let mut rest = name;
-    'labels: while rest.len() > count {
-        let (_, after) = after_first_label(rest)?;
+    'labels: while rest.len() > suffix.len() {
+        let Some((_, after)) = after_first_label(rest) else {
+            return false;
+        };
         rest = after;
     }
-    if rest.len() != count {
-        return None;
-    }
-    Some(rest)
+    are_equal(rest, suffix)
 }
 
 // Keeps the places of the suffixes that begin in the first `front` octets of a name laid out at a

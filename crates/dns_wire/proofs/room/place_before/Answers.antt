@@ -1,18 +1,17 @@
-use Rattle.std.proofs.Common.{◌≡◌, ◌∷◌, ◌++◌, ◌∙◌, sym, ap, subst₂, arith, length, length-append, refl}
+use Rattle.std.proofs.Common.{◌≡◌, ◌∷◌, ◌∙◌, sym, ap, subst, arith, length, length-append, refl}
 use Rattle.dns_spec.specs.Names.{wire}
 use Rattle.dns_wire.specs.Writing.{name_before, IsLastOf}
 use Rattle.dns_wire.proofs.AskedLemmas.{IsFound, asked_found, asked_none, two_octets, wire_split}
 use Rattle.dns_wire.proofs.room.place_before.Goals as goal
 
-module _ (c : goal.In_ok-last_labels) where
+module _ (c : goal.Else-not-has_last_labels) where
   found : IsFound c.args.message.now c.args.end c.args.suffix.now
   found =
       let name : c.in_ok-name.name.now ≡ name_before c.args.message.now c.args.end = c.in_ok-name.ensures.some in
-      let ended = c.has_end.ensures.yes c.if-not-has_end.false in
-      let inside = ended.0 in
-      let same : c.in_ok-last_labels.field-0.now ≡ c.args.suffix.now = c.in_ok-last_labels.ensures.end ∙ ended.1 in
+      let last = c.has_last_labels.ensures.yes c.if-not-has_last_labels.false in
+      let inside = last.0 in
       let two = c.if-suffix-lt2.false in
-      asked_found c.args.suffix.now c.requires (omega (arith, two)) (omega (arith, inside, ap length name)) (subst₂ IsLastOf name same c.in_ok-last_labels.ensures.some)
+      asked_found c.args.suffix.now c.requires (omega (arith, two)) (omega (arith, inside, ap length name)) (subst (λ o. IsLastOf o c.args.suffix.now) name last.1)
 
 pub returns-clause-kept : goal.returns-clause-kept
 returns-clause-kept c = (found c).kept
@@ -24,11 +23,9 @@ pub returns-then-suffix-lt2-clause-none : goal.returns-then-suffix-lt2-clause-no
 returns-then-suffix-lt2-clause-none c = λ _. asked_none c.args.suffix.now c.requires
     (λ n front t l e ok whole is. let two = two_octets l t in let short = c.if-suffix-lt2.true in omega (arith, two, short, ap length is))
 
-pub returns-then-not-has_end-clause-none : goal.returns-then-not-has_end-clause-none
-returns-then-not-has_end-clause-none c = λ _. asked_none c.args.suffix.now c.requires
-    (λ n front t l e ok whole is.
-    let x = wire_split front (l ∷ t) in
-    c.has_end.ensures.no c.if-not-has_end.true x.0 (c.in_ok-name.ensures.some ∙ e ∙ ap wire whole ∙ x.1 ∙ ap (λ z. x.0 ++ z) is))
+pub returns-then-not-has_last_labels-clause-none : goal.returns-then-not-has_last_labels-clause-none
+returns-then-not-has_last_labels-clause-none c = λ _. asked_none c.args.suffix.now c.requires
+    (λ n front t l e ok whole is. c.has_last_labels.ensures.no c.if-not-has_last_labels.true n front t l (c.in_ok-name.ensures.some ∙ e) ok whole is)
 
 pub returns-in_err-name-clause-none : goal.returns-in_err-name-clause-none
 returns-in_err-name-clause-none c = λ _. asked_none c.args.suffix.now c.requires
@@ -37,7 +34,3 @@ returns-in_err-name-clause-none c = λ _. asked_none c.args.suffix.now c.require
     let x = wire_split front (l ∷ t) in
     let two = two_octets l t in
     omega (arith, two, ap length (sym none ∙ e ∙ ap wire whole ∙ x.1), length-append x.0 (wire (l ∷ t))))
-
-pub returns-in_err-last_labels-clause-none : goal.returns-in_err-last_labels-clause-none
-returns-in_err-last_labels-clause-none c = λ _. asked_none c.args.suffix.now c.requires
-    (λ n front t l e ok whole is. c.in_err-last_labels.ensures.all n front t l (c.in_ok-name.ensures.some ∙ e) ok whole (ap length is))

@@ -1,9 +1,9 @@
 use Rattle.std.proofs.Common.{length}
 use Rattle.dns_wire.proofs.AskedLemmas.{Last}
-use Rattle.dns_wire.proofs.room.last_labels.Given as goal
+use Rattle.dns_wire.proofs.room.has_last_labels.Given as goal
 
 abbrev pub invariant-labels : goal.invariant-labels
-invariant-labels l = Last l.name l.rest l.count
+invariant-labels l = Last l.name l.rest (length l.suffix)
 
 abbrev pub decreases-labels : goal.decreases-labels
 decreases-labels l = length l.rest
