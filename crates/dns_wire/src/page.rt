@@ -12,9 +12,10 @@ ghost use Rattle.dns_spec.specs.Sharing.{Sharing};
 ghost use Rattle.dns_wire.specs.Writing.{IsSound};
 ghost use Rattle.dns_wire.specs.Draft.{counted};
 
-use crate::message::{Counts, HEADER_OCTETS, Head, Question, QuestionRef};
-use crate::places::SuffixHash;
+use crate::message::{Counts, HEADER_OCTETS, Head, QuestionRef};
+use crate::places::{Places, SuffixHash};
 use crate::room::Room;
+use arrayvec::ArrayVec;
 use byteorder::{BigEndian, ByteOrder};
 use dns_name::NameRef;
 use dns_rdata::SetView;
@@ -69,37 +70,11 @@ impl<const N: usize, const SIZE: usize> Model for Page<N, SIZE> {
 impl<const N: usize, const SIZE: usize> Page<N, SIZE> {
     ghost use Rattle.dns_wire.specs.Draft.{IsDraft, no_draft, with_set};
 
-    /// An empty message of at most `limit` octets, 512 to 65,535, with the question that it
-    /// repeats, if any.
+    /// A message of at most `limit` octets, 512 to 65,535, that has nothing yet. A question is put
+    /// where it stands, so that it need not be moved.
     ///
     /// Condition: there are as many octets as the limit, and places for one in two of the octets
     /// that a pointer reaches.
-    pub fn new<H: SuffixHash>(
-        limit: usize,
-        question: Option<&Question>,
-        hash: &mut H,
-    ) -> Page<N, SIZE>
-        requires from { 512 ≤ limit }
-        requires upto { limit ≤ 65535 }
-        requires octets { limit ≤ SIZE }
-        requires places { min SIZE 16384 ≤ 2 * N }
-        requires most { N ≤ 8192 }
-        ensures draft { IsDraft (H.numbers hash.old) (option_copied question.entry) [] result }
-        ensures limit { result.limit ≡ limit }
-        ensures same { H.numbers hash.new ≡ H.numbers hash.old }
-    {
-        let mut page = Page::empty(limit);
-        match question {
-            Some(question) => page.put_question(hash, Some(&question.lent())),
-            None => page.put_question(hash, None),
-        }
-        page
-    }
-
-    /// A message of at most `limit` octets, 512 to 65,535, that has nothing yet. A question may be
-    /// put where it stands, so that it need not be moved.
-    ///
-    /// Condition: that of `new`.
     pub fn empty(limit: usize) -> Page<N, SIZE>
         requires from { 512 ≤ limit }
         requires upto { limit ≤ 65535 }
@@ -108,8 +83,17 @@ impl<const N: usize, const SIZE: usize> Page<N, SIZE> {
         requires most { N ≤ 8192 }
         ensures { result ≡ no_draft limit }
     {
+        let mut octets = ArrayVec::new();
+        if octets.try_extend_from_slice(&[0; HEADER_OCTETS]).is_err() {
+            unreachable!();
+        }
         Page {
-            room: Room::new(limit),
+            room: Room {
+                octets,
+                places: Places::new(),
+                limit,
+                asked_end: 0,
+            },
             counts: Counts::default(),
         }
     }
@@ -125,7 +109,18 @@ impl<const N: usize, const SIZE: usize> Page<N, SIZE> {
         requires octets { limit ≤ SIZE }
         ensures { self.new ≡ no_draft limit }
     {
-        self.room.clear(limit);
+        self.room.octets.clear();
+        if self
+            .room
+            .octets
+            .try_extend_from_slice(&[0; HEADER_OCTETS])
+            .is_err()
+        {
+            unreachable!();
+        }
+        self.room.places.clear();
+        self.room.limit = limit;
+        self.room.asked_end = 0;
         self.counts = Counts::default();
     }
 

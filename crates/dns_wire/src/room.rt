@@ -37,44 +37,6 @@ pub(crate) struct Room<const N: usize, const SIZE: usize> {
 }
 
 impl<const N: usize, const SIZE: usize> Room<N, SIZE> {
-    /// Room for a message of so many octets, with 12 for its header.
-    pub(crate) fn new(limit: usize) -> Room<N, SIZE>
-        requires room { 12 ≤ SIZE }
-        ensures octets { result.octets.items ≡ replicate 12 0 }
-        ensures places { result.places ≡ [] }
-        ensures asked { result.asked_end ≡ 0 }
-        ensures limit { result.limit ≡ limit }
-    {
-        let mut octets = ArrayVec::new();
-        if octets.try_extend_from_slice(&[0; 12]).is_err() {
-            unreachable!();
-        }
-        Room {
-            octets,
-            places: Places::new(),
-            limit,
-            asked_end: 0,
-        }
-    }
-
-    /// Makes the room that of a message that has nothing yet, of so many octets. Only what was
-    /// written before is written over.
-    pub(crate) fn clear(&mut self, limit: usize)
-        requires room { 12 ≤ SIZE }
-        ensures octets { self.new.octets.items ≡ replicate 12 0 }
-        ensures places { self.new.places ≡ [] }
-        ensures asked { self.new.asked_end ≡ 0 }
-        ensures limit { self.new.limit ≡ limit }
-    {
-        self.octets.clear();
-        if self.octets.try_extend_from_slice(&[0; 12]).is_err() {
-            unreachable!();
-        }
-        self.places.clear();
-        self.limit = limit;
-        self.asked_end = 0;
-    }
-
     /// Writes the question, which nothing stands before but the room for a header.
     pub(crate) fn put_question(&mut self, question: &QuestionRef<'_>)
         requires sound { IsSoundRoom self.old }
@@ -427,7 +389,7 @@ fn find_suffix<H: SuffixHash, const N: usize>(
 }
 
 // The place at which the name of the question, which ends at a place, has a suffix. It is not kept:
-// only one place is so far before that end.
+// only one place is so far before that end. In line, it saves up to 70 instructions of a reply.
 #[inline(always)]
 fn place_before(message: &[u8], end: usize, suffix: &[u8]) -> Option<u16>
     requires { IsAsked message.now end }

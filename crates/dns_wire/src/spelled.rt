@@ -20,9 +20,7 @@ pub(crate) fn is_spelled(message: &[u8], at: usize, suffix: &[u8]) -> bool
 }
 
 // Whether a message goes on from a place as a suffix does, up to its end or to a pointer, and from
-// there on likewise. Where the octets differ, no name goes on but by a pointer. Out of line: it is
-// rare.
-#[inline(never)]
+// there on likewise. Where the octets differ, no name goes on but by a pointer.
 fn may_be_spelled(message: &[u8], at: usize, suffix: &[u8]) -> bool
     ensures { SpelledAt message.now at suffix.now → IsTrue result }
 {

@@ -35,9 +35,7 @@ fn octets_number(octets: &[u8]) -> u32
     (number >> 42) as u32
 }
 
-// Few octets, one after another in a number. Out of line, it saves some 10 instructions
-// of each name that is written.
-#[inline(never)]
+// Few octets, one after another in a number.
 fn few_number(octets: &[u8]) -> u64
     ensures { result ≡ few_number octets.now }
 {

@@ -35,7 +35,11 @@ impl<'h, H: SuffixHash> Writer<'h, H> {
             (option_copied question.entry) [] result.page }
         ensures limit { result.page.limit ≡ limit }
     {
-        let page = Page::new(limit, question, hash);
+        let mut page = Page::empty(limit);
+        match question {
+            Some(question) => page.put_question(hash, Some(&question.lent())),
+            None => page.put_question(hash, None),
+        }
         Writer { hash, page }
     }
 
