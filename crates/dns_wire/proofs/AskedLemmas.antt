@@ -1,18 +1,17 @@
 -- The name of the question has the places of its suffixes, whatever comes after it; each of them stands so far before its end.
-use Rattle.std.proofs.Common.{◌≡◌, ℕ, zero, suc, ◌+◌, ◌-◌, ◌<◌, ◌≤◌, Bool, true, false, ◌⊎◌, inl, inr, List, [], ◌∷◌, ◌++◌, length, take, drop, refl, sym, ap, ◌∙◌, subst, arith, append_assoc, length-append, take-append-drop, take_at, drop_at, replicate, ap₂}
+use Rattle.std.proofs.Common.{◌≡◌, ℕ, zero, suc, ◌+◌, ◌-◌, ◌<◌, ◌≤◌, Bool, true, false, ◌⊎◌, inl, inr, List, [], ◌∷◌, ◌++◌, length, take, drop, refl, sym, ap, ◌∙◌, subst, arith, append_assoc, length-append, take-append-drop, take_at, replicate, ap₂, Option, None, Some, IfSome}
 use Rattle.std.proofs.lemmas.Bool.{and_parts}
 use Rattle.std.proofs.lemmas.List.{drop-take, take-append-le, length-take, length-drop}
 use Rattle.std.specs.Bool.{OnTrue, OnFalse}
 use Rattle.std.specs.List.{list_all}
 use Rattle.dns_spec.specs.Names.{Octets, DomainName, wire, is_name, is_label}
-use Rattle.dns_spec.proofs.DomainNames.NameLaws.{is_name-tail}
 use Rattle.dns_spec.proofs.Messages.Places.{Stands, run_written}
 use Rattle.std.proofs.Math.Seq.{take-add}
 use Rattle.dns_name.proofs.WireLemmas.{labels_of_spelled, IsWireForm-wire}
 use Rattle.dns_name.specs.WireForm.{labels_of, IsWireForm}
-use Rattle.dns_wire.specs.Kept.{Kept, IsKept, HasPlace, SpellsName, NoneSpelled}
-use Rattle.dns_wire.specs.Writing.{name_before, IsAsked, asked_places, NotAsked, IsLastOf, new_places}
-use Rattle.dns_wire.proofs.Suffixes.{one_run, first_label, kept-root}
+use Rattle.dns_wire.specs.Kept.{Kept, IsKept, SpellsName, IsSharedAt, NoneSpelled}
+use Rattle.dns_wire.specs.Writing.{AfterLabel, name_before, IsAsked, asked_places, NotAsked, IsLastOf, new_places}
+use Rattle.dns_wire.proofs.Suffixes.{one_run, next_label, kept-root}
 use Rattle.dns_wire.proofs.NameWritten.{kept_left, kept_right, kept_split, kept_sound, kept_complete, NewSuffix, is_name-suffix}
 
 -- what stands before the end of the name decides it
@@ -135,18 +134,14 @@ unfolding asked_places
 asked_kept head b a front t l p whole short at low = kept_complete head [] (labels_of (name_before b a)) front l t 12 p whole refl short at low
 
 -- octets that end the name from a label on are one of its suffixes, and kept
-pub record IsFound (b : Octets) (a : ℕ) (o : Octets) : Type 0 where
-  pub kept : (head : Octets → ℕ) → HasPlace (asked_places head b a) (a - length o)
-  pub spelled : SpellsName b (a - length o) o
-
-pub asked_found : {b : Octets} {a : ℕ} (o : Octets) → IsAsked b a → 2 ≤ length o → length o ≤ length (name_before b a) → IsLastOf (name_before b a) o → IsFound b a o
-asked_found {b} {a} o asked two inside last =
+pub asked_found : (head : Octets → ℕ) {b : Octets} {a : ℕ} (o : Octets) → IsAsked b a → 2 ≤ length o → length o ≤ length (name_before b a) → IsLastOf (name_before b a) o → IsSharedAt (asked_places head b a) b o (a - length o)
+asked_found head {b} {a} o asked two inside last =
     let some : 12 < a = omega (arith, two, inside, length-take (a - 12) (drop 12 b)) in
     let form = asked.name some in
     let l = last (labels_of (name_before b a)) (sym form.wire_is) form.is_name in
     go some form l.0 l.1 l.2 l.3
   where
-    go : 12 < a → IsWireForm (name_before b a) → (front s : DomainName) → labels_of (name_before b a) ≡ front ++ s → o ≡ wire s → IsFound b a o
+    go : 12 < a → IsWireForm (name_before b a) → (front s : DomainName) → labels_of (name_before b a) ≡ front ++ s → o ≡ wire s → IsSharedAt (asked_places head b a) b o (a - length o)
     go some form front [] whole is = absurd (omega (arith, two, ap length is))
     go some form front (l ∷ t) whole is =
         let there = suffix_stands (labels_of (name_before b a)) front (l ∷ t) asked some (sym form.wire_is) whole in
@@ -155,7 +150,8 @@ asked_found {b} {a} o asked two inside last =
         let all = there.whole in
         let short = there.short in
         record {
-          kept = λ head. (head (wire (l ∷ t)), asked_kept head b a front t l (a - length o) whole short (omega (arith, all, short, long, some)) (omega (arith, near)));
+          kept = (head (wire (l ∷ t)), asked_kept head b a front t l (a - length o) whole short (omega (arith, all, short, long, some)) (omega (arith, near)));
+          reached = omega (arith, near);
           spelled = λ n e ok. (
             n,
             (a - length o) + length (wire n),
@@ -196,11 +192,13 @@ none_of_both head b a h ks o unasked none p kept there = go (kept_split (asked_p
     go (inl k) = unasked head p h k there
     go (inr k) = none p k there
 
-pub place_asked : (asked ks : List Kept) {p : ℕ} → HasPlace asked p → HasPlace (asked ++ ks) p
-place_asked asked ks {p} kept = (kept.0, kept_left asked ks p kept.0 kept.1)
+pub shared_asked : (asked ks : List Kept) {b o : Octets} {p : ℕ} → IsSharedAt asked b o p → IsSharedAt (asked ++ ks) b o p
+shared_asked asked ks {p = p} s = record { kept = (s.kept.0, kept_left asked ks p s.kept.0 s.kept.1); spelled = s.spelled; reached = s.reached }
 
-pub place_kept : (asked ks : List Kept) {p : ℕ} → HasPlace ks p → HasPlace (asked ++ ks) p
-place_kept asked ks {p} kept = (kept.0, kept_right asked ks p kept.0 kept.1)
+pub shared_kept : (asked ks : List Kept) (b o : Octets) (h : ℕ) (r : Option ℕ) → IfSome r (λ p. IsKept ks p h) → IfSome r (λ p. SpellsName b p o) → IfSome r (λ p. p < 16384)
+    → IfSome r (λ p. IsSharedAt (asked ++ ks) b o p)
+shared_kept asked ks b o h None kept spelled reached = tt
+shared_kept asked ks b o h (Some p) kept spelled reached = record { kept = (h, kept_right asked ks p h kept); spelled = spelled; reached = reached }
 
 -- What is left of a name from a label on: what ends it so many octets before its end is in it.
 pub record LastNow (n : DomainName) (rest : Octets) (count : ℕ) : Type 0 where
@@ -221,29 +219,25 @@ last_begins name count = record {
   all = λ n e ok. record { front = []; left = n; whole = refl; spelled = e; is_name = ok; ahead = λ f t l is long. (f, is) };
 }
 
-pub last_label : {name rest others after : Octets} {count : ℕ} (k : ℕ) → Last name rest count → rest ≡ k ∷ others → (k ≡ 0 → ⊥) → k ≤ length others → after ≡ drop k others
-    → count < length rest → Last name after count
-last_label {name} {rest} {others} {after} {count} k last first some fits cut longer = record {
-  shorter = let s = last.shorter in omega (arith, s, ap length first, ap length cut, length-drop k others);
-  all = all;
+pub last_label : {name rest after : Octets} {count : ℕ} (k : ℕ) → Last name rest count → AfterLabel rest k after → count < length rest → Last name after count
+last_label {name} {rest} {after} {count} k last a longer = record {
+  shorter = let s = last.shorter in omega (arith, s, ap length a.first, ap length a.cut, length-drop k a.others);
+  all = λ n e ok.
+      let x = last.all n e ok in
+      let f = next_label x.left x.spelled x.is_name a in
+      record {
+        front = x.front ++ f.label ∷ [];
+        left = f.labels;
+        whole = x.whole ∙ ap (λ z. x.front ++ z) f.whole ∙ sym (append_assoc x.front (f.label ∷ []) f.labels);
+        spelled = f.spelled;
+        is_name = f.is_name;
+        ahead = λ g t l is long. let h = x.ahead g t l is long in next f.label f.labels h.0 t l f.before (sym f.whole ∙ h.1) long;
+      };
 }
   where
-    all : (n : DomainName) → name ≡ wire n → is_name n ≡ true → LastNow n after count
-    all n e ok =
-        let a = last.all n e ok in
-        let f = first_label rest others k a.left a.spelled first some in
-        record {
-          front = a.front ++ f.label ∷ [];
-          left = f.labels;
-          whole = a.whole ∙ ap (λ z. a.front ++ z) f.whole ∙ sym (append_assoc a.front (f.label ∷ []) f.labels);
-          spelled = cut ∙ ap (drop k) f.others_are ∙ drop_at f.label (wire f.labels) k (sym f.long);
-          is_name = is_name-tail f.label f.labels (subst (λ x. is_name x ≡ true) f.whole a.is_name);
-          ahead = λ g t l is long. let h = a.ahead g t l is long in next a.left f.label f.labels h.0 t l a.spelled f.whole h.1 long;
-        }
-      where
-        next : (left : DomainName) (k : Octets) (m g t : DomainName) (l : Octets) → rest ≡ wire left → left ≡ k ∷ m → left ≡ g ++ l ∷ t → length (wire (l ∷ t)) ≡ count → (g' : DomainName) × (m ≡ g' ++ l ∷ t)
-        next left k m [] t l spelled is here long = absurd (omega (arith, longer, long, ap length spelled, ap (λ x. length (wire x)) here))
-        next left k m (x ∷ g) t l spelled is here long = (g, ap (λ (y : DomainName). drop 1 y) (sym is ∙ here))
+    next : (k : Octets) (m g t : DomainName) (l : Octets) → rest ≡ wire (k ∷ m) → k ∷ m ≡ g ++ l ∷ t → length (wire (l ∷ t)) ≡ count → (g' : DomainName) × (m ≡ g' ++ l ∷ t)
+    next k m [] t l spelled here long = absurd (omega (arith, longer, long, ap length spelled, ap (λ x. length (wire x)) here))
+    next k m (x ∷ g) t l spelled here long = (g, ap (λ (y : DomainName). drop 1 y) here)
 
 pub last_of : {name rest : Octets} {count : ℕ} → Last name rest count → IsLastOf name rest
 last_of last n e ok = let a = last.all n e ok in (a.front, a.left, a.whole, a.spelled)

@@ -13,7 +13,6 @@ mod NameWritten
 mod AskedLemmas
 mod Steps
 mod DataWritten
-mod DataNames
-mod AuthorityLaid
+mod SharedData
 mod RecordsWritten
 mod DraftLemmas

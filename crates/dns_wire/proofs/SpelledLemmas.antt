@@ -1,5 +1,5 @@
 -- What is spelled from a place on is decided by what stands there and by what comes after it.
-use Rattle.std.proofs.Common.{◌≡◌, ℕ, ◌+◌, ◌<◌, true, [], ◌∷◌, ◌++◌, length, take, drop, slice_get, Some, refl, sym, ap, ap₂, ◌∙◌, subst, arith, drop_at, take-append-drop}
+use Rattle.std.proofs.Common.{◌≡◌, ℕ, ◌+◌, ◌<◌, true, [], ◌∷◌, ◌++◌, length, take, drop, slice_get, Some, refl, sym, ap, ap₂, ◌∙◌, subst, arith, drop_at, take-append-drop, length-append}
 use Rattle.std.proofs.lemmas.Bool.{and_parts}
 use Rattle.std.proofs.lemmas.List.{length-take-le}
 use Rattle.std.proofs.lemmas.Option.{same_Some}
@@ -7,12 +7,11 @@ use Rattle.std.specs.List.{list_all}
 use Rattle.dns_spec.specs.Names.{Octets, DomainName, wire, is_name, is_label}
 use Rattle.dns_spec.specs.Reading.{pointer_place, RunAt}
 use Rattle.dns_spec.specs.Reading.RunAt.{ends, goes_on, jumps}
-use Rattle.dns_spec.proofs.DomainNames.NameLaws.{is_name-tail}
 use Rattle.dns_spec.proofs.Messages.Places.{Stands, run_written}
 use Rattle.dns_wire.specs.Labels.{LabelAt, PointerAt}
 use Rattle.dns_wire.specs.Kept.{SpelledFrom, SpellsName, HasAt}
 use Rattle.dns_wire.proofs.Runs.{GoesOn, at_end, at_label, at_pointer, goes_on_at}
-use Rattle.dns_wire.proofs.Suffixes.{first_label}
+use Rattle.dns_wire.proofs.Suffixes.{next_label}
 
 -- the root's length ends a name
 pub spelled_end : {b : Octets} {s i : ℕ} {o : Octets} → slice_get b i ≡ Some 0 → (o ≡ 0 ∷ [] → SpelledFrom b s i o) × (SpelledFrom b s i o → o ≡ 0 ∷ [])
@@ -85,11 +84,14 @@ spelled_whole {b} {o} {p} has n e ok =
 pub named_after : {o : Octets} (l after : Octets) → 0 < length l → o ≡ length l ∷ (l ++ after) → (n : DomainName) → o ≡ wire n → is_name n ≡ true
     → (m : DomainName) × (after ≡ wire m) × (is_name m ≡ true)
 named_after {o} l after some is n e ok =
-    let f = first_label o (l ++ after) (length l) n e is (λ none. omega (arith, none, some)) in (
-      f.labels,
-      sym (drop_at l after (length l) refl) ∙ ap (drop (length l)) f.others_are ∙ drop_at f.label (wire f.labels) (length l) (sym f.long),
-      is_name-tail f.label f.labels (subst (λ x. is_name x ≡ true) f.whole ok),
-    )
+    let f = next_label n e ok (record {
+      others = l ++ after;
+      first = is;
+      some = λ none. omega (arith, none, some);
+      fits = omega (arith, length-append l after);
+      cut = sym (drop_at l after (length l) refl);
+    }) in
+    (f.labels, f.spelled, f.is_name)
 
 -- what is spelled from a label on begins with it
 pub spelled_front : {b : Octets} {s i : ℕ} {o : Octets} (l : Octets) → LabelAt b i l → SpelledFrom b s i o → (more : Octets) × (o ≡ length l ∷ (l ++ more))

@@ -12,7 +12,7 @@ use Rattle.dns_spec.specs.Reading.{pointer_place}
 use Rattle.dns_spec.specs.Reading.RunAt.{ends, goes_on, jumps}
 use Rattle.dns_wire.proofs.Runs.{GoesOn, at_end, at_label, at_pointer, goes_on_at}
 use Rattle.dns_wire.specs.Kept.{Kept, HasPlace, SpelledAt, SpellsName, NoneSpelled}
-use Rattle.dns_wire.specs.Writing.{front_size, pointed_place, new_places, Holds, HasMore, Extends}
+use Rattle.dns_wire.specs.Writing.{AfterLabel, front_size, pointed_place, new_places, Holds, HasMore, Extends}
 
 -- how a name is laid out, by whether its first suffix is shared
 module _ (ms : List Placed) (l : Octets) (n : DomainName) where
@@ -111,46 +111,40 @@ left_begins head b ks name = record {
   all = λ ms n holds e ok. record { left = n; spelled = e; is_name = ok; front = omega arith; place = refl };
 }
 
--- a first octet that is not 0 is the length of a first label
-pub record FirstLabel (rest others : Octets) (k : ℕ) (n : DomainName) : Type 0 where
+-- the first label of what is left of a name, and what follows it
+pub record NextLabel (left : DomainName) (rest after : Octets) (k : ℕ) : Type 0 where
   pub label : Octets
   pub labels : DomainName
-  pub whole : n ≡ label ∷ labels
+  pub whole : left ≡ label ∷ labels
   pub long : k ≡ length label
-  pub others_are : others ≡ label ++ wire labels
+  pub before : rest ≡ wire (label ∷ labels)
+  pub spelled : after ≡ wire labels
+  pub is_name : is_name labels ≡ true
 
-pub first_label : (rest others : Octets) (k : ℕ) (n : DomainName) → rest ≡ wire n → rest ≡ k ∷ others → (k ≡ 0 → ⊥) → FirstLabel rest others k n
-first_label rest others k [] e f some = absurd (some (ap (λ x. get_or x 0 0) (sym f ∙ e)))
-first_label rest others k (l ∷ n) e f some =
-    let same : k ∷ others ≡ length l ∷ (l ++ wire n) = sym f ∙ e in
-    record { label = l; labels = n; whole = refl; long = ap (λ x. get_or x 0 0) same; others_are = ap (drop 1) same }
+pub next_label : {rest after : Octets} {k : ℕ} (left : DomainName) → rest ≡ wire left → is_name left ≡ true → AfterLabel rest k after → NextLabel left rest after k
+next_label [] e ok a = absurd (a.some (ap (λ x. get_or x 0 0) (sym a.first ∙ e)))
+next_label {k = k} (l ∷ n) e ok a =
+    let same : k ∷ a.others ≡ length l ∷ (l ++ wire n) = sym a.first ∙ e in
+    let long = ap (λ x. get_or x 0 0) same in
+    record { label = l; labels = n; whole = refl; long = long; before = e; spelled = a.cut ∙ ap (λ x. drop k (drop 1 x)) same ∙ drop_at l (wire n) k (sym long); is_name = is_name-tail l n ok }
 
-pub left_label : {head : Octets → ℕ} {b : Octets} {ks : List Kept} {name rest others after : Octets} (k : ℕ) → Left head b ks name rest → rest ≡ k ∷ others → (k ≡ 0 → ⊥)
-    → k ≤ length others → after ≡ drop k others → NoneSpelled ks (head rest) b rest → Left head b ks name after
-left_label {head} {b} {ks} {name} {rest} {others} {after} k left first some fits cut none = record {
-  shorter = let s = left.shorter in omega (arith, s, ap length first, ap length cut, length-drop k others);
-  all = all;
+pub left_label : {head : Octets → ℕ} {b : Octets} {ks : List Kept} {name rest after : Octets} (k : ℕ) → Left head b ks name rest → AfterLabel rest k after → NoneSpelled ks (head rest) b rest
+    → Left head b ks name after
+left_label {head} {b} {ks} {name} {rest} {after} k left a none = record {
+  shorter = let s = left.shorter in omega (arith, s, ap length a.first, ap length a.cut, length-drop k a.others);
+  all = λ ms n holds e ok.
+      let x = left.all ms n holds e ok in
+      let f = next_label x.left x.spelled x.is_name a in
+      let out = not_found f.label f.labels holds (subst (λ o. NoneSpelled ks (head o) b o) f.before none) in
+      let front = x.front in
+      record {
+        left = f.labels;
+        spelled = f.spelled;
+        is_name = f.is_name;
+        front = omega (arith, front, ap (front_size ms) f.whole, front-none ms f.label f.labels out, ap length f.before, ap length f.spelled, length-append f.label (wire f.labels));
+        place = x.place ∙ ap (pointed_place ms) f.whole ∙ pointed-none ms f.label f.labels out;
+      };
 }
-  where
-    all : (ms : List Placed) (n : DomainName) → Holds head ms b ks → name ≡ wire n → is_name n ≡ true → LeftOf ms name after n
-    all ms n holds e ok =
-        let a = left.all ms n holds e ok in
-        let f = first_label rest others k a.left a.spelled first some in
-        let l = f.label in
-        let m = f.labels in
-        let ok' : is_name (l ∷ m) ≡ true = subst (λ x. is_name x ≡ true) f.whole a.is_name in
-        let w : rest ≡ wire (l ∷ m) = a.spelled ∙ ap wire f.whole in
-        let out = not_found l m holds (subst (λ x. NoneSpelled ks (head x) b x) w none) in
-        let rest_is : after ≡ wire m = cut ∙ ap (drop k) f.others_are ∙ drop_at l (wire m) k (sym f.long) in
-        let size = front-none ms l m out in
-        let front = a.front in
-        record {
-          left = m;
-          spelled = rest_is;
-          is_name = is_name-tail l m ok';
-          front = omega (arith, front, ap (front_size ms) f.whole, size, ap length w, ap length rest_is, length-append l (wire m));
-          place = a.place ∙ ap (pointed_place ms) f.whole ∙ pointed-none ms l m out;
-        }
 
 -- where nothing is left to look at, the name is written whole; where a suffix is found, its front is
 pub left_root : {head : Octets → ℕ} {b : Octets} {ks : List Kept} {name rest : Octets} (ms : List Placed) (n : DomainName) → Left head b ks name rest
@@ -231,48 +225,36 @@ keep_begins head old name front at few = record {
   all = λ ms n e ok f. record { left = n; spelled = e; is_name = ok; kept = refl; fits = omega (arith, f) };
 }
 
-pub keep_label : {head : Octets → ℕ} {old ks : List Kept} {name rest others after : Octets} {front at place : ℕ} (k h : ℕ) → Keep head old ks name rest front at place → rest ≡ k ∷ others → (k ≡ 0 → ⊥)
-    → k ≤ length others → after ≡ drop k others → place + 1 + k ≤ at + front → place ≤ last_place → h ≡ head rest
-    → Keep head old (ks ++ record { place = place; number = h } ∷ []) name after front at (place + 1 + k)
-keep_label {head} {old} {ks} {name} {rest} {others} {after} {front} {at} {place} k h keep first some fits cut room low number = record {
-  few = let f = keep.few in let positive = pos k some in omega (arith, f, positive, length-append ks (record { place = place; number = h } ∷ []));
+pub keep_label : {head : Octets → ℕ} {old ks : List Kept} {name rest after : Octets} {front at place : ℕ} (k h : ℕ) → Keep head old ks name rest front at place → AfterLabel rest k after
+    → place + 1 + k ≤ at + front → place ≤ last_place → h ≡ head rest → Keep head old (ks ++ record { place = place; number = h } ∷ []) name after front at (place + 1 + k)
+keep_label {head} {old} {ks} {name} {rest} {after} {front} {at} {place} k h keep a room low number = record {
+  few = let f = keep.few in let positive = pos k a.some in omega (arith, f, positive, length-append ks (one ∷ []));
   within = room;
-  all = all;
+  all = λ ms n e ok f. let x = keep.all ms n e ok f in let g = next_label x.left x.spelled x.is_name a in go ms n x g (shared_place ms (g.label ∷ g.labels)) refl;
 }
   where
+    one : Kept
+    one = record { place = place; number = h }
+
     pos : (j : ℕ) → (j ≡ 0 → ⊥) → 1 ≤ j
     pos zero not_zero = absurd (not_zero refl)
     pos (suc j) not_zero = omega arith
 
-    all : (ms : List Placed) (n : DomainName) → name ≡ wire n → is_name n ≡ true → front ≡ front_size ms n → KeepOf head ms old (ks ++ record { place = place; number = h } ∷ []) after front at (place + 1 + k) n
-    all ms n e ok f =
-        let a = keep.all ms n e ok f in
-        let g = first_label rest others k a.left a.spelled first some in
-        let l = g.label in
-        let m = g.labels in
-        let w : rest ≡ wire (l ∷ m) = a.spelled ∙ ap wire g.whole in
-        let fit = a.fits in
-        go ms n a g (shared_place ms (l ∷ m)) refl
-      where
-        go : (ms : List Placed) (n : DomainName) (a : KeepOf head ms old ks rest front at place n) (g : FirstLabel rest others k a.left) → (x : Option ℕ) → shared_place ms (g.label ∷ g.labels) ≡ x
-            → KeepOf head ms old (ks ++ record { place = place; number = h } ∷ []) after front at (place + 1 + k) n
-        go ms n a g (Some r) q = absurd (let fit = a.fits in omega (arith, fit, room, ap (front_size ms) g.whole, front-some ms g.label g.labels r q))
-        go ms n a g None q =
-            let l = g.label in
-            let m = g.labels in
-            let one : Kept = record { place = place; number = h } in
-            let w : rest ≡ wire (l ∷ m) = a.spelled ∙ ap wire g.whole in
-            let named : record { place = place; number = head (wire (l ∷ m)) } ≡ one = ap (λ j. record { place = place; number = j }) (ap head (sym w) ∙ sym number) in
-            let next : place + 1 + length l ≡ place + 1 + k = ap (λ j. place + 1 + j) (sym g.long) in
-            let more = kept-more head ms l m place q low ∙ ap₂ (λ (x : Kept) j. x ∷ new_places head ms m j) named next in
-            let fit = a.fits in
-            record {
-              left = m;
-              spelled = cut ∙ ap (drop k) g.others_are ∙ drop_at l (wire m) k (sym g.long);
-              is_name = is_name-tail l m (subst (λ x. is_name x ≡ true) g.whole a.is_name);
-              kept = a.kept ∙ ap (λ x. ks ++ new_places head ms x place) g.whole ∙ ap (λ x. ks ++ x) more ∙ sym (append_assoc ks (one ∷ []) (new_places head ms m (place + 1 + k)));
-              fits = omega (arith, fit, ap (front_size ms) g.whole, front-none ms l m q, g.long);
-            }
+    go : (ms : List Placed) (n : DomainName) (x : KeepOf head ms old ks rest front at place n) (g : NextLabel x.left rest after k) → (s : Option ℕ) → shared_place ms (g.label ∷ g.labels) ≡ s
+        → KeepOf head ms old (ks ++ one ∷ []) after front at (place + 1 + k) n
+    go ms n x g (Some r) q = absurd (let fit = x.fits in omega (arith, fit, room, ap (front_size ms) g.whole, front-some ms g.label g.labels r q))
+    go ms n x g None q =
+        let named : record { place = place; number = head (wire (g.label ∷ g.labels)) } ≡ one = ap (λ j. record { place = place; number = j }) (ap head (sym g.before) ∙ sym number) in
+        let next : place + 1 + length g.label ≡ place + 1 + k = ap (λ j. place + 1 + j) (sym g.long) in
+        let more = kept-more head ms g.label g.labels place q low ∙ ap₂ (λ (y : Kept) j. y ∷ new_places head ms g.labels j) named next in
+        let fit = x.fits in
+        record {
+          left = g.labels;
+          spelled = g.spelled;
+          is_name = g.is_name;
+          kept = x.kept ∙ ap (λ y. ks ++ new_places head ms y place) g.whole ∙ ap (λ y. ks ++ y) more ∙ sym (append_assoc ks (one ∷ []) (new_places head ms g.labels (place + 1 + k)));
+          fits = omega (arith, fit, ap (front_size ms) g.whole, front-none ms g.label g.labels q, g.long);
+        }
 
 -- where the loop ends nothing is left to keep
 pub keep_root : {head : Octets → ℕ} {old ks : List Kept} {name rest : Octets} {front at place : ℕ} → Keep head old ks name rest front at place
@@ -293,14 +275,14 @@ keep_high {head} {old} {ks} {place = place} keep high ms n e ok f =
     none [] = kept-root head ms place
     none (l ∷ m) = kept-high head ms l m place high
 
-pub keep_past : {head : Octets → ℕ} {old ks : List Kept} {name rest others : Octets} {front at place : ℕ} (k : ℕ) → Keep head old ks name rest front at place → rest ≡ k ∷ others → (k ≡ 0 → ⊥)
+pub keep_past : {head : Octets → ℕ} {old ks : List Kept} {name rest after : Octets} {front at place : ℕ} (k : ℕ) → Keep head old ks name rest front at place → AfterLabel rest k after
     → at + front < place + 1 + k → (ms : List Placed) (n : DomainName) → name ≡ wire n → is_name n ≡ true → front ≡ front_size ms n → ks ≡ old ++ new_places head ms n at
-keep_past {head} {old} {ks} {rest = rest} {others} {place = place} k keep first some past ms n e ok f =
-    let a = keep.all ms n e ok f in
-    let g = first_label rest others k a.left a.spelled first some in
-    let fit = a.fits in
+keep_past {head} {old} {ks} {place = place} k keep a past ms n e ok f =
+    let x = keep.all ms n e ok f in
+    let g = next_label x.left x.spelled x.is_name a in
+    let fit = x.fits in
     let none = kept-shared head ms g.label g.labels place (omega (arith, fit, past, g.long, ap (front_size ms) g.whole)) in
-    sym (a.kept ∙ ap (λ x. ks ++ new_places head ms x place) g.whole ∙ ap (λ x. ks ++ x) none ∙ append-nil ks)
+    sym (x.kept ∙ ap (λ x. ks ++ new_places head ms x place) g.whole ∙ ap (λ x. ks ++ x) none ∙ append-nil ks)
 
 -- nothing is kept of a name that is a pointer alone
 pub keep_none : (head : Octets → ℕ) (ms : List Placed) (n : DomainName) (at : ℕ) (ks : List Kept) → front_size ms n ≡ 0 → ks ≡ ks ++ new_places head ms n at

@@ -29,6 +29,12 @@ SpelledAt b p o = SpelledFrom b p p o
 abbrev pub SpellsName : Octets → ℕ → Octets → Type 0
 SpellsName b p o = (n : DomainName) → o ≡ wire n → IsTrue (is_name n) → SpelledAt b p o
 
+-- a pointer to a place may stand for a suffix: the place is kept, and the message spells it there
+pub record IsSharedAt (ks : List Kept) (b o : Octets) (p : ℕ) : Type 0 where
+  pub kept : HasPlace ks p
+  pub spelled : SpellsName b p o
+  pub reached : p < 16384
+
 -- from a place of a message on stand these octets
 abbrev pub HasAt : Octets → ℕ → Octets → Type 0
 HasAt b p o = (p ≤ length b) × (take (length o) (drop p b) ≡ o)

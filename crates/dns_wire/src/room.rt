@@ -7,7 +7,7 @@ ghost use Rattle.dns_spec.specs.Data.{Valid, class_in, compresses, laid_parts, t
 ghost use Rattle.dns_spec.specs.Layout.{Placed, question_octets, octets16, octets32, pointer, shared_octets, data_laid, record_laid};
 ghost use Rattle.dns_spec.specs.LayoutSize.{cost};
 ghost use Rattle.dns_wire.specs.Writing.{name_before, IsAsked, asked_places, NotAsked, IsLastOf, front_size, pointed_place, new_places, end_octets, HasMore, AfterLabel, Holds, shown, octets_laid, name_laid, parts_laid, tail_laid, records_laid};
-ghost use Rattle.dns_wire.specs.Kept.{HasPlace, SpellsName, NoneSpelled};
+ghost use Rattle.dns_wire.specs.Kept.{IsSharedAt, NoneSpelled};
 ghost use Rattle.dns_wire.specs.Rooms.{IsSoundRoom, HasNames, Grows, Writes};
 ghost use Rattle.dns_wire.specs.SuffixNumbers.{suffix_number};
 ghost use Rattle.dns_spec.specs.Sets.{records_at};
@@ -368,11 +368,9 @@ fn find_suffix<H: SuffixHash, const N: usize>(
     asked_end: usize,
 ) -> Option<u16>
     requires { IsAsked message.now asked_end }
-    ensures kept { IfSome result (λ place. HasPlace
+    ensures found { IfSome result (λ place. IsSharedAt
         (asked_places (suffix_number (H.numbers hash.old)) message.now asked_end ++ places.now)
-        place) }
-    ensures spelled { IfSome result (λ place. SpellsName message.now place suffix.now) }
-    ensures reached { IfSome result (λ place. place < 16384) }
+        message.now suffix.now place) }
     ensures none { IsNone result → NoneSpelled
         (asked_places (suffix_number (H.numbers hash.old)) message.now asked_end ++ places.now)
         (suffix_number (H.numbers hash.old) suffix.now) message.now suffix.now }
@@ -393,10 +391,8 @@ fn find_suffix<H: SuffixHash, const N: usize>(
 #[inline(always)]
 fn place_before(message: &[u8], end: usize, suffix: &[u8]) -> Option<u16>
     requires { IsAsked message.now end }
-    ensures kept { (head : Octets → ℕ)
-        → IfSome result (λ place. HasPlace (asked_places head message.now end) place) }
-    ensures spelled { IfSome result (λ place. SpellsName message.now place suffix.now) }
-    ensures reached { IfSome result (λ place. place < 16384) }
+    ensures found { (head : Octets → ℕ) → IfSome result (λ place. IsSharedAt
+        (asked_places head message.now end) message.now suffix.now place) }
     ensures none { IsNone result → NotAsked message.now end suffix.now }
 {
     if suffix.len() < 2 {

@@ -10,7 +10,7 @@ labels-init c = last_begins c.args.name.now (length c.args.suffix.now)
 pub labels-preserved : goal.labels-preserved
 labels-preserved c =
     let a = c.in-Some.ensures.some in
-    last_label _ c.labels.invariant a.first a.some a.fits a.cut c.labels-test.true
+    last_label _ c.labels.invariant a c.labels-test.true
 
 pub returns-in_default-clause-no : goal.returns-in_default-clause-no
 returns-in_default-clause-no c = λ _ n front t l e ok whole is. last_root c.labels.invariant (c.in_default.ensures.root refl) n front t l e ok whole (ap length is)

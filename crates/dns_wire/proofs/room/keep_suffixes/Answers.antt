@@ -22,7 +22,7 @@ pub suffixes-preserved : goal.suffixes-preserved
 suffixes-preserved g c =
     let a = c.in-Some.ensures.some in
     let number = c.number_of.ensures.value ∙ ap (λ f. suffix_number f c.suffixes.rest.now) c.suffixes.invariant.same in
-    let kept = keep_label c.in-Some.length c.number_of.result c.suffixes.invariant.keep a.first a.some a.fits a.cut c.if-next-at.false c.if-place-gt-LAST_PLACE.false number in
+    let kept = keep_label c.in-Some.length c.number_of.result c.suffixes.invariant.keep a c.if-next-at.false c.if-place-gt-LAST_PLACE.false number in
     record {
       keep = rw c.insert.ensures kept;
       more = more_again _ c.suffixes.invariant.more c.insert.ensures;
@@ -33,7 +33,7 @@ pub returns-then-next-at-clause-kept : goal.returns-then-next-at-clause-kept
 returns-then-next-at-clause-kept g c = λ ms n e ok front.
     let a = c.in-Some.ensures.some in
     elim c.then-next-at.branch [
-      | then-next-at-via-then-next-at w ↦ keep_past c.in-Some.length c.suffixes.invariant.keep a.first a.some w.if-next-at.true ms n e ok front
+      | then-next-at-via-then-next-at w ↦ keep_past c.in-Some.length c.suffixes.invariant.keep a w.if-next-at.true ms n e ok front
       | then-next-at-via-else-next-at+then-place-gt-LAST_PLACE w ↦ keep_high c.suffixes.invariant.keep w.if-place-gt-LAST_PLACE.true ms n e ok front
     ]
 

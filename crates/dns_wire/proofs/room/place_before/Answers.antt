@@ -1,23 +1,16 @@
 use Rattle.std.proofs.Common.{◌≡◌, ◌∷◌, ◌∙◌, sym, ap, subst, arith, length, length-append, refl}
 use Rattle.dns_spec.specs.Names.{wire}
 use Rattle.dns_wire.specs.Writing.{name_before, IsLastOf}
-use Rattle.dns_wire.proofs.AskedLemmas.{IsFound, asked_found, asked_none, two_octets, wire_split}
+use Rattle.dns_wire.proofs.AskedLemmas.{asked_found, asked_none, two_octets, wire_split}
 use Rattle.dns_wire.proofs.room.place_before.Goals as goal
 
-module _ (c : goal.Else-not-has_last_labels) where
-  found : IsFound c.args.message.now c.args.end c.args.suffix.now
-  found =
-      let name : c.in_ok-name.name.now ≡ name_before c.args.message.now c.args.end = c.in_ok-name.ensures.some in
-      let last = c.has_last_labels.ensures.yes c.if-not-has_last_labels.false in
-      let inside = last.0 in
-      let two = c.if-suffix-lt2.false in
-      asked_found c.args.suffix.now c.requires (omega (arith, two)) (omega (arith, inside, ap length name)) (subst (λ o. IsLastOf o c.args.suffix.now) name last.1)
-
-pub returns-clause-kept : goal.returns-clause-kept
-returns-clause-kept c = (found c).kept
-
-pub returns-clause-spelled : goal.returns-clause-spelled
-returns-clause-spelled c = (found c).spelled
+pub returns-clause-found : goal.returns-clause-found
+returns-clause-found c = λ head.
+    let name : c.in_ok-name.name.now ≡ name_before c.args.message.now c.args.end = c.in_ok-name.ensures.some in
+    let last = c.has_last_labels.ensures.yes c.if-not-has_last_labels.false in
+    let inside = last.0 in
+    let two = c.if-suffix-lt2.false in
+    asked_found head c.args.suffix.now c.requires (omega (arith, two)) (omega (arith, inside, ap length name)) (subst (λ o. IsLastOf o c.args.suffix.now) name last.1)
 
 pub returns-then-suffix-lt2-clause-none : goal.returns-then-suffix-lt2-clause-none
 returns-then-suffix-lt2-clause-none c = λ _. asked_none c.args.suffix.now c.requires

@@ -15,7 +15,7 @@ suffixes-init g c =
 
 pub returns-in-Some-find_suffix-clause-shared : goal.returns-in-Some-find_suffix-clause-shared
 returns-in-Some-find_suffix-clause-shared g c = λ ms n holds e ok.
-    let found = c.in-Some-find_suffix.ensures in
+    let found = c.in-Some-find_suffix.ensures.found in
     let i = c.suffixes.invariant in
     let kept = subst (λ h. HasPlace (asked_places (suffix_number h) c.args.message.now c.args.asked_end ++ c.args.places.now) c.in-Some-find_suffix.place) i.same found.kept in
     left_found c.in-Some-find_suffix.place ms n i.left kept found.spelled holds e ok
@@ -26,7 +26,7 @@ suffixes-preserved g c =
     let i = c.suffixes.invariant in
     let none = subst (λ h. NoneSpelled (asked_places (suffix_number h) c.args.message.now c.args.asked_end ++ c.args.places.now) (suffix_number h c.suffixes.rest.now) c.args.message.now c.suffixes.rest.now) i.same (c.in_default-find_suffix.ensures.none refl) in
     record {
-      left = left_label c.in-Some.field-0-0 i.left a.first a.some a.fits a.cut none;
+      left = left_label c.in-Some.field-0-0 i.left a none;
       same = c.find_suffix.ensures.same ∙ i.same;
     }
 

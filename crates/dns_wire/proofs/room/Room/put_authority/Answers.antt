@@ -2,7 +2,7 @@ use Rattle.std.proofs.Common.{◌∙◌, false, refl, sym, ap, subst, ◌∷◌,
 use Rattle.dns_spec.specs.Data.{octets, name}
 use Rattle.dns_name.specs.WireForm.{labels_of}
 use Rattle.dns_wire.specs.Rooms.{Writes}
-use Rattle.dns_wire.proofs.AuthorityLaid.{server_some, server_lent}
+use Rattle.dns_wire.proofs.SharedData.{server_some, server_lent}
 use Rattle.dns_wire.proofs.DataWritten.{all_laid, writes_more, writes_last, writes_short}
 use Rattle.dns_wire.proofs.Steps.{front_alone}
 use Rattle.dns_wire.proofs.room.Room.put_authority.Goals as goal

@@ -2,9 +2,8 @@ use Rattle.std.proofs.Common.{◌∙◌, sym, subst}
 use Rattle.std.proofs.lemmas.Bool.{eq-eqb, true≢false}
 use Rattle.dns_spec.specs.Data.{name, type_mx, type_soa}
 use Rattle.dns_wire.specs.Rooms.{Writes}
-use Rattle.dns_wire.proofs.DataNames.{one_name_laid}
+use Rattle.dns_wire.proofs.SharedData.{one_name_laid, one_left}
 use Rattle.dns_wire.proofs.DataWritten.{all_laid, writes_last}
-use Rattle.dns_wire.proofs.AuthorityLaid.{one_left}
 use Rattle.dns_wire.proofs.room.Room.put_data.Goals as goal
 
 pub returns : goal.returns

@@ -1,7 +1,7 @@
 use Rattle.std.proofs.Common.{◌∙◌, sym, ap, subst, ◌∷◌, []}
 use Rattle.dns_spec.specs.Data.{octets, name}
 use Rattle.dns_wire.specs.Rooms.{Writes}
-use Rattle.dns_wire.proofs.DataNames.{exchange_laid}
+use Rattle.dns_wire.proofs.SharedData.{exchange_laid}
 use Rattle.dns_wire.proofs.DataWritten.{all_laid, writes_more, writes_last, writes_short}
 use Rattle.dns_wire.proofs.Steps.{front_alone}
 use Rattle.dns_wire.proofs.room.Room.put_exchange.Goals as goal
