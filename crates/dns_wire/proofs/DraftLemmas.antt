@@ -6,7 +6,6 @@ use Rattle.std.proofs.lemmas.List.Concat.{flat_map-append}
 use Rattle.std.proofs.Math.Seq.{take-append-add}
 use Rattle.dns_spec.specs.Names.{Octets, DomainName}
 use Rattle.dns_spec.specs.Sets.{RecordSet, records_at}
-use Rattle.std.specs.Option.{option_to_list}
 use Rattle.dns_spec.specs.Reading.{Header, MessageQuestion, Spells}
 use Rattle.dns_spec.specs.Layout as Layout
 use Rattle.dns_spec.specs.Layout.{Item, Placed, Laid, laid_front, record_laid, records_octets, records_of, in_section, is_section, asked_octets, asked_placed, answer, authority, additional, layout, header_octets, reply_header, message_of}
@@ -20,7 +19,8 @@ use Rattle.dns_wire.specs.declared.page.Section.{Section}
 use Rattle.dns_wire.specs.Kept.{Kept}
 use Rattle.dns_wire.specs.Writing.{Holds, IsWritten, records_laid, shown}
 use Rattle.dns_wire.specs.SuffixNumbers.{suffix_number}
-use Rattle.dns_wire.specs.Draft.{Draft, known_places, IsDraft, section_of, counted, item_of, names_so_far}
+use Rattle.dns_wire.specs.Draft.{Draft, known_places, IsDraft, section_of, counted, with_counted, counts_of, item_of, names_so_far}
+use Rattle.dns_wire.specs.declared.message.Counts.{Counts}
 use Rattle.dns_wire.proofs.RecordsWritten.{octets_of_records, records_none, records_split}
 
 records_pushed : (items : List Item) (i : Item) → records_of (items ++ i ∷ []) ≡ records_of items ++ i.records
@@ -47,9 +47,6 @@ section_counted s items section owner ttl set =
     ∙ ap (λ k. length (in_section s items) + cond (is_section s (section_of section)) k 0) (length-map set.rdata (λ (d : Octets). shown owner set.rtype ttl d))
 
 module _ (head : Octets → ℕ) (q : Option MessageQuestion) (items : List Item) (d : Draft) (draft : IsDraft head q items d) where
-  abbrev so_far : Laid
-  so_far = records_laid (records_of items) (asked_placed q) (12 + length (asked_octets q))
-
   next_place : length d.octets ≡ 12 + length (asked_octets q) + length (records_laid (records_of items) (asked_placed q) (12 + length (asked_octets q))).written
   next_place =
       let w = (records_laid (records_of items) (asked_placed q) (12 + length (asked_octets q))).written in
@@ -75,31 +72,6 @@ module _ (head : Octets → ℕ) (q : Option MessageQuestion) (items : List Item
       let written = sym (length-records_octets ms p rs) ∙ ap length (sym (octets_of_records ms p rs)) ∙ ap (λ (x : Laid). length x.written) (whole i) in
       omega (arith, written, next_place, length-append l more, length-append d.octets more)
 
-  pub draft_put : (limit : ℕ) (section : Section) (owner : DomainName) (ttl : ℕ) (set : RecordSet) (d' : Draft)
-      → IsWritten (suffix_number head) limit (names_so_far q items) d.octets (known_places (suffix_number head) d) (records_laid (records_at owner ttl set) (names_so_far q items) (length d.octets)) true d'.octets (known_places (suffix_number head) d')
-      → d'.questions ≡ d.questions → d'.answers ≡ d.answers + counted answer section (length set.rdata)
-      → d'.authorities ≡ d.authorities + counted authority section (length set.rdata) → d'.additionals ≡ d.additionals + counted additional section (length set.rdata)
-      → IsDraft head q (items ++ item_of section owner ttl set ∷ []) d'
-  draft_put limit section owner ttl set d' done questions answers authorities additionals =
-      let i = item_of section owner ttl set in
-      let ms = asked_placed q in
-      let p : ℕ = 12 + length (asked_octets q) in
-      let l = records_laid (records_of items) ms p in
-      let more = records_laid i.records (names_so_far q items) (length d.octets) in
-      let all = whole i in
-      let front = replicate 12 0 ++ asked_octets q in
-      record {
-        written = done.written ∙ ap (λ z. z ++ more.written) draft.written ∙ append_assoc front l.written more.written ∙ ap (λ (x : Laid). front ++ x.written) (sym all);
-        holds =
-            subst₂ (λ x b. Holds (suffix_number head) x b (known_places (suffix_number head) d')) (append_assoc ms l.names more.names ∙ ap (λ (x : Laid). ms ++ x.names) (sym all)) (sym done.written)
-            (done.stands d.octets refl draft.holds);
-        questions = questions ∙ draft.questions;
-        answers = answers ∙ ap (λ k. k + counted answer section (length set.rdata)) draft.answers ∙ sym (section_counted answer items section owner ttl set);
-        authorities = authorities ∙ ap (λ k. k + counted authority section (length set.rdata)) draft.authorities ∙ sym (section_counted authority items section owner ttl set);
-        additionals = additionals ∙ ap (λ k. k + counted additional section (length set.rdata)) draft.additionals ∙ sym (section_counted additional items section owner ttl set);
-        askable = draft.askable;
-      }
-
 -- A set was put exactly where the layout with it is within the limit.
 pub put_fits : {head : Octets → ℕ} {t u : Bool} {b : Octets} {ks : List Kept} {d now : Draft} (q : Option MessageQuestion) (items : List Item) (section : Section)
     (owner : DomainName) (ttl : ℕ) (set : RecordSet) → d ≡ now → IsDraft head q items now
@@ -114,47 +86,60 @@ put_fits {head} {t} {u} {b} {ks} {d} {now} q items section owner ttl set view dr
       λ fits. sym is ∙ done.exactly.1 (omega (arith, fits, size_is, limit)),
     )
 
+counts_pushed : (q : Option MessageQuestion) (items : List Item) (section : Section) (owner : DomainName) (ttl : ℕ) (set : RecordSet)
+    → with_counted (counts_of q items) section (length set.rdata) ≡ counts_of q (items ++ item_of section owner ttl set ∷ [])
+counts_pushed q items section owner ttl set =
+    rw (section_counted answer items section owner ttl set, section_counted authority items section owner ttl set, section_counted additional items section owner ttl set) refl
+
 -- a set that was put
 pub put_in : {head : Octets → ℕ} {limit : ℕ} {t : Bool} {d now d' : Draft} (q : Option MessageQuestion) (items : List Item) (section : Section)
     (owner : DomainName) (ttl : ℕ) (set : RecordSet) → d ≡ now → IsDraft head q items now
     → ((ms : List Placed) → Holds (suffix_number head) ms d.octets (known_places (suffix_number head) d) → IsWritten (suffix_number head) limit ms d.octets (known_places (suffix_number head) d) (records_laid (records_at owner ttl set) ms (length d.octets)) t d'.octets (known_places (suffix_number head) d'))
-    → t ≡ true → d'.questions ≡ d.questions → d'.answers ≡ d.answers + counted answer section (length set.rdata)
-    → d'.authorities ≡ d.authorities + counted authority section (length set.rdata) → d'.additionals ≡ d.additionals + counted additional section (length set.rdata)
-    → IsDraft head q (items ++ item_of section owner ttl set ∷ []) d'
-put_in {head} {limit} {t} {d} {now} {d'} q items section owner ttl set view draft written put questions answers authorities additionals =
+    → t ≡ true → d'.counts ≡ with_counted d.counts section (length set.rdata) → IsDraft head q (items ++ item_of section owner ttl set ∷ []) d'
+put_in {head} {limit} {t} {d} {now} {d'} q items section owner ttl set view draft written put counts =
     let here = subst (IsDraft head q items) (sym view) draft in
-    let ms = names_so_far q items in
-    let done = subst (λ u. IsWritten (suffix_number head) limit ms d.octets (known_places (suffix_number head) d) (records_laid (records_at owner ttl set) ms (length d.octets)) u d'.octets (known_places (suffix_number head) d')) put (written ms here.holds) in
-    draft_put head q items d here limit section owner ttl set d' done questions answers authorities additionals
+    let before = names_so_far q items in
+    let known = known_places (suffix_number head) d in
+    let known' = known_places (suffix_number head) d' in
+    let more = records_laid (records_at owner ttl set) before (length d.octets) in
+    let done = subst (λ u. IsWritten (suffix_number head) limit before d.octets known more u d'.octets known') put (written before here.holds) in
+    let l = records_laid (records_of items) (asked_placed q) (12 + length (asked_octets q)) in
+    let all = whole head q items d here (item_of section owner ttl set) in
+    let front = replicate 12 0 ++ asked_octets q in
+    record {
+      written = done.written ∙ ap (λ z. z ++ more.written) here.written ∙ append_assoc front l.written more.written ∙ ap (λ (x : Laid). front ++ x.written) (sym all);
+      holds =
+          subst₂ (λ x b. Holds (suffix_number head) x b known') (append_assoc (asked_placed q) l.names more.names ∙ ap (λ (x : Laid). asked_placed q ++ x.names) (sym all)) (sym done.written)
+          (done.stands d.octets refl here.holds);
+      counts = counts ∙ ap (λ n. with_counted n section (length set.rdata)) here.counts ∙ counts_pushed q items section owner ttl set;
+      askable = here.askable;
+    }
 
 -- a draft without sets
 pub draft_begins : (head : Octets → ℕ) (q : Option MessageQuestion) (d : Draft) → d.octets ≡ replicate 12 0 ++ asked_octets q → Holds (suffix_number head) (asked_placed q) d.octets (known_places (suffix_number head) d)
-    → d.questions ≡ length (option_to_list q) → d.answers ≡ 0 → d.authorities ≡ 0 → d.additionals ≡ 0 → IfSome q IsAskable → IsDraft head q [] d
-draft_begins head q d octets holds questions answers authorities additionals askable =
+    → d.counts ≡ counts_of q [] → IfSome q IsAskable → IsDraft head q [] d
+draft_begins head q d octets holds counts askable =
     let none = records_none (asked_placed q) (12 + length (asked_octets q)) in
     let front = replicate 12 0 ++ asked_octets q in
     record {
       written = octets ∙ sym (append-nil front) ∙ ap (λ (l : Laid). front ++ l.written) (sym none);
       holds = subst (λ ms. Holds (suffix_number head) ms d.octets (known_places (suffix_number head) d)) (sym (append-nil (asked_placed q)) ∙ ap (λ (l : Laid). asked_placed q ++ l.names) (sym none)) holds;
-      questions = questions;
-      answers = answers;
-      authorities = authorities;
-      additionals = additionals;
+      counts = counts;
       askable = askable;
     }
 
+abbrev pub header_of : Header → Counts → Octets
+header_of h n = header_octets h n.questions n.answers n.authorities n.additionals
+
 -- the layout is its header, and what is in the draft after room for one
 pub draft_laid : {head : Octets → ℕ} (h : Header) (q : Option MessageQuestion) (items : List Item) (d : Draft) → IsDraft head q items d
-    → header_octets h d.questions d.answers d.authorities d.additionals ++ drop 12 d.octets ≡ layout h q items
+    → header_of h d.counts ++ drop 12 d.octets ≡ layout h q items
 unfolding layout
 draft_laid h q items d draft =
     let rest = (records_laid (records_of items) (asked_placed q) (12 + length (asked_octets q))).written in
     let body : drop 12 d.octets ≡ asked_octets q ++ rest = ap (drop 12) draft.written in
     let front = reply_header h q items in
-    let counts : header_octets h d.questions d.answers d.authorities d.additionals ≡ front =
-    ap₂ (λ a b. header_octets h a b d.authorities d.additionals) draft.questions draft.answers
-    ∙ ap₂ (λ a b. header_octets h (length (option_to_list q)) (length (in_section answer items)) a b) draft.authorities draft.additionals in
-    ap₂ ◌++◌ counts body ∙ sym (append_assoc front (asked_octets q) rest)
+    ap₂ ◌++◌ (ap (header_of h) draft.counts) body ∙ sym (append_assoc front (asked_octets q) rest)
     ∙ ap (λ z. front ++ asked_octets q ++ z) (octets_of_records (asked_placed q) (12 + length (asked_octets q)) (records_of items))
 
 pub draft_length : {head : Octets → ℕ} (q : Option MessageQuestion) (items : List Item) (d : Draft) → IsDraft head q items d → length d.octets ≡ size q items
@@ -163,7 +148,7 @@ draft_length q items d draft =
     let w = drop 12 d.octets in
     let long = ap length (draft_laid h q items d draft) ∙ length-layout h q items in
     let some = draft.holds.after_header in
-    omega (arith, long, length-append (header_octets h d.questions d.answers d.authorities d.additionals) w, length-drop 12 d.octets, some)
+    omega (arith, long, length-append (header_of h d.counts) w, length-drop 12 d.octets, some)
 
 -- the header and what follows it, taken from the front of what was lent
 pub finished : (front w out body : Octets) (n : ℕ) → out ≡ front ++ w → length front ≡ 12 → n ≡ 12 + length body → take (length body) w ≡ body → take n out ≡ front ++ body

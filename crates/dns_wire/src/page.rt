@@ -10,7 +10,7 @@ ghost use Rattle.dns_spec.specs.LayoutSize.{size};
 ghost use Rattle.dns_spec.specs.Laws.{sections_in_order, IsWritable};
 ghost use Rattle.dns_spec.specs.Sharing.{Sharing};
 ghost use Rattle.dns_wire.specs.Writing.{IsSound};
-ghost use Rattle.dns_wire.specs.Draft.{counted};
+ghost use Rattle.dns_wire.specs.Draft.{with_counted};
 
 use crate::message::{Counts, HEADER_OCTETS, Head, QuestionRef};
 use crate::places::{Places, SuffixHash};
@@ -49,10 +49,7 @@ impl<const N: usize, const SIZE: usize> Model for Page<N, SIZE> {
       octets = p.room.octets.items;
       asked_end = p.room.asked_end;
       kept = p.room.places;
-      questions = p.counts.questions;
-      answers = p.counts.answers;
-      authorities = p.counts.authorities;
-      additionals = p.counts.additionals;
+      counts = p.counts;
     } };
 
     ghost invariant = { λ p. IsWellKept N SIZE (record {
@@ -60,10 +57,7 @@ impl<const N: usize, const SIZE: usize> Model for Page<N, SIZE> {
       octets = p.room.octets.items;
       asked_end = p.room.asked_end;
       kept = p.room.places;
-      questions = p.counts.questions;
-      answers = p.counts.answers;
-      authorities = p.counts.authorities;
-      additionals = p.counts.additionals;
+      counts = p.counts;
     }) };
 }
 
@@ -201,12 +195,7 @@ impl<const N: usize, const SIZE: usize> Page<N, SIZE> {
 // The counts with so many records more in a section.
 fn with_records(counts: Counts, section: Section, count: u16) -> Counts
     requires { counts.answers + counts.authorities + counts.additionals + count < 2 ^ 16 }
-    ensures { result ≡ record {
-      questions = counts.questions;
-      answers = counts.answers + counted answer section count;
-      authorities = counts.authorities + counted authority section count;
-      additionals = counts.additionals + counted additional section count;
-    } }
+    ensures { result ≡ with_counted counts section count }
 {
     let mut counts = counts;
     match section {

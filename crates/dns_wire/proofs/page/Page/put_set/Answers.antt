@@ -1,7 +1,5 @@
-use Rattle.std.proofs.Common.{◌+◌, ◌∙◌, true, false, ap, [], ◌∷◌, ◌++◌}
-use Rattle.dns_spec.specs.Layout.{answer, authority, additional}
-use Rattle.dns_wire.specs.declared.message.Counts.{Counts}
-use Rattle.dns_wire.specs.Draft.{counted, item_of}
+use Rattle.std.proofs.Common.{◌∙◌, true, false, ap, [], ◌∷◌, ◌++◌}
+use Rattle.dns_wire.specs.Draft.{with_counted, item_of}
 use Rattle.dns_wire.proofs.DraftLemmas.{put_fits, put_in, least_of}
 use Rattle.dns_wire.proofs.page.Page.put_set.Goals as goal
 
@@ -25,12 +23,5 @@ returns-clause-least g c = λ q items draft low.
 
 pub returns-clause-put : goal.returns-clause-put
 returns-clause-put g c = λ q items draft.
-    let counts = c.self.inside.counts in
-    let is = c.with_records-self-inside.ensures in
-    let section = c.args.section in
-    let long = c.len.ensures.value in
-    put_in q items section c.args.owner.now c.args.ttl (g.S.SetView.set c.args.set.now) c.self.view_is draft c.put_set.ensures.writes.written c.if-not-put_set.false
-    (ap (λ (n : Counts). n.questions) is)
-    (ap (λ (n : Counts). n.answers) is ∙ ap (λ k. counts.answers + counted answer section k) long)
-    (ap (λ (n : Counts). n.authorities) is ∙ ap (λ k. counts.authorities + counted authority section k) long)
-    (ap (λ (n : Counts). n.additionals) is ∙ ap (λ k. counts.additionals + counted additional section k) long)
+    put_in q items c.args.section c.args.owner.now c.args.ttl (g.S.SetView.set c.args.set.now) c.self.view_is draft c.put_set.ensures.writes.written c.if-not-put_set.false
+    (c.with_records-self-inside.ensures ∙ ap (with_counted c.self.inside.counts c.args.section) c.len.ensures.value)
