@@ -1,6 +1,6 @@
 -- What a reader learns here: how the places that are kept hang together, so that those of one chain
 -- are found without the others.
-use Rattle.std.specs.Prelude.{◌≡◌, ℕ, zero, suc, ◌<◌, ◌%◌, List, [], ◌∷◌, length, take, get_or, slice_get, Some, ◌==◌, if◌then◌else◌}
+use Rattle.std.specs.Prelude.{◌≡◌, ℕ, zero, suc, ◌<◌, ◌%◌, List, length, get_or, ◌==◌, if◌then◌else◌}
 use Rattle.dns_wire.specs.declared.places.Entry.{Entry}
 use Rattle.dns_wire.specs.Kept.{Kept}
 
@@ -11,19 +11,20 @@ kept_in e = record { place = e.place; number = e.number }
 abbrev pub chain_of : ℕ → ℕ
 chain_of number = number % 128
 
--- the last entry of a chain, counted from 1; 0 where there is none
-abbrev pub with_first : Entry → ℕ → ℕ → ℕ
-with_first e h zero = if chain_of e.number == h then 1 else 0
-with_first e h (suc k) = suc (suc k)
+-- an entry by how many came before it
+abbrev pub entry_at : List Entry → ℕ → Entry
+entry_at es k = get_or es k (record { place = 0; number = 0; next = 0 })
 
-abbrev pub last_with : ℕ → List Entry → ℕ
-last_with h [] = 0
-last_with h (e ∷ es) = with_first e h (last_with h es)
+-- the last of the first k entries that is in chain h, counted from 1; 0 where there is none
+abbrev pub last_with : ℕ → List Entry → ℕ → ℕ
+last_with h es zero = 0
+last_with h es (suc k) =
+    if chain_of (entry_at es k).number == h then suc k else last_with h es k
 
 -- Each chain leads to its last entry, and each entry to the one of its chain before it. A pointer
 -- reaches each place.
 pub record AreChains (heads : List ℕ) (es : List Entry) : Type 0 where
   pub all : length heads ≡ 128
-  pub newest : (h : ℕ) → h < 128 → get_or heads h 0 ≡ last_with h es
-  pub linked : (k : ℕ) (e : Entry) → slice_get es k ≡ Some e
-      → (e.place < 16384) × (e.next ≡ last_with (chain_of e.number) (take k es))
+  pub newest : (h : ℕ) → h < 128 → get_or heads h 0 ≡ last_with h es (length es)
+  pub linked : (k : ℕ) → k < length es → ((entry_at es k).place < 16384)
+      × ((entry_at es k).next ≡ last_with (chain_of (entry_at es k).number) es k)

@@ -1,9 +1,9 @@
-use Rattle.std.proofs.Common.{◌≡◌, ◌-◌, ◌<◌, ◌≤◌, ◌∙◌, sym, ap, subst, arith, get_or, slice_get, Some}
+use Rattle.std.proofs.Common.{◌≡◌, ◌-◌, ◌<◌, ◌≤◌, ◌∙◌, ℕ, suc, length, sym, ap, subst, arith, get_or, slice_get, Some}
 use Rattle.std.proofs.lemmas.Bool.{false≢true}
 use Rattle.dns_wire.specs.declared.places.Entry.{Entry}
-use Rattle.dns_wire.specs.Chains.{chain_of, kept_in}
+use Rattle.dns_wire.specs.Chains.{chain_of, entry_at, kept_in}
 use Rattle.dns_wire.specs.Kept.{SpelledAt}
-use Rattle.dns_wire.proofs.ChainLemmas.{Chain, EntryRead, read_entry, chain_begins, chain_next, entry_kept, kept_entry}
+use Rattle.dns_wire.proofs.ChainLemmas.{Chain, read_entry, chain_begins, chain_next, entry_kept, kept_entry}
 use Rattle.dns_wire.proofs.places.Places.find.Goals as goal
 use Rattle.dns_wire.proofs.places.Places.find.Given as given
 
@@ -12,53 +12,55 @@ chain-init g c =
     let es = c.self.inside.entries.items in
     let P = λ (e : Entry). (e.number ≡ c.args.number) × SpelledAt c.args.message.now e.place c.args.suffix.now in
     let low = c.chain_of.ensures.low in
-    let begun = chain_begins P c.self.inside.heads es (chain_of c.args.number) c.self.invariant (omega (arith, low, c.chain_of.ensures.chain)) in
+    let begun = chain_begins P (chain_of c.args.number) es c.self.inside.heads c.self.invariant (omega (arith, low, c.chain_of.ensures.chain)) in
     subst (λ k. Chain P (chain_of c.args.number) es (get_or c.self.inside.heads k 0)) (sym c.chain_of.ensures.chain) begun
 
 module _ (g : given.Over) (c : goal.Then-is_sought g) where
-  found : EntryRead (chain_of c.args.number) c.self.inside.entries.items c.chain.newest (get_or c.as_slice.result.now (c.from.result - 1) (record { place = 0; number = 0; next = 0 }))
-  found = let positive = c.chain-test.true in read_entry _ c.chain.invariant (omega (arith, positive)) c.as_slice.ensures.value c.from.ensures
+  found : (k : ℕ) × (c.chain.newest ≡ suc k) × (get_or c.as_slice.result.now (c.from.result - 1) (record { place = 0; number = 0; next = 0 }) ≡ entry_at c.self.inside.entries.items k)
+  found = let positive = c.chain-test.true in read_entry (omega (arith, positive)) c.as_slice.ensures.value c.from.ensures
+
+  low : found.0 < length c.self.inside.entries.items
+  low = let inside = c.chain.invariant.inside in let is = found.1 in omega (arith, inside, is)
 
 pub returns-then-is_sought-clause-kept : goal.returns-then-is_sought-clause-kept
 returns-then-is_sought-clause-kept g c =
     let r = found g c in
-    let own = ap (λ (e : Entry). Some (kept_in e)) (sym r.own) in
     let number = (c.is_sought.ensures.yes c.if-is_sought.true).0 in
     let e = get_or c.as_slice.result.now (c.from.result - 1) (record { place = 0; number = 0; next = 0 }) in
-    (r.k, ap (λ x. slice_get x r.k) (sym c.self.view_is) ∙ entry_kept c.self.inside.entries.items (chain_of c.args.number) r.k r.last ∙ own ∙ ap (λ n. Some (record { place = e.place; number = n })) number)
+    (r.0, ap (λ x. slice_get x r.0) (sym c.self.view_is) ∙ entry_kept c.self.inside.entries.items r.0 (low g c) ∙ ap (λ (x : Entry). Some (kept_in x)) (sym r.2) ∙ ap (λ n. Some (record { place = e.place; number = n })) number)
 
 pub returns-then-is_sought-clause-reached : goal.returns-then-is_sought-clause-reached
 returns-then-is_sought-clause-reached g c =
     let r = found g c in
-    subst (λ (e : Entry). e.place < 16384) (sym r.own) (c.self.invariant.linked r.k r.last.entry r.last.there).0
+    subst (λ (e : Entry). e.place < 16384) (sym r.2) (c.self.invariant.linked r.0 (low g c)).0
 
 module _ (g : given.Over) (c : goal.Else-is_sought g) where
-  passed : EntryRead (chain_of c.args.number) c.self.inside.entries.items c.chain.newest (get_or c.as_slice.result.now (c.from.result - 1) (record { place = 0; number = 0; next = 0 }))
-  passed = let positive = c.chain-test.true in read_entry _ c.chain.invariant (omega (arith, positive)) c.as_slice.ensures.value c.from.ensures
+  passed : (k : ℕ) × (c.chain.newest ≡ suc k) × (get_or c.as_slice.result.now (c.from.result - 1) (record { place = 0; number = 0; next = 0 }) ≡ entry_at c.self.inside.entries.items k)
+  passed = let positive = c.chain-test.true in read_entry (omega (arith, positive)) c.as_slice.ensures.value c.from.ensures
 
   -- the chain goes on after the entry, which is not the one sought
-  next : Chain (λ (e : Entry). (e.number ≡ c.args.number) × SpelledAt c.args.message.now e.place c.args.suffix.now) (chain_of c.args.number) c.self.inside.entries.items passed.last.entry.next × (passed.last.entry.next ≤ passed.k)
+  next : Chain (λ (e : Entry). (e.number ≡ c.args.number) × SpelledAt c.args.message.now e.place c.args.suffix.now) (chain_of c.args.number) c.self.inside.entries.items (entry_at c.self.inside.entries.items passed.0).next
+      × ((entry_at c.self.inside.entries.items passed.0).next ≤ passed.0)
   next =
       let P = λ (e : Entry). (e.number ≡ c.args.number) × SpelledAt c.args.message.now e.place c.args.suffix.now in
       let es = c.self.inside.entries.items in
-      let other : P passed.last.entry → ⊥ = λ there. false≢true (sym c.if-is_sought.false ∙ c.is_sought.ensures.no (subst P (sym passed.own) there)) in
-      chain_next P c.self.inside.heads es (chain_of c.args.number) passed.k c.self.invariant (subst (Chain P (chain_of c.args.number) es) passed.is c.chain.invariant) passed.last other
+      let other : P (entry_at es passed.0) → ⊥ = λ there. false≢true (sym c.if-is_sought.false ∙ c.is_sought.ensures.no (subst P (sym passed.2) there)) in
+      chain_next P (chain_of c.args.number) es c.self.inside.heads passed.0 c.self.invariant (subst (Chain P (chain_of c.args.number) es) passed.1 c.chain.invariant) other
 
 pub chain-smaller : goal.chain-smaller
 chain-smaller g c =
     let r = passed g c in
     let low = (next g c).1 in
-    let is = r.is in
-    omega (arith, low, is, ap (λ (e : Entry). e.next) r.own)
+    let is = r.1 in
+    omega (arith, low, is, ap (λ (e : Entry). e.next) r.2)
 
 pub chain-preserved : goal.chain-preserved
 chain-preserved g c =
-    subst (λ (e : Entry). Chain (λ (e : Entry). (e.number ≡ c.args.number) × SpelledAt c.args.message.now e.place c.args.suffix.now) (chain_of c.args.number) c.self.inside.entries.items e.next) (sym (passed g c).own) (next g c).0
+    subst (λ (e : Entry). Chain (λ (e : Entry). (e.number ≡ c.args.number) × SpelledAt c.args.message.now e.place c.args.suffix.now) (chain_of c.args.number) c.self.inside.entries.items e.next) (sym (passed g c).2) (next g c).0
 
 pub returns-clause-none : goal.returns-clause-none
 returns-clause-none g c = λ none p kept there.
     let es = c.self.inside.entries.items in
     let e = kept_entry es kept.0 p c.args.number (ap (λ x. slice_get x kept.0) c.self.view_is ∙ kept.1) in
     let over = c.chain-test.false in
-    c.chain.invariant.after kept.0 e.0 e.1 (omega (arith, over)) (ap chain_of e.2)
-    (e.2, subst (λ q. SpelledAt c.args.message.now q c.args.suffix.now) (sym e.3) there)
+    c.chain.invariant.after kept.0 e.0 (omega (arith, over)) (ap chain_of e.1) (e.1, subst (λ q. SpelledAt c.args.message.now q c.args.suffix.now) (sym e.2) there)

@@ -10,6 +10,6 @@ invariant_of-self g c =
     let heads = c.self.inside.heads in
     let es = c.self.inside.entries.items in
     let e : Entry = record { place = c.args.place; number = h; next = get_or heads c.chain_of.result 0 } in
-    let grown = chains_grow heads es e c.self.invariant c.requires.reached (ap (λ k. get_or heads k 0) c.chain_of.ensures.chain) in
+    let grown = chains_grow es e heads c.self.invariant c.requires.reached (ap (λ k. get_or heads k 0) c.chain_of.ensures.chain) in
     let number : suc (length es) ≡ c.len.result = omega (arith, c.len.ensures.value, ap length c.push.ensures.items, length-append es (e ∷ [])) in
     rw (c.push.ensures.items, c.chain_of-2.ensures.chain) (subst (λ k. AreChains (slice_set heads (chain_of h) k) (es ++ e ∷ [])) number grown)
