@@ -1,7 +1,7 @@
 -- The name of the question has the places of its suffixes, whatever comes after it; each of them stands so far before its end.
 use Rattle.std.proofs.Common.{◌≡◌, ℕ, zero, suc, ◌+◌, ◌-◌, ◌<◌, ◌≤◌, Bool, true, false, ◌⊎◌, inl, inr, List, [], ◌∷◌, ◌++◌, length, take, drop, refl, sym, ap, ◌∙◌, subst, arith, append_assoc, length-append, take-append-drop, take_at, replicate, ap₂, Option, None, Some, IfSome}
 use Rattle.std.proofs.lemmas.Bool.{and_parts}
-use Rattle.std.proofs.lemmas.List.{drop-take, take-append-le, length-take, length-drop}
+use Rattle.std.proofs.lemmas.List.{drop-drop, drop-take, take-append-le, length-take, length-drop}
 use Rattle.std.specs.Bool.{OnTrue, OnFalse}
 use Rattle.std.specs.List.{list_all}
 use Rattle.dns_spec.specs.Names.{Octets, DomainName, wire, is_name, is_label}
@@ -211,17 +211,24 @@ pub record LastNow (n : DomainName) (rest : Octets) (count : ℕ) : Type 0 where
 
 pub record Last (name rest : Octets) (count : ℕ) : Type 0 where
   pub shorter : length rest ≤ length name
+  pub end : rest ≡ drop (length name - length rest) name
   pub all : (n : DomainName) → name ≡ wire n → is_name n ≡ true → LastNow n rest count
 
 pub last_begins : (name : Octets) (count : ℕ) → Last name name count
 last_begins name count = record {
   shorter = omega arith;
+  end = ap (λ k. drop k name) {x = 0} {y = length name - length name} (omega arith);
   all = λ n e ok. record { front = []; left = n; whole = refl; spelled = e; is_name = ok; ahead = λ f t l is long. (f, is) };
 }
 
 pub last_label : {name rest after : Octets} {count : ℕ} (k : ℕ) → Last name rest count → AfterLabel rest k after → count < length rest → Last name after count
 last_label {name} {rest} {after} {count} k last a longer = record {
   shorter = let s = last.shorter in omega (arith, s, ap length a.first, ap length a.cut, length-drop k a.others);
+  end =
+      let s = last.shorter in
+      let fits = a.fits in
+      let count_of : length name - length rest + suc k ≡ length name - length after = omega (arith, s, fits, ap length a.first, ap length a.cut, length-drop k a.others) in
+      a.cut ∙ sym (ap (λ (o : Octets). drop (suc k) o) a.first) ∙ ap (drop (suc k)) last.end ∙ drop-drop (suc k) (length name - length rest) name ∙ ap (λ m. drop m name) count_of;
   all = λ n e ok.
       let x = last.all n e ok in
       let f = next_label x.left x.spelled x.is_name a in

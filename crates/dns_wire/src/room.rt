@@ -423,6 +423,9 @@ fn has_last_labels(name: &[u8], suffix: &[u8]) -> bool
     ensures no { result ≡ false → (n front t : DomainName) (l : Octets) → name.now ≡ wire n
         → IsTrue (is_name n) → n ≡ front ++ l ∷ t → wire (l ∷ t) ≡ suffix.now → ⊥ }
 {
+    if !has_end(name, suffix) {
+        return false;
+    }
     let mut rest = name;
     'labels: while rest.len() > suffix.len() {
         let Some((_, after)) = after_first_label(rest) else {
@@ -430,7 +433,21 @@ fn has_last_labels(name: &[u8], suffix: &[u8]) -> bool
         };
         rest = after;
     }
-    are_equal(rest, suffix)
+    rest.len() == suffix.len()
+}
+
+// Whether octets end with others. Else no labels are walked over, of which a name may have 127 for
+// each of its suffixes.
+fn has_end(octets: &[u8], end: &[u8]) -> bool
+    ensures yes { IsTrue result → (length end.now ≤ length octets.now)
+        × (drop (length octets.now - length end.now) octets.now ≡ end.now) }
+    ensures no { result ≡ false → (front : Octets) → octets.now ≡ front ++ end.now → ⊥ }
+{
+    let Some(start) = octets.len().checked_sub(end.len()) else {
+        return false;
+    };
+    let (_, last) = octets.split_at(start);
+    are_equal(last, end)
 }
 
 // Keeps the places of the suffixes that begin in the first `front` octets of a name laid out at a
