@@ -11,10 +11,11 @@ use Rattle.dns_spec.specs.Layout.{Placed, Laid, laid_front, octets16, octets32, 
 use Rattle.dns_wire.specs.declared.room.Room.{Room}
 use Rattle.dns_wire.specs.Kept.{Kept}
 use Rattle.dns_wire.specs.SuffixNumbers.{suffix_number}
-use Rattle.dns_wire.specs.Writing.{Extends, Holds, Layout, octets_laid, name_laid, both_laid, parts_laid, tail_laid}
+use Rattle.dns_wire.specs.Writing.{Follows, Holds, Layout, octets_laid, name_laid, both_laid, parts_laid, tail_laid}
 use Rattle.dns_wire.specs.Rooms.{IsSoundRoom, known_in, Writes}
 use Rattle.dns_wire.proofs.AskedLemmas.{kept_same, take_patched}
 use Rattle.dns_wire.proofs.NameWritten.{holds_octets}
+use Rattle.dns_wire.proofs.Suffixes.{follows_again}
 use Rattle.dns_wire.proofs.Steps.{grows_again, writes_as, writes_both, writes_past}
 
 abbrev pub part_laid : Part → Layout
@@ -81,17 +82,11 @@ patched b y z w after now eight two is set =
     ∙ append_assoc b y (n ++ w) ∙ ap (λ x. b ++ x) (sym (append_assoc y n w))
 
 -- what stands before those ten octets stays as well
-patched_extends : (b after now : Octets) (ks ks' ks'' : List Kept) (x : Octets) → Extends b ks after ks' → now ≡ take (length b + 8) after ++ x → ks'' ≡ ks'
-    → Extends b ks now ks''
-patched_extends b after now ks ks' ks'' x grown set same =
-    let more = grown.more_octets in
-    let front : take (length b + 8) after ≡ b ++ take 8 more = ap (take (length b + 8)) grown.octets ∙ take-append-add b more 8 in
-    record {
-      more_octets = take 8 more ++ x;
-      octets = set ∙ ap (λ z. z ++ x) front ∙ append_assoc b (take 8 more) x;
-      more_places = grown.more_places;
-      places = same ∙ grown.places;
-    }
+patched_follows : {b after now : Octets} (x : Octets) → Follows b after → now ≡ take (length b + 8) after ++ x → Follows b now
+patched_follows {b} {after} x f set = record {
+  more = take 8 f.more ++ x;
+  whole = set ∙ ap (λ z. z ++ x) (ap (take (length b + 8)) f.whole ∙ take-append-add b f.more 8) ∙ append_assoc b (take 8 f.more) x;
+}
 
 -- the places of names are those of any octets that spell the names there
 holds_again : {head : Octets → ℕ} {ms : List Placed} {b b' : Octets} {ks ks' : List Kept} → Holds head ms b ks → Holds head ms b' ks' → Holds head ms b' ks
@@ -126,7 +121,7 @@ module _ {N size : ℕ} where
       let rest = octets16 (length b'' - length b - 10) ++ drop (length b + 10) b'' in
       let grown = grows_again first.grows next.grows in
       record {
-        grows = record { extends = patched_extends b b'' _ _ _ _ rest grown.extends set places; asked = asked ∙ grown.asked; limit = limit ∙ grown.limit; sound = sound' };
+        grows = record { octets = patched_follows rest grown.octets set; places = follows_again grown.places (record { more = []; whole = places ∙ sym (append-nil r''.places) }); asked = asked ∙ grown.asked; limit = limit ∙ grown.limit; sound = sound' };
         same = next.same;
         written = λ ms holds.
             let one = first.written ms holds in

@@ -1,17 +1,18 @@
 -- Steps of writing: one after the other they write what is laid out one after the other.
-use Rattle.std.proofs.Common.{◌≡◌, ◌↔◌, ℕ, ◌+◌, ◌<◌, ◌≤◌, Bool, true, false, List, [], ◌++◌, length, take, refl, sym, ap, ap₂, ◌∙◌, subst, subst₂, arith, append_assoc, append-nil, length-append}
+use Rattle.std.proofs.Common.{◌≡◌, ◌↔◌, ℕ, ◌+◌, ◌*◌, ◌<◌, ◌≤◌, Bool, true, false, List, [], ◌++◌, length, take, refl, sym, ap, ap₂, ◌∙◌, subst, subst₂, arith, append_assoc, append-nil, length-append}
 use Rattle.std.proofs.lemmas.Bool.{false≢true}
 use Rattle.std.proofs.Math.Seq.{take-append_seam}
 use Rattle.std.specs.Bool.{OnTrue, OnFalse}
 use Rattle.dns_spec.specs.Names.{Octets}
 use Rattle.dns_spec.specs.Layout.{Placed}
 use Rattle.dns_wire.specs.declared.room.Room.{Room}
+use Rattle.dns_wire.specs.Kept.{Kept}
 use Rattle.dns_wire.specs.SuffixNumbers.{suffix_number}
-use Rattle.dns_wire.specs.Writing.{Extends, Holds, IsSound, IsWritten, Layout, octets_laid, both_laid}
+use Rattle.dns_wire.specs.Writing.{Follows, Holds, IsAsked, IsSound, IsWritten, Layout, octets_laid, both_laid}
 use Rattle.dns_wire.specs.Rooms.{IsSoundRoom, known_in, Grows, Writes}
 use Rattle.dns_wire.proofs.AskedLemmas.{kept_stays}
 use Rattle.dns_wire.proofs.NameWritten.{holds_octets}
-use Rattle.dns_wire.proofs.Suffixes.{extends_none, extends_again}
+use Rattle.dns_wire.proofs.Suffixes.{follows_none, follows_again}
 
 pub on_any : (t : Bool) {P : Type 0} → P → OnTrue t P
 on_any false p = tt
@@ -25,13 +26,19 @@ on_not : (t : Bool) (P : Type 0) → t ≡ false → OnTrue t P
 on_not false P e = tt
 on_not true P e = absurd (false≢true (sym e))
 
+-- a room stays sound with other octets and places
+pub sound_with : {N size limit a a' : ℕ} {b b' : Octets} {ks ks' : List Kept} → IsSound N size limit b a ks → length b' ≤ limit → 2 * length ks' ≤ length b' → IsAsked b' a'
+    → IsSound N size limit b' a' ks'
+sound_with s within few asked = record { within = within; fits = s.fits; short = s.short; few = few; enough = s.enough; most = s.most; asked = asked }
+
 module _ {N size : ℕ} where
   pub grows_not : (r : Room N size) → IsSoundRoom r → Grows r r
-  grows_not r sound = record { extends = extends_none r.octets.items r.places; asked = refl; limit = refl; sound = sound }
+  grows_not r sound = record { octets = follows_none r.octets.items; places = follows_none r.places; asked = refl; limit = refl; sound = sound }
 
   pub grows_again : {r r' r'' : Room N size} → Grows r r' → Grows r' r'' → Grows r r''
   grows_again g h = record {
-    extends = extends_again g.extends h.extends;
+    octets = follows_again g.octets h.octets;
+    places = follows_again g.places h.places;
     asked = h.asked ∙ g.asked;
     limit = h.limit ∙ g.limit;
     sound = h.sound;
@@ -41,12 +48,13 @@ module _ {N size : ℕ} where
   pub grows_back : {r r' r'' : Room N size} {k j : ℕ} → IsSoundRoom r → Grows r r' → k ≡ length r.octets.items → j ≡ length r.places
       → r''.octets.items ≡ take k r'.octets.items → r''.places ≡ take j r'.places → r''.asked_end ≡ r'.asked_end → r''.limit ≡ r'.limit → Grows r r''
   grows_back {r} {r'} {r''} sound grown k j octets places asked limit =
-      let b = octets ∙ ap₂ take k grown.extends.octets ∙ take-append_seam r.octets.items grown.extends.more_octets in
-      let ks = places ∙ ap₂ take j grown.extends.places ∙ take-append_seam r.places grown.extends.more_places in
+      let b = octets ∙ ap₂ take k grown.octets.whole ∙ take-append_seam r.octets.items grown.octets.more in
+      let ks = places ∙ ap₂ take j grown.places.whole ∙ take-append_seam r.places grown.places.more in
       let same_end = asked ∙ grown.asked in
       let same_limit = limit ∙ grown.limit in
       record {
-        extends = subst₂ (Extends r.octets.items r.places) (sym b) (sym ks) (extends_none r.octets.items r.places);
+        octets = subst (Follows r.octets.items) (sym b) (follows_none r.octets.items);
+        places = subst (Follows r.places) (sym ks) (follows_none r.places);
         asked = same_end;
         limit = same_limit;
         sound =

@@ -12,7 +12,7 @@ use Rattle.dns_spec.specs.Reading.{pointer_place}
 use Rattle.dns_spec.specs.Reading.RunAt.{ends, goes_on, jumps}
 use Rattle.dns_wire.proofs.Runs.{GoesOn, at_end, at_label, at_pointer, goes_on_at}
 use Rattle.dns_wire.specs.Kept.{Kept, HasPlace, SpelledAt, SpellsName, NoneSpelled}
-use Rattle.dns_wire.specs.Writing.{AfterLabel, front_size, pointed_place, new_places, Holds, HasMore, Extends}
+use Rattle.dns_wire.specs.Writing.{AfterLabel, front_size, pointed_place, new_places, Holds, Follows}
 
 -- how a name is laid out, by whether its first suffix is shared
 module _ (ms : List Placed) (l : Octets) (n : DomainName) where
@@ -306,22 +306,8 @@ root_cut o others k (l ∷ n) e first short =
     let same : k ∷ others ≡ length l ∷ (l ++ wire n) = sym first ∙ e in
     absurd (omega (arith, ap (λ x. get_or x 0 0) same, ap length same, length-append l (wire n), short))
 
-pub more_none : (ks : List Kept) → HasMore ks ks
-more_none ks = record { more = []; places = sym (append-nil ks) }
+pub follows_none : {A : Type 0} (xs : List A) → Follows xs xs
+follows_none xs = record { more = []; whole = sym (append-nil xs) }
 
-pub more_again : {ks ks' ks'' : List Kept} (x : Kept) → HasMore ks ks' → ks'' ≡ ks' ++ x ∷ [] → HasMore ks ks''
-more_again {ks} x g e = record { more = g.more ++ x ∷ []; places = e ∙ ap (λ z. z ++ x ∷ []) g.places ∙ append_assoc ks g.more (x ∷ []) }
-
-pub extends_none : (b : Octets) (ks : List Kept) → Extends b ks b ks
-extends_none b ks = record { more_octets = []; octets = sym (append-nil b); more_places = []; places = sym (append-nil ks) }
-
-pub extends_again : {b b' b'' : Octets} {ks ks' ks'' : List Kept} → Extends b ks b' ks' → Extends b' ks' b'' ks'' → Extends b ks b'' ks''
-extends_again {b} {ks = ks} e f = record {
-  more_octets = e.more_octets ++ f.more_octets;
-  octets = f.octets ∙ ap (λ z. z ++ f.more_octets) e.octets ∙ append_assoc b e.more_octets f.more_octets;
-  more_places = e.more_places ++ f.more_places;
-  places = f.places ∙ ap (λ z. z ++ f.more_places) e.places ∙ append_assoc ks e.more_places f.more_places;
-}
-
-pub octets_added : {b b' : Octets} {ks ks' : List Kept} (o : Octets) → b' ≡ b ++ o → ks' ≡ ks → Extends b ks b' ks'
-octets_added {ks = ks} o e places = record { more_octets = o; octets = e; more_places = []; places = places ∙ sym (append-nil ks) }
+pub follows_again : {A : Type 0} {xs ys zs : List A} → Follows xs ys → Follows ys zs → Follows xs zs
+follows_again {xs = xs} f g = record { more = f.more ++ g.more; whole = g.whole ∙ ap (λ z. z ++ g.more) f.whole ∙ append_assoc xs f.more g.more }

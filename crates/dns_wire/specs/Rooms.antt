@@ -3,7 +3,7 @@ use Rattle.std.specs.Prelude.{◌≡◌, ℕ, List, ◌++◌, Bool, length}
 use Rattle.dns_spec.specs.Names.{Octets}
 use Rattle.dns_spec.specs.Layout.{Placed}
 use Rattle.dns_wire.specs.Kept.{Kept}
-use Rattle.dns_wire.specs.Writing.{asked_places, Extends, Holds, IsSound, IsWritten, Layout}
+use Rattle.dns_wire.specs.Writing.{asked_places, Follows, Holds, IsSound, IsWritten, Layout}
 use Rattle.dns_wire.specs.SuffixNumbers.{suffix_number}
 use Rattle.dns_wire.specs.declared.room.Room.{Room}
 
@@ -24,7 +24,8 @@ module _ {N size : ℕ} where
   -- What a step of writing keeps: octets and places came after those that were there, within the
   -- same limit, and the name of the question ends where it did.
   pub record Grows (old new : Room N size) : Type 0 where
-    pub extends : Extends old.octets.items old.places new.octets.items new.places
+    pub octets : Follows old.octets.items new.octets.items
+    pub places : Follows old.places new.places
     pub asked : new.asked_end ≡ old.asked_end
     pub limit : new.limit ≡ old.limit
     pub sound : IsSoundRoom new

@@ -105,17 +105,10 @@ pub record IsSound (N size limit : ℕ) (b : Octets) (a : ℕ) (ks : List Kept) 
   pub most : N ≤ 8192
   pub asked : IsAsked b a
 
--- octets and places come after those that were there
-pub record Extends (b : Octets) (ks : List Kept) (b' : Octets) (ks' : List Kept) : Type 0 where
-  pub more_octets : Octets
-  pub octets : b' ≡ b ++ more_octets
-  pub more_places : List Kept
-  pub places : ks' ≡ ks ++ more_places
-
--- places come after those that were there
-pub record HasMore (ks ks' : List Kept) : Type 0 where
-  pub more : List Kept
-  pub places : ks' ≡ ks ++ more
+-- elements come after those that were there
+pub record Follows {A : Type 0} (xs ys : List A) : Type 0 where
+  pub more : List A
+  pub whole : ys ≡ xs ++ more
 
 -- What was laid out after these octets is written exactly where it fits the limit. Its names are
 -- earlier names then, in whatever octets of that length the earlier ones are.

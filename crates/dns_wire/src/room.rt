@@ -6,7 +6,7 @@ ghost use Rattle.dns_spec.specs.Names.{Octets, DomainName, wire, is_name};
 ghost use Rattle.dns_spec.specs.Data.{Valid, class_in, compresses, laid_parts, type_mx, type_soa};
 ghost use Rattle.dns_spec.specs.Layout.{Placed, question_octets, octets16, octets32, pointer, shared_octets, data_laid, record_laid};
 ghost use Rattle.dns_spec.specs.LayoutSize.{cost};
-ghost use Rattle.dns_wire.specs.Writing.{name_before, IsAsked, asked_places, NotAsked, IsLastOf, front_size, pointed_place, new_places, end_octets, HasMore, AfterLabel, Holds, shown, octets_laid, name_laid, parts_laid, tail_laid, records_laid};
+ghost use Rattle.dns_wire.specs.Writing.{name_before, IsAsked, asked_places, NotAsked, IsLastOf, front_size, pointed_place, new_places, end_octets, Follows, AfterLabel, Holds, shown, octets_laid, name_laid, parts_laid, tail_laid, records_laid};
 ghost use Rattle.dns_wire.specs.Kept.{IsSharedAt, NoneSpelled};
 ghost use Rattle.dns_wire.specs.Rooms.{IsSoundRoom, HasNames, Grows, Writes};
 ghost use Rattle.dns_wire.specs.SuffixNumbers.{suffix_number};
@@ -468,7 +468,7 @@ fn keep_suffixes<H: SuffixHash, const N: usize>(
         → places.new ≡ places.old
         ++ new_places (suffix_number (H.numbers hash.old)) ms n at }
     ensures few { 2 * length places.new ≤ at + front }
-    ensures more { HasMore places.old places.new }
+    ensures more { Follows places.old places.new }
     ensures same { H.numbers hash.new ≡ H.numbers hash.old }
 {
     if front == 0 {

@@ -1,5 +1,5 @@
 use Rattle.std.proofs.Common.{◌∙◌, refl, sym, ap}
-use Rattle.dns_wire.proofs.Suffixes.{more_none, more_again, keep_begins, keep_label, keep_root, keep_high, keep_past, keep_none}
+use Rattle.dns_wire.proofs.Suffixes.{follows_none, follows_again, keep_begins, keep_label, keep_root, keep_high, keep_past, keep_none}
 use Rattle.dns_wire.specs.SuffixNumbers.{suffix_number}
 use Rattle.dns_wire.proofs.room.keep_suffixes.Goals.{then-next-at-via-then-next-at, then-next-at-via-else-next-at+then-place-gt-LAST_PLACE}
 use Rattle.dns_wire.proofs.room.keep_suffixes.Goals as goal
@@ -9,12 +9,12 @@ returns-then-front-eq0-clause-kept g c = λ ms n e ok front.
     keep_none (suffix_number (g.H.SuffixHash.numbers c.args.hash.now)) ms n c.args.at c.args.places.now (sym front ∙ c.if-front-eq0.true)
 
 pub returns-then-front-eq0-clause-more : goal.returns-then-front-eq0-clause-more
-returns-then-front-eq0-clause-more g c = more_none c.args.places.now
+returns-then-front-eq0-clause-more g c = follows_none c.args.places.now
 
 pub suffixes-init : goal.suffixes-init
 suffixes-init g c = record {
   keep = keep_begins (suffix_number (g.H.SuffixHash.numbers c.args.hash.now)) c.args.places.now c.args.name.now c.args.front c.args.at c.requires.few;
-  more = more_none c.args.places.now;
+  more = follows_none c.args.places.now;
   same = refl;
 }
 
@@ -25,7 +25,7 @@ suffixes-preserved g c =
     let kept = keep_label c.in-Some.length c.number_of.result c.suffixes.invariant.keep a c.if-next-at.false c.if-place-gt-LAST_PLACE.false number in
     record {
       keep = rw c.insert.ensures kept;
-      more = more_again _ c.suffixes.invariant.more c.insert.ensures;
+      more = follows_again c.suffixes.invariant.more (record { more = _; whole = c.insert.ensures });
       same = c.number_of.ensures.same ∙ c.suffixes.invariant.same;
     }
 

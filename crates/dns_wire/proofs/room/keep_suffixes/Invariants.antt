@@ -1,5 +1,5 @@
 use Rattle.std.proofs.Common.{◌≡◌, length}
-use Rattle.dns_wire.specs.Writing.{HasMore}
+use Rattle.dns_wire.specs.Writing.{Follows}
 use Rattle.dns_wire.proofs.Suffixes.{Keep}
 use Rattle.dns_wire.specs.SuffixNumbers.{suffix_number}
 use Rattle.dns_wire.proofs.room.keep_suffixes.Given as goal
@@ -8,7 +8,7 @@ use Rattle.dns_wire.proofs.room.keep_suffixes.Given as goal
 abbrev pub invariant-suffixes : goal.invariant-suffixes
 invariant-suffixes g l = record {
   keep : Keep (suffix_number (g.H.SuffixHash.numbers l.initial.hash)) l.initial.places l.places l.name l.rest l.front l.at l.place;
-  more : HasMore l.initial.places l.places;
+  more : Follows l.initial.places l.places;
   same : g.H.SuffixHash.numbers l.hash ≡ g.H.SuffixHash.numbers l.initial.hash;
 }
 

@@ -1,6 +1,7 @@
 use Rattle.std.proofs.Common.{◌≡◌, ◌++◌, rules, refl, ap, arith, length, length-append}
 use Rattle.dns_wire.proofs.AskedLemmas.{is_asked_more}
-use Rattle.dns_wire.proofs.Suffixes.{octets_added}
+use Rattle.dns_wire.proofs.Suffixes.{follows_none}
+use Rattle.dns_wire.proofs.Steps.{sound_with}
 use Rattle.dns_wire.proofs.room.Room.extend.Goals as goal
 
 pub returns-clause-grows : goal.returns-clause-grows
@@ -12,16 +13,9 @@ returns-clause-grows g c =
     let few = s.few in
     let long = length-append b c.args.octets.now in
     record {
-      extends = octets_added c.args.octets.now more refl;
+      octets = record { more = c.args.octets.now; whole = more };
+      places = follows_none c.args.self.now.places;
       asked = refl;
       limit = refl;
-      sound = record {
-        within = omega (arith, room, ap length more, long);
-        fits = s.fits;
-        short = s.short;
-        few = omega (arith, few, ap length more, long);
-        enough = s.enough;
-        most = s.most;
-        asked = is_asked_more c.args.octets.now s.asked more refl;
-      };
+      sound = sound_with s (omega (arith, room, ap length more, long)) (omega (arith, few, ap length more, long)) (is_asked_more c.args.octets.now s.asked more refl);
     }

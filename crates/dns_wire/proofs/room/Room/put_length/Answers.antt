@@ -3,6 +3,7 @@ use Rattle.std.proofs.lemmas.List.{length-take, length-drop}
 use Rattle.dns_wire.proofs.AskedLemmas.{is_asked_same, take_patched}
 use Rattle.dns_spec.specs.Layout.{octets16}
 use Rattle.dns_wire.proofs.DataWritten.{put_over}
+use Rattle.dns_wire.proofs.Steps.{sound_with}
 use Rattle.dns_wire.proofs.room.Room.put_length.Goals as goal
 
 pub returns-clause-octets : goal.returns-clause-octets
@@ -29,12 +30,5 @@ returns-clause-sound g c =
     let front = length-take (c.args.at + 8) b in
     let back = length-append (octets16 (length b - c.args.at - 10)) (drop (c.args.at + 10) b) in
     let rest = length-drop (c.args.at + 10) b in
-    record {
-      within = omega (arith, within, long, front, back, rest, inside);
-      fits = s.fits;
-      short = s.short;
-      few = omega (arith, few, long, front, back, rest, inside);
-      enough = s.enough;
-      most = s.most;
-      asked = is_asked_same s.asked (take_patched c.args.self.now.asked_end (c.args.at + 8) b x _ set (omega (arith, after)) (omega (arith, inside))) refl (omega (arith, end, long, front, back, rest, inside));
-    }
+    sound_with s (omega (arith, within, long, front, back, rest, inside)) (omega (arith, few, long, front, back, rest, inside))
+    (is_asked_same s.asked (take_patched c.args.self.now.asked_end (c.args.at + 8) b x _ set (omega (arith, after)) (omega (arith, inside))) refl (omega (arith, end, long, front, back, rest, inside)))

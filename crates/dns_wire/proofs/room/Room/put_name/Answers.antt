@@ -5,6 +5,7 @@ use Rattle.dns_wire.proofs.NameWritten.{shared_cut, holds_name}
 use Rattle.dns_spec.specs.Layout.{shared_octets}
 use Rattle.dns_wire.specs.Writing.{IsAsked, asked_places, end_octets, new_places, Holds}
 use Rattle.dns_wire.specs.SuffixNumbers.{suffix_number}
+use Rattle.dns_wire.proofs.Steps.{sound_with}
 use Rattle.dns_wire.proofs.room.Room.put_name.Goals as goal
 
 pub shared_suffix-shared-requires : goal.shared_suffix-shared-requires
@@ -39,31 +40,21 @@ returns-clause-grows g c =
     let end = end_octets c.shared_suffix-shared.result.place in
     let more = c.keep_suffixes.ensures.more in
     record {
-      extends = record {
-        more_octets = front ++ end;
-        octets = c.if-not-append_end.ensures.octets;
-        more_places = more.more;
-        places = more.places ∙ ap (λ ks. ks ++ more.more) c.append_end.ensures.places;
-      };
+      octets = record { more = front ++ end; whole = c.if-not-append_end.ensures.octets };
+      places = record { more = more.more; whole = more.whole ∙ ap (λ ks. ks ++ more.more) c.append_end.ensures.places };
       asked = step.asked;
       limit = step.limit;
-      sound = record {
-        within = s.within;
-        fits = s.fits;
-        short = s.short;
-        few = omega (
-          arith,
-          few,
-          ap length c.if-not-append_end.ensures.octets,
-          length-append c.args.self.now.octets.items (front ++ end),
-          length-append front end,
-          c.split_at.ensures.front_len,
-          c.len-at.ensures.value,
-        );
-        enough = s.enough;
-        most = s.most;
-        asked = s.asked;
-      };
+      sound = sound_with s s.within
+          (omega (
+            arith,
+            few,
+            ap length c.if-not-append_end.ensures.octets,
+            length-append c.args.self.now.octets.items (front ++ end),
+            length-append front end,
+            c.split_at.ensures.front_len,
+            c.len-at.ensures.value,
+          ))
+          s.asked;
     }
 
 pub returns-clause-writes : goal.returns-clause-writes

@@ -9,6 +9,7 @@ use Rattle.dns_wire.specs.Writing.{Holds, asked_places, new_places}
 use Rattle.dns_wire.proofs.NameWritten.{holds_nothing, holds_octets, holds_name}
 use Rattle.dns_wire.proofs.AskedLemmas.{asked_whole, is_asked_whole}
 use Rattle.dns_wire.specs.SuffixNumbers.{suffix_number}
+use Rattle.dns_wire.proofs.Steps.{sound_with}
 use Rattle.dns_wire.proofs.room.Room.put_question.Goals as goal
 use Rattle.dns_wire.proofs.room.Room.put_question.Given as given
 
@@ -78,14 +79,7 @@ append-requires g c =
     let own : c.extend.new.self.octets.items ≡ replicate 12 0 ++ wire n = c.extend.ensures.octets ∙ ap₂ ◌++◌ c.requires.blank c.octets.ensures.value in
     let short = c.octets.ensures.bound in (
       search rules,
-      record {
-        within = s.within;
-        fits = s.fits;
-        short = s.short;
-        few = s.few;
-        enough = s.enough;
-        most = s.most;
-        asked = is_asked_whole n [] (own ∙ sym (append-nil (replicate 12 0 ++ wire n))) c.octets.ensures.is_name (omega (arith, short, ap length c.octets.ensures.value))
-            (c.len-self.ensures.value ∙ ap length own ∙ length-append (replicate 12 0) (wire n));
-      },
+      sound_with s s.within s.few
+          (is_asked_whole n [] (own ∙ sym (append-nil (replicate 12 0 ++ wire n))) c.octets.ensures.is_name (omega (arith, short, ap length c.octets.ensures.value))
+          (c.len-self.ensures.value ∙ ap length own ∙ length-append (replicate 12 0) (wire n))),
     )

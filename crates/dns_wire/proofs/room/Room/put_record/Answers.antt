@@ -36,14 +36,14 @@ returns-else-compresses-clause-writes g c =
 
 pub returns-then-compresses-clause-longer : goal.returns-then-compresses-clause-longer
 returns-then-compresses-clause-longer g c =
-    let more = c.put_name.ensures.grows.extends in
-    on_then c.put_shared_tail.result (λ long. omega (arith, long, ap length more.octets, length-append c.args.self.now.octets.items more.more_octets)) c.put_shared_tail.ensures.longer
+    let more = c.put_name.ensures.grows.octets in
+    on_then c.put_shared_tail.result (λ long. omega (arith, long, ap length more.whole, length-append c.args.self.now.octets.items more.more)) c.put_shared_tail.ensures.longer
 
 pub returns-else-compresses-clause-longer : goal.returns-else-compresses-clause-longer
 returns-else-compresses-clause-longer g c =
-    let more = c.put_name.ensures.grows.extends in
+    let more = c.put_name.ensures.grows.octets in
     let x = c.record_numbers.result in
     let d = c.args.rdata.now in
     on_then c.append.result
-    (λ e. omega (arith, ap length c.record_numbers.ensures, ap length e, length-append c.put_name.new.self.octets.items (x ++ d), length-append x d, ap length more.octets, length-append c.args.self.now.octets.items more.more_octets))
+    (λ e. omega (arith, ap length c.record_numbers.ensures, ap length e, length-append c.put_name.new.self.octets.items (x ++ d), length-append x d, ap length more.whole, length-append c.args.self.now.octets.items more.more))
     c.append.ensures.octets
