@@ -311,9 +311,7 @@ fn pointer_octets(place: u16) -> [u8; 2]
     requires { place < 16384 }
     ensures { result ≡ pointer place }
 {
-    let mut octets = [0; 2];
-    BigEndian::write_u16(&mut octets, 0xc000 + place);
-    octets
+    number_octets(0xc000 + place)
 }
 
 // How a name is laid out: the octets of its labels before the suffix that it shares, and the place
