@@ -1,53 +1,40 @@
 -- The sets of an answer are its aliases, and the sets that end it.
-use Rattle.std.proofs.Common.{◌≡◌, ℕ, Bool, true, false, cond, ◌||◌, ◌&&◌, ◌⊎◌, inl, inr, not, min, List, [], ◌∷◌, ◌++◌, map, Option, None, Some, refl, sym, ap, ap₂, ◌∙◌, subst, append-nil, append_assoc}
-use Rattle.std.proofs.lemmas.Bool.{false≢true, eqb-true, or_cases}
+use Rattle.std.proofs.Common.{◌≡◌, ℕ, ◌+◌, ◌-◌, ◌*◌, length, length-append, Bool, true, false, cond, ◌||◌, ◌&&◌, ◌⊎◌, inl, inr, not, min, List, [], ◌∷◌, ◌++◌, map, Option, None, Some, refl, sym, ap, ap₂, ◌∙◌, subst, append-nil, append_assoc, arith}
+use Rattle.std.proofs.lemmas.Bool.{not-true}
+use Rattle.std.proofs.lemmas.Bool.Decides.{nat_tests}
+use Rattle.std.proofs.lemmas.Map.Views.{any-filter_same}
 use Rattle.std.proofs.lemmas.Grind.{flat_map-append}
 use Rattle.std.proofs.lemmas.List.Elements.{filter-append}
 use Rattle.std.proofs.lemmas.List.Folds.{list_any-append}
-use Rattle.std.specs.Prelude.{◌==◌}
+use Rattle.std.specs.Prelude.{◌==◌, is_some, sum}
 use Rattle.std.specs.List.{list_any, filter, filter_map}
-use Rattle.dns_spec.specs.Names.{DomainName, same}
+use Rattle.dns_spec.specs.Names.{DomainName, same, at_or_below}
 use Rattle.dns_spec.specs.Data.{type_a, type_ns, type_cname, type_soa, type_mx, type_aaaa, type_srv, qtype_any, target, soa_minimum}
 use Rattle.dns_spec.specs.Records.{ResourceRecord, ZoneContents, at, rrset, of_type, with_owner}
 use Rattle.dns_spec.specs.Sets.{rising_types, of_first_type, of_lowest_type}
 use Rattle.dns_spec.specs.Tree.{cut_of, found}
 use Rattle.dns_spec.specs.Reading.{no_error, name_error}
 use Rattle.dns_spec.specs.Layout.{Section, answer, authority, Item, records_of}
-use Rattle.dns_spec.specs.Answer.{item, follows_alias, alias_items, last_sought, has_any, asked_records, Outcome, referral_to, negative, negative_soa, positive, outcome_by, outcome_at, outcome, targets_of, targets_inside, targets_outside, targets, extra, main_items, items, required_items}
+use Rattle.dns_spec.specs.Answer.{item, follows_alias, alias_items, last_sought, has_any, asked_records, Outcome, referral_to, negative, negative_soa, positive, outcome_by, outcome_at, outcome, targets_of, targets_inside, targets_outside, targets, extra, main_items, items, required_items, chain, targets_in_zone, is_authoritative}
 use Rattle.dns_spec.proofs.Records.SortedOnce.{Each, each_weaker, filter_each}
 use Rattle.dns_spec.proofs.Replies.WritableItems.{each_append, each_flat_map}
 use Rattle.dns_spec.proofs.Replies.RequiredItems.{IsAlias, target_of, each_of_type, each_alias_item}
-use Rattle.dns_spec.proofs.Replies.FewItems.{item_records, targets_last}
+use Rattle.dns_spec.proofs.Replies.FewItems.{item_records, targets_last, sum_cons}
 use Rattle.dns_zone.proofs.NameTree.{same-under}
 use Rattle.dns_answer.specs.Targets.{addresses_of, side_items}
-use Rattle.dns_answer.specs.Ending.{all_names, inside, not_inside, glue_by, others_by, ending_targets, ending_items, ending_required}
+use Rattle.dns_answer.specs.Ending.{Rest, all_names, inside, not_inside, glue_by, others_by, nodes_by, misses_by, ending_targets, ending_items, ending_required}
+use Rattle.dns_answer.specs.Chain.{chain_rest}
 use Rattle.dns_answer.proofs.TargetLaws.{side_items-append, side_items-none}
-use Rattle.dns_answer.proofs.StandingAddresses.{NoAddresses, extra-side, extra-none}
+use Rattle.dns_answer.proofs.StandingAddresses.{NotAddress, NoAddresses, extra-side, extra-none}
 
 -- a test that names that are the same pass alike
 abbrev Respects : (DomainName → Bool) → Type 0
 Respects p = (n m : DomainName) → same n m ≡ true → p n ≡ p m
 
 module _ (p : DomainName → Bool) (alike : Respects p) where
-  any-filter : (m : DomainName) (ms : List DomainName) → p m ≡ true → list_any (same m) (filter p ms) ≡ list_any (same m) ms
-  any-filter m [] e = refl
-  any-filter m (x ∷ xs) e = go (p x) refl (same m x) refl (any-filter m xs e)
-    where
-      go : (a : Bool) → p x ≡ a → (b : Bool) → same m x ≡ b → list_any (same m) (filter p xs) ≡ list_any (same m) xs
-          → list_any (same m) (cond a (x ∷ filter p xs) (filter p xs)) ≡ (same m x || list_any (same m) xs)
-      go true f b g rest = ap (λ t. same m x || t) rest
-      go false f true g rest = absurd (false≢true (sym f ∙ sym (alike m x g) ∙ e))
-      go false f false g rest = rest ∙ sym (ap (λ b. b || list_any (same m) xs) g)
-
-  none-same : (m : DomainName) (ms : List DomainName) → p m ≡ false → list_any (same m) (filter p ms) ≡ false
-  none-same m [] e = refl
-  none-same m (x ∷ xs) e = go (p x) refl (same m x) refl (none-same m xs e)
-    where
-      go : (a : Bool) → p x ≡ a → (b : Bool) → same m x ≡ b → list_any (same m) (filter p xs) ≡ false
-          → list_any (same m) (cond a (x ∷ filter p xs) (filter p xs)) ≡ false
-      go true f true g rest = absurd (false≢true (sym e ∙ alike m x g ∙ f))
-      go true f false g rest = ap (λ b. b || list_any (same m) (filter p xs)) g ∙ rest
-      go false f b g rest = rest
+  any-filter : (m : DomainName) (b : Bool) (ms : List DomainName) → p m ≡ b
+      → list_any (same m) (filter p ms) ≡ (b && list_any (same m) ms)
+  any-filter m b ms e = any-filter_same (same m) p b (λ x h. sym (alike m x h) ∙ e) ms
 
   -- the addresses of targets that pass it
   side-filter : (z : ZoneContents) (before ms : List DomainName) → side_items z all_names (filter p before) (filter p ms) ≡ side_items z p before ms
@@ -62,7 +49,7 @@ module _ (p : DomainName → Bool) (alike : Respects p) where
           → side_items z all_names (filter p before) (cond b (m ∷ filter p ms) (filter p ms))
           ≡ cond (b && not (list_any (same m) before)) (addresses_of z m) [] ++ side_items z p (before ++ m ∷ []) ms
       go true e rest =
-          ap (λ b. cond (not b) (addresses_of z m) [] ++ side_items z all_names (filter p before ++ m ∷ []) (filter p ms)) (any-filter m before e)
+          ap (λ b. cond (not b) (addresses_of z m) [] ++ side_items z all_names (filter p before ++ m ∷ []) (filter p ms)) (any-filter m true before e)
           ∙ ap (λ xs. cond (not (list_any (same m) before)) (addresses_of z m) [] ++ side_items z all_names xs (filter p ms)) (sym (last true e))
           ∙ ap (λ xs. cond (not (list_any (same m) before)) (addresses_of z m) [] ++ xs) rest
       go false e rest = ap (λ xs. side_items z all_names xs (filter p ms)) (sym (last false e ∙ append-nil (filter p before))) ∙ rest
@@ -76,10 +63,6 @@ side-apart z xs before (m ∷ ms) e =
     (list_any-append (same m) xs before ∙ ap (λ b. b || list_any (same m) before) e.0)
     ∙ ap (λ ys. cond (not (list_any (same m) before)) (addresses_of z m) [] ++ ys)
     (ap (λ ys. side_items z all_names ys ms) (append_assoc xs before (m ∷ [])) ∙ side-apart z xs (before ++ m ∷ []) ms e.1)
-
-not-true_is : (b : Bool) → not b ≡ true → b ≡ false
-not-true_is true e = absurd (false≢true e)
-not-true_is false e = refl
 
 -- the targets of a referral: those inside, and then those outside
 module _ (z : ZoneContents) (c : DomainName) (ts : List DomainName) where
@@ -98,7 +81,7 @@ module _ (z : ZoneContents) (c : DomainName) (ts : List DomainName) where
       let out = filter (not_inside c) ts in
       let apart : Each (λ m. list_any (same m) in_c ≡ false) out =
       each_weaker (λ m. not_inside c m ≡ true) (λ m. list_any (same m) in_c ≡ false) out
-      (λ m e. none-same (inside c) alike_inside m ts (not-true_is (inside c m) e)) (filter_each (not_inside c) ts)
+      (λ m e. any-filter (inside c) alike_inside m false ts (not-true (inside c m) e)) (filter_each (not_inside c) ts)
       in
       side_items-append z all_names [] in_c out ∙ ap (λ xs. xs ++ side_items z all_names in_c out) side-inside
       ∙ ap (λ xs. side_items z (inside c) [] ts ++ xs)
@@ -120,40 +103,24 @@ no-targets s u rs e f = ap (filter_map target_of) (item_records s rs) ∙ go rs 
         let none : target_of r ≡ None = ap (λ b. cond b (target r.rtype r.rdata) None) (ap is_target_type e.0 ∙ f) in
         rw none (go rs e.1)
 
-other-type : (u t : ℕ) → (u == t) ≡ false → (rs : List ResourceRecord) → AreOf u rs → Each (λ (r : ResourceRecord). (r.rtype == t) ≡ false) rs
-other-type u t e rs k = each_weaker (λ (r : ResourceRecord). r.rtype ≡ u) (λ (r : ResourceRecord). (r.rtype == t) ≡ false) rs (λ r h. ap (λ v. v == t) h ∙ e) k
+abbrev is_address_type : ℕ → Bool
+is_address_type u = u == type_a || u == type_aaaa
 
-no-addresses : (s : Section) (u : ℕ) (rs : List ResourceRecord) → AreOf u rs → (u == type_a) ≡ false → (u == type_aaaa) ≡ false → NoAddresses (item s rs)
-no-addresses s u rs e f g = record {
-  a = subst (Each (λ (r : ResourceRecord). (r.rtype == type_a) ≡ false)) (sym (item_records s rs)) (other-type u type_a f rs e);
-  aaaa = subst (Each (λ (r : ResourceRecord). (r.rtype == type_aaaa) ≡ false)) (sym (item_records s rs)) (other-type u type_aaaa g rs e);
-}
+no-addresses : (s : Section) (u : ℕ) (rs : List ResourceRecord) → AreOf u rs
+    → is_address_type u ≡ false → NoAddresses (item s rs)
+no-addresses s u rs e f =
+    subst (Each NotAddress) (sym (item_records s rs))
+    (each_weaker (λ (r : ResourceRecord). r.rtype ≡ u) NotAddress rs
+    (λ r h. ap is_address_type h ∙ f) e)
 
--- a set with targets has no addresses
-with-targets : (s : Section) (u : ℕ) (rs : List ResourceRecord) → AreOf u rs → is_target_type u ≡ true → NoAddresses (item s rs)
-with-targets s u rs e f = go (or_cases (u == type_ns || u == type_mx) (u == type_srv) f)
-  where
-    is : (v : ℕ) → (v == type_a) ≡ false → (v == type_aaaa) ≡ false → u ≡ v → NoAddresses (item s rs)
-    is v a b h = no-addresses s u rs e (ap (λ w. w == type_a) h ∙ a) (ap (λ w. w == type_aaaa) h ∙ b)
-
-    two : ((u == type_ns) ≡ true) ⊎ ((u == type_mx) ≡ true) → NoAddresses (item s rs)
-    two (inl h) = is type_ns refl refl (eqb-true u type_ns h)
-    two (inr h) = is type_mx refl refl (eqb-true u type_mx h)
-
-    go : ((u == type_ns || u == type_mx) ≡ true) ⊎ ((u == type_srv) ≡ true) → NoAddresses (item s rs)
-    go (inl h) = two (or_cases (u == type_ns) (u == type_mx) h)
-    go (inr h) = is type_srv refl refl (eqb-true u type_srv h)
+-- a type with targets is not one of addresses
+targets-apart : (u : ℕ) → is_target_type u ≡ true → is_address_type u ≡ false
+targets-apart u e = grind (arith, nat_tests)
 
 NoAddresses-append : (is js : List Item) → NoAddresses is → NoAddresses js → NoAddresses (is ++ js)
 NoAddresses-append is js e f =
-    let both = flat_map-append (λ (i : Item). i.records) is js in
-    record {
-      a = subst (Each (λ (r : ResourceRecord). (r.rtype == type_a) ≡ false)) (sym both) (each_append (λ (r : ResourceRecord). (r.rtype == type_a) ≡ false) (records_of is) (records_of js) e.a f.a);
-      aaaa = subst (Each (λ (r : ResourceRecord). (r.rtype == type_aaaa) ≡ false)) (sym both) (each_append (λ (r : ResourceRecord). (r.rtype == type_aaaa) ≡ false) (records_of is) (records_of js) e.aaaa f.aaaa);
-    }
-
-NoAddresses-none : NoAddresses []
-NoAddresses-none = record { a = tt; aaaa = tt }
+    subst (Each NotAddress) (sym (flat_map-append (λ (i : Item). i.records) is js))
+    (each_append NotAddress (records_of is) (records_of js) e f)
 
 -- the records of what was asked for have one type
 record OneType (rs : List ResourceRecord) : Type 0 where
@@ -181,57 +148,94 @@ denial-no_targets z =
     lowered [] e = tt
     lowered (r ∷ rs) e = (e.0, lowered rs e.1)
 
--- what is added after aliases and the sets of an outcome
+-- the labels of names below the origin
+abbrev pub depths : ZoneContents → List DomainName → ℕ
+depths z ns = sum (map (λ (n : DomainName). length n - length z.origin) ns)
+
+depths-append : (z : ZoneContents) (ns ms : List DomainName)
+    → depths z (ns ++ ms) ≡ depths z ns + depths z ms
+depths-append z [] ms = omega arith
+depths-append z (n ∷ ns) ms =
+    let below = λ (n : DomainName). length n - length z.origin in
+    let a = sum_cons (below n) (map below (ns ++ ms)) in
+    let b = sum_cons (below n) (map below ns) in
+    let c = depths-append z ns ms in
+    omega (arith, a, b, c)
+
+all-names : (ms : List DomainName) → filter all_names ms ≡ ms
+all-names [] = refl
+all-names (m ∷ ms) = ap (λ xs. m ∷ xs) (all-names ms)
+
+-- what is added after aliases and the sets of an outcome, and what its targets take
 record Adds (z : ZoneContents) (front : List Item) (o : Outcome) : Type 0 where
-  all : extra z (front ++ main_items o) (targets_of o.answers ++ targets_inside o ++ targets_outside o) ≡ glue_by z o.referral (ending_targets o) ++ others_by z o.referral (ending_targets o)
-  glue : extra z (front ++ main_items o) (targets_inside o) ≡ glue_by z o.referral (ending_targets o)
+  all : extra z (front ++ main_items o) (targets o)
+      ≡ glue_by z o.referral (ending_targets o) ++ others_by z o.referral (ending_targets o)
+  glue : extra z (front ++ main_items o) (targets_inside o)
+      ≡ glue_by z o.referral (ending_targets o)
+  nodes : nodes_by z o.referral (ending_targets o) ≡ depths z (targets_in_zone z (targets o))
+  misses : misses_by o.referral (ending_targets o) ≡ length (targets o)
+  speaks : (o.referral ≡ None) ⊎ (o.answers ≡ [])
 
 module _ (z : ZoneContents) (front : List Item) (clear : NoAddresses front) where
-  adds-nothing : (o : Outcome) → o.referral ≡ None → targets_of o.answers ≡ [] → ending_targets o ≡ [] → Adds z front o
-  adds-nothing o none e f =
-      let inside_none : targets_inside o ≡ [] = rw none refl in
-      let outside_none : targets_outside o ≡ [] = rw none refl in
-      let main = front ++ main_items o in
-      let glue_none : glue_by z o.referral (ending_targets o) ≡ [] = ap (λ r. glue_by z r (ending_targets o)) none in
-      let others_none : others_by z o.referral (ending_targets o) ≡ [] = ap (λ r. others_by z r (ending_targets o)) none ∙ ap (side_items z all_names []) f ∙ side_items-none z all_names in
+  adds-plain : (rcode : ℕ) (a b : List Item) → targets_of a ≡ targets_of (a ++ b)
+      → NoAddresses (a ++ b) ⊎ (targets_of (a ++ b) ≡ [])
+      → Adds z front (record { rcode = rcode; referral = None; answers = a; authorities = b })
+  adds-plain rcode a b same_targets few =
+      let ts = targets_of a in
+      let whole : (ts ++ []) ++ [] ≡ targets_of (a ++ b) =
+      append-nil (ts ++ []) ∙ append-nil ts ∙ same_targets in
+      let named = all-names (targets_of (a ++ b)) ∙ sym whole in
       record {
-        all =
-            ap (λ xs. extra z main (xs ++ targets_inside o ++ targets_outside o)) e ∙ ap (λ xs. extra z main (xs ++ targets_outside o)) inside_none
-            ∙ ap (extra z main) outside_none ∙ extra-none z main ∙ sym (ap (λ xs. xs ++ others_by z o.referral (ending_targets o)) glue_none ∙ others_none);
-        glue = ap (extra z main) inside_none ∙ extra-none z main ∙ sym glue_none;
+        all = ap (extra z (front ++ (a ++ b))) whole ∙ added few;
+        glue = extra-none z (front ++ (a ++ b));
+        nodes = ap (λ ms. depths z (targets_in_zone z ms)) named;
+        misses = ap length named;
+        speaks = inl refl;
       }
+    where
+      added : NoAddresses (a ++ b) ⊎ (targets_of (a ++ b) ≡ [])
+          → extra z (front ++ (a ++ b)) (targets_of (a ++ b))
+          ≡ side_items z all_names [] (targets_of (a ++ b))
+      added (inl h) = extra-side z (front ++ (a ++ b)) _ (NoAddresses-append front (a ++ b) clear h)
+      added (inr e) =
+          ap (extra z (front ++ (a ++ b))) e ∙ extra-none z (front ++ (a ++ b))
+          ∙ sym (ap (side_items z all_names []) e ∙ side_items-none z all_names)
 
   adds-set : (rs : List ResourceRecord) (u : ℕ) → AreOf u rs → Adds z front (positive (item answer rs))
-  adds-set rs u e = go (is_target_type u) refl
+  adds-set rs u e = adds-plain no_error is [] (ap targets_of (sym whole)) (go (is_target_type u) refl)
     where
       is : List Item
       is = item answer rs
 
-      whole : targets_of (is ++ []) ≡ targets_of is
-      whole = ap targets_of (append-nil is)
+      whole : is ++ [] ≡ is
+      whole = append-nil is
 
-      go : (b : Bool) → is_target_type u ≡ b → Adds z front (positive is)
-      go false f = adds-nothing (positive is) refl (no-targets answer u rs e f) (whole ∙ no-targets answer u rs e f)
-      go true f = record {
-        all =
-            ap (extra z (front ++ (is ++ []))) (append-nil (targets_of is ++ []) ∙ append-nil (targets_of is))
-            ∙ extra-side z (front ++ (is ++ [])) (targets_of is) (NoAddresses-append front (is ++ []) clear (NoAddresses-append is [] (with-targets answer u rs e f) NoAddresses-none))
-            ∙ ap (side_items z all_names []) (sym whole);
-        glue = extra-none z (front ++ (is ++ []));
-      }
+      go : (b : Bool) → is_target_type u ≡ b → NoAddresses (is ++ []) ⊎ (targets_of (is ++ []) ≡ [])
+      go true f = inl (subst NoAddresses (sym whole) (no-addresses answer u rs e (targets-apart u f)))
+      go false f = inr (ap targets_of whole ∙ no-targets answer u rs e f)
 
   adds-referral : (c : DomainName) → Adds z front (referral_to z c)
   adds-referral c =
-      let o = referral_to z c in
-      let is = o.authorities in
-      let ts = targets_of is in
+      let is = item authority (with_owner c (rrset z c type_ns)) in
+      let in_c = filter (inside c) (targets_of is) in
+      let out = filter (not_inside c) (targets_of is) in
       let servers : AreOf type_ns (with_owner c (rrset z c type_ns)) = shown (rrset z c type_ns) (each_of_type type_ns (at z c)) in
-      let none = NoAddresses-append front is clear (no-addresses authority type_ns (with_owner c (rrset z c type_ns)) servers refl refl) in
+      let none = NoAddresses-append front is clear (no-addresses authority type_ns (with_owner c (rrset z c type_ns)) servers refl) in
+      let whole : (in_c ++ []) ++ (out ++ []) ≡ in_c ++ out =
+      ap₂ (λ xs ys. xs ++ ys) (append-nil in_c) (append-nil out) in
       record {
         all =
-            ap₂ (λ xs ys. extra z (front ++ is) (xs ++ ys)) (append-nil (filter (inside c) ts)) (append-nil (filter (not_inside c) ts))
-            ∙ extra-side z (front ++ is) (filter (inside c) ts ++ filter (not_inside c) ts) none ∙ side-both z c ts;
-        glue = ap (extra z (front ++ is)) (append-nil (filter (inside c) ts)) ∙ extra-side z (front ++ is) (filter (inside c) ts) none ∙ side-inside z c ts;
+            ap (extra z (front ++ is)) whole ∙ extra-side z (front ++ is) (in_c ++ out) none
+            ∙ side-both z c (targets_of is);
+        glue =
+            ap (extra z (front ++ is)) (append-nil in_c) ∙ extra-side z (front ++ is) in_c none
+            ∙ side-inside z c (targets_of is);
+        nodes =
+            sym (ap (λ ms. depths z (targets_in_zone z ms)) whole
+            ∙ ap (depths z) (filter-append (λ m. at_or_below m z.origin) in_c out)
+            ∙ depths-append z (targets_in_zone z in_c) (targets_in_zone z out));
+        misses = sym (ap length whole ∙ length-append in_c out);
+        speaks = inr refl;
       }
     where
       shown : (rs : List ResourceRecord) → AreOf type_ns rs → AreOf type_ns (with_owner c rs)
@@ -239,7 +243,8 @@ module _ (z : ZoneContents) (front : List Item) (clear : NoAddresses front) wher
       shown (r ∷ rs) e = (e.0, shown rs e.1)
 
   adds-denial : (rcode : ℕ) → Adds z front (negative z rcode)
-  adds-denial rcode = adds-nothing (negative z rcode) refl refl (denial-no_targets z)
+  adds-denial rcode =
+      adds-plain rcode [] (negative_soa z) (sym (denial-no_targets z)) (inr (denial-no_targets z))
 
   adds : (t : ℕ) (x : Option DomainName) (y : Option (List ResourceRecord)) → Adds z front (outcome_by z t x y)
   adds t (Some c) y = adds-referral c
@@ -247,7 +252,7 @@ module _ (z : ZoneContents) (front : List Item) (clear : NoAddresses front) wher
   adds t None (Some rs) = go (follows_alias t && has_any (of_type type_cname rs)) (has_any (asked_records t rs))
     where
       go : (b c : Bool) → Adds z front (cond b (positive []) (cond c (positive (item answer (asked_records t rs))) (negative z no_error)))
-      go true c = adds-nothing (positive []) refl refl refl
+      go true c = adds-plain no_error [] [] refl (inr refl)
       go false true = adds-set (asked_records t rs) (asked-one t rs).rtype (asked-one t rs).each
       go false false = adds-denial no_error
 
@@ -255,11 +260,9 @@ module _ (z : ZoneContents) (front : List Item) (clear : NoAddresses front) wher
 aliases_clear : (z : ZoneContents) (q : DomainName) (t : ℕ) → NoAddresses (alias_items z q t)
 aliases_clear z q t =
     let each = each_flat_map IsAlias (λ (i : Item). Each IsAlias i.records) (λ (i : Item). i.records) (alias_items z q t) (λ i h. h) (each_alias_item z q t) in
-    record {
-      a = other-type type_cname type_a refl (records_of (alias_items z q t)) each;
-      aaaa = other-type type_cname type_aaaa refl (records_of (alias_items z q t)) each;
-    }
+    each_weaker IsAlias NotAddress (records_of (alias_items z q t)) (λ r h. ap is_address_type h) each
 
+-- the whole answer is what is to come at the question's name
 module _ (z : ZoneContents) (q : DomainName) (t : ℕ) where
   abbrev last : Outcome
   last = outcome_at z t (last_sought z q t)
@@ -271,7 +274,7 @@ module _ (z : ZoneContents) (q : DomainName) (t : ℕ) where
   unfolding outcome_at
   adds-last = adds z (alias_items z q t) (aliases_clear z q t) t (cut_of z (last_sought z q t)) (found z (last_sought z q t))
 
-  pub main-front : main_items (outcome z q t) ≡ alias_items z q t ++ main_items (outcome_at z t (last_sought z q t))
+  main-front : main_items (outcome z q t) ≡ alias_items z q t ++ main_items (outcome_at z t (last_sought z q t))
   unfolding outcome
   main-front = append_assoc (alias_items z q t) last.answers last.authorities
 
@@ -279,8 +282,8 @@ module _ (z : ZoneContents) (q : DomainName) (t : ℕ) where
   unfolding outcome
   inside-last = refl
 
-  pub items-are : items z q t ≡ alias_items z q t ++ ending_items z (outcome_at z t (last_sought z q t))
-  unfolding items
+  pub items-are : items z q t ≡ (chain_rest z t 16 [] q).items
+  unfolding items chain chain_rest
   items-are =
       let main = front ++ main_items last in
       let glue = glue_by z last.referral (ending_targets last) in
@@ -289,9 +292,46 @@ module _ (z : ZoneContents) (q : DomainName) (t : ℕ) where
       ∙ ap (λ xs. main ++ xs) adds-last.all ∙ append_assoc front (main_items last) (glue ++ others)
       ∙ ap (λ xs. front ++ xs) (sym (append_assoc (main_items last) glue others))
 
-  pub required-are : required_items z q t ≡ alias_items z q t ++ ending_required z (outcome_at z t (last_sought z q t))
-  unfolding required_items
+  pub required-are : required_items z q t ≡ (chain_rest z t 16 [] q).required
+  unfolding required_items chain chain_rest
   required-are =
       let main = front ++ main_items last in
       ap (λ xs. xs ++ extra z xs (targets_inside (outcome z q t))) main-front ∙ ap (λ ms. main ++ extra z main ms) inside-last
       ∙ ap (λ xs. main ++ xs) adds-last.glue ∙ append_assoc front (main_items last) (glue_by z last.referral (ending_targets last))
+
+  -- what is required comes first
+  pub required-first : (chain_rest z t 16 [] q).items ≡ (chain_rest z t 16 [] q).required
+      ++ others_by z last.referral (ending_targets last)
+  unfolding chain chain_rest
+  required-first = sym (append_assoc front (ending_required z last) _)
+
+  pub rcode-is : (outcome z q t).rcode ≡ (chain_rest z t 16 [] q).outcome.rcode
+  unfolding outcome chain chain_rest
+  rcode-is = refl
+
+  -- what it takes
+  pub nodes-are : (chain_rest z t 16 [] q).nodes
+      ≡ depths z (chain z q t) + depths z (targets_in_zone z (targets (outcome z q t)))
+  unfolding chain chain_rest
+  nodes-are =
+      ap (λ n. depths z (chain z q t) + n)
+      (adds-last.nodes ∙ ap (λ ms. depths z (targets_in_zone z ms)) (sym (targets_last z q t)))
+
+  pub misses-are : (chain_rest z t 16 [] q).misses
+      ≡ 2 * length (chain z q t) + length (targets (outcome z q t))
+  unfolding chain chain_rest
+  misses-are =
+      ap (λ n. 2 * length (chain z q t) + n) (adds-last.misses ∙ ap length (sym (targets_last z q t)))
+
+  -- a referral without aliases before it does not speak for the zone
+  pub speaks-unless : (b : Bool) → (length (alias_items z q t) == 0) ≡ not b
+      → is_authoritative (outcome z q t) ≡ not (is_some (chain_rest z t 16 [] q).outcome.referral && not b)
+  unfolding outcome chain chain_rest
+  speaks-unless b e = go adds-last.speaks
+    where
+      go : (last.referral ≡ None) ⊎ (last.answers ≡ [])
+          → not (is_some last.referral && length (front ++ last.answers) == 0) ≡ not (is_some last.referral && not b)
+      go (inl none) = rw none refl
+      go (inr none) =
+          ap (λ (is : List Item). not (is_some last.referral && length is == 0))
+          (ap (λ is. front ++ is) none ∙ append-nil front) ∙ ap (λ x. not (is_some last.referral && x)) e

@@ -36,11 +36,11 @@ asked_typed t rs set = go (t == qtype_any)
     go true e = lowest (rising_types rs) rs set e
     go false e = typed t rs set e
 
-some_any : (n : DomainName) (rs : List ResourceRecord) (set : RecordSet) → Some set ≡ set_of rs → has_any (with_owner n rs) ≡ true
+pub some_any : (n : DomainName) (rs : List ResourceRecord) (set : RecordSet) → Some set ≡ set_of rs → has_any (with_owner n rs) ≡ true
 some_any n [] set e = absurd (cc)
 some_any n (r ∷ rs) set e = refl
 
-none_any : (n : DomainName) (rs : List ResourceRecord) → None ≡ set_of rs → has_any (with_owner n rs) ≡ false
+pub none_any : (n : DomainName) (rs : List ResourceRecord) → None ≡ set_of rs → has_any (with_owner n rs) ≡ false
 none_any n [] e = refl
 none_any n (r ∷ rs) e = absurd (cc)
 

@@ -16,15 +16,15 @@ use Rattle.dns_answer.specs.Draft as spec
 use Rattle.dns_answer.specs.Draft.{empty_draft, offer, offered, size_with}
 use Rattle.dns_answer.specs.DraftForm.{State, Holds}
 use Rattle.dns_answer.specs.Walks.{Took}
-use Rattle.dns_answer.specs.Ending.{ending_targets, others_by}
-use Rattle.dns_answer.specs.Chain.{chain_items, chain_required, chain_outcome, chain_nodes, chain_misses, aliases_of, names_from}
-use Rattle.dns_answer.specs.Seeking.{SeeksFrom, Followed, TookFrom}
+use Rattle.dns_answer.specs.Ending.{Rest, Says, TookRest}
+use Rattle.dns_answer.specs.Chain.{chain_rest}
+use Rattle.dns_answer.specs.Seeking.{leads_on, SeeksFrom, Followed, TookFrom}
 use Rattle.dns_answer.specs.Replies.{IsReply, Answers, Costs}
 use Rattle.dns_answer.specs.declared.ending.Verdict.{Verdict}
 use Rattle.dns_answer.proofs.Offering.{Offers-is}
 use Rattle.dns_answer.proofs.Offered.{offered-keeps, offered-truncated}
-use Rattle.dns_answer.proofs.ChainSteps.{chain-all, chain-all_required}
-use Rattle.dns_answer.proofs.AnswerCosts.{rcode-is, authority-is, visits-fit, comparisons-fit}
+use Rattle.dns_answer.proofs.AnswerItems.{items-are, required-are, required-first, rcode-is}
+use Rattle.dns_answer.proofs.AnswerCosts.{authority-is, visits-fit, comparisons-fit}
 
 -- a layout that stands at the front of the buffer has room there
 pub laid_within : (h : Header) (q : Option MessageQuestion) (is : List Item) (out : Octets) (len : ℕ) → len ≡ size q is → take len out ≡ layout h q is → len ≤ length out
@@ -44,27 +44,22 @@ offered-question d (i ∷ is) = offered-question (offer d i) is ∙ go d.full (n
     go false true = refl
     go false false = refl
 
--- what is required comes first
-required-first : (z : ZoneContents) (t k : ℕ) (sought : List DomainName) (s : DomainName)
-    → chain_items z t k sought s ≡ chain_required z t k sought s ++ others_by z (chain_outcome z t k sought s).referral (ending_targets (chain_outcome z t k sought s))
-unfolding chain_items chain_required
-required-first z t k sought s = sym (append_assoc (aliases_of z t (names_from z t k sought s)) _ _)
-
 module _ (z : ZoneContents) (h : Header) (q : MessageQuestion) where
-  abbrev o : Outcome
-  o = chain_outcome z q.qtype 16 [] q.qname
+  abbrev r : Rest
+  r = chain_rest z q.qtype 16 [] q.qname
 
-  truncates : (limit : ℕ) → truncated z q (keep_longest z limit q) ≡ (offered (empty_draft q limit) (chain_required z q.qtype 16 [] q.qname)).full
+  truncates : (limit : ℕ) → truncated z q (keep_longest z limit q)
+      ≡ (offered (empty_draft q limit) (chain_rest z q.qtype 16 [] q.qname).required).full
   truncates limit =
-      ap (λ rs. nat_lt (length (keep_longest z limit q)) (length rs)) (chain-all_required z q.qname q.qtype)
-      ∙ ap (λ js. nat_lt (length (kept (size (Some q)) limit js)) (length (chain_required z q.qtype 16 [] q.qname)))
-      (chain-all z q.qname q.qtype ∙ required-first z q.qtype 16 [] q.qname)
-      ∙ offered-truncated q limit (chain_required z q.qtype 16 [] q.qname) (others_by z o.referral (ending_targets o))
+      ap (λ rs. nat_lt (length (keep_longest z limit q)) (length rs)) (required-are z q.qname q.qtype)
+      ∙ ap (λ js. nat_lt (length (kept (size (Some q)) limit js)) (length r.required))
+      (items-are z q.qname q.qtype ∙ required-first z q.qname q.qtype)
+      ∙ offered-truncated q limit r.required _
 
-  authoritative : (v : Verdict) (led : Bool) → v.is_referral ≡ is_some o.referral → Followed z q.qtype q.qname v led
+  authoritative : (v : Verdict) (led : Bool) → v.is_referral ≡ is_some r.outcome.referral → Followed z q.qtype q.qname v led
       → not (v.is_referral && not led) ≡ is_authoritative (outcome z q.qname q.qtype)
   authoritative v led refers followed =
-      go v.is_referral (is_some o.referral) (follows_alias q.qtype && has_any (alias_set z q.qname)) refers followed ∙ sym (authority-is z q.qname q.qtype)
+      go v.is_referral (is_some r.outcome.referral) (leads_on z q.qtype q.qname) refers followed ∙ sym (authority-is z q.qname q.qtype)
     where
       go : (a b f : Bool) → a ≡ b → (a ≡ true → led ≡ f) → not (a && not led) ≡ not (b && not f)
       go true b f e more = ap (λ x. not (not x)) (more refl) ∙ ap (λ x. not (x && not f)) e
@@ -73,7 +68,7 @@ module _ (z : ZoneContents) (h : Header) (q : MessageQuestion) where
   answers : (w w' : State) (v : Verdict) (led aa : Bool) (head : Header) → SeeksFrom w w' z q.qtype [] q.qname v → Followed z q.qtype q.qname v led
       → aa ≡ not (v.is_referral && not led) → head ≡ reply_head h aa v.is_truncated (code_of v.rcode) → Answers z h q w w' head
   answers w w' v led aa head seeks followed authority is_head = record {
-    offers = Offers-is w w' _ _ (sym (chain-all z q.qname q.qtype)) seeks.offers;
+    offers = Offers-is w w' _ _ (sym (items-are z q.qname q.qtype)) seeks.offers;
     header = λ limit begun.
         let rcode = seeks.rcode ∙ sym (rcode-is z q.qname q.qtype) in
         let tc = seeks.truncated (empty_draft q limit) begun ∙ sym (truncates limit) in
@@ -87,13 +82,10 @@ module _ (z : ZoneContents) (h : Header) (q : MessageQuestion) where
       → head ≡ reply_head h aa v.is_truncated (code_of v.rcode) → Answers z h q w w' head
   answers-found z1 n t w w' v led aa head same_zone same_name same_type seeks followed authority is_head =
       let from : SeeksFrom w w' z q.qtype [] q.qname v =
-      subst (λ y. SeeksFrom w w' y q.qtype [] q.qname v) same_zone
-      (subst (λ m. SeeksFrom w w' z1 q.qtype [] m v) same_name (subst (λ u. SeeksFrom w w' z1 u [] n v) same_type seeks))
-      in
-      let then : Followed z q.qtype q.qname v led =
-      subst (λ y. Followed y q.qtype q.qname v led) same_zone
-      (subst (λ m. Followed z1 q.qtype m v led) same_name (subst (λ u. Followed z1 u n v led) same_type followed))
-      in
+      subst (λ r. Says w w' r v)
+      (λ i. chain_rest (same_zone i) (same_type i) 16 [] (same_name i)) seeks in
+      let then : Followed z q.qtype q.qname v led = λ e.
+      followed e ∙ (λ i. leads_on (same_zone i) (same_type i) (same_name i)) in
       answers w w' v led aa head from then authority is_head
 
   -- Then they are laid out at the front of the buffer.
@@ -118,11 +110,8 @@ pub answer-costs : (h : Header) (q : MessageQuestion) (n : DomainName) (t : ℕ)
     → s.visits ≡ 0 → s.comparisons ≡ 0 → s1.visits ≡ s.visits + 1 → s1.comparisons ≡ s.comparisons → s1.zone ≡ s.zone → TookFrom s1.zone s1 s' t [] n → Costs (answered h q) s s'
 answer-costs h q n t s s1 s' name same_name same_type visits comparisons one_visit same_count zone took =
     let z = s.zone in
-    let there : Took s1 s' (chain_nodes z q.qtype 16 [] q.qname) (chain_misses z q.qtype 16 [] q.qname) =
-    subst (λ y. Took s1 s' (chain_nodes y q.qtype 16 [] q.qname) (chain_misses y q.qtype 16 [] q.qname)) zone
-    (subst (λ m. Took s1 s' (chain_nodes s1.zone q.qtype 16 [] m) (chain_misses s1.zone q.qtype 16 [] m)) same_name
-    (subst (λ u. Took s1 s' (chain_nodes s1.zone u 16 [] n) (chain_misses s1.zone u 16 [] n)) same_type took))
-    in
+    let there : TookRest s1 s' (chain_rest z q.qtype 16 [] q.qname) =
+    subst (TookRest s1 s') (λ i. chain_rest (zone i) (same_type i) 16 [] (same_name i)) took in
     let fits = visits-fit z q.qname q.qtype s1 s' _ (omega (arith, visits, one_visit)) there in
     let few = few_nodes z q.qname q.qtype name in
     record {

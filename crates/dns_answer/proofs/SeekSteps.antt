@@ -1,5 +1,5 @@
 -- What seeking a name has offered and taken, by what is found for it.
-use Rattle.std.proofs.Common.{◌≡◌, ◌⊎◌, inl, inr, ℕ, ◌+◌, ◌<◌, Bool, true, false, cond, ◌&&◌, ◌||◌, not, List, [], ◌∷◌, ◌++◌, map, reverse, length, get_or, Option, None, Some, is_some, refl, sym, ap, ap₂, ◌∙◌, arith}
+use Rattle.std.proofs.Common.{◌≡◌, ◌⊎◌, inl, inr, ℕ, ◌+◌, ◌<◌, Bool, true, false, cond, ◌&&◌, ◌||◌, not, List, [], ◌∷◌, ◌++◌, map, reverse, length, get_or, Option, None, Some, is_some, refl, sym, ap, ap₂, ◌∙◌, arith, subst}
 use Rattle.std.specs.List.{list_any}
 use Rattle.std.specs.Option.{option_and_then}
 use Rattle.dns_spec.specs.Names.{Octets, DomainName, folded, names_equal, same, at_or_below}
@@ -9,152 +9,92 @@ use Rattle.dns_spec.specs.Sets.{RecordSet, set_of, records_at}
 use Rattle.dns_spec.specs.Tree.{cut_of, found}
 use Rattle.dns_spec.specs.Reading.{no_error}
 use Rattle.dns_spec.specs.Layout.{answer, Item}
-use Rattle.dns_spec.specs.Answer.{item, follows_alias, alias_set, first_target, next_sought, has_any, Outcome, positive}
+use Rattle.dns_spec.specs.Answer.{item, follows_alias, alias_set, first_target, next_sought, has_any, asked_records, Outcome, outcome_by, outcome_at, positive, negative}
 use Rattle.dns_zone.specs.Nodes.{Walk, ZoneNode, IsSetOf}
 use Rattle.dns_wire.specs.QueryForm.{code_of}
 use Rattle.dns_answer.specs.Draft as spec
 use Rattle.dns_answer.specs.Draft.{offered}
 use Rattle.dns_answer.specs.DraftForm.{State, Offers}
-use Rattle.dns_answer.specs.Ending.{Ends, TookTargets, nodes_by, ending_targets}
+use Rattle.dns_answer.specs.Ending.{Rest, ending, after_sets, Says, Ends, TookRest, asked_item, all_names}
 use Rattle.dns_answer.specs.Walks.{AreRecords, Took}
-use Rattle.dns_answer.specs.Chain.{chain_items, chain_required}
-use Rattle.dns_answer.specs.Seeking.{names_of, aliases_left, SeeksFrom, TookFrom, alias_target, NextIs, Completes}
+use Rattle.dns_answer.specs.Chain.{chain_rest}
+use Rattle.dns_answer.specs.Seeking.{names_of, aliases_left, leads_on, unsought, SeeksFrom, TookFrom, HasNoAlias, IsShown, alias_target, NextIs, Completes, IsLast}
 use Rattle.dns_zone.specs.declared.sought.Sought.{Sought}
 use Rattle.dns_answer.specs.declared.ending.Verdict.{Verdict}
 use Rattle.std.specs.Prelude.{◌==◌, All, drop}
 use Rattle.std.proofs.lemmas.List.Elements.{All-nil, All-cons, All-head, All-tail, All-append}
-use Rattle.dns_answer.proofs.TargetLaws.{same-lower}
-use Rattle.std.proofs.lemmas.Bool.{false_from_ne_true, eqb-true}
+use Rattle.dns_answer.proofs.TargetLaws.{side_items-none, same-lower}
+use Rattle.std.proofs.Math.Bool.{or_comm, or-false}
+use Rattle.std.proofs.lemmas.Bool.{and_from, and_right}
 use Rattle.std.proofs.lemmas.List.{length-map, length-reverse, map-append, reverse-append}
 use Rattle.std.proofs.lemmas.List.Folds.{list_any-append}
-use Rattle.dns_answer.proofs.Offered.{offered-append}
-use Rattle.dns_answer.proofs.Offering.{Offers-is, Offers-then}
+use Rattle.dns_answer.proofs.Taking.{Took-then, Took-within}
+use Rattle.dns_answer.proofs.Offered.{offered-append, offered-nil}
+use Rattle.dns_answer.proofs.Offering.{Offers-is, Offers-nothing, Offers-then}
 use Rattle.dns_answer.proofs.EndingSets.{item-shown, of_type-shown}
-use Rattle.dns_answer.proofs.ChainSteps.{ChainEnds, ChainGoesOn, alias-all, alias-required, alias-found, alias-cut, ends-limit, ends-loop, goes-on}
+use Rattle.dns_answer.proofs.AskedSets.{asked-none, asked-some, none_any, some_any}
+use Rattle.dns_answer.proofs.ChainSteps.{depth_in, alias-found, outcome-found, outcome-alias, ends-plain, ends-alias, goes-on}
+
+-- the sets of aliases before what is still to come
+pub says-after : {w w1 w' : State} {r : Rest} {v : Verdict} (is : List Item) (nodes : ℕ)
+    → Offers w w1 is → Says w1 w' r v → Says w w' (after_sets is nodes r) v
+says-after {w} {w1} {w'} {r} is nodes a h = record {
+  offers = Offers-then w w1 w' is r.items a h.offers;
+  rcode = h.rcode;
+  referral = h.referral;
+  truncated = λ d held.
+      h.truncated (offered d is) (a.draft d held)
+      ∙ ap (λ (x : spec.Draft). x.full) (sym (offered-append d is r.required));
+}
 
 module _ (z : ZoneContents) (t : ℕ) (before : List DomainName) (s : DomainName) where
-  abbrev k : ℕ
-  k = aliases_left before
+  module _ (is : List Item) (r : Rest)
+      (e : chain_rest z t (aliases_left before) before s ≡ after_sets is (depth_in z s) r) where
+    pub seeks : {w w1 w' : State} {v : Verdict} → Offers w w1 is → Says w1 w' r v
+        → SeeksFrom w w' z t before s v
+    seeks {w} {w1} {w'} {v} a h =
+        subst (λ r. Says w w' r v) (sym e) (says-after is (depth_in z s) a h)
 
-  abbrev k' : ℕ
-  k' = aliases_left (s ∷ before)
+    pub took : {a b c : Walk} {depth : ℕ} → length s ≡ length z.origin + depth → Took a b depth 2
+        → TookRest b c r → TookFrom z a c t before s
+    took {a} {b} {c} deep first rest =
+        subst (λ (r : Rest). TookRest a c r) (sym e)
+        (Took-then (Took-within (omega arith) (omega arith) first) rest)
 
-  -- the name is the last, without an alias
-  pub seeks-ended : (w w' : State) (v : Verdict) (o : Outcome) → ChainEnds z t k before s [] o → Ends w w' z o v → SeeksFrom w w' z t before s v
-  seeks-ended w w' v o e h = record {
-    offers = Offers-is w w' _ _ (sym e.all) h.offers;
-    rcode = h.rcode ∙ ap (λ (x : Outcome). x.rcode) (sym e.outcome);
-    referral = h.referral ∙ ap (λ (x : Outcome). is_some x.referral) (sym e.outcome);
-    truncated = λ d hd. h.truncated d hd ∙ ap (λ is. (offered d is).full) (sym e.required);
-  }
-
-  -- or with one that leads no further
-  pub seeks-alias : (w w' : State) (v : Verdict) (i : Item) → ChainEnds z t k before s (item answer (alias_set z s)) (positive []) → item answer (alias_set z s) ≡ i ∷ []
-      → Offers w w' (i ∷ []) → code_of v.rcode ≡ no_error → v.is_referral ≡ false → v.is_truncated ≡ w'.full → SeeksFrom w w' z t before s v
-  seeks-alias w w' v i e is h rcode refers tc =
-      let whole = alias-all z t k before s (item answer (alias_set z s)) e ∙ is in
-      let required = alias-required z t k before s (item answer (alias_set z s)) e ∙ is in
-      record {
-        offers = Offers-is w w' _ _ (sym whole) h;
-        rcode = rcode ∙ ap (λ (x : Outcome). x.rcode) (sym e.outcome);
-        referral = refers ∙ ap (λ (x : Outcome). is_some x.referral) (sym e.outcome);
-        truncated = λ d hd. tc ∙ (h.draft d hd).full ∙ ap (λ is. (offered d is).full) (sym required);
-      }
-
-  -- the alias is followed
-  pub seeks-on : (w w1 w' : State) (v : Verdict) (i : Item) (m : DomainName) → ChainGoesOn z t k before s k' m → item answer (alias_set z s) ≡ i ∷ []
-      → Offers w w1 (i ∷ []) → SeeksFrom w1 w' z t (s ∷ before) m v → SeeksFrom w w' z t before s v
-  seeks-on w w1 w' v i m e is a h =
-      let whole = e.all ∙ ap (λ xs. xs ++ chain_items z t k' (s ∷ before) m) is in
-      let required = e.required ∙ ap (λ xs. xs ++ chain_required z t k' (s ∷ before) m) is in
-      record {
-        offers = Offers-is w w' _ _ (sym whole) (Offers-then w w1 w' _ _ a h.offers);
-        rcode = h.rcode ∙ ap (λ (x : Outcome). x.rcode) (sym e.outcome);
-        referral = h.referral ∙ ap (λ (x : Outcome). is_some x.referral) (sym e.outcome);
-        truncated = λ d hd.
-            h.truncated (offered d (i ∷ [])) (a.draft d hd)
-            ∙ ap (λ (x : spec.Draft). x.full) (sym (offered-append d (i ∷ []) (chain_required z t k' (s ∷ before) m)))
-            ∙ ap (λ is. (offered d is).full) (sym required);
-      }
-
-  -- what that took
-  pub took-ended : (a b c : Walk) (depth : ℕ) (aliases : List Item) (o : Outcome) → ChainEnds z t k before s aliases o → length s ≡ length z.origin + depth
-      → b.zone ≡ z → Took a b depth 2 → TookTargets b c o → TookFrom z a c t before s
-  took-ended a b c depth aliases o e deep same_zone first rest =
-      let there : nodes_by b.zone o.referral (ending_targets o) ≡ nodes_by z o.referral (ending_targets o) = ap (λ y. nodes_by y o.referral (ending_targets o)) same_zone in
-      record {
-        zone = rest.zone ∙ first.zone;
-        from = omega (arith, first.from, rest.from);
-        visits = omega (arith, first.visits, rest.visits, e.nodes, there, deep);
-        comparisons = omega (arith, first.comparisons, rest.comparisons, e.misses);
-      }
-
-  pub took-less : (a b : Walk) (depth : ℕ) (aliases : List Item) (o : Outcome) → ChainEnds z t k before s aliases o → length s ≡ length z.origin + depth
-      → Took a b depth 2 → TookFrom z a b t before s
-  took-less a b depth aliases o e deep first = record {
-    zone = first.zone;
-    from = first.from;
-    visits = omega (arith, first.visits, e.nodes, deep);
-    comparisons = omega (arith, first.comparisons, e.misses);
-  }
-
-  pub took-on : (a b c : Walk) (depth : ℕ) (m : DomainName) → ChainGoesOn z t k before s k' m → length s ≡ length z.origin + depth
-      → Took a b depth 2 → TookFrom z b c t (s ∷ before) m → TookFrom z a c t before s
-  took-on a b c depth m e deep first rest = record {
-    zone = rest.zone ∙ first.zone;
-    from = omega (arith, first.from, rest.from);
-    visits = omega (arith, first.visits, rest.visits, e.nodes, deep);
-    comparisons = omega (arith, first.comparisons, rest.comparisons, e.misses);
-  }
-
-  pub completes-on : (w w1 : State) (i : Item) (a b : Walk) (depth : ℕ) (m : DomainName) → ChainGoesOn z t k before s k' m → item answer (alias_set z s) ≡ i ∷ []
-      → Offers w w1 (i ∷ []) → length s ≡ length z.origin + depth → a.zone ≡ z → Took a b depth 2 → Completes w w1 a b z t before (s ∷ before) s m
-  completes-on w w1 i a b depth m e is h deep here first = record {
-    zone = first.zone ∙ here;
-    seeks = λ last v rest. seeks-on w w1 last v i m e is h rest;
-    took = λ last rest. took-on a b last depth m e deep first rest;
-  }
-
-  -- the next name
-  pub none-next : (set : RecordSet) → first_target (alias_set z s) ≡ alias_target set
-      → option_and_then (λ m. cond (at_or_below m z.origin && not (list_any (same m) (s ∷ before))) (Some m) None) (alias_target set) ≡ None → next_sought z (s ∷ before) s ≡ None
-  none-next set is none =
-      ap (option_and_then (λ m. cond (at_or_below m z.origin && not (list_any (same m) (s ∷ before))) (Some m) None)) is ∙ none
-
-  pub some-next : (set : RecordSet) (m : DomainName) → first_target (alias_set z s) ≡ alias_target set
-      → alias_target set ≡ Some m → at_or_below m z.origin ≡ true → list_any (same m) (s ∷ before) ≡ false → next_sought z (s ∷ before) s ≡ Some m
-  some-next set m is leads inside new =
-      ap (option_and_then (λ m. cond (at_or_below m z.origin && not (list_any (same m) (s ∷ before))) (Some m) None)) (is ∙ leads)
-      ∙ ap (λ b. cond (at_or_below m z.origin && not b) (Some m) None) new
-      ∙ ap (λ b. cond (b && true) (Some m) None) inside
-
-and_false : (b : Bool) → (b && false) ≡ false
-and_false true = refl
-and_false false = refl
-
--- no alias is followed at a name at or below a cut
-pub own-cut : (z : ZoneContents) (t : ℕ) (s c : DomainName) → cut_of z s ≡ Some c → (follows_alias t && has_any (alias_set z s)) ≡ false
-own-cut z t s c e = ap (λ rs. follows_alias t && has_any rs) (alias-cut z t 0 [] s c e) ∙ and_false (follows_alias t)
+-- the name is the last
+pub is-last : (a : Walk) (t : ℕ) (before : List DomainName) (s : DomainName) (is : List Item)
+    (r : Rest) {w w1 w' : State} {b c : Walk} {depth : ℕ} {v : Verdict}
+    → chain_rest a.zone t (aliases_left before) before s ≡ after_sets is (depth_in a.zone s) r
+    → length s ≡ length a.zone.origin + depth → Took a b depth 2 → TookRest b c r
+    → Offers w w1 is → Says w1 w' r v → (v.is_referral ≡ true → leads_on a.zone t s ≡ false)
+    → IsLast w w' a c t before s v
+is-last a t before s is r e deep first rest offers says own = record {
+  seeks = seeks a.zone t before s is r e offers says;
+  took = took a.zone t before s is r e deep first rest;
+  own = own;
+}
 
 -- the names that were sought, the last one first
-or_last : (a b : Bool) → (a || b) ≡ (b || (a || false))
-or_last true true = refl
-or_last true false = refl
-or_last false true = refl
-or_last false false = refl
-
 pub any-names : (n : DomainName) (ss : List Sought) → list_any (λ (s : Sought). same n s.name) ss ≡ list_any (same n) (names_of ss)
 any-names n [] = refl
 any-names n (s ∷ ss) =
-    ap (λ b. same n s.name || b) (any-names n ss) ∙ or_last (same n s.name) (list_any (same n) (names_of ss))
-    ∙ sym (ap (list_any (same n)) (reverse-append (s.name ∷ []) (map (λ (s : Sought). s.name) ss)) ∙ list_any-append (same n) (names_of ss) (s.name ∷ []))
+    let p = same n s.name in
+    let q = list_any (same n) (names_of ss) in
+    ap (λ b. p || b) (any-names n ss) ∙ or_comm p q ∙ ap (λ b. q || b) (sym (or-false p))
+    ∙ sym (ap (list_any (same n)) (reverse-append (s.name ∷ []) (map (λ (s : Sought). s.name) ss))
+    ∙ list_any-append (same n) (names_of ss) (s.name ∷ []))
 
--- a target that was sought already leads no further
-pub none-again : (origin m : DomainName) (sought : List DomainName) (o : Option DomainName) → o ≡ Some m → list_any (same m) sought ≡ true
-    → option_and_then (λ m. cond (at_or_below m origin && not (list_any (same m) sought)) (Some m) None) o ≡ None
-none-again origin m sought o leads among =
-    ap (option_and_then (λ m. cond (at_or_below m origin && not (list_any (same m) sought)) (Some m) None)) leads
-    ∙ ap (λ b. cond (at_or_below m origin && not b) (Some m) None) among ∙ ap (λ b. cond b (Some m) None) (and_false (at_or_below m origin))
+-- the target of an alias leads on, unless it was sought already
+pub unsought-is : (origin m : DomainName) (sought : List DomainName) (o : Option DomainName)
+    (b : Bool) → o ≡ Some m → at_or_below m origin ≡ true → list_any (same m) sought ≡ b
+    → unsought origin sought o ≡ cond b None (Some m)
+unsought-is origin m sought o b leads inside among =
+    ap (unsought origin sought) leads
+    ∙ ap₂ (λ x y. cond (x && not y) (Some m) None) inside among ∙ go b
+  where
+    go : (b : Bool) → cond (true && not b) (Some m) None ≡ cond b None (Some m)
+    go true = refl
+    go false = refl
 
 -- names in lower case are the same where they are equal
 pub any-lower : (n : DomainName) (ss : List Sought) → folded n ≡ n → All (λ (s : Sought). folded s.name ≡ s.name) ss
@@ -178,78 +118,94 @@ names-more ss s =
 pub names-count : (ss : List Sought) → length (names_of ss) ≡ length ss
 names-count ss = length-reverse (map (λ (s : Sought). s.name) ss) ∙ length-map ss (λ (s : Sought). s.name)
 
--- the alias among the records found
-pub found-at : (z : ZoneContents) (s : DomainName) (node : ZoneNode) → AreRecords z s node → found z s ≡ Some (with_owner s (at node.zone node.name))
-found-at z s node h = h.records ∙ ap (λ y. Some (with_owner s (at y node.name))) (sym h.zone)
+-- the records found for a name
+module _ (z : ZoneContents) (t : ℕ) (before : List DomainName) (s : DomainName) (node : ZoneNode)
+    (records : AreRecords z s node) where
+  abbrev rs : List ResourceRecord
+  rs = at node.zone node.name
 
-module _ (z : ZoneContents) (s : DomainName) (node : ZoneNode) (no_cut : cut_of z s ≡ None) (are : found z s ≡ Some (with_owner s (at node.zone node.name))) where
-  abbrev pub cnames : List ResourceRecord
-  cnames = of_type type_cname (at node.zone node.name)
+  abbrev cnames : List ResourceRecord
+  cnames = of_type type_cname rs
 
-  pub aliases-at : alias_set z s ≡ with_owner s cnames
-  aliases-at = alias-found z 0 0 [] s (with_owner s (at node.zone node.name)) no_cut are ∙ of_type-shown s type_cname (at node.zone node.name)
+  abbrev Chain : List Item → Rest → Type 0
+  Chain is r = chain_rest z t (aliases_left before) before s ≡ after_sets is (depth_in z s) r
 
-  pub no-alias : None ≡ set_of cnames → has_any (of_type type_cname (with_owner s (at node.zone node.name))) ≡ false
-  no-alias e = ap has_any (of_type-shown s type_cname (at node.zone node.name)) ∙ go cnames e
-    where
-      go : (rs : List ResourceRecord) → None ≡ set_of rs → has_any (with_owner s rs) ≡ false
-      go [] e = refl
-      go (r ∷ rs) e = absurd (cc)
+  aliases-at : alias_set z s ≡ with_owner s cnames
+  aliases-at = alias-found z s (with_owner s rs) records.no_cut records.records ∙ of_type-shown s type_cname rs
 
-  -- none is followed
-  unfollowed : (t : ℕ) (rs : List ResourceRecord) → (follows_alias t ≡ false) ⊎ (has_any rs ≡ false) → (follows_alias t && has_any rs) ≡ false
-  unfollowed t rs (inl e) = ap (λ b. b && has_any rs) e
-  unfollowed t rs (inr e) = ap (λ b. follows_alias t && b) e ∙ and_false (follows_alias t)
+  -- no alias among them is followed
+  pub no-alias : HasNoAlias t rs → leads_on z t s ≡ false
+  no-alias (inl e) = ap (λ b. b && has_any (alias_set z s)) e
+  no-alias (inr e) = and_right (follows_alias t) _ (ap has_any aliases-at ∙ none_any s cnames e)
 
-  pub none-followed : (t : ℕ) → (follows_alias t ≡ false) ⊎ (None ≡ set_of cnames) → (follows_alias t && has_any (of_type type_cname (with_owner s (at node.zone node.name)))) ≡ false
-  none-followed t (inl e) = unfollowed t (of_type type_cname (with_owner s (at node.zone node.name))) (inl e)
-  none-followed t (inr e) = unfollowed t (of_type type_cname (with_owner s (at node.zone node.name))) (inr (no-alias e))
+  unaliased : HasNoAlias t rs → (o : Outcome) → outcome_by z t None (Some (with_owner s rs)) ≡ o
+      → Chain [] (ending z o)
+  unaliased none o is =
+      ends-plain z t (aliases_left before) before s o (no-alias none)
+      (outcome-found z t s (with_owner s rs) records.no_cut records.records ∙ is)
 
-  pub none-own : (t : ℕ) → (follows_alias t && has_any (of_type type_cname (with_owner s (at node.zone node.name)))) ≡ false → (follows_alias t && has_any (alias_set z s)) ≡ false
-  none-own t none = ap (λ rs. follows_alias t && has_any rs) (aliases-at ∙ sym (of_type-shown s type_cname (at node.zone node.name))) ∙ none
+  none-of : HasNoAlias t rs → (follows_alias t && has_any (of_type type_cname (with_owner s rs))) ≡ false
+  none-of none =
+      ap (λ xs. follows_alias t && has_any xs) (of_type-shown s type_cname rs ∙ sym aliases-at) ∙ no-alias none
 
-  module _ (set : RecordSet) (e : Some set ≡ set_of cnames) where
-    pub an-alias : has_any (of_type type_cname (with_owner s (at node.zone node.name))) ≡ true
-    an-alias = ap has_any (of_type-shown s type_cname (at node.zone node.name)) ∙ go cnames e
-      where
-        go : (rs : List ResourceRecord) → Some set ≡ set_of rs → has_any (with_owner s rs) ≡ true
-        go [] e = absurd (cc)
-        go (r ∷ rs) e = refl
+  pub ends-none : IsShown t rs None → Chain [] (ending z (negative z no_error))
+  ends-none shown =
+      unaliased shown.0 (negative z no_error) (asked-none z t s rs (none-of shown.0) shown.1)
 
-    pub has-alias : has_any (alias_set z s) ≡ true
-    has-alias = ap has_any (aliases-at ∙ sym (of_type-shown s type_cname (at node.zone node.name))) ∙ an-alias
+  module _ (set : RecordSet) (kept : IsSetOf node set) where
+    pub ends-asked : IsShown t rs (Some (set, false))
+        → Chain [] (ending z (positive (asked_item s set)))
+    ends-asked shown =
+        unaliased shown.0 (positive (asked_item s set))
+        (asked-some z t s rs (none-of shown.0) node set.ttl set refl kept refl shown.1)
 
-    module _ (rt : set.rtype ≡ type_cname) (kept : IsSetOf node set) where
+    module _ (shown : IsShown t rs (Some (set, true))) where
       are_set : records_at node.name set.ttl set ≡ cnames
-      are_set = kept.records ∙ ap (λ u. of_type u (at node.zone node.name)) rt
+      are_set = kept.records ∙ ap (λ u. of_type u rs) shown.2
 
-      pub alias-item : (ttl : ℕ) → ttl ≡ set.ttl → item answer (alias_set z s) ≡ record { section = answer; records = records_at s ttl set } ∷ []
-      alias-item ttl timed =
-          ap (item answer) aliases-at ∙ item-shown answer node.name s cnames set (sym e) are_set
-          ∙ ap (λ u. record { section = answer; records = records_at s u set } ∷ []) (sym timed)
+      alias-item : item answer (alias_set z s) ≡ asked_item s set
+      alias-item =
+          ap (item answer) aliases-at ∙ item-shown answer node.name s cnames set (sym shown.1) are_set
 
-      pub alias-leads : first_target (alias_set z s) ≡ alias_target set
-      alias-leads = ap first_target (aliases-at ∙ ap (with_owner s) (sym are_set)) ∙ go set.rdata (ap set_of are_set ∙ sym e)
+      some-alias : has_any (alias_set z s) ≡ true
+      some-alias = ap has_any aliases-at ∙ some_any s cnames set shown.1
+
+      pub has-alias : leads_on z t s ≡ true
+      has-alias = and_from (follows_alias t) (has_any (alias_set z s)) shown.0 some-alias
+
+      alias-leads : first_target (alias_set z s) ≡ alias_target set
+      alias-leads =
+          ap first_target (aliases-at ∙ ap (with_owner s) (sym are_set))
+          ∙ go set.rdata (ap set_of are_set ∙ sym shown.1)
         where
-          shown : List Octets → List ResourceRecord
-          shown ds = map (λ (d : Octets). record { owner = node.name; ttl = set.ttl; rtype = set.rtype; rdata = d }) ds
+          of : List Octets → List ResourceRecord
+          of ds = map (λ (d : Octets). record { owner = node.name; ttl = set.ttl; rtype = set.rtype; rdata = d }) ds
 
-          go : (ds : List Octets) → set_of (shown ds) ≡ Some set → first_target (with_owner s (shown ds)) ≡ target set.rtype (get_or ds 0 [])
+          go : (ds : List Octets) → set_of (of ds) ≡ Some set
+              → first_target (with_owner s (of ds)) ≡ target set.rtype (get_or ds 0 [])
           go [] h = absurd (cc)
           go (d ∷ ds) h = refl
 
       -- it leads no further
-      pub alias-ends : (t : ℕ) (before : List DomainName) → follows_alias t ≡ true → NextIs set (s ∷ before) z.origin None
-          → ChainEnds z t (aliases_left before) before s (item answer (alias_set z s)) (positive [])
-      alias-ends t before follows (inl none) = ends-limit z t (aliases_left before) before s (with_owner s (at node.zone node.name)) no_cut are follows an-alias (omega (arith, none))
-      alias-ends t before follows (inr none) =
-          ends-loop z t (aliases_left before) before s (with_owner s (at node.zone node.name)) no_cut are follows an-alias (none-next z t before s set alias-leads none)
+      pub alias-ends : NextIs set (s ∷ before) z.origin None
+          → Chain (asked_item s set) (ending z (positive []))
+      alias-ends next =
+          ends-alias z t (aliases_left before) before s (asked_item s set) shown.0 alias-item
+          (outcome-alias z t s (with_owner s rs) records.no_cut records.records has-alias)
+          (ended next)
+        where
+          ended : NextIs set (s ∷ before) z.origin None
+              → (aliases_left before ≡ 0) ⊎ (next_sought z (s ∷ before) s ≡ None)
+          ended (inl none) = inl (omega (arith, none))
+          ended (inr none) = inr (ap (unsought z.origin (s ∷ before)) alias-leads ∙ none)
 
       -- it leads to another name
-      pub alias-goes_on : (t : ℕ) (before : List DomainName) (m : Sought) → follows_alias t ≡ true → NextIs set (s ∷ before) z.origin (Some m)
-          → ChainGoesOn z t (aliases_left before) before s (aliases_left (s ∷ before)) m.name
-      alias-goes_on t before m follows next =
-          goes-on z t (aliases_left before) before s (aliases_left (s ∷ before)) m.name follows (some-next z t before s set m.name alias-leads next.1 next.2.below next.3) (omega (arith, next.0))
+      pub alias-goes_on : (m : Sought) → NextIs set (s ∷ before) z.origin (Some m)
+          → Chain (asked_item s set) (chain_rest z t (aliases_left (s ∷ before)) (s ∷ before) m.name)
+      alias-goes_on m next =
+          goes-on z t (aliases_left before) before s (aliases_left (s ∷ before)) m.name
+          (asked_item s set) shown.0 alias-item
+          (ap (unsought z.origin (s ∷ before)) alias-leads ∙ next.1) (omega (arith, next.0))
 
 -- names sought one after the other: what is done for the first, then for the second
 pub completes-then : (w w1 w2 : State) (a b c : Walk) (z : ZoneContents) (t : ℕ) (before0 before1 before2 : List DomainName) (n0 n1 n2 : DomainName)
@@ -259,18 +215,3 @@ completes-then w w1 w2 a b c z t before0 before1 before2 n0 n1 n2 h g = record {
   seeks = λ last v rest. h.seeks last v (g.seeks last v rest);
   took = λ last rest. h.took last (g.took last rest);
 }
-
--- whether any were led to, by the last of them
-pub led-on : (z : ZoneContents) (t : ℕ) (first last : DomainName) (earlier : List Sought) → (length earlier ≡ 0 → last ≡ first)
-    → (0 < length earlier → (follows_alias t && has_any (alias_set z first)) ≡ true) → (follows_alias t && has_any (alias_set z last)) ≡ false
-    → not (length earlier == 0) ≡ (follows_alias t && has_any (alias_set z first))
-led-on z t first last [] alone led own = sym own ∙ ap (λ n. follows_alias t && has_any (alias_set z n)) (alone refl)
-led-on z t first last (s ∷ ss) alone led own =
-    ap not (false_from_ne_true (length (s ∷ ss) == 0) (λ e. let none = eqb-true (length (s ∷ ss)) 0 e in absurd (omega (arith, none)))) ∙ sym (led (omega arith))
-
--- so they are where one more leads on
-pub led-more : (z : ZoneContents) (t : ℕ) (first last : DomainName) (earlier : List Sought) → (length earlier ≡ 0 → last ≡ first)
-    → (0 < length earlier → (follows_alias t && has_any (alias_set z first)) ≡ true) → (follows_alias t && has_any (alias_set z last)) ≡ true
-    → (follows_alias t && has_any (alias_set z first)) ≡ true
-led-more z t first last [] alone led own = ap (λ n. follows_alias t && has_any (alias_set z n)) (sym (alone refl)) ∙ own
-led-more z t first last (s ∷ ss) alone led own = led (omega arith)

@@ -285,13 +285,6 @@ items-stood z p before m e = ap (λ b. cond (p m && not b) (addresses_of z m) []
     go true = refl
     go false = refl
 
-pub items-outside : (z : ZoneContents) (p : DomainName → Bool) (before : List DomainName) (m : DomainName) → addresses_of z m ≡ [] → target_items z p before (Some m) ≡ []
-items-outside z p before m e = ap (λ is. cond (p m && not (list_any (same m) before)) is []) e ∙ go (p m && not (list_any (same m) before))
-  where
-    go : (b : Bool) → cond {A = List Item} b [] [] ≡ []
-    go true = refl
-    go false = refl
-
 misses-one : (p : DomainName → Bool) (o : Option DomainName) → target_misses p o ≤ 1
 misses-one p None = omega arith
 misses-one p (Some m) = go (p m)
@@ -311,10 +304,6 @@ Took-none s nodes misses = record { zone = refl; from = omega arith; visits = om
 
 pub Took-nothing : (s : Walk) → Took s s 0 0
 Took-nothing s = record { zone = refl; from = omega arith; visits = omega arith; comparisons = omega arith }
-
--- a name at or below another has no fewer labels
-pub longer-below : (n a : DomainName) → at_or_below n a ≡ true → length a ≤ length n
-longer-below n a h = leb-true (length a) (length n) (and_parts (nat_le (length a) (length n)) (same (drop (length n - length a) n) a) h).0
 
 -- names in lower case are the same where they are equal
 pub same-lower : (n m : DomainName) → folded n ≡ n → folded m ≡ m → names_equal n m ≡ same n m

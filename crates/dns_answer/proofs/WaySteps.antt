@@ -110,7 +110,7 @@ records-there z start n node h = record {
   zone = ap (λ (v : ZoneNode). v.zone) h.at_name;
   records =
       ap (λ b. cond b (Some (with_owner n (at z n))) (option_map (λ w. with_owner n (at z w)) (source_of_synthesis z n))) h.stands
-      ∙ ap (λ rs. Some (with_owner n rs)) (sym (at-folded z n)) ∙ ap (λ (v : ZoneNode). Some (with_owner n (at z v.name))) (sym h.at_name);
+      ∙ ap (λ rs. Some (with_owner n rs)) (sym (at-folded z n)) ∙ ap (λ (v : ZoneNode). Some (with_owner n (at v.zone v.name))) (sym h.at_name);
 }
 
 -- for one that is not
@@ -134,7 +134,8 @@ module _ (z : ZoneContents) (start : ZoneNode) (n : DomainName) (above : Option 
   records-by_wildcard node there is = record {
     no_cut = h.no_cut refl;
     zone = ap (λ (v : ZoneNode). v.zone) is ∙ h.zone;
-    records = by_wildcard true there ∙ ap (λ (v : ZoneNode). Some (with_owner n (at z v.name))) (sym is);
+    records = by_wildcard true there ∙ ap (λ y. Some (with_owner n (at y (asterisk ∷ encloser.name)))) (sym h.zone)
+        ∙ ap (λ (v : ZoneNode). Some (with_owner n (at v.zone v.name))) (sym is);
   }
 
   pub nothing-there : exists encloser.zone (asterisk ∷ encloser.name) ≡ false → IsNothing z n
@@ -151,22 +152,12 @@ lead-to z t ends v zone lead alias = record {
 }
 
 -- a way from the apex
-pub apex-start : (z : ZoneContents) (apex : ZoneNode) → IsApex z apex → IsStart z apex
-apex-start z apex h = record {
-  zone = ap (λ (v : ZoneNode). v.zone) h.node;
-  exists = subst (IsNode z) (ap (λ (v : ZoneNode). v.name) (sym h.node)) h.exists;
-}
-
 pub apex-uncut : (z : ZoneContents) (apex : ZoneNode) → IsApex z apex → IsUncut z apex.name
 apex-uncut z apex h = record {
   inside = ap (λ (v : ZoneNode). at_or_below v.name z.origin) h.node
       ∙ itself-under z.origin z.origin (same-from z.origin z.origin refl);
   no_cut = ap (λ (v : ZoneNode). cut_of z v.name) h.node ∙ no_cut-at_origin z z.origin (omega arith);
 }
-
-pub apex-below : (z : ZoneContents) (apex : ZoneNode) (s : Sought) → IsApex z apex
-    → IsBelow s z.origin → IsBelow s apex.name
-apex-below z apex s h below = subst (IsBelow s) (ap (λ (v : ZoneNode). v.name) (sym h.node)) below
 
 -- from a lead it is shorter
 pub lead-nearer : (z : ZoneContents) (ends : Bool) (v : ZoneNode) (s n : Sought) → IsLeadTo z ends v

@@ -5,41 +5,29 @@ use Rattle.std.specs.List.{flat_map}
 use Rattle.dns_spec.specs.Names.{DomainName}
 use Rattle.dns_spec.specs.Records.{ZoneContents}
 use Rattle.dns_spec.specs.Layout.{answer, Item}
-use Rattle.dns_spec.specs.Answer.{Outcome, item, follows_alias, alias_set, chain_from, last_of, outcome_at}
-use Rattle.dns_answer.specs.Ending.{ending_items, ending_required, ending_targets, nodes_by, misses_by}
+use Rattle.dns_spec.specs.Answer.{item, follows_alias, alias_set, chain_from, last_of, outcome_at}
+use Rattle.dns_answer.specs.Ending.{Rest, ending}
 
 -- the names sought from s on, at most k of them targets; `sought` has the names before it
 abbrev pub names_from : ZoneContents → ℕ → ℕ → List DomainName → DomainName → List DomainName
 names_from z t k sought s = if follows_alias t then chain_from z k sought s else s ∷ []
 
--- how the last of them is answered
-unfoldable pub chain_outcome : ZoneContents → ℕ → ℕ → List DomainName → DomainName → Outcome
-chain_outcome z t k sought s = outcome_at z t (last_of s (names_from z t k sought s))
-
 -- the CNAME sets of names
 abbrev pub aliases_of : ZoneContents → ℕ → List DomainName → List Item
 aliases_of z t ns = if follows_alias t then flat_map (λ n. item answer (alias_set z n)) ns else []
 
--- RFC 1034 4.3.2 step 3a: the sets that an answer still has at the name s: the aliases from s on,
--- and the sets that end it
-unfoldable pub chain_items : ZoneContents → ℕ → ℕ → List DomainName → DomainName → List Item
-chain_items z t k sought s =
-    aliases_of z t (names_from z t k sought s) ++ ending_items z (chain_outcome z t k sought s)
+-- RFC 1034 4.3.2 step 3a: what is still to come of an answer after names that are sought from s on:
+-- the aliases of all, and the sets that end it. Two names are missing for each, at most.
+abbrev pub rest_of : ZoneContents → ℕ → DomainName → List DomainName → Rest
+rest_of z t s ns =
+    let r = ending z (outcome_at z t (last_of s ns)) in
+    record {
+      items = aliases_of z t ns ++ r.items;
+      required = aliases_of z t ns ++ r.required;
+      outcome = r.outcome;
+      nodes = sum (map (λ n. length n - length z.origin) ns) + r.nodes;
+      misses = 2 * length ns + r.misses;
+    }
 
--- those of them that may not be left out
-unfoldable pub chain_required : ZoneContents → ℕ → ℕ → List DomainName → DomainName → List Item
-chain_required z t k sought s =
-    aliases_of z t (names_from z t k sought s) ++ ending_required z (chain_outcome z t k sought s)
-
--- the nodes below the apex on the ways to the names from s on, and to the targets of the last
-unfoldable pub chain_nodes : ZoneContents → ℕ → ℕ → List DomainName → DomainName → ℕ
-chain_nodes z t k sought s =
-    let o = chain_outcome z t k sought s in
-    sum (map (λ n. length n - length z.origin) (names_from z t k sought s))
-    + nodes_by z o.referral (ending_targets o)
-
--- the names missing on these ways, at most: two for each name sought, and one for each target
-unfoldable pub chain_misses : ZoneContents → ℕ → ℕ → List DomainName → DomainName → ℕ
-chain_misses z t k sought s =
-    let o = chain_outcome z t k sought s in
-    2 * length (names_from z t k sought s) + misses_by o.referral (ending_targets o)
+unfoldable pub chain_rest : ZoneContents → ℕ → ℕ → List DomainName → DomainName → Rest
+chain_rest z t k sought s = rest_of z t s (names_from z t k sought s)

@@ -1,6 +1,6 @@
 -- What a reader learns here: which sets end an answer, after the aliases, and what the header says
 -- of it.
-use Rattle.std.specs.Prelude.{◌≡◌, ℕ, ◌+◌, Bool, true, not, List, [], ◌∷◌, ◌++◌, length}
+use Rattle.std.specs.Prelude.{◌≡◌, ℕ, ◌+◌, Bool, true, false, not, List, [], ◌∷◌, ◌++◌, length}
 use Rattle.std.specs.Prelude.{Option, None, Some}
 use Rattle.std.specs.Option.{is_some}
 use Rattle.std.specs.List.{filter}
@@ -56,17 +56,57 @@ abbrev pub misses_by : Option DomainName → List DomainName → ℕ
 misses_by None ms = length (filter all_names ms)
 misses_by (Some c) ms = length (filter (inside c) ms) + length (filter (not_inside c) ms)
 
--- The sets that end an answer are offered, and the header says so.
-pub record Ends (w w' : State) (z : ZoneContents) (o : Outcome) (v : Verdict) : Type 0 where
-  pub offers : Offers w w' (ending_items z o)
-  pub rcode : code_of v.rcode ≡ o.rcode
-  pub referral : v.is_referral ≡ is_some o.referral
-  pub truncated : (d : spec.Draft) → Holds w d → v.is_truncated
-      ≡ (offered d (ending_required z o)).full
+-- What is still to come of an answer: its sets, those of them that may not be left out, how it
+-- ends, and at most how many nodes and missing names it takes.
+pub record Rest : Type 0 where
+  pub items : List Item
+  pub required : List Item
+  pub outcome : Outcome
+  pub nodes : ℕ
+  pub misses : ℕ
+
+-- the sets that end it
+abbrev pub ending : ZoneContents → Outcome → Rest
+ending z o = record {
+  items = ending_items z o;
+  required = ending_required z o;
+  outcome = o;
+  nodes = nodes_by z o.referral (ending_targets o);
+  misses = misses_by o.referral (ending_targets o);
+}
+
+-- what is to come after some sets and one more name that is sought
+abbrev pub after_sets : List Item → ℕ → Rest → Rest
+after_sets is nodes r = record {
+  items = is ++ r.items;
+  required = is ++ r.required;
+  outcome = r.outcome;
+  nodes = nodes + r.nodes;
+  misses = 2 + r.misses;
+}
+
+-- The sets to come are offered, and the header says how the answer ends.
+pub record Says (w w' : State) (r : Rest) (v : Verdict) : Type 0 where
+  pub offers : Offers w w' r.items
+  pub rcode : code_of v.rcode ≡ r.outcome.rcode
+  pub referral : v.is_referral ≡ is_some r.outcome.referral
+  pub truncated : (d : spec.Draft) → Holds w d → v.is_truncated ≡ (offered d r.required).full
+
+-- The verdict refers to no other servers, and says whether a set that was offered is missing.
+pub record IsPlain (w : State) (code : ℕ) (v : Verdict) : Type 0 where
+  pub rcode : code_of v.rcode ≡ code
+  pub referral : v.is_referral ≡ false
+  pub truncated : v.is_truncated ≡ w.full
+
+abbrev pub Ends : State → State → ZoneContents → Outcome → Verdict → Type 0
+Ends w w' z o v = Says w w' (ending z o) v
+
+-- no more was taken than the rest may take
+abbrev pub TookRest : Walk → Walk → Rest → Type 0
+TookRest s s' r = Took s s' r.nodes r.misses
 
 abbrev pub TookTargets : Walk → Walk → Outcome → Type 0
-TookTargets s s' o = Took s s' (nodes_by s.zone o.referral (ending_targets o))
-    (misses_by o.referral (ending_targets o))
+TookTargets s s' o = TookRest s s' (ending s.zone o)
 
 -- a set that was asked for, as it is shown
 abbrev pub asked_item : DomainName → RecordSet → List Item

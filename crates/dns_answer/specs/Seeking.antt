@@ -1,7 +1,7 @@
 -- What a reader learns here: what seeking a name has offered, and what the header says of it.
 use Rattle.std.specs.Prelude.{◌≡◌, ◌⊎◌, ℕ, ◌-◌, ◌≤◌, ◌<◌, Bool, true, false, ◌&&◌, not, List, [], ◌∷◌, length, map, reverse, get_or, if◌then◌else◌}
 use Rattle.std.specs.Prelude.{Option, None, Some, IfSome}
-use Rattle.std.specs.Option.{is_some, option_and_then}
+use Rattle.std.specs.Option.{option_and_then}
 use Rattle.std.specs.List.{list_any}
 use Rattle.dns_spec.specs.Names.{DomainName, folded, same, at_or_below}
 use Rattle.dns_spec.specs.Data.{target, type_cname}
@@ -9,13 +9,11 @@ use Rattle.dns_spec.specs.Sets.{RecordSet, set_of}
 use Rattle.dns_spec.specs.Records.{ZoneContents, ResourceRecord, of_type}
 use Rattle.dns_spec.specs.Answer.{follows_alias, alias_set, has_any, asked_records}
 use Rattle.dns_zone.specs.Nodes.{Walk, ZoneNode}
-use Rattle.dns_wire.specs.QueryForm.{code_of}
-use Rattle.dns_answer.specs.Draft as spec
-use Rattle.dns_answer.specs.Draft.{offered}
-use Rattle.dns_answer.specs.DraftForm.{State, Holds, Offers}
+use Rattle.dns_answer.specs.DraftForm.{State}
 use Rattle.dns_zone.specs.Starts.{IsBelow}
 use Rattle.dns_answer.specs.Walks.{Took, IsLeadTo}
-use Rattle.dns_answer.specs.Chain.{chain_items, chain_required, chain_outcome, chain_nodes, chain_misses}
+use Rattle.dns_answer.specs.Ending.{Says, TookRest}
+use Rattle.dns_answer.specs.Chain.{chain_rest}
 use Rattle.dns_answer.specs.declared.ending.Verdict.{Verdict}
 use Rattle.dns_answer.specs.declared.chain.Next.{Next}
 use Rattle.dns_answer.specs.declared.chain.Next.TheVariants as nexts
@@ -29,32 +27,30 @@ names_of ss = reverse (map (λ (s : Sought). s.name) ss)
 abbrev pub aliases_left : List DomainName → ℕ
 aliases_left before = 16 - length before
 
--- The sets that an answer still has at the name s are offered, and the header says how its last
+-- What is still to come of an answer at the name s is offered, and the header says how its last
 -- name is answered.
-pub record SeeksFrom (w w' : State) (z : ZoneContents) (t : ℕ) (before : List DomainName)
-    (s : DomainName) (v : Verdict) : Type 0 where
-  pub offers : Offers w w' (chain_items z t (aliases_left before) before s)
-  pub rcode : code_of v.rcode ≡ (chain_outcome z t (aliases_left before) before s).rcode
-  pub referral : v.is_referral
-      ≡ is_some (chain_outcome z t (aliases_left before) before s).referral
-  pub truncated : (d : spec.Draft) → Holds w d → v.is_truncated
-      ≡ (offered d (chain_required z t (aliases_left before) before s)).full
+abbrev pub SeeksFrom : State → State → ZoneContents → ℕ → List DomainName → DomainName → Verdict
+    → Type 0
+SeeksFrom w w' z t before s v = Says w w' (chain_rest z t (aliases_left before) before s) v
 
--- Of a referral it is said whether the name sought has an alias that is followed.
+-- a name has an alias that is followed
+abbrev pub leads_on : ZoneContents → ℕ → DomainName → Bool
+leads_on z t n = follows_alias t && has_any (alias_set z n)
+
+-- Of a referral it is said whether the name sought has such an alias.
 abbrev pub Followed : ZoneContents → ℕ → DomainName → Verdict → Bool → Type 0
-Followed z t s v led = v.is_referral ≡ true → led ≡ (follows_alias t && has_any (alias_set z s))
+Followed z t s v led = v.is_referral ≡ true → led ≡ leads_on z t s
 
 -- so much was taken for them
 abbrev pub TookFrom : ZoneContents → Walk → Walk → ℕ → List DomainName → DomainName → Type 0
-TookFrom z s s' t before n = Took s s' (chain_nodes z t (aliases_left before) before n)
-    (chain_misses z t (aliases_left before) before n)
+TookFrom z s s' t before n = TookRest s s' (chain_rest z t (aliases_left before) before n)
 
 -- The name is the last: it has offered and taken so much, and a referral is from its own cut.
 pub record IsLast (w w' : State) (s s' : Walk) (t : ℕ) (before : List DomainName) (n : DomainName)
     (v : Verdict) : Type 0 where
   pub seeks : SeeksFrom w w' s.zone t before n v
   pub took : TookFrom s.zone s s' t before n
-  pub own : v.is_referral ≡ true → (follows_alias t && has_any (alias_set s.zone n)) ≡ false
+  pub own : v.is_referral ≡ true → leads_on s.zone t n ≡ false
 
 -- what seeking a name m still offers and takes, completes what seeking n has
 pub record Completes (w w' : State) (s s' : Walk) (z : ZoneContents) (t : ℕ)
@@ -71,7 +67,7 @@ pub record LeadsTo (w w' : State) (s s' : Walk) (t : ℕ) (before : List DomainN
   pub below : IsBelow m s.zone.origin
   pub lower : folded m.name ≡ m.name
   pub lead : IfSome l (IsLeadTo s.zone true)
-  pub alias : (follows_alias t && has_any (alias_set s.zone n)) ≡ true
+  pub alias : leads_on s.zone t n ≡ true
   pub took : Took s s' 127 2
   pub completes : Completes w w' s s' s.zone t before (n ∷ before) n m.name
 
@@ -98,11 +94,16 @@ IsShown t rs (Some (set, false)) =
 abbrev pub alias_target : RecordSet → Option DomainName
 alias_target set = target set.rtype (get_or set.rdata 0 [])
 
+-- a target, where it is at or below the origin and was not sought yet
+abbrev pub unsought : DomainName → List DomainName → Option DomainName → Option DomainName
+unsought origin sought o =
+    option_and_then
+    (λ m. if at_or_below m origin && not (list_any (same m) sought) then Some m else None) o
+
 -- the next name sought after an alias, where the names so far are these; or why there is none
 abbrev pub NextIs : RecordSet → List DomainName → DomainName → Option Sought → Type 0
 NextIs set sought origin None =
-    (16 < length sought) ⊎ (option_and_then (λ m. if at_or_below m origin
-    && not (list_any (same m) sought) then Some m else None) (alias_target set) ≡ None)
+    (16 < length sought) ⊎ (unsought origin sought (alias_target set) ≡ None)
 NextIs set sought origin (Some m) =
-    (length sought ≤ 16) × (alias_target set ≡ Some m.name) × IsBelow m origin
-    × (list_any (same m.name) sought ≡ false) × (folded m.name ≡ m.name)
+    (length sought ≤ 16) × (unsought origin sought (alias_target set) ≡ Some m.name)
+    × IsBelow m origin × (folded m.name ≡ m.name)

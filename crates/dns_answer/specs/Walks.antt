@@ -92,7 +92,7 @@ pub record IsNothing (z : ZoneContents) (n : DomainName) : Type 0 where
 pub record AreRecords (z : ZoneContents) (n : DomainName) (node : ZoneNode) : Type 0 where
   pub no_cut : cut_of z n ≡ None
   pub zone : node.zone ≡ z
-  pub records : found z n ≡ Some (with_owner n (at z node.name))
+  pub records : found z n ≡ Some (with_owner n (at node.zone node.name))
 
 abbrev pub FoundAs : ZoneContents → ZoneNode → DomainName → Found → Type 0
 FoundAs z apex n (finds.Cut node) = IsBelowCut z n node

@@ -1,5 +1,5 @@
 //! How the answer for the last name sought ends (RFC 1034 4.3.2 step 3, RFC 2308).
-ghost use Rattle.std.specs.Prelude.{◌≡◌, ◌+◌, ◌*◌, ◌≤◌, ◌||◌, ◌==◌, length, IfSome, false};
+ghost use Rattle.std.specs.Prelude.{◌≡◌, ◌+◌, ◌*◌, ◌≤◌, ◌||◌, ◌==◌, length, IfSome};
 ghost use Rattle.dns_spec.specs.Names.{DomainName};
 ghost use Rattle.dns_spec.specs.Data.{type_ns, type_mx, type_srv};
 ghost use Rattle.dns_spec.specs.Records.{at};
@@ -8,7 +8,7 @@ ghost use Rattle.dns_spec.specs.Answer.{referral_to, negative, asked_records};
 ghost use Rattle.dns_zone.specs.Nodes.{IsSetOf};
 ghost use Rattle.dns_wire.specs.QueryForm.{code_of};
 ghost use Rattle.dns_answer.specs.Walks.{IsApex, IsBelowCut, HasRoom};
-ghost use Rattle.dns_answer.specs.Ending.{Ends, TookTargets, EndsWith, TookWith};
+ghost use Rattle.dns_answer.specs.Ending.{Ends, TookTargets, IsPlain, EndsWith, TookWith};
 
 use crate::addresses::{Side, offer_addresses};
 use crate::draft::Draft;
@@ -92,9 +92,7 @@ pub(crate) fn ended<const N: usize, const SIZE: usize>(
     rcode: Rcode,
     draft: &Draft<N, SIZE>,
 ) -> Verdict
-    ensures rcode { result.rcode ≡ rcode }
-    ensures referral { result.is_referral ≡ false }
-    ensures truncated { result.is_truncated ≡ draft.now.full }
+    ensures { IsPlain draft.now (code_of rcode) result }
 {
     Verdict {
         rcode,

@@ -1,31 +1,33 @@
-use Rattle.std.proofs.Common.{◌≡◌, ◌||◌, ◌∷◌, true, inr, sym, ap, ◌∙◌, arith, Some}
+use Rattle.std.proofs.Common.{◌≡◌, ◌||◌, ◌∷◌, Bool, true, false, inr, sym, ap, ◌∙◌, arith, Some}
 use Rattle.std.specs.List.{list_any}
 use Rattle.dns_spec.specs.Names.{folded, same}
 use Rattle.dns_answer.specs.Seeking.{names_of, alias_target}
-use Rattle.dns_answer.proofs.SeekSteps.{any-names, names-count, none-again}
+use Rattle.dns_answer.proofs.SeekSteps.{any-names, names-count, unsought-is}
 use Rattle.dns_answer.proofs.chain.next_sought.Goals as goal
 
 pub returns-then-is_among : goal.returns-then-is_among
 returns-then-is_among c =
     let m = c.in_ok-next.next.name in
     let s = c.args.sought.now.name in
-    let names = names_of c.args.earlier.now in
-    let leads = sym c.target.ensures.value ∙ c.in_ok-target.was ∙ ap (λ n. Some n) (sym c.in_ok-next.ensures.0) in
-    let among : list_any (same m) (s ∷ names) ≡ true =
-    ap (λ b. same m s || b) (sym (any-names m c.args.earlier.now)) ∙ sym c.if-is_among.ensures in
-    inr (none-again c.args.origin.now m (s ∷ names) (alias_target c.args.alias.now) leads among)
+    inr (unsought-is c.args.origin.now m (s ∷ names_of c.args.earlier.now) _ true
+    (sym c.target.ensures.value ∙ c.in_ok-target.was ∙ ap Some (sym c.in_ok-next.ensures.0))
+    c.in_ok-next.ensures.1.below
+    (ap (λ b. same m s || b) (sym (any-names m c.args.earlier.now)) ∙ sym c.if-is_among.ensures))
 
 pub returns : goal.returns
 returns c =
     let m = c.in_ok-next.next.name in
-    let s = c.args.sought.now.name in
-    let leads = sym c.target.ensures.value ∙ c.in_ok-target.was ∙ ap (λ n. Some n) (sym c.in_ok-next.ensures.0) in (
+    let s = c.args.sought.now.name in (
       omega (arith, names-count c.args.earlier.now, c.if-earlier-ge-MOST_ALIASES.false),
-      leads,
+      unsought-is c.args.origin.now m (s ∷ names_of c.args.earlier.now) _ false
+          (sym c.target.ensures.value ∙ c.in_ok-target.was ∙ ap Some (sym c.in_ok-next.ensures.0))
+          c.in_ok-next.ensures.1.below
+          (ap (λ b. same m s || b) (sym (any-names m c.args.earlier.now)) ∙ sym c.is_among.ensures
+          ∙ c.if-is_among.false),
       c.in_ok-next.ensures.1,
-      ap (λ b. same m s || b) (sym (any-names m c.args.earlier.now)) ∙ sym c.is_among.ensures ∙ c.if-is_among.false,
       ap folded c.in_ok-next.ensures.0 ∙ c.in_ok-target.ensures.lower ∙ sym c.in_ok-next.ensures.0,
     )
 
 pub is_among-requires-clause-name : goal.is_among-requires-clause-name
-is_among-requires-clause-name c = ap folded c.in_ok-next.ensures.0 ∙ c.in_ok-target.ensures.lower ∙ sym c.in_ok-next.ensures.0
+is_among-requires-clause-name c =
+    ap folded c.in_ok-next.ensures.0 ∙ c.in_ok-target.ensures.lower ∙ sym c.in_ok-next.ensures.0

@@ -1,16 +1,13 @@
-use Rattle.std.proofs.Common.{◌||◌, [], refl, sym, ap, ◌∙◌, subst, length}
+use Rattle.std.proofs.Common.{◌||◌, [], sym, ap, ◌∙◌, subst, length}
 use Rattle.std.specs.Prelude.{◌==◌}
 use Rattle.std.specs.List.{filter}
 use Rattle.dns_spec.specs.Data.{type_ns, type_mx, type_srv}
-use Rattle.dns_spec.specs.Answer.{positive}
 use Rattle.dns_spec.specs.Layout.{answer}
-use Rattle.dns_wire.specs.QueryForm.{code_of}
 use Rattle.dns_answer.specs.Ending.{all_names, asked_item}
 use Rattle.dns_answer.specs.Targets.{side_items, side_nodes}
 use Rattle.dns_answer.specs.Walks.{Took}
-use Rattle.dns_answer.proofs.Offering.{Offers-is, Offers-nothing}
-use Rattle.dns_answer.proofs.TargetLaws.{side_items-none}
-use Rattle.dns_answer.proofs.Endings.{Ends-plain}
+use Rattle.dns_answer.proofs.Offering.{Offers-is}
+use Rattle.dns_answer.proofs.Endings.{Ends-positive, Offers-none}
 use Rattle.dns_answer.proofs.EndingSets.{targets_of_set, no_targets_of_set}
 use Rattle.dns_answer.proofs.ending.end_with.Goals as goal
 
@@ -18,21 +15,26 @@ pub returns-then-has_targets-clause-ends : goal.returns-then-has_targets-clause-
 returns-then-has_targets-clause-ends g c = λ n begun offers.
     let z = c.args.steps.now.zone in
     let set = c.args.set.now in
-    let ts = targets_of_set answer n set.ttl set (ap (λ t. t == type_ns || t == type_mx || t == type_srv) (sym c.rtype.ensures) ∙ sym c.if-has_targets.ensures) in
-    Ends-plain begun c.args.draft.now _ z (positive (asked_item n set)) _ refl offers
-    (Offers-is _ _ _ _ (ap (side_items z all_names []) (sym ts)) c.offer_addresses.ensures.offers) (ap code_of c.ended-verdict.ensures.rcode) c.ended-verdict.ensures.referral c.ended-verdict.ensures.truncated
+    let ts = targets_of_set answer n set.ttl set (ap (λ t. t == type_ns || t == type_mx || t == type_srv)
+    (sym c.rtype.ensures) ∙ sym c.if-has_targets.ensures) in
+    Ends-positive z (asked_item n set) offers
+    (Offers-is _ _ _ _ (ap (side_items z all_names []) (sym ts)) c.offer_addresses.ensures.offers)
+    c.ended-verdict.ensures
 
 pub returns-then-has_targets-clause-took : goal.returns-then-has_targets-clause-took
 returns-then-has_targets-clause-took g c = λ n.
     let z = c.args.steps.now.zone in
     let set = c.args.set.now in
-    let ts = targets_of_set answer n set.ttl set (ap (λ t. t == type_ns || t == type_mx || t == type_srv) (sym c.rtype.ensures) ∙ sym c.if-has_targets.ensures) in
-    subst (λ ms. Took c.args.steps.now c.offer_addresses.new.steps (side_nodes z all_names ms) (length (filter all_names ms))) (sym ts) c.offer_addresses.ensures.took
+    let ts = targets_of_set answer n set.ttl set (ap (λ t. t == type_ns || t == type_mx || t == type_srv)
+    (sym c.rtype.ensures) ∙ sym c.if-has_targets.ensures) in
+    subst (λ ms. Took c.args.steps.now c.offer_addresses.new.steps (side_nodes z all_names ms)
+    (length (filter all_names ms))) (sym ts) c.offer_addresses.ensures.took
 
 pub returns-else-has_targets-clause-ends : goal.returns-else-has_targets-clause-ends
 returns-else-has_targets-clause-ends g c = λ n begun offers.
     let z = c.args.steps.now.zone in
     let set = c.args.set.now in
-    let ts = no_targets_of_set answer n set.ttl set (ap (λ t. t == type_ns || t == type_mx || t == type_srv) (sym c.rtype.ensures) ∙ sym c.if-has_targets.ensures) in
-    Ends-plain begun c.args.draft.now c.args.draft.now z (positive (asked_item n set)) _ refl offers
-    (Offers-is _ _ [] _ (sym (ap (side_items z all_names []) ts ∙ side_items-none z all_names)) (Offers-nothing _)) (ap code_of c.ended-verdict.ensures.rcode) c.ended-verdict.ensures.referral c.ended-verdict.ensures.truncated
+    Ends-positive z (asked_item n set) offers
+    (Offers-none z _ _ (no_targets_of_set answer n set.ttl set
+    (ap (λ t. t == type_ns || t == type_mx || t == type_srv) (sym c.rtype.ensures)
+    ∙ sym c.if-has_targets.ensures))) c.ended-verdict.ensures
