@@ -12,7 +12,8 @@ use Rattle.dns_answer.specs.Walks.{Took}
 use Rattle.dns_answer.specs.Chain.{chain_rest}
 use Rattle.dns_answer.specs.Seeking.{leads_on}
 use Rattle.dns_spec.proofs.Replies.FewItems.{sum_cons}
-use Rattle.dns_answer.proofs.AnswerItems.{depths, nodes-are, misses-are, speaks-unless}
+use Rattle.dns_answer.proofs.TargetLaws.{depths}
+use Rattle.dns_answer.proofs.AnswerItems.{nodes-are, misses-are, speaks-unless}
 use Rattle.dns_answer.proofs.ChainSteps.{depth_in, last-name, none-shown}
 
 nodes-sum : (z : ZoneContents) (ns : List DomainName) → sum (map (nodes_to z) ns) ≡ length ns + depths z ns

@@ -19,12 +19,12 @@ use Rattle.dns_spec.specs.Answer.{item, follows_alias, alias_items, last_sought,
 use Rattle.dns_spec.proofs.Records.SortedOnce.{Each, each_weaker, filter_each}
 use Rattle.dns_spec.proofs.Replies.WritableItems.{each_append, each_flat_map}
 use Rattle.dns_spec.proofs.Replies.RequiredItems.{IsAlias, target_of, each_of_type, each_alias_item}
-use Rattle.dns_spec.proofs.Replies.FewItems.{item_records, targets_last, sum_cons}
+use Rattle.dns_spec.proofs.Replies.FewItems.{item_records, targets_last}
 use Rattle.dns_zone.proofs.NameTree.{same-under}
 use Rattle.dns_answer.specs.Targets.{addresses_of, side_items}
 use Rattle.dns_answer.specs.Ending.{Rest, all_names, inside, not_inside, glue_by, others_by, nodes_by, misses_by, ending_targets, ending_items, ending_required}
 use Rattle.dns_answer.specs.Chain.{chain_rest}
-use Rattle.dns_answer.proofs.TargetLaws.{side_items-append, side_items-none}
+use Rattle.dns_answer.proofs.TargetLaws.{depths, depths-append, side_items-append, side_items-none}
 use Rattle.dns_answer.proofs.StandingAddresses.{NotAddress, NoAddresses, extra-side, extra-none}
 
 -- a test that names that are the same pass alike
@@ -147,20 +147,6 @@ denial-no_targets z =
     lowered : (rs : List ResourceRecord) → AreOf type_soa rs → AreOf type_soa (map (λ (r : ResourceRecord). record r { ttl = min r.ttl (soa_minimum r.rdata) }) rs)
     lowered [] e = tt
     lowered (r ∷ rs) e = (e.0, lowered rs e.1)
-
--- the labels of names below the origin
-abbrev pub depths : ZoneContents → List DomainName → ℕ
-depths z ns = sum (map (λ (n : DomainName). length n - length z.origin) ns)
-
-depths-append : (z : ZoneContents) (ns ms : List DomainName)
-    → depths z (ns ++ ms) ≡ depths z ns + depths z ms
-depths-append z [] ms = omega arith
-depths-append z (n ∷ ns) ms =
-    let below = λ (n : DomainName). length n - length z.origin in
-    let a = sum_cons (below n) (map below (ns ++ ms)) in
-    let b = sum_cons (below n) (map below ns) in
-    let c = depths-append z ns ms in
-    omega (arith, a, b, c)
 
 all-names : (ms : List DomainName) → filter all_names ms ≡ ms
 all-names [] = refl

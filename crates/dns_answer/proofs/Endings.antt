@@ -23,7 +23,7 @@ use Rattle.dns_answer.specs.Ending.{Ends, IsPlain, TookRest, ending, all_names, 
 use Rattle.dns_answer.proofs.Taking.{Took-then, Took-within}
 use Rattle.dns_answer.proofs.AnswerItems.{denial-no_targets}
 use Rattle.dns_answer.specs.declared.ending.Verdict.{Verdict}
-use Rattle.dns_answer.proofs.Offering.{Offers-is, Offers-nothing, Offers-then, Offers-full}
+use Rattle.dns_answer.proofs.Offering.{Offers-is, Offers-nothing, Offers-empty, Offers-then, Offers-full}
 use Rattle.dns_answer.proofs.TargetLaws.{side_items-none, items-untaken}
 use Rattle.dns_zone.proofs.WayLaws.{set-owned}
 use Rattle.dns_zone.specs.Nodes.{Walk, ZoneNode, IsSetOf}
@@ -52,18 +52,16 @@ Ends-positive z is a b plain =
     says-in_order z (positive is) a (Offers-nothing _) b plain.rcode plain.referral plain.truncated
 
 -- where there are no targets
-pub Offers-none : (z : ZoneContents) (w : State) (ms : List DomainName) → ms ≡ []
+pub Offers-none : (z : ZoneContents) {w : State} (ms : List DomainName) → ms ≡ []
     → Offers w w (side_items z all_names [] ms)
-Offers-none z w ms e =
-    Offers-is w w [] _ (sym (ap (side_items z all_names []) e ∙ side_items-none z all_names))
-    (Offers-nothing w)
+Offers-none z ms e = Offers-empty _ (ap (side_items z all_names []) e ∙ side_items-none z all_names)
 
 -- a negative answer
 pub Ends-denied : (z : ZoneContents) (rcode : ℕ) (is : List Item) {w w' : State} {v : Verdict}
     → negative_soa z ≡ is → Offers w w' is → IsPlain w' rcode v → Ends w w' z (negative z rcode) v
 Ends-denied z rcode is {w} {w'} e a plain =
     says-in_order z (negative z rcode) (Offers-is w w' is _ (sym e) a) (Offers-nothing w')
-    (Offers-none z w' _ (denial-no_targets z)) plain.rcode plain.referral plain.truncated
+    (Offers-none z _ (denial-no_targets z)) plain.rcode plain.referral plain.truncated
 
 -- its SOA: a set of one record, with the lesser TTL
 lowered : (n : DomainName) (ttl t : ℕ) (ds : List Octets) → length ds ≡ 1
@@ -133,7 +131,7 @@ pub Offers-others : (z : ZoneContents) (c : DomainName) (w : State) (ms : List D
     → Offers w w (side_items z (not_inside c) [] ms)
 Offers-others z c w ms b (inl full) e = Offers-full w _ full
 Offers-others z c w ms b (inr all) e =
-    Offers-is _ _ [] _ (sym (none-outside_cut z c [] ms (sym all ∙ e))) (Offers-nothing w)
+    Offers-empty _ (none-outside_cut z c [] ms (sym all ∙ e))
 
 -- a referral to the servers of a cut, whose set stands at its node
 module _ (z : ZoneContents) (node : ZoneNode) (set : RecordSet) (zone : node.zone ≡ z)

@@ -12,7 +12,7 @@ use Rattle.dns_wire.specs.QuickNumbers.{quick_number}
 use Rattle.dns_answer.specs.Draft as spec
 use Rattle.dns_answer.specs.Draft.{offer, offered, size_with}
 use Rattle.dns_answer.specs.DraftForm.{State, Holds, Offers}
-use Rattle.dns_answer.proofs.Offered.{offered-append, offered-nil, offered-one}
+use Rattle.dns_answer.proofs.Offered.{offered-append, offered-nil, offered-one, offered-full}
 
 pub Offers-nothing : (w : State) → Offers w w []
 Offers-nothing w = record { draft = λ d h. subst (Holds w) (sym (offered-nil d)) h; limit = refl }
@@ -26,21 +26,17 @@ Offers-then w w' w'' is js a b = record {
 pub Offers-is : (w w' : State) (is js : List Item) → is ≡ js → Offers w w' is → Offers w w' js
 Offers-is w w' is js e a = subst (Offers w w') e a
 
-full_offer : (d : spec.Draft) (i : Item) → d.full ≡ true → offer d i ≡ d
-full_offer d i e = rw e refl
+-- there is nothing to offer
+pub Offers-empty : {w : State} (is : List Item) → is ≡ [] → Offers w w is
+Offers-empty {w} is e = subst (Offers w w) (sym e) (Offers-nothing w)
 
 open_offer : (d : spec.Draft) (i : Item) → d.full ≡ false → offer d i ≡ cond (nat_le (size_with d.question (d.kept ++ i ∷ [])) d.limit) (record d { kept = d.kept ++ i ∷ [] }) (record d { full = true })
 open_offer d i e = rw e refl
 
-full_offered : (d : spec.Draft) (is : List Item) → d.full ≡ true → offered d is ≡ d
-unfolding offered
-full_offered d [] e = refl
-full_offered d (i ∷ is) e = ap (λ x. offered x is) (full_offer d i e) ∙ full_offered d is e
-
 -- a full reply is left as it is
 pub Offers-full : (w : State) (is : List Item) → w.full ≡ true → Offers w w is
 Offers-full w is full = record {
-  draft = λ d h. subst (Holds w) (sym (full_offered d is (sym h.full ∙ full))) h;
+  draft = λ d h. subst (Holds w) (sym (offered-full d is (sym h.full ∙ full))) h;
   limit = refl;
 }
 

@@ -101,8 +101,7 @@ fn offer_target<'z, const N: usize, const SIZE: usize>(
         (target_nodes steps.old.zone (side_takes side.entry)
         (target set.now.rtype (get_or set.now.rdata i [])))
         (target_misses (side_takes side.entry) (target set.now.rtype (get_or set.now.rdata i []))) }
-    ensures few { target_nodes steps.old.zone (side_takes side.entry)
-        (target set.now.rtype (get_or set.now.rdata i [])) ≤ 127 }
+    ensures bound { Took steps.old steps.new 127 1 }
     ensures meant { result ≡ takes_target (side_takes side.entry)
         (target set.now.rtype (get_or set.now.rdata i [])) }
 {

@@ -5,7 +5,7 @@ use Rattle.dns_zone.specs.Nodes.{Walk}
 use Rattle.dns_zone.proofs.NameTree.{under-trans}
 use Rattle.dns_answer.specs.Walks.{IsLeadTo, Took}
 use Rattle.dns_answer.proofs.WaySteps.{Took-lead}
-use Rattle.dns_answer.proofs.Offering.{Offers-is, Offers-nothing}
+use Rattle.dns_answer.proofs.Offering.{Offers-empty}
 use Rattle.dns_answer.proofs.TargetLaws.{none-outside}
 use Rattle.dns_answer.proofs.addresses.offer_address.Goals as goal
 
@@ -39,5 +39,4 @@ returns-in_default-clause-offers g c =
     ∙ ap (λ (w : Walk). w.zone.origin) c.in-None.ensures in
     let outside : at_or_below m z.origin ≡ false =
     ap (λ (o : DomainName). at_or_below m o) (sym origin_is) ∙ c.in_default.ensures in
-    Offers-is _ _ [] _ (sym (none-outside z m c.requires.apex.exists.built outside))
-    (Offers-nothing _)
+    Offers-empty _ (none-outside z m c.requires.apex.exists.built outside)

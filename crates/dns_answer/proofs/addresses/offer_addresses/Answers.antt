@@ -6,22 +6,23 @@ use Rattle.dns_spec.specs.Names.{Octets}
 use Rattle.dns_answer.specs.DraftForm.{Offers}
 use Rattle.dns_answer.specs.Walks.{Took}
 use Rattle.dns_answer.specs.Targets.{target_items, target_nodes, target_misses, targets_of_first, side_takes, side_nodes}
-use Rattle.dns_answer.proofs.Offering.{Offers-is, Offers-nothing, Offers-then}
-use Rattle.dns_answer.proofs.TargetLaws.{side_items-none, side_items-more, Took-nothing, Took-more, Took-rest, Offers-rest, nodes-more, hits-more, all-more}
+use Rattle.dns_answer.proofs.Taking.{Took-none, Took-then, Took-within, HasRoom-after}
+use Rattle.dns_answer.proofs.Offering.{Offers-is, Offers-empty, Offers-then}
+use Rattle.dns_answer.proofs.TargetLaws.{side_items-none, side_items-more, Took-more, Took-rest, Offers-rest, all-more}
 use Rattle.dns_answer.proofs.addresses.offer_addresses.Goals as goal
 
 pub targets-init : goal.targets-init
 targets-init g c = record {
-  offers = Offers-is _ _ [] _ (sym (side_items-none c.args.steps.now.zone (side_takes c.args.side))) (Offers-nothing _);
-  took = Took-nothing _;
-  hits = omega arith;
-  few = omega arith;
+  offers = Offers-empty _ (side_items-none c.args.steps.now.zone (side_takes c.args.side));
+  took = Took-none;
+  bound = Took-none;
   all = refl;
 }
 
 pub offer_target-all-requires : goal.offer_target-all-requires
 offer_target-all-requires g c =
-    let inv = c.targets.invariant in (
+    let inv = c.targets.invariant in
+    let inside = c.targets-test.true in (
       search rules,
       (
         search rules,
@@ -31,10 +32,7 @@ offer_target-all-requires g c =
             search rules,
             (
               search rules,
-              record {
-                visits = omega (arith, inv.took.visits, inv.few, c.requires.room.visits, c.requires.few, c.targets-test.true);
-                comparisons = omega (arith, inv.took.comparisons, inv.took.visits, inv.hits, inv.few, c.requires.room.comparisons, c.requires.few, c.targets-test.true);
-              },
+              HasRoom-after inv.bound (omega (arith, c.requires.few)) c.requires.room,
             ),
           ),
         ),
@@ -46,47 +44,37 @@ targets-preserved g c =
     let inv = c.targets.invariant in
     let z = c.args.steps.now.zone in
     let p = side_takes c.args.side in
-    let inside : c.targets.i < length c.args.set.now.rdata = omega (arith, c.targets-test.true, c.len-i-end.ensures.value) in
-    let d = get_or c.args.set.now.rdata c.targets.i [] in
-    let m = target c.args.set.now.rtype d in
-    let offered = subst (λ (y : ZoneContents). Offers c.targets.draft c.offer_target-all.new.draft (target_items y p (targets_of_first c.targets.i c.args.set.now) m)) inv.took.zone c.offer_target-all.ensures.offers in
-    let taken = subst (λ (y : ZoneContents). Took c.targets.steps c.offer_target-all.new.steps (target_nodes y p m) (target_misses p m)) inv.took.zone c.offer_target-all.ensures.took in
-    let few = subst (λ (y : ZoneContents). target_nodes y p m ≤ 127) inv.took.zone c.offer_target-all.ensures.few in
+    let set = c.args.set.now in
+    let i = c.targets.i in
+    let inside : i < length set.rdata = omega (arith, c.targets-test.true, c.len-i-end.ensures.value) in
+    let o = target set.rtype (get_or set.rdata i []) in
+    let one = c.offer_target-all.ensures in
+    let offered = rw inv.took.zone at one.offers in
+    let taken = subst (λ (y : ZoneContents). Took c.targets.steps c.offer_target-all.new.steps
+    (target_nodes y p o) (target_misses p o)) inv.took.zone one.took in
     record {
-      offers = Offers-is _ _ _ _ (side_items-more z p c.args.set.now c.targets.i inside) (Offers-then _ _ _ _ _ inv.offers offered);
-      took = Took-more z p c.args.set.now c.targets.i _ _ _ inside inv.took taken;
-      hits = hits-more p c.args.set.now c.targets.i inside inv.hits;
-      few = nodes-more z p c.args.set.now c.targets.i inside few inv.few;
-      all = ap₂ (λ a b. a && b) inv.all c.offer_target-all.ensures.meant ∙ sym (all-more p c.args.set.now c.targets.i inside);
+      offers = Offers-is _ _ _ _ (side_items-more z p set i inside) (Offers-then _ _ _ _ _ inv.offers offered);
+      took = Took-more z p set i inside inv.took taken;
+      bound = Took-within (omega arith) (omega arith) (Took-then inv.bound one.bound);
+      all = ap₂ (λ a b. a && b) inv.all one.meant ∙ sym (all-more p set i inside);
     }
 
 pub returns-clause-bound : goal.returns-clause-bound
 returns-clause-bound g c =
-    let inv = c.targets.invariant in
     let most : c.targets.i ≤ 64 = omega (arith, c.targets.auto.i-end, c.len-i-end.ensures.value, c.requires.few) in
-    record {
-      zone = inv.took.zone;
-      from = inv.took.from;
-      visits = omega (arith, inv.took.visits, inv.few);
-      comparisons = omega (arith, inv.took.comparisons, inv.hits);
-    }
+    Took-within (omega (arith, most)) most c.targets.invariant.bound
 
 pub returns-clause-took : goal.returns-clause-took
 returns-clause-took g c =
-    let z = c.args.steps.now.zone in
-    let p = side_takes c.args.side in
-    let rt = c.args.set.now.rtype in
-    let all : take c.targets.i c.args.set.now.rdata ≡ c.args.set.now.rdata = take_all c.targets.i c.args.set.now.rdata (omega (arith, c.targets-test.false, c.len-i-end.ensures.value)) in
-    subst (λ (ds : List Octets). Took c.args.steps.now c.targets.steps (side_nodes z p (filter_map (λ (d : Octets). target rt d) ds)) (length (filter p (filter_map (λ (d : Octets). target rt d) ds))))
-    all c.targets.invariant.took
+    Took-rest c.args.steps.now.zone (side_takes c.args.side) c.args.set.now c.targets.i c.targets.invariant.took
 
 pub returns-clause-all : goal.returns-clause-all
 returns-clause-all g c =
-    let p = side_takes c.args.side in
-    let rt = c.args.set.now.rtype in
-    let whole : take c.targets.i c.args.set.now.rdata ≡ c.args.set.now.rdata = take_all c.targets.i c.args.set.now.rdata (omega (arith, c.targets-test.false, c.len-i-end.ensures.value)) in
-    inr (c.targets.invariant.all
-    ∙ ap (λ (ds : List Octets). list_all p (filter_map (λ (d : Octets). target rt d) ds)) whole)
+    let set = c.args.set.now in
+    let whole : take c.targets.i set.rdata ≡ set.rdata =
+    take_all c.targets.i set.rdata (omega (arith, c.targets-test.false, c.len-i-end.ensures.value)) in
+    inr (c.targets.invariant.all ∙ ap (λ (ds : List Octets). list_all (side_takes c.args.side)
+    (filter_map (λ (d : Octets). target set.rtype d) ds)) whole)
 
 pub returns-then-is_full-clause-offers : goal.returns-then-is_full-clause-offers
 returns-then-is_full-clause-offers g c =
@@ -96,9 +84,7 @@ returns-then-is_full-clause-offers g c =
 
 pub returns-then-is_full-clause-took : goal.returns-then-is_full-clause-took
 returns-then-is_full-clause-took g c =
-    Took-rest c.args.steps.now.zone (side_takes c.args.side) c.args.set.now c.targets.i
-    c.args.steps.now c.targets.steps
-    c.targets.invariant.took
+    Took-rest c.args.steps.now.zone (side_takes c.args.side) c.args.set.now c.targets.i c.targets.invariant.took
 
 pub returns-then-is_full-clause-all : goal.returns-then-is_full-clause-all
 returns-then-is_full-clause-all g c = inl (sym c.if-is_full.ensures)

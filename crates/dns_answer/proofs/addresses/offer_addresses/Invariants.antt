@@ -13,7 +13,6 @@ invariant-targets g l =
     record {
       offers : Offers l.fn.draft l.draft (side_items z p [] (targets_of_first l.i l.set));
       took : Took l.fn.steps l.steps (side_nodes z p (targets_of_first l.i l.set)) (length (filter p (targets_of_first l.i l.set)));
-      hits : length (filter p (targets_of_first l.i l.set)) ≤ l.i;
-      few : side_nodes z p (targets_of_first l.i l.set) ≤ 127 * l.i;
+      bound : Took l.fn.steps l.steps (127 * l.i) l.i;
       all : l.all ≡ list_all p (targets_of_first l.i l.set);
     }

@@ -2,7 +2,7 @@ use Rattle.std.proofs.Common.{rules, [], sym, ap, ◌∙◌}
 use Rattle.std.proofs.lemmas.Bool.{false≢true}
 use Rattle.dns_zone.specs.Nodes.{ZoneNode}
 use Rattle.dns_answer.specs.Targets.{addresses_of}
-use Rattle.dns_answer.proofs.Offering.{Offers-is, Offers-nothing, Offers-then}
+use Rattle.dns_answer.proofs.Offering.{Offers-is, Offers-empty, Offers-then}
 use Rattle.dns_answer.proofs.TargetLaws.{none-missing, addresses-folded}
 use Rattle.dns_answer.proofs.addresses.offer_from.Goals as goal
 
@@ -11,7 +11,7 @@ returns-in-Cut g c = absurd (false≢true c.in-Cut.ensures.way.0)
 
 pub returns-in-Encloser-clause-offers : goal.returns-in-Encloser-clause-offers
 returns-in-Encloser-clause-offers g c =
-    Offers-is _ _ [] _ (sym (none-missing c.args.steps.now.zone c.args.target.now.name c.in-Encloser.ensures.way.missing)) (Offers-nothing _)
+    Offers-empty _ (none-missing c.args.steps.now.zone c.args.target.now.name c.in-Encloser.ensures.way.missing)
 
 pub offer_type-requires : goal.offer_type-requires
 offer_type-requires g c =

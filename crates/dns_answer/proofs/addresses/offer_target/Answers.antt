@@ -1,22 +1,27 @@
-use Rattle.std.proofs.Common.{rules, [], sym, ap, ◌∙◌}
+use Rattle.std.proofs.Common.{rules, ◌≡◌, [], Some, sym, ap, ◌∙◌, arith}
 use Rattle.std.proofs.lemmas.Bool.{false≢true}
+use Rattle.dns_spec.specs.Data.{target}
 use Rattle.dns_spec.proofs.DomainNames.NameLaws.{length-is_name}
 use Rattle.dns_answer.specs.Targets.{target_items, targets_of_first, side_takes}
 use Rattle.dns_answer.proofs.WaySteps.{leads-to}
-use Rattle.dns_answer.proofs.Offering.{Offers-is, Offers-nothing}
-use Rattle.dns_answer.proofs.TargetLaws.{items-untaken, items-stood, target-few}
+use Rattle.dns_answer.proofs.Taking.{Took-within}
+use Rattle.dns_answer.proofs.Offering.{Offers-empty}
+use Rattle.dns_answer.proofs.TargetLaws.{items-untaken, items-stood, depth-few}
 use Rattle.dns_answer.proofs.addresses.offer_target.Goals as goal
 
 pub returns-in_default-clause-offers : goal.returns-in_default-clause-offers
 returns-in_default-clause-offers g c =
-    let is = sym c.target.ensures.value in
-    Offers-is _ _ [] _ (ap (target_items c.args.steps.now.zone (side_takes c.args.side) (targets_of_first c.args.i c.args.set.now)) (sym (is ∙ c.in_default.is))) (Offers-nothing _)
+    let is = sym c.target.ensures.value ∙ c.in_default.is in
+    let p = side_takes c.args.side in
+    Offers-empty _ (ap (target_items c.args.steps.now.zone p (targets_of_first c.args.i c.args.set.now)) is)
 
 pub returns-then-not-takes-clause-offers : goal.returns-then-not-takes-clause-offers
 returns-then-not-takes-clause-offers g c =
-    let is = sym c.target.ensures.value in
-    Offers-is _ _ [] _ (sym (ap (target_items c.args.steps.now.zone (side_takes c.args.side) (targets_of_first c.args.i c.args.set.now)) (is ∙ c.in-Some.is)
-    ∙ items-untaken c.args.steps.now.zone (side_takes c.args.side) (targets_of_first c.args.i c.args.set.now) c.in-Some.target (sym c.if-not-takes.ensures))) (Offers-nothing _)
+    let is = sym c.target.ensures.value ∙ c.in-Some.is in
+    let p = side_takes c.args.side in
+    let ms = targets_of_first c.args.i c.args.set.now in
+    Offers-empty _ (ap (target_items c.args.steps.now.zone p ms) is
+    ∙ items-untaken c.args.steps.now.zone p ms c.in-Some.target (sym c.if-not-takes.ensures))
 
 pub offer_address-requires : goal.offer_address-requires
 offer_address-requires g c = (
@@ -27,20 +32,16 @@ offer_address-requires g c = (
   ),
 )
 
-pub returns-then-not-stood_before-clause-few : goal.returns-then-not-stood_before-clause-few
-returns-then-not-stood_before-clause-few g c =
-    target-few c.args.steps.now.zone (side_takes c.args.side) _ c.in-Some.target
-    (sym c.target.ensures.value ∙ c.in-Some.is)
-    (length-is_name c.in-Some.target c.octets.ensures.is_name)
-
-pub returns-else-not-stood_before-clause-few : goal.returns-else-not-stood_before-clause-few
-returns-else-not-stood_before-clause-few g c =
-    target-few c.args.steps.now.zone (side_takes c.args.side) _ c.in-Some.target
-    (sym c.target.ensures.value ∙ c.in-Some.is)
-    (length-is_name c.in-Some.target c.octets.ensures.is_name)
+pub returns-then-not-stood_before-clause-bound : goal.returns-then-not-stood_before-clause-bound
+returns-then-not-stood_before-clause-bound g c =
+    let m = c.in-Some.target in
+    Took-within (depth-few c.args.steps.now.zone m (length-is_name m c.octets.ensures.is_name))
+    (omega arith) c.offer_address.ensures.took
 
 pub returns-else-not-stood_before-clause-offers : goal.returns-else-not-stood_before-clause-offers
 returns-else-not-stood_before-clause-offers g c =
-    let is = sym c.target.ensures.value in
-    Offers-is _ _ [] _ (sym (ap (target_items c.args.steps.now.zone (side_takes c.args.side) (targets_of_first c.args.i c.args.set.now)) (is ∙ c.in-Some.is)
-    ∙ items-stood c.args.steps.now.zone (side_takes c.args.side) (targets_of_first c.args.i c.args.set.now) c.in-Some.target (sym c.if-not-stood_before.ensures))) (Offers-nothing _)
+    let is = sym c.target.ensures.value ∙ c.in-Some.is in
+    let p = side_takes c.args.side in
+    let ms = targets_of_first c.args.i c.args.set.now in
+    Offers-empty _ (ap (target_items c.args.steps.now.zone p ms) is
+    ∙ items-stood c.args.steps.now.zone p ms c.in-Some.target (sym c.if-not-stood_before.ensures))

@@ -1,8 +1,8 @@
-use Rattle.std.proofs.Common.{[], sym}
+use Rattle.std.proofs.Common.{sym}
 use Rattle.dns_spec.specs.Layout.{additional}
-use Rattle.dns_answer.proofs.Offering.{Offers-is, Offers-nothing}
+use Rattle.dns_answer.proofs.Offering.{Offers-empty}
 use Rattle.dns_answer.proofs.TargetLaws.{item-none}
 use Rattle.dns_answer.proofs.addresses.offer_type.Goals as goal
 
 pub returns-in_default : goal.returns-in_default
-returns-in_default g c = Offers-is _ _ [] _ (sym (item-none additional _ (sym c.in_default.ensures.set))) (Offers-nothing _)
+returns-in_default g c = Offers-empty _ (item-none additional _ (sym c.in_default.ensures.set))

@@ -1,8 +1,10 @@
 use Rattle.std.proofs.Common.{◌≡◌, ◌||◌, refl, sym, ap, ◌∙◌, arith, Some, None, false}
+use Rattle.std.proofs.lemmas.Bool.{or_from}
 use Rattle.std.specs.List.{list_any}
+use Rattle.std.specs.Option.{option_to_list}
 use Rattle.dns_spec.specs.Names.{same}
 use Rattle.dns_answer.specs.Targets.{targets_of_first}
-use Rattle.dns_answer.proofs.TargetLaws.{stood-some, stood-other, same-lower}
+use Rattle.dns_answer.proofs.TargetLaws.{any-more, stood-some, same-lower}
 use Rattle.dns_answer.proofs.addresses.stood_before.Goals as goal
 use Rattle.dns_answer.proofs.addresses.stood_before.Goals.{in-Some+else-eq, in_default}
 
@@ -16,17 +18,18 @@ returns-then-eq c =
 
 pub earlier-preserved : goal.earlier-preserved
 earlier-preserved c =
-    let is = sym c.target.ensures.value in
-    elim c.match-target.branch [
+    let p = same c.args.target.now in
+    any-more p c.args.set.now c.earlier.i (omega (arith, c.earlier-test.true, c.requires.inside))
+    ∙ or_from _ _ c.earlier.invariant
+    (ap (λ o. list_any p (option_to_list o)) (sym c.target.ensures.value)
+    ∙ elim c.match-target.branch [
       | in-Some+else-eq w ↦
           let low = w.in-Some.ensures.lower in
           let other = sym (same-lower c.args.target.now w.in-Some.earlier c.requires.lower low)
           ∙ sym w.eq.ensures ∙ w.if-eq.false in
-          stood-other (same c.args.target.now) c.args.set.now c.earlier.i (Some w.in-Some.earlier) (omega (arith, c.earlier-test.true, c.requires.inside)) c.earlier.invariant (is ∙ w.in-Some.is)
-          (ap (λ b. b || false) other)
-      | in_default w ↦
-          stood-other (same c.args.target.now) c.args.set.now c.earlier.i None (omega (arith, c.earlier-test.true, c.requires.inside)) c.earlier.invariant (is ∙ w.in_default.is) refl
-    ]
+          ap (λ o. list_any p (option_to_list o)) w.in-Some.is ∙ or_from (p w.in-Some.earlier) false other refl
+      | in_default w ↦ ap (λ o. list_any p (option_to_list o)) w.in_default.is
+    ])
 
 pub returns : goal.returns
 returns c =

@@ -137,7 +137,7 @@ returns-in_default-next_sought g c =
     is-last c.args.steps.now c.args.qtype before s (asked_item s set) (ending z (positive []))
     (alias-ends z c.args.qtype before s at_node records set c.in-Some.ensures.kept shown next)
     c.requires.below.labels c.in-Records.ensures.took Took-none (rw c.ttl.ensures at c.offer.ensures)
-    (Ends-positive z [] (Offers-nothing _) (Offers-none z _ [] refl) ended)
+    (Ends-positive z [] (Offers-nothing _) (Offers-none z [] refl) ended)
     (λ r. absurd (false≢true (sym ended.referral ∙ r)))
 
 pub returns : goal.returns

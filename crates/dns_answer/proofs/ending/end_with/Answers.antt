@@ -35,6 +35,6 @@ returns-else-has_targets-clause-ends g c = λ n begun offers.
     let z = c.args.steps.now.zone in
     let set = c.args.set.now in
     Ends-positive z (asked_item n set) offers
-    (Offers-none z _ _ (no_targets_of_set answer n set.ttl set
+    (Offers-none z _ (no_targets_of_set answer n set.ttl set
     (ap (λ t. t == type_ns || t == type_mx || t == type_srv) (sym c.rtype.ensures)
     ∙ sym c.if-has_targets.ensures))) c.ended-verdict.ensures
