@@ -1,5 +1,5 @@
 -- What a reader learns here: how a question is judged, when a reply was put, and what it may take.
-use Rattle.std.specs.Prelude.{◌≡◌, ◌↔◌, ℕ, ◌*◌, ◌≤◌, length, take, Option, None, Some, IsTrue, IsNone, IfSome}
+use Rattle.std.specs.Prelude.{◌≡◌, ◌↔◌, ℕ, ◌*◌, ◌≤◌, length, take, Option, None, Some, Result, Ok, Err, IsTrue, IsNone, IfSome}
 use Rattle.std.specs.Option.{option_map}
 use Rattle.dns_spec.specs.Names.{Octets}
 use Rattle.dns_spec.specs.Records.{ZoneContents}
@@ -12,13 +12,13 @@ use Rattle.dns_wire.specs.QueryForm.{code_of}
 use Rattle.dns_answer.specs.Draft.{empty_draft}
 use Rattle.dns_answer.specs.DraftForm.{State, Holds, Offers}
 use Rattle.dns_zone.specs.Starts.{IsBelow}
-use Rattle.dns_answer.specs.declared.reply.Judged.{Judged}
-use Rattle.dns_answer.specs.declared.reply.Judged.TheVariants.{Refused, Answered}
+use Rattle.dns_wire.specs.declared.query.Rcode.{Rcode}
+use Rattle.dns_zone.specs.declared.sought.Sought.{Sought}
 
 -- a question is refused with an RCODE, or its name is sought from the origin
-abbrev pub JudgedAs : ZoneContents → MessageQuestion → Judged → Type 0
-JudgedAs z q (Refused rcode) = refusal z q ≡ Some (code_of rcode)
-JudgedAs z q (Answered sought) =
+abbrev pub JudgedAs : ZoneContents → MessageQuestion → Result Sought Rcode → Type 0
+JudgedAs z q (Err rcode) = refusal z q ≡ Some (code_of rcode)
+JudgedAs z q (Ok sought) =
     (refusal z q ≡ None) × (sought.name ≡ q.qname) × IsBelow sought z.origin
 
 -- The octets at the front of `out` are the reply that a decision makes, with the longest beginning

@@ -7,6 +7,7 @@ ghost use Rattle.dns_spec.specs.Answer.{item};
 ghost use Rattle.dns_spec.specs.Records.{rrset};
 ghost use Rattle.dns_spec.specs.Layout.{additional};
 ghost use Rattle.dns_spec.specs.Sets.{HasValidData};
+ghost use Rattle.dns_zone.specs.Nodes.{IsSetOf};
 ghost use Rattle.dns_zone.specs.Starts.{IsBelow};
 ghost use Rattle.dns_answer.specs.Walks.{IsApex, IsStart, IsLeadTo, HasRoom, Took};
 ghost use Rattle.dns_answer.specs.DraftForm.{Offers};
@@ -56,8 +57,7 @@ pub(crate) fn offer_addresses<'z, const N: usize, const SIZE: usize>(
 ) -> bool
     requires apex { IsApex steps.old.zone apex.now }
     requires node { node.now.zone ≡ steps.old.zone }
-    requires valid { HasValidData set.now }
-    requires few { length set.now.rdata ≤ 64 }
+    requires set { IsSetOf node.now set.now }
     requires room { HasRoom steps.old (64 * 128) }
     ensures offers { Offers draft.old draft.new
         (side_items steps.old.zone (side_takes side.entry) [] (set_targets set.now)) }

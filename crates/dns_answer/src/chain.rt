@@ -1,24 +1,24 @@
 //! The names sought, one after the other (RFC 1034 4.3.2 step 3a).
-ghost use Rattle.std.specs.Prelude.{◌≡◌, ◌+◌, ◌*◌, ◌≤◌, ◌<◌, ◌⊎◌, ◌||◌, [], ◌∷◌, length, drop, All, true, false, IsTrue, IfSome, MatchOption};
+ghost use Rattle.std.specs.Prelude.{◌≡◌, ◌+◌, ◌*◌, ◌≤◌, ◌<◌, ◌⊎◌, ◌||◌, [], ◌∷◌, length, drop, All, true, false, IsTrue, IfSome};
 ghost use Rattle.std.specs.List.{list_any};
 ghost use Rattle.dns_spec.specs.Names.{folded, names_equal, same};
-ghost use Rattle.dns_spec.specs.Data.{type_cname};
-ghost use Rattle.dns_spec.specs.Records.{at, of_type};
-ghost use Rattle.dns_spec.specs.Sets.{set_of};
-ghost use Rattle.dns_spec.specs.Answer.{follows_alias};
+ghost use Rattle.dns_spec.specs.Records.{at};
 ghost use Rattle.dns_zone.specs.Nodes.{IsSetOf};
 ghost use Rattle.dns_zone.specs.Starts.{IsBelow};
 ghost use Rattle.dns_answer.specs.Walks.{IsApex, IsLeadTo, HasRoom};
 ghost use Rattle.dns_answer.specs.Seeking.{SeeksFrom, TookFrom, Followed, SoughtAs, IsShown, NextIs, names_of, aliases_left};
 
 use crate::draft::Draft;
-use crate::ending::{QTYPE_ANY, Verdict, asked_set, deny, end_with, ended, refer};
+use crate::ending::{Verdict, deny, end_with, ended, refer};
 use crate::lookup::{Found, look_up, or_start};
 use arrayvec::ArrayVec;
 use dns_name::NameRef;
 use dns_rdata::{RType, SetView};
 use dns_wire::{Rcode, Section};
 use dns_zone::{Lead, Node, RecordSet, Sought, Steps};
+
+// A QTYPE that asks for all types (RFC 1035 3.2.3).
+const QTYPE_ANY: u16 = 255;
 
 // So many aliases are followed: a limit of this project.
 const MOST_ALIASES: usize = 16;
@@ -32,41 +32,30 @@ pub(crate) enum Next<'z> {
     Alias(Sought<'z>, Option<Lead<'z>>),
 }
 
-/// What seeking the name of a question comes to.
-#[derive(Clone, Copy)]
-pub(crate) struct Ended {
-    pub(crate) verdict: Verdict,
-    /// Whether that name has an alias that was followed.
-    pub(crate) followed_alias: bool,
-}
-
 /// Seeks the name of a question, and after it the targets of aliases: offers the sets of the
-/// aliases, and those that the last name ends with.
+/// aliases, and those that the last name ends with. Answers also whether the name of the question
+/// has an alias that was followed.
 pub(crate) fn seek<'q, 'z: 'q, const N: usize, const SIZE: usize>(
     first: Sought<'q>,
     qtype: u16,
     apex: &Node<'z>,
     steps: &mut Steps<'z>,
     draft: &mut Draft<N, SIZE>,
-) -> Ended
+) -> (Verdict, bool)
     requires apex { IsApex steps.old.zone apex.now }
     requires below { IsBelow first steps.old.zone.origin }
     requires room { HasRoom steps.old (129 * (16 + 129)) }
     ensures seeks { SeeksFrom draft.old draft.new steps.old.zone qtype [] first.entry.name
-        result.verdict }
+        result.0 }
     ensures took { TookFrom steps.old.zone steps.old steps.new qtype [] first.entry.name }
-    ensures followed { Followed steps.old.zone qtype first.entry.name result.verdict
-        result.followed_alias }
+    ensures followed { Followed steps.old.zone qtype first.entry.name result.0 result.1 }
 {
     match seek_one(&first, None, qtype, &[], apex, steps, draft) {
-        Next::Last(verdict) => Ended {
-            verdict,
-            followed_alias: false,
-        },
-        Next::Alias(target, lead) => Ended {
-            verdict: seek_targets(first, target, lead, qtype, apex, steps, draft),
-            followed_alias: true,
-        },
+        Next::Last(verdict) => (verdict, false),
+        Next::Alias(target, lead) => {
+            let verdict = seek_targets(first, target, lead, qtype, apex, steps, draft);
+            (verdict, true)
+        }
     }
 }
 
@@ -148,32 +137,21 @@ fn seek_one<'z, const N: usize, const SIZE: usize>(
 }
 
 // The set that an answer shows of the records at a node, and whether it is an alias, which leads
-// on: the alias is shown in place of what is asked for.
+// on: the alias is shown in place of what is asked for, unless it is itself what is asked for. Of
+// all types the lowest number is shown (RFC 8482 4.1).
 fn shown_set<'z>(node: &Node<'z>, qtype: u16) -> Option<(RecordSet<'z>, bool)>
     ensures shown { IsShown qtype (at node.now.zone node.now.name) result }
     ensures kept { IfSome result (λ (set, _). IsSetOf node.now set) }
 {
-    if let Some(alias) = alias_at(node, qtype) {
-        return Some((alias, true));
+    if qtype == QTYPE_ANY {
+        return Some((node.first_set()?, false));
     }
-    let asked = asked_set(node, qtype)?;
-    Some((asked, false))
-}
-
-// The alias at a node, unless it is itself what is asked for.
-fn alias_at<'z>(node: &Node<'z>, qtype: u16) -> Option<RecordSet<'z>>
-    ensures alias { MatchOption result
-        ((follows_alias qtype ≡ false)
-        ⊎ (None ≡ set_of (of_type type_cname (at node.now.zone node.now.name))))
-        (λ set. (follows_alias qtype ≡ true)
-        × (Some set ≡ set_of (of_type type_cname (at node.now.zone node.now.name)))) }
-    ensures rtype { IfSome result (λ set. set.rtype ≡ type_cname) }
-    ensures kept { IfSome result (IsSetOf node.now) }
-{
-    if qtype == RType::CNAME.0 || qtype == QTYPE_ANY {
-        return None;
+    if qtype != RType::CNAME.0 {
+        if let Some(alias) = node.set(RType::CNAME) {
+            return Some((alias, true));
+        }
     }
-    node.set(RType::CNAME)
+    Some((node.set(RType(qtype))?, false))
 }
 
 // The name that is sought after an alias: its target, where more may be sought and it is at or below

@@ -1,11 +1,9 @@
 //! How the answer for the last name sought ends (RFC 1034 4.3.2 step 3, RFC 2308).
-ghost use Rattle.std.specs.Prelude.{◌≡◌, ◌+◌, ◌*◌, ◌≤◌, ◌||◌, ◌==◌, length, IfSome};
+ghost use Rattle.std.specs.Prelude.{◌≡◌, ◌+◌, ◌*◌, ◌≤◌, ◌||◌, ◌==◌, length};
 ghost use Rattle.dns_spec.specs.Names.{DomainName};
 ghost use Rattle.dns_spec.specs.Data.{type_ns, type_mx, type_srv};
-ghost use Rattle.dns_spec.specs.Records.{at};
-ghost use Rattle.dns_spec.specs.Sets.{HasValidData, set_of};
-ghost use Rattle.dns_spec.specs.Answer.{referral_to, negative, asked_records};
 ghost use Rattle.dns_zone.specs.Nodes.{IsSetOf};
+ghost use Rattle.dns_spec.specs.Answer.{referral_to, negative};
 ghost use Rattle.dns_wire.specs.QueryForm.{code_of};
 ghost use Rattle.dns_answer.specs.Walks.{IsApex, IsBelowCut, HasRoom};
 ghost use Rattle.dns_answer.specs.Ending.{Ends, TookTargets, IsPlain, EndsWith, TookWith};
@@ -16,9 +14,6 @@ use dns_name::NameRef;
 use dns_rdata::{RType, Rdata, SetView};
 use dns_wire::{Rcode, Section};
 use dns_zone::{Node, RecordSet, Steps};
-
-/// A QTYPE that asks for all types (RFC 1035 3.2.3).
-pub(crate) const QTYPE_ANY: u16 = 255;
 
 /// What the header says of an answer.
 #[derive(Clone, Copy)]
@@ -111,8 +106,7 @@ pub(crate) fn end_with<'z, const N: usize, const SIZE: usize>(
     draft: &mut Draft<N, SIZE>,
 ) -> Verdict
     requires node { node.now.zone ≡ steps.old.zone }
-    requires valid { HasValidData set.now }
-    requires few { length set.now.rdata ≤ 64 }
+    requires set { IsSetOf node.now set.now }
     requires apex { IsApex steps.old.zone apex.now }
     requires room { HasRoom steps.old (64 * 128) }
     ensures ends { EndsWith draft.old draft.new steps.old.zone set.now result }
@@ -123,18 +117,6 @@ pub(crate) fn end_with<'z, const N: usize, const SIZE: usize>(
         offer_addresses(node, set, Side::All, apex, steps, draft);
     }
     verdict
-}
-
-/// The set asked for; of all types that of the lowest number (RFC 8482 4.1).
-pub(crate) fn asked_set<'z>(node: &Node<'z>, qtype: u16) -> Option<RecordSet<'z>>
-    ensures set { result ≡ set_of (asked_records qtype (at node.now.zone node.now.name)) }
-    ensures kept { IfSome result (IsSetOf node.now) }
-{
-    if qtype == QTYPE_ANY {
-        node.first_set()
-    } else {
-        node.set(RType(qtype))
-    }
 }
 
 // Addresses of the targets of these types are of use to the asker.

@@ -12,7 +12,7 @@ ghost use Rattle.dns_answer.specs.Limits.{limit_of};
 ghost use Rattle.dns_zone.specs.Starts.{IsBelow};
 ghost use Rattle.dns_answer.specs.Replies.{JudgedAs, IsReply, Answers, Costs, Responds, visits_for, names_for, comparisons_for};
 
-use crate::chain::{Ended, seek};
+use crate::chain::seek;
 use crate::draft::Draft;
 use dns_name::Name;
 use dns_wire::{CLASS_IN, Head, QueryRef, QuestionRef, Rcode, lent_query};
@@ -163,37 +163,28 @@ fn put_reply<'q, 'z: 'q, const N: usize, const SIZE: usize>(
         steps.old steps.new }
 {
     match judge(question, origin) {
-        Judged::Refused(rcode) => put_refusal(
+        Err(rcode) => put_refusal(
             head.reply(false, false, rcode),
             Some(question),
             draft,
             out,
         ),
-        Judged::Answered(sought) => put_answer(steps, head, question, sought, draft, out),
+        Ok(sought) => put_answer(steps, head, question, sought, draft, out),
     }
 }
 
-// Whether a question is answered, and then the name that is sought.
-#[derive(Drop)]
-enum Judged<'q> {
-    Refused(Rcode),
-    Answered(Sought<'q>),
-}
-
-// A question is judged by its class, then its type, then its name.
-fn judge<'q>(question: &QuestionRef<'q>, origin: &Name) -> Judged<'q>
+// The name that is sought, or why there is none: a question is judged by its class, then its type,
+// then its name.
+fn judge<'q>(question: &QuestionRef<'q>, origin: &Name) -> Result<Sought<'q>, Rcode>
     ensures { (z : ZoneContents) → z.origin ≡ origin.now → JudgedAs z question.now result }
 {
     if question.qclass != CLASS_IN {
-        return Judged::Refused(Rcode::Refused);
+        return Err(Rcode::Refused);
     }
     if is_meta_type(question.qtype) {
-        return Judged::Refused(Rcode::NotImplemented);
+        return Err(Rcode::NotImplemented);
     }
-    match Sought::below(&question.name, &origin.lent()) {
-        None => Judged::Refused(Rcode::Refused),
-        Some(sought) => Judged::Answered(sought),
-    }
+    Sought::below(&question.name, &origin.lent()).ok_or(Rcode::Refused)
 }
 
 // A type that no record has: 0, OPT, and 128 to 254 (RFC 6895 3.1).
@@ -259,10 +250,7 @@ fn offer_answer<'q, 'z: 'q, const N: usize, const SIZE: usize>(
     ensures costs { Costs (answered head.now question.now) steps.old steps.new }
 {
     let apex = steps.apex();
-    let Ended {
-        verdict,
-        followed_alias,
-    } = seek(sought, question.qtype, &apex, steps, draft);
+    let (verdict, followed_alias) = seek(sought, question.qtype, &apex, steps, draft);
     // The server speaks for the zone, unless all that it answers is a referral (RFC 1035 4.1.1).
     let only_refers = verdict.is_referral && !followed_alias;
     head.reply(!only_refers, verdict.is_truncated, verdict.rcode)

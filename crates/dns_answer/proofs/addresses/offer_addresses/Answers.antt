@@ -29,10 +29,10 @@ offer_target-all-requires g c =
         (
           c.requires.node ∙ sym inv.took.zone,
           (
-            search rules,
+            c.requires.set.valid,
             (
               search rules,
-              HasRoom-after inv.bound (omega (arith, c.requires.few)) c.requires.room,
+              HasRoom-after inv.bound (omega (arith, c.requires.set.few)) c.requires.room,
             ),
           ),
         ),
@@ -61,7 +61,7 @@ targets-preserved g c =
 
 pub returns-clause-bound : goal.returns-clause-bound
 returns-clause-bound g c =
-    let most : c.targets.i ≤ 64 = omega (arith, c.targets.auto.i-end, c.len-i-end.ensures.value, c.requires.few) in
+    let most : c.targets.i ≤ 64 = omega (arith, c.targets.auto.i-end, c.len-i-end.ensures.value, c.requires.set.few) in
     Took-within (omega (arith, most)) most c.targets.invariant.bound
 
 pub returns-clause-took : goal.returns-clause-took

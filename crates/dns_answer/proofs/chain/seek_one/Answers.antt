@@ -75,13 +75,10 @@ end_with-requires g c =
       (
         records.zone ∙ sym zone,
         (
-          kept.valid,
+          kept,
           (
-            kept.few,
-            (
-              rw (sym zone) at c.requires.apex,
-              HasRoom-after c.in-Records.ensures.took (omega arith) c.requires.room,
-            ),
+            rw (sym zone) at c.requires.apex,
+            HasRoom-after c.in-Records.ensures.took (omega arith) c.requires.room,
           ),
         ),
       ),

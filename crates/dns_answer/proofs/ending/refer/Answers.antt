@@ -23,7 +23,7 @@ offer_addresses-are_all_inside-requires g c =
       search rules,
       (
         search rules,
-        (c.requires.cut.1.zone, (kept.valid, (kept.few, HasRoom-within (omega arith) room))),
+        (c.requires.cut.1.zone, (kept, HasRoom-within (omega arith) room)),
       ),
     )
 
@@ -37,7 +37,7 @@ offer_addresses-requires g c =
         search rules,
         (
           c.requires.cut.1.zone ∙ sym bound.zone,
-          (kept.valid, (kept.few, HasRoom-after bound (omega arith) room)),
+          (kept, HasRoom-after bound (omega arith) room),
         ),
       ),
     )

@@ -15,22 +15,19 @@ seek-followed_alias-requires g c =
         subst (λ z. IsApex z c.apex-apex.result) (sym apex.zone) (record { node = apex.node; exists = apex.exists }),
         (
           subst (λ (z : ZoneContents). IsBelow c.args.sought z.origin) (sym apex.zone) c.requires.below,
-          record {
-            visits = omega (arith, apex.visits, c.requires.visits);
-            comparisons = omega (arith, apex.comparisons, apex.visits, c.requires.visits, c.requires.comparisons);
-          },
+          record { visits = omega arith; comparisons = omega arith },
         ),
       ),
     )
 
 pub returns-clause-answers : goal.returns-clause-answers
 returns-clause-answers g c =
-    answers-found c.args.steps.now.zone c.args.head.now c.args.question.now _ _ _ c.args.draft.now c.seek-followed_alias.new.draft c.seek-followed_alias.result.verdict c.seek-followed_alias.result.followed_alias _ c.reply.result
+    answers-found c.args.steps.now.zone c.args.head.now c.args.question.now _ _ _ c.args.draft.now c.seek-followed_alias.new.draft c.seek-followed_alias.result.0 c.seek-followed_alias.result.1 _ c.reply.result
     c.apex-apex.ensures.zone c.requires.asked (ap (λ (q : MessageQuestion). q.qtype) c.question.view_is)
     c.seek-followed_alias.ensures.seeks c.seek-followed_alias.ensures.followed
     (elim c.if-verdict.branch [
-      | then-verdict w ↦ ap not (w.only_refers-is ∙ ap (λ b. b && not c.seek-followed_alias.result.followed_alias) (sym w.if-verdict.true))
-      | else-verdict w ↦ ap not (w.only_refers-is ∙ w.if-verdict.false ∙ ap (λ b. b && not c.seek-followed_alias.result.followed_alias) (sym w.if-verdict.false))
+      | then-verdict w ↦ ap not (w.only_refers-is ∙ ap (λ b. b && not c.seek-followed_alias.result.1) (sym w.if-verdict.true))
+      | else-verdict w ↦ ap not (w.only_refers-is ∙ w.if-verdict.false ∙ ap (λ b. b && not c.seek-followed_alias.result.1) (sym w.if-verdict.false))
     ])
     c.reply.ensures
 
