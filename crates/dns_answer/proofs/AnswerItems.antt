@@ -1,29 +1,30 @@
 -- The sets of an answer are its aliases, and the sets that end it.
-use Rattle.std.proofs.Common.{◌≡◌, ℕ, ◌+◌, ◌-◌, ◌*◌, length, length-append, Bool, true, false, cond, ◌||◌, ◌&&◌, ◌⊎◌, inl, inr, not, min, List, [], ◌∷◌, ◌++◌, map, Option, None, Some, refl, sym, ap, ap₂, ◌∙◌, subst, append-nil, append_assoc, arith}
+use Rattle.std.proofs.Common.{◌≡◌, ℕ, ◌+◌, ◌*◌, length, length-append, Bool, true, false, cond, ◌||◌, ◌&&◌, ◌⊎◌, inl, inr, not, min, List, [], ◌∷◌, ◌++◌, map, Option, None, Some, refl, sym, ap, ap₂, ◌∙◌, subst, append-nil, append_assoc, arith}
 use Rattle.std.proofs.lemmas.Bool.{not-true}
 use Rattle.std.proofs.lemmas.Bool.Decides.{nat_tests}
 use Rattle.std.proofs.lemmas.Map.Views.{any-filter_same}
 use Rattle.std.proofs.lemmas.Grind.{flat_map-append}
 use Rattle.std.proofs.lemmas.List.Elements.{filter-append}
 use Rattle.std.proofs.lemmas.List.Folds.{list_any-append}
-use Rattle.std.specs.Prelude.{◌==◌, is_some, sum}
+use Rattle.std.specs.Prelude.{◌==◌, is_some}
 use Rattle.std.specs.List.{list_any, filter, filter_map}
 use Rattle.dns_spec.specs.Names.{DomainName, same, at_or_below}
-use Rattle.dns_spec.specs.Data.{type_a, type_ns, type_cname, type_soa, type_mx, type_aaaa, type_srv, qtype_any, target, soa_minimum}
+use Rattle.dns_spec.specs.Data.{type_a, type_ns, type_cname, type_soa, type_aaaa, qtype_any, target, soa_minimum}
 use Rattle.dns_spec.specs.Records.{ResourceRecord, ZoneContents, at, rrset, of_type, with_owner}
 use Rattle.dns_spec.specs.Sets.{rising_types, of_first_type, of_lowest_type}
 use Rattle.dns_spec.specs.Tree.{cut_of, found}
 use Rattle.dns_spec.specs.Reading.{no_error, name_error}
 use Rattle.dns_spec.specs.Layout.{Section, answer, authority, Item, records_of}
-use Rattle.dns_spec.specs.Answer.{item, follows_alias, alias_items, last_sought, has_any, asked_records, Outcome, referral_to, negative, negative_soa, positive, outcome_by, outcome_at, outcome, targets_of, targets_inside, targets_outside, targets, extra, main_items, items, required_items, chain, targets_in_zone, is_authoritative}
+use Rattle.dns_spec.specs.Answer.{item, follows_alias, alias_items, last_sought, has_any, asked_records, Outcome, referral_to, negative, negative_soa, positive, outcome_by, outcome_at, outcome, targets_of, targets_inside, targets, extra, main_items, items, required_items, chain, targets_in_zone, is_authoritative}
 use Rattle.dns_spec.proofs.Records.SortedOnce.{Each, each_weaker, filter_each}
 use Rattle.dns_spec.proofs.Replies.WritableItems.{each_append, each_flat_map}
 use Rattle.dns_spec.proofs.Replies.RequiredItems.{IsAlias, target_of, each_of_type, each_alias_item}
 use Rattle.dns_spec.proofs.Replies.FewItems.{item_records, targets_last}
 use Rattle.dns_zone.proofs.NameTree.{same-under}
 use Rattle.dns_answer.specs.Targets.{addresses_of, side_items}
-use Rattle.dns_answer.specs.Ending.{Rest, all_names, inside, not_inside, glue_by, others_by, nodes_by, misses_by, ending_targets, ending_items, ending_required}
+use Rattle.dns_answer.specs.Ending.{all_names, inside, not_inside, glue_by, others_by, nodes_by, misses_by, ending_targets, ending_required}
 use Rattle.dns_answer.specs.Chain.{chain_rest}
+use Rattle.dns_answer.proofs.EndingSets.{is_target_type}
 use Rattle.dns_answer.proofs.TargetLaws.{depths, depths-append, side_items-append, side_items-none}
 use Rattle.dns_answer.proofs.StandingAddresses.{NotAddress, NoAddresses, extra-side, extra-none}
 
@@ -90,9 +91,6 @@ module _ (z : ZoneContents) (c : DomainName) (ts : List DomainName) where
 -- records of one type
 abbrev AreOf : ℕ → List ResourceRecord → Type 0
 AreOf u rs = Each (λ (r : ResourceRecord). r.rtype ≡ u) rs
-
-abbrev is_target_type : ℕ → Bool
-is_target_type u = u == type_ns || u == type_mx || u == type_srv
 
 no-targets : (s : Section) (u : ℕ) (rs : List ResourceRecord) → AreOf u rs → is_target_type u ≡ false → targets_of (item s rs) ≡ []
 no-targets s u rs e f = ap (filter_map target_of) (item_records s rs) ∙ go rs e

@@ -1,5 +1,5 @@
 -- What is still to come of an answer, by what is found at a name of the chain.
-use Rattle.std.proofs.Common.{◌≡◌, ℕ, zero, suc, ◌+◌, ◌-◌, ◌*◌, Bool, true, false, cond, ◌&&◌, ◌⊎◌, inl, inr, not, List, [], ◌∷◌, ◌++◌, map, sum, length, Option, None, Some, is_some, option_map, unwrap_or, refl, sym, ap, ◌∙◌, arith, add-one, append-nil, append_assoc}
+use Rattle.std.proofs.Common.{◌≡◌, ℕ, zero, suc, ◌+◌, ◌-◌, ◌*◌, Bool, true, false, cond, ◌&&◌, ◌⊎◌, inl, inr, not, List, [], ◌∷◌, ◌++◌, map, sum, length, None, Some, refl, sym, ap, ◌∙◌, arith, add-one, append-nil, append_assoc}
 use Rattle.std.proofs.Math.Bool.{and-false}
 use Rattle.std.specs.List.{flat_map, list_any}
 use Rattle.std.specs.Option.{option_and_then}
@@ -7,10 +7,10 @@ use Rattle.dns_spec.specs.Names.{DomainName, same, at_or_below}
 use Rattle.dns_spec.specs.Data.{type_cname}
 use Rattle.dns_spec.specs.Records.{ResourceRecord, ZoneContents, of_type}
 use Rattle.dns_spec.specs.Tree.{cut_of, found}
-use Rattle.dns_spec.specs.Reading.{no_error, name_error}
+use Rattle.dns_spec.specs.Reading.{name_error}
 use Rattle.dns_spec.specs.Layout.{answer, Item}
-use Rattle.dns_spec.specs.Answer.{item, follows_alias, alias_set, first_target, next_sought, chain_from, last_of, has_any, asked_records, Outcome, positive, negative, referral_to, outcome_by, outcome_at}
-use Rattle.dns_answer.specs.Ending.{Rest, ending, after_sets, ending_items, ending_required}
+use Rattle.dns_spec.specs.Answer.{item, follows_alias, alias_set, first_target, next_sought, chain_from, last_of, has_any, Outcome, positive, negative, referral_to, outcome_by, outcome_at}
+use Rattle.dns_answer.specs.Ending.{ending, after_sets, ending_items, ending_required}
 use Rattle.dns_answer.specs.Chain.{names_from, aliases_of, rest_of, chain_rest}
 use Rattle.dns_answer.specs.Seeking.{leads_on}
 use Rattle.dns_spec.proofs.Replies.FewItems.{sum_cons}

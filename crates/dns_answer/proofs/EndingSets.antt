@@ -1,5 +1,5 @@
 -- The sets that end an answer, by the sets of nodes.
-use Rattle.std.proofs.Common.{◌≡◌, ℕ, Bool, true, false, cond, ◌||◌, List, [], ◌∷◌, map, None, Some, refl, sym, ap, ◌∙◌, append-nil}
+use Rattle.std.proofs.Common.{◌≡◌, ℕ, Bool, true, false, cond, ◌||◌, List, [], ◌∷◌, map, Option, None, Some, refl, sym, ap, ap₂, ◌∙◌, append-nil}
 use Rattle.std.specs.Prelude.{◌==◌}
 use Rattle.std.specs.List.{filter, filter_map, cons_option}
 use Rattle.std.specs.Ordering.{is_gt, nat_cmp}
@@ -26,30 +26,31 @@ item-shown s n owner [] set e f = absurd (cc)
 item-shown s n owner (r ∷ rs) set e f =
     ap (λ xs. record { section = s; records = xs } ∷ []) (ap (with_owner owner) (sym f) ∙ shown_again n owner set.ttl set)
 
--- the targets of a set
+-- the targets of a set, where its type has any
+abbrev pub is_target_type : ℕ → Bool
+is_target_type u = u == type_ns || u == type_mx || u == type_srv
 
-pub targets_of_set : (s : Section) (owner : DomainName) (ttl : ℕ) (set : RecordSet) → (set.rtype == type_ns || set.rtype == type_mx || set.rtype == type_srv) ≡ true
-    → targets_of (record { section = s; records = records_at owner ttl set } ∷ []) ≡ set_targets set
-targets_of_set s owner ttl set e =
-    ap (filter_map (λ (r : ResourceRecord). cond (has_target_type r) (target r.rtype r.rdata) None)) (append-nil (records_at owner ttl set)) ∙ go set.rdata
+pub targets_of_set : (s : Section) (owner : DomainName) (ttl : ℕ) (set : RecordSet) (b : Bool)
+    → is_target_type set.rtype ≡ b
+    → targets_of (record { section = s; records = records_at owner ttl set } ∷ [])
+    ≡ cond b (set_targets set) []
+targets_of_set s owner ttl set b e =
+    ap (filter_map of) (append-nil (records_at owner ttl set)) ∙ go b e set.rdata
   where
-    go : (ds : List Octets) → filter_map (λ (r : ResourceRecord). cond (has_target_type r) (target r.rtype r.rdata) None) (map (λ (d : Octets). record { owner = owner; ttl = ttl; rtype = set.rtype; rdata = d }) ds)
-        ≡ filter_map (λ (d : Octets). target set.rtype d) ds
-    go [] = refl
-    go (d ∷ ds) =
-        ap (λ b. cons_option (cond b (target set.rtype d) None) (filter_map (λ (r : ResourceRecord). cond (has_target_type r) (target r.rtype r.rdata) None) (map (λ (d : Octets). record { owner = owner; ttl = ttl; rtype = set.rtype; rdata = d }) ds))) e
-        ∙ ap (cons_option (target set.rtype d)) (go ds)
+    of : ResourceRecord → Option DomainName
+    of r = cond (has_target_type r) (target r.rtype r.rdata) None
 
-pub no_targets_of_set : (s : Section) (owner : DomainName) (ttl : ℕ) (set : RecordSet) → (set.rtype == type_ns || set.rtype == type_mx || set.rtype == type_srv) ≡ false
-    → targets_of (record { section = s; records = records_at owner ttl set } ∷ []) ≡ []
-no_targets_of_set s owner ttl set e =
-    ap (filter_map (λ (r : ResourceRecord). cond (has_target_type r) (target r.rtype r.rdata) None)) (append-nil (records_at owner ttl set)) ∙ go set.rdata
-  where
-    go : (ds : List Octets) → filter_map (λ (r : ResourceRecord). cond (has_target_type r) (target r.rtype r.rdata) None) (map (λ (d : Octets). record { owner = owner; ttl = ttl; rtype = set.rtype; rdata = d }) ds) ≡ []
-    go [] = refl
-    go (d ∷ ds) =
-        ap (λ b. cons_option (cond b (target set.rtype d) None) (filter_map (λ (r : ResourceRecord). cond (has_target_type r) (target r.rtype r.rdata) None) (map (λ (d : Octets). record { owner = owner; ttl = ttl; rtype = set.rtype; rdata = d }) ds))) e
-        ∙ go ds
+    shown : List Octets → List ResourceRecord
+    shown ds = map (λ (d : Octets). record { owner = owner; ttl = ttl; rtype = set.rtype; rdata = d }) ds
+
+    go : (b : Bool) → is_target_type set.rtype ≡ b → (ds : List Octets) → filter_map of (shown ds)
+        ≡ cond b (filter_map (λ (d : Octets). target set.rtype d) ds) []
+    go true e [] = refl
+    go false e [] = refl
+    go true e (d ∷ ds) =
+        ap₂ cons_option (ap (λ b. cond b (target set.rtype d) None) e) (go true e ds)
+    go false e (d ∷ ds) =
+        ap₂ cons_option (ap (λ b. cond b (target set.rtype d) None) e) (go false e ds)
 
 -- owners say nothing of types and of the order of data
 

@@ -1,12 +1,11 @@
 -- How the sets that end an answer are offered.
-use Rattle.std.proofs.Common.{◌≡◌, ◌⊎◌, inl, inr, ℕ, ◌+◌, ◌<◌, ◌≤◌, Bool, true, false, cond, ◌||◌, not, min, List, [], ◌∷◌, ◌++◌, map, reverse, length, get_or, None, Some, refl, sym, ap, ap₂, ◌∙◌, arith, append-nil, subst}
+use Rattle.std.proofs.Common.{◌≡◌, ◌⊎◌, inl, inr, ℕ, ◌<◌, Bool, true, false, cond, not, min, List, [], ◌∷◌, ◌++◌, map, reverse, length, get_or, None, Some, refl, sym, ap, ap₂, ◌∙◌, arith, subst}
 use Rattle.std.proofs.lemmas.Bool.{and_parts}
 use Rattle.std.proofs.lemmas.List.{length-map}
-use Rattle.std.specs.Prelude.{◌==◌, nat_lt}
 use Rattle.std.specs.List.{filter, find, list_all}
 use Rattle.std.specs.Option.{is_some}
-use Rattle.dns_spec.specs.Names.{Octets, DomainName, folded, suffixes, below, at_or_below}
-use Rattle.dns_spec.specs.Data.{type_ns, type_soa, type_mx, type_srv, soa_minimum}
+use Rattle.dns_spec.specs.Names.{Octets, DomainName, folded, suffixes, below}
+use Rattle.dns_spec.specs.Data.{type_ns, type_soa, soa_minimum}
 use Rattle.dns_spec.specs.Records.{ResourceRecord, ZoneContents, rrset, owns, with_owner}
 use Rattle.dns_spec.specs.Sets.{RecordSet, set_of, records_at}
 use Rattle.dns_spec.specs.Layout.{authority, Item}
@@ -15,7 +14,6 @@ use Rattle.dns_spec.specs.Tree.{is_cut, cut_of}
 use Rattle.dns_spec.proofs.ZoneChecks.PassedChecks.{few_soa, one_soa}
 use Rattle.dns_zone.specs.ZoneForm.{IsBuilt}
 use Rattle.dns_wire.specs.QueryForm.{code_of}
-use Rattle.dns_answer.specs.Draft.{offered}
 use Rattle.dns_answer.specs.DraftForm.{State, Offers}
 use Rattle.dns_answer.specs.Targets.{side_items, side_nodes, set_targets}
 use Rattle.dns_answer.specs.Walks.{Took}
@@ -28,7 +26,7 @@ use Rattle.dns_answer.proofs.TargetLaws.{side_items-none, items-untaken}
 use Rattle.dns_zone.proofs.WayLaws.{set-owned}
 use Rattle.dns_zone.specs.Nodes.{Walk, ZoneNode, IsSetOf}
 use Rattle.dns_spec.specs.Reading.{no_error}
-use Rattle.dns_answer.proofs.EndingSets.{targets_of_set, item-shown}
+use Rattle.dns_answer.proofs.EndingSets.{is_target_type, targets_of_set, item-shown}
 
 -- the sets of an outcome are offered in their order
 pub says-in_order : (z : ZoneContents) (o : Outcome) {w w1 w2 w' : State} {v : Verdict}
@@ -148,8 +146,8 @@ module _ (z : ZoneContents) (node : ZoneNode) (set : RecordSet) (zone : node.zon
 
   servers_targets : ending_targets (referral_to z node.name) ≡ set_targets set
   servers_targets =
-      ap targets_of servers_item ∙ targets_of_set authority node.name set.ttl set
-      (ap (λ t. t == type_ns || t == type_mx || t == type_srv) rtype)
+      ap targets_of servers_item
+      ∙ targets_of_set authority node.name set.ttl set true (ap is_target_type rtype)
 
   pub Ends-referred : {w w1 w2 w' : State} {v : Verdict} → Offers w w1 servers
       → Offers w1 w2 (side_items z (inside node.name) [] (set_targets set))

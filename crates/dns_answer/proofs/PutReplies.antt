@@ -1,12 +1,12 @@
 -- What is put at the front of the buffer is the reply that the definitions state.
-use Rattle.std.proofs.Common.{◌≡◌, ℕ, ◌+◌, ◌≤◌, Bool, true, false, cond, not, ◌&&◌, nat_lt, nat_le, List, [], ◌∷◌, ◌++◌, length, take, Option, Some, is_some, refl, sym, ap, ◌∙◌, subst, arith, length-take, append_assoc}
+use Rattle.std.proofs.Common.{◌≡◌, ℕ, ◌+◌, ◌≤◌, Bool, true, false, cond, not, ◌&&◌, nat_lt, nat_le, List, [], ◌∷◌, ◌++◌, length, take, Option, Some, is_some, refl, sym, ap, ◌∙◌, subst, arith, length-take}
 use Rattle.dns_spec.specs.Names.{Octets, DomainName, is_name}
 use Rattle.dns_spec.specs.Records.{ZoneContents}
 use Rattle.dns_spec.specs.Reading.{Header, MessageQuestion}
 use Rattle.dns_spec.specs.Query.{reply_head}
 use Rattle.dns_spec.specs.Layout.{Item, layout}
 use Rattle.dns_spec.specs.LayoutSize.{size}
-use Rattle.dns_spec.specs.Answer.{Outcome, outcome, items, is_authoritative, follows_alias, alias_set, has_any}
+use Rattle.dns_spec.specs.Answer.{outcome, items, is_authoritative}
 use Rattle.dns_spec.specs.Reply.{kept, truncated, answered, keep_longest}
 use Rattle.dns_spec.proofs.Replies.FewItems.{few_nodes}
 use Rattle.dns_spec.proofs.Layouts.LayoutSize.{length-layout}
@@ -15,7 +15,6 @@ use Rattle.dns_wire.specs.QueryForm.{code_of}
 use Rattle.dns_answer.specs.Draft as spec
 use Rattle.dns_answer.specs.Draft.{empty_draft, offer, offered, size_with}
 use Rattle.dns_answer.specs.DraftForm.{State, Holds}
-use Rattle.dns_answer.specs.Walks.{Took}
 use Rattle.dns_answer.specs.Ending.{Rest, Says, TookRest}
 use Rattle.dns_answer.specs.Chain.{chain_rest}
 use Rattle.dns_answer.specs.Seeking.{leads_on, SeeksFrom, Followed, TookFrom}
@@ -65,28 +64,24 @@ module _ (z : ZoneContents) (h : Header) (q : MessageQuestion) where
       go true b f e more = ap (λ x. not (not x)) (more refl) ∙ ap (λ x. not (x && not f)) e
       go false b f e more = ap (λ x. not (x && not f)) e
 
-  answers : (w w' : State) (v : Verdict) (led aa : Bool) (head : Header) → SeeksFrom w w' z q.qtype [] q.qname v → Followed z q.qtype q.qname v led
-      → aa ≡ not (v.is_referral && not led) → head ≡ reply_head h aa v.is_truncated (code_of v.rcode) → Answers z h q w w' head
-  answers w w' v led aa head seeks followed authority is_head = record {
-    offers = Offers-is w w' _ _ (sym (items-are z q.qname q.qtype)) seeks.offers;
-    header = λ limit begun.
-        let rcode = seeks.rcode ∙ sym (rcode-is z q.qname q.qtype) in
-        let tc = seeks.truncated (empty_draft q limit) begun ∙ sym (truncates limit) in
-        let speaks = authority ∙ authoritative v led seeks.referral followed in
-        is_head ∙ (λ i. reply_head h (speaks i) (tc i) (rcode i));
-  }
-
-  -- So they are where the zone and the question are stated by other names.
-  pub answers-found : (z1 : ZoneContents) (n : DomainName) (t : ℕ) (w w' : State) (v : Verdict) (led aa : Bool) (head : Header) → z1 ≡ z → n ≡ q.qname → t ≡ q.qtype
+  -- the zone and the question may be stated by other names
+  pub answers-found : {z1 : ZoneContents} {n : DomainName} {t : ℕ} {w w' : State} {v : Verdict}
+      {aa : Bool} {head : Header} (led : Bool) → z1 ≡ z → n ≡ q.qname → t ≡ q.qtype
       → SeeksFrom w w' z1 t [] n v → Followed z1 t n v led → aa ≡ not (v.is_referral && not led)
       → head ≡ reply_head h aa v.is_truncated (code_of v.rcode) → Answers z h q w w' head
-  answers-found z1 n t w w' v led aa head same_zone same_name same_type seeks followed authority is_head =
-      let from : SeeksFrom w w' z q.qtype [] q.qname v =
-      subst (λ r. Says w w' r v)
-      (λ i. chain_rest (same_zone i) (same_type i) 16 [] (same_name i)) seeks in
-      let then : Followed z q.qtype q.qname v led = λ e.
-      followed e ∙ (λ i. leads_on (same_zone i) (same_type i) (same_name i)) in
-      answers w w' v led aa head from then authority is_head
+  answers-found {w = w} {w' = w'} {v = v} led zone name type seeks followed authority is_head =
+      let says : SeeksFrom w w' z q.qtype [] q.qname v =
+      subst (λ r. Says w w' r v) (λ i. chain_rest (zone i) (type i) 16 [] (name i)) seeks in
+      let led_is = λ (e : v.is_referral ≡ true).
+      followed e ∙ (λ i. leads_on (zone i) (type i) (name i)) in
+      let speaks = authority ∙ authoritative v led says.referral led_is in
+      let rcode = says.rcode ∙ sym (rcode-is z q.qname q.qtype) in
+      record {
+        offers = Offers-is w w' _ _ (sym (items-are z q.qname q.qtype)) says.offers;
+        header = λ limit begun.
+            let tc = says.truncated (empty_draft q limit) begun ∙ sym (truncates limit) in
+            is_head ∙ (λ i. reply_head h (speaks i) (tc i) (rcode i));
+      }
 
   -- Then they are laid out at the front of the buffer.
   pub answer-put : (limit : ℕ) (w w' : State) (head : Header) (len : ℕ) (out : Octets) → Holds w (empty_draft q limit) → Answers z h q w w' head

@@ -1,36 +1,33 @@
 -- What seeking a name has offered and taken, by what is found for it.
-use Rattle.std.proofs.Common.{◌≡◌, ◌⊎◌, inl, inr, ℕ, ◌+◌, ◌<◌, Bool, true, false, cond, ◌&&◌, ◌||◌, not, List, [], ◌∷◌, ◌++◌, map, reverse, length, get_or, Option, None, Some, is_some, refl, sym, ap, ap₂, ◌∙◌, arith, subst}
+use Rattle.std.proofs.Common.{◌≡◌, ◌⊎◌, inl, inr, ℕ, ◌+◌, ◌<◌, Bool, true, false, cond, ◌&&◌, ◌||◌, not, List, [], ◌∷◌, ◌++◌, map, reverse, length, get_or, Option, None, Some, refl, sym, ap, ap₂, ◌∙◌, arith, subst}
 use Rattle.std.specs.List.{list_any}
-use Rattle.std.specs.Option.{option_and_then}
 use Rattle.dns_spec.specs.Names.{Octets, DomainName, folded, names_equal, same, at_or_below}
 use Rattle.dns_spec.specs.Data.{target, type_cname}
 use Rattle.dns_spec.specs.Records.{ResourceRecord, ZoneContents, at, of_type, with_owner}
 use Rattle.dns_spec.specs.Sets.{RecordSet, set_of, records_at}
-use Rattle.dns_spec.specs.Tree.{cut_of, found}
 use Rattle.dns_spec.specs.Reading.{no_error}
 use Rattle.dns_spec.specs.Layout.{answer, Item}
-use Rattle.dns_spec.specs.Answer.{item, follows_alias, alias_set, first_target, next_sought, has_any, asked_records, Outcome, outcome_by, outcome_at, positive, negative}
+use Rattle.dns_spec.specs.Answer.{item, follows_alias, alias_set, first_target, next_sought, has_any, Outcome, outcome_by, positive, negative}
 use Rattle.dns_zone.specs.Nodes.{Walk, ZoneNode, IsSetOf}
-use Rattle.dns_wire.specs.QueryForm.{code_of}
 use Rattle.dns_answer.specs.Draft as spec
 use Rattle.dns_answer.specs.Draft.{offered}
 use Rattle.dns_answer.specs.DraftForm.{State, Offers}
-use Rattle.dns_answer.specs.Ending.{Rest, ending, after_sets, Says, Ends, TookRest, asked_item, all_names}
+use Rattle.dns_answer.specs.Ending.{Rest, ending, after_sets, Says, TookRest, asked_item}
 use Rattle.dns_answer.specs.Walks.{AreRecords, Took}
 use Rattle.dns_answer.specs.Chain.{chain_rest}
-use Rattle.dns_answer.specs.Seeking.{names_of, aliases_left, leads_on, unsought, SeeksFrom, TookFrom, HasNoAlias, IsShown, alias_target, NextIs, Completes, IsLast}
+use Rattle.dns_answer.specs.Seeking.{names_of, aliases_left, leads_on, unsought, SeeksFrom, TookFrom, HasNoAlias, IsShown, alias_target, NextIs, IsLast}
 use Rattle.dns_zone.specs.declared.sought.Sought.{Sought}
 use Rattle.dns_answer.specs.declared.ending.Verdict.{Verdict}
-use Rattle.std.specs.Prelude.{◌==◌, All, drop}
+use Rattle.std.specs.Prelude.{All, drop}
 use Rattle.std.proofs.lemmas.List.Elements.{All-nil, All-cons, All-head, All-tail, All-append}
-use Rattle.dns_answer.proofs.TargetLaws.{side_items-none, same-lower}
+use Rattle.dns_answer.proofs.TargetLaws.{same-lower}
 use Rattle.std.proofs.Math.Bool.{or_comm, or-false}
 use Rattle.std.proofs.lemmas.Bool.{and_from, and_right}
 use Rattle.std.proofs.lemmas.List.{length-map, length-reverse, map-append, reverse-append}
 use Rattle.std.proofs.lemmas.List.Folds.{list_any-append}
 use Rattle.dns_answer.proofs.Taking.{Took-then, Took-within}
-use Rattle.dns_answer.proofs.Offered.{offered-append, offered-nil}
-use Rattle.dns_answer.proofs.Offering.{Offers-is, Offers-nothing, Offers-then}
+use Rattle.dns_answer.proofs.Offered.{offered-append}
+use Rattle.dns_answer.proofs.Offering.{Offers-then}
 use Rattle.dns_answer.proofs.EndingSets.{item-shown, of_type-shown}
 use Rattle.dns_answer.proofs.AskedSets.{asked-none, asked-some, none_any, some_any}
 use Rattle.dns_answer.proofs.ChainSteps.{depth_in, alias-found, outcome-found, outcome-alias, ends-plain, ends-alias, goes-on}
@@ -206,12 +203,3 @@ module _ (z : ZoneContents) (t : ℕ) (before : List DomainName) (s : DomainName
           goes-on z t (aliases_left before) before s (aliases_left (s ∷ before)) m.name
           (asked_item s set) shown.0 alias-item
           (ap (unsought z.origin (s ∷ before)) alias-leads ∙ next.1) (omega (arith, next.0))
-
--- names sought one after the other: what is done for the first, then for the second
-pub completes-then : (w w1 w2 : State) (a b c : Walk) (z : ZoneContents) (t : ℕ) (before0 before1 before2 : List DomainName) (n0 n1 n2 : DomainName)
-    → Completes w w1 a b z t before0 before1 n0 n1 → Completes w1 w2 b c z t before1 before2 n1 n2 → Completes w w2 a c z t before0 before2 n0 n2
-completes-then w w1 w2 a b c z t before0 before1 before2 n0 n1 n2 h g = record {
-  zone = g.zone;
-  seeks = λ last v rest. h.seeks last v (g.seeks last v rest);
-  took = λ last rest. h.took last (g.took last rest);
-}

@@ -1,5 +1,5 @@
 -- What look-ups take one after the other, and the room that they leave.
-use Rattle.std.proofs.Common.{◌≡◌, ℕ, ◌+◌, ◌*◌, ◌≤◌, refl, ◌∙◌, arith}
+use Rattle.std.proofs.Common.{ℕ, ◌+◌, ◌≤◌, refl, ◌∙◌, arith}
 use Rattle.dns_zone.specs.Nodes.{Walk}
 use Rattle.dns_answer.specs.Walks.{HasRoom, Took}
 

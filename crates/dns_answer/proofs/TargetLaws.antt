@@ -1,5 +1,5 @@
 -- The targets of a set, one after the other, and what was offered for those before.
-use Rattle.std.proofs.Common.{◌≡◌, ℕ, zero, suc, ◌+◌, ◌*◌, ◌-◌, ◌<◌, ◌≤◌, Bool, true, false, cond, ◌||◌, ◌&&◌, ◌⊎◌, inl, inr, not, List, [], ◌∷◌, ◌++◌, map, sum, length, take, drop, get_or, Option, None, Some, refl, sym, ap, ap₂, ◌∙◌, arith, add-one, append_assoc, append-nil, length-append, subst}
+use Rattle.std.proofs.Common.{◌≡◌, ℕ, zero, suc, ◌+◌, ◌-◌, ◌<◌, ◌≤◌, Bool, true, false, cond, ◌||◌, ◌&&◌, ◌⊎◌, inl, inr, not, List, [], ◌∷◌, ◌++◌, map, sum, length, take, drop, get_or, Option, None, Some, refl, sym, ap, ap₂, ◌∙◌, arith, add-one, append_assoc, append-nil, length-append, subst}
 use Rattle.std.proofs.Math.Seq.{take-suc}
 use Rattle.std.proofs.Math.Bool.{and-true, and-false}
 use Rattle.std.proofs.lemmas.Bool.{false≢true, false_from_ne_true, or_left, or_right, cases_lt}
@@ -12,12 +12,12 @@ use Rattle.dns_spec.specs.Names.{Octets, DomainName, folded, names_equal, same, 
 use Rattle.dns_spec.specs.Data.{target, type_a, type_aaaa}
 use Rattle.dns_spec.specs.Records.{ResourceRecord, ZoneContents, at, of_type}
 use Rattle.dns_spec.specs.Sets.{RecordSet, set_of}
-use Rattle.dns_spec.specs.Layout.{Section, additional, Item}
+use Rattle.dns_spec.specs.Layout.{Section, additional}
 use Rattle.dns_spec.specs.Answer.{item, targets_in_zone}
 use Rattle.dns_spec.specs.Tree.{exists}
 use Rattle.dns_zone.specs.Nodes.{Walk}
 use Rattle.dns_zone.specs.ZoneForm.{IsBuilt}
-use Rattle.std.specs.Prelude.{nat_lt, nat_le}
+use Rattle.std.specs.Prelude.{nat_lt}
 use Rattle.std.proofs.lemmas.Bool.{lt-ltb}
 use Rattle.dns_spec.specs.ZonePrinted.{IsReadRecord}
 use Rattle.dns_spec.specs.Checks.{is_owner, outside}

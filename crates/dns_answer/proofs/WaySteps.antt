@@ -5,15 +5,16 @@ use Rattle.std.proofs.lemmas.List.{length-map}
 use Rattle.std.specs.Prelude.{◌==◌, IfSome}
 use Rattle.std.specs.Char.{to_ascii_lowercase}
 use Rattle.std.specs.List.{find}
-use Rattle.std.specs.Option.{is_some, option_map, option_and_then}
+use Rattle.std.specs.Option.{is_some, option_map}
 use Rattle.dns_spec.specs.Names.{Octets, DomainName, folded, same, at_or_below, below, suffixes}
 use Rattle.dns_spec.specs.Data.{type_ns, type_cname}
 use Rattle.dns_spec.specs.Records.{ResourceRecord, ZoneContents, at, owns, rrset, with_owner}
 use Rattle.dns_spec.specs.Sets.{set_of}
 use Rattle.dns_spec.specs.Tree.{exists, is_cut, cut_of, closest_encloser, asterisk, source_of_synthesis, found}
-use Rattle.dns_zone.specs.Nodes.{Walk, ZoneNode, IsNode, IsLead}
+use Rattle.dns_zone.specs.Nodes.{Walk, ZoneNode, IsLead}
 use Rattle.dns_zone.specs.Starts.{IsBelow}
 use Rattle.dns_zone.specs.declared.sought.Sought.{Sought}
+use Rattle.dns_answer.proofs.Taking.{Took-then, Took-within}
 use Rattle.dns_zone.proofs.NameOrder.{same-is, same-from, lower_twice}
 use Rattle.dns_zone.proofs.NameTree.{itself-under, below-cons, same-under}
 use Rattle.dns_zone.proofs.WayLaws.{any_weaker}
@@ -116,9 +117,7 @@ records-there z start n node h = record {
 -- for one that is not
 source_is : (z : ZoneContents) (n e : DomainName) → exists z n ≡ false → closest_encloser z n ≡ Some e
     → found z n ≡ option_map (λ w. with_owner n (at z w)) (cond (exists z (asterisk ∷ e)) (Some (asterisk ∷ e)) None)
-source_is z n e missing is =
-    ap (λ b. cond b (Some (with_owner n (at z n))) (option_map (λ w. with_owner n (at z w)) (source_of_synthesis z n))) missing
-    ∙ ap (λ x. option_map (λ w. with_owner n (at z w)) (option_and_then (λ e. cond (exists z (asterisk ∷ e)) (Some (asterisk ∷ e)) None) x)) is
+source_is z n e missing is = rw (missing, is) refl
 
 module _ (z : ZoneContents) (start : ZoneNode) (n : DomainName) (above : Option ZoneNode) (h : IsMissing z start true n above) where
   abbrev pub encloser : ZoneNode
@@ -165,18 +164,13 @@ pub lead-nearer : (z : ZoneContents) (ends : Bool) (v : ZoneNode) (s n : Sought)
 lead-nearer z ends v s n lead below e near =
     omega (arith, below.labels, near.labels, ap length e, lead.longer)
 
-pub Took-lead : (s s' s'' : Walk) (near depth misses : ℕ)
+pub Took-lead : {s s' s'' : Walk} {near depth misses : ℕ}
     → s' ≡ record s { visits = s.visits + 1 } → near + 1 ≤ depth → Took s' s'' near misses
     → Took s s'' depth misses
-Took-lead s s' s'' near depth misses e less took =
-    let visits = ap (λ (w : Walk). w.visits) e in
-    let comparisons = ap (λ (w : Walk). w.comparisons) e in
-    record {
-      zone = took.zone ∙ ap (λ (w : Walk). w.zone) e;
-      from = omega (arith, took.from, visits);
-      visits = omega (arith, took.visits, visits, less);
-      comparisons = omega (arith, took.comparisons, visits, comparisons);
-    }
+Took-lead {s} {s'} {s''} {near} {depth} {misses} e less took =
+    let one : Took s s' 1 0 = subst (λ w. Took s w 1 0) (sym e)
+    (record { zone = refl; from = omega arith; visits = omega arith; comparisons = omega arith }) in
+    Took-within (omega arith) (omega arith) (Took-then one took)
 
 pub leads-to : (z y : ZoneContents) (t : ℕ) (ends : Bool) (lead : Option ZoneNode) → y ≡ z
     → (ends ≡ true → t ≡ type_cname)

@@ -1,4 +1,4 @@
-use Rattle.std.proofs.Common.{◌≡◌, ◌+◌, ◌≤◌, ◌-◌, cond, [], true, false, length, sym, ap, subst, ◌∙◌, arith}
+use Rattle.std.proofs.Common.{◌≡◌, ◌+◌, ◌≤◌, ◌-◌, cond, true, false, length, sym, ap, subst, ◌∙◌, arith}
 use Rattle.std.specs.Prelude.{IfSome}
 use Rattle.dns_spec.specs.Names.{DomainName, at_or_below}
 use Rattle.dns_zone.specs.Nodes.{Walk}
@@ -27,8 +27,7 @@ returns-in-Some-clause-took g c =
     let less : near + 1 ≤ depth = omega (arith, b.below.labels, ap length b.name, lead.longer) in
     subst (λ d. Took c.args.steps.now c.offer_from.new.steps d 1)
     (sym (ap (λ b. cond b depth 0) under))
-    (Took-lead c.args.steps.now c.begin.new.steps c.offer_from.new.steps near depth 1 b.visits less
-    c.offer_from.ensures.took)
+    (Took-lead b.visits less c.offer_from.ensures.took)
 
 pub returns-in_default-clause-offers : goal.returns-in_default-clause-offers
 returns-in_default-clause-offers g c =

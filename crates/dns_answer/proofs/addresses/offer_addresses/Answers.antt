@@ -1,11 +1,10 @@
 use Rattle.std.proofs.Common.{rules, inl, inr, ◌≡◌, List, take, take_all, ◌<◌, ◌≤◌, get_or, length, [], ◌&&◌, refl, sym, ap, ap₂, ◌∙◌, subst, arith}
 use Rattle.dns_spec.specs.Records.{ZoneContents}
 use Rattle.dns_spec.specs.Data.{target}
-use Rattle.std.specs.List.{filter, filter_map, list_all}
+use Rattle.std.specs.List.{filter_map, list_all}
 use Rattle.dns_spec.specs.Names.{Octets}
-use Rattle.dns_answer.specs.DraftForm.{Offers}
 use Rattle.dns_answer.specs.Walks.{Took}
-use Rattle.dns_answer.specs.Targets.{target_items, target_nodes, target_misses, targets_of_first, side_takes, side_nodes}
+use Rattle.dns_answer.specs.Targets.{target_nodes, target_misses, side_takes}
 use Rattle.dns_answer.proofs.Taking.{Took-none, Took-then, Took-within, HasRoom-after}
 use Rattle.dns_answer.proofs.Offering.{Offers-is, Offers-empty, Offers-then}
 use Rattle.dns_answer.proofs.TargetLaws.{side_items-none, side_items-more, Took-more, Took-rest, Offers-rest, all-more}

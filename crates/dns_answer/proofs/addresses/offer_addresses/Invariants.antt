@@ -1,4 +1,4 @@
-use Rattle.std.proofs.Common.{◌≡◌, ◌*◌, ◌≤◌, [], length}
+use Rattle.std.proofs.Common.{◌≡◌, ◌*◌, [], length}
 use Rattle.std.specs.List.{filter, list_all}
 use Rattle.dns_answer.specs.DraftForm.{Offers}
 use Rattle.dns_answer.specs.Walks.{Took}

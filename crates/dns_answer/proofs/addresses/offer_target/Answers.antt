@@ -1,6 +1,5 @@
-use Rattle.std.proofs.Common.{rules, ◌≡◌, [], Some, sym, ap, ◌∙◌, arith}
+use Rattle.std.proofs.Common.{rules, sym, ap, ◌∙◌, arith}
 use Rattle.std.proofs.lemmas.Bool.{false≢true}
-use Rattle.dns_spec.specs.Data.{target}
 use Rattle.dns_spec.proofs.DomainNames.NameLaws.{length-is_name}
 use Rattle.dns_answer.specs.Targets.{target_items, targets_of_first, side_takes}
 use Rattle.dns_answer.proofs.WaySteps.{leads-to}

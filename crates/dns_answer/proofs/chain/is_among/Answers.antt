@@ -1,9 +1,9 @@
-use Rattle.std.proofs.Common.{◌≡◌, ◌∷◌, ◌||◌, Bool, true, false, All, drop, length, sym, ap, ap₂, subst, ◌∙◌, arith}
+use Rattle.std.proofs.Common.{◌≡◌, ◌||◌, All, drop, length, sym, ap, ap₂, subst, ◌∙◌, arith}
 use Rattle.std.proofs.Math.Bool.{or-false}
 use Rattle.std.proofs.lemmas.Bool.{or_left, or_right}
 use Rattle.std.proofs.lemmas.List.{nil_from_length}
 use Rattle.std.specs.List.{list_any}
-use Rattle.dns_spec.specs.Names.{folded, same, names_equal}
+use Rattle.dns_spec.specs.Names.{folded, same}
 use Rattle.dns_zone.specs.declared.sought.Sought.{Sought}
 use Rattle.dns_answer.proofs.SeekSteps.{any-lower}
 use Rattle.dns_answer.proofs.TargetLaws.{same-lower}

@@ -1,7 +1,6 @@
-use Rattle.std.proofs.Common.{◌≡◌, ◌||◌, ◌∷◌, Bool, true, false, inr, sym, ap, ◌∙◌, arith, Some}
-use Rattle.std.specs.List.{list_any}
+use Rattle.std.proofs.Common.{◌||◌, ◌∷◌, true, false, inr, sym, ap, ◌∙◌, arith, Some}
 use Rattle.dns_spec.specs.Names.{folded, same}
-use Rattle.dns_answer.specs.Seeking.{names_of, alias_target}
+use Rattle.dns_answer.specs.Seeking.{names_of}
 use Rattle.dns_answer.proofs.SeekSteps.{any-names, names-count, unsought-is}
 use Rattle.dns_answer.proofs.chain.next_sought.Goals as goal
 

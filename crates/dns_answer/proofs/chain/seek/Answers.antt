@@ -1,9 +1,5 @@
-use Rattle.std.proofs.Common.{rules, ◌∷◌, [], true, sym, subst, arith}
-use Rattle.std.specs.Prelude.{IfSome}
-use Rattle.dns_spec.specs.Records.{ZoneContents}
-use Rattle.dns_zone.specs.Starts.{IsBelow}
-use Rattle.dns_answer.specs.Walks.{IsLeadTo, IsApex}
-use Rattle.dns_answer.specs.Seeking.{SeeksFrom, TookFrom}
+use Rattle.std.proofs.Common.{rules, ◌∷◌, [], sym, subst, arith}
+use Rattle.dns_answer.specs.Seeking.{TookFrom}
 use Rattle.dns_answer.proofs.Taking.{HasRoom-after}
 use Rattle.dns_answer.proofs.chain.seek.Goals as goal
 

@@ -1,18 +1,14 @@
-use Rattle.std.proofs.Common.{rules, ◌≡◌, [], ◌∷◌, true, false, refl, sym, ap, ◌∙◌, subst, arith, Some, None}
+use Rattle.std.proofs.Common.{rules, ◌≡◌, [], ◌∷◌, true, refl, sym, ap, ◌∙◌, subst, arith, Some, None}
 use Rattle.std.proofs.lemmas.Bool.{false≢true}
-use Rattle.dns_spec.specs.Records.{ZoneContents, at}
+use Rattle.dns_spec.specs.Records.{ZoneContents}
 use Rattle.dns_spec.specs.Answer.{positive, negative, referral_to}
 use Rattle.dns_spec.specs.Reading.{no_error, name_error}
-use Rattle.dns_spec.specs.Sets.{records_at}
-use Rattle.dns_spec.specs.Layout.{answer}
-use Rattle.dns_wire.specs.QueryForm.{code_of}
 use Rattle.dns_spec.specs.Data.{type_cname}
 use Rattle.dns_zone.specs.Nodes.{ZoneNode}
-use Rattle.dns_answer.specs.DraftForm.{Offers}
 use Rattle.dns_answer.specs.Chain.{chain_rest}
-use Rattle.dns_answer.specs.Ending.{Ends, TookRest, ending, asked_item}
-use Rattle.dns_answer.specs.Walks.{IsApex, IsBelowCut, AreRecords}
-use Rattle.dns_answer.specs.Seeking.{IsShown, NextIs, names_of, aliases_left}
+use Rattle.dns_answer.specs.Ending.{TookRest, ending, asked_item}
+use Rattle.dns_answer.specs.Walks.{AreRecords}
+use Rattle.dns_answer.specs.Seeking.{NextIs, names_of, aliases_left}
 use Rattle.dns_answer.proofs.Taking.{Took-none, Took-within, HasRoom-after, HasRoom-within}
 use Rattle.dns_answer.proofs.WaySteps.{leads-to}
 use Rattle.dns_answer.proofs.Offering.{Offers-nothing}

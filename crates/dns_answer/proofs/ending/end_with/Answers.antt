@@ -1,22 +1,20 @@
-use Rattle.std.proofs.Common.{◌||◌, [], sym, ap, ◌∙◌, subst, length}
-use Rattle.std.specs.Prelude.{◌==◌}
+use Rattle.std.proofs.Common.{true, false, [], sym, ap, ◌∙◌, subst, length}
 use Rattle.std.specs.List.{filter}
-use Rattle.dns_spec.specs.Data.{type_ns, type_mx, type_srv}
 use Rattle.dns_spec.specs.Layout.{answer}
 use Rattle.dns_answer.specs.Ending.{all_names, asked_item}
 use Rattle.dns_answer.specs.Targets.{side_items, side_nodes}
 use Rattle.dns_answer.specs.Walks.{Took}
 use Rattle.dns_answer.proofs.Offering.{Offers-is}
 use Rattle.dns_answer.proofs.Endings.{Ends-positive, Offers-none}
-use Rattle.dns_answer.proofs.EndingSets.{targets_of_set, no_targets_of_set}
+use Rattle.dns_answer.proofs.EndingSets.{is_target_type, targets_of_set}
 use Rattle.dns_answer.proofs.ending.end_with.Goals as goal
 
 pub returns-then-has_targets-clause-ends : goal.returns-then-has_targets-clause-ends
 returns-then-has_targets-clause-ends g c = λ n begun offers.
     let z = c.args.steps.now.zone in
     let set = c.args.set.now in
-    let ts = targets_of_set answer n set.ttl set (ap (λ t. t == type_ns || t == type_mx || t == type_srv)
-    (sym c.rtype.ensures) ∙ sym c.if-has_targets.ensures) in
+    let ts = targets_of_set answer n set.ttl set true
+    (ap is_target_type (sym c.rtype.ensures) ∙ sym c.if-has_targets.ensures) in
     Ends-positive z (asked_item n set) offers
     (Offers-is _ _ _ _ (ap (side_items z all_names []) (sym ts)) c.offer_addresses.ensures.offers)
     c.ended-verdict.ensures
@@ -25,16 +23,15 @@ pub returns-then-has_targets-clause-took : goal.returns-then-has_targets-clause-
 returns-then-has_targets-clause-took g c = λ n.
     let z = c.args.steps.now.zone in
     let set = c.args.set.now in
-    let ts = targets_of_set answer n set.ttl set (ap (λ t. t == type_ns || t == type_mx || t == type_srv)
-    (sym c.rtype.ensures) ∙ sym c.if-has_targets.ensures) in
+    let ts = targets_of_set answer n set.ttl set true
+    (ap is_target_type (sym c.rtype.ensures) ∙ sym c.if-has_targets.ensures) in
     subst (λ ms. Took c.args.steps.now c.offer_addresses.new.steps (side_nodes z all_names ms)
     (length (filter all_names ms))) (sym ts) c.offer_addresses.ensures.took
 
 pub returns-else-has_targets-clause-ends : goal.returns-else-has_targets-clause-ends
 returns-else-has_targets-clause-ends g c = λ n begun offers.
-    let z = c.args.steps.now.zone in
     let set = c.args.set.now in
-    Ends-positive z (asked_item n set) offers
-    (Offers-none z _ (no_targets_of_set answer n set.ttl set
-    (ap (λ t. t == type_ns || t == type_mx || t == type_srv) (sym c.rtype.ensures)
-    ∙ sym c.if-has_targets.ensures))) c.ended-verdict.ensures
+    Ends-positive c.args.steps.now.zone (asked_item n set) offers
+    (Offers-none c.args.steps.now.zone _ (targets_of_set answer n set.ttl set false
+    (ap is_target_type (sym c.rtype.ensures) ∙ sym c.if-has_targets.ensures)))
+    c.ended-verdict.ensures
