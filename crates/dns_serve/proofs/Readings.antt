@@ -130,14 +130,3 @@ body_cut a b c count kept first skipped buf least len g few s = record {
       (record { octets = s.passed.octets; consumed = s.passed.consumed; fewer = omega (arith, s.passed.count_is, few) });
   over = s.over few;
 }
-
--- what is kept of a message did not come whole
-pub body_cut_early : (a b : Option Octets) (count kept first : ℕ) (buf : Octets) → kept ≡ min count most_over_udp → length buf ≡ kept → first < kept
-    → Gives a b (length buf) first (take first buf) → GivesPartOfBody a b count
-body_cut_early a b count kept first buf least len few g = record {
-  fewer = record { octets = take first buf; consumed = g.consumed; fewer = omega (arith, g.length_is, few, least) };
-  over = g.over (omega (arith, len, few));
-}
-
-pub fewer_of_body : (a b : Option Octets) (count kept n : ℕ) → kept ≡ min count most_over_udp → n ≡ kept → GivesFewer a b n → GivesFewer a b count
-fewer_of_body a b count kept n least len f = record { octets = f.octets; consumed = f.consumed; fewer = omega (arith, f.fewer, least, len) }

@@ -4,7 +4,7 @@ use Rattle.std.specs.List.{flat_map}
 use Rattle.std.proofs.lemmas.Grind.{flat_map-append}
 use Rattle.std.proofs.lemmas.List.Elements.{All-append}
 use Rattle.std.specs.Io.KnownBytes.{Appends, Consumes, IsAtEnd}
-use Rattle.std.proofs.KnownBytes.{Appends-trans, Appends-nil, Consumes-trans, Consumes-nil}
+use Rattle.std.proofs.KnownBytes.{Appends-trans, Consumes-trans}
 use Rattle.dns_spec.specs.Query.{most_over_tcp}
 use Rattle.dns_spec.specs.Names.{Octets}
 use Rattle.dns_spec.specs.Records.{ZoneContents}
@@ -58,9 +58,6 @@ pub record Done (reply : Octets → Option Octets) (s : Session) (n : ℕ) : Typ
   pub count : length messages ≡ n
   pub read : Consumes s.unread s.left (flat_map frame messages)
   pub written : Appends s.held s.holds (replies reply messages)
-
-pub done_none : (reply : Octets → Option Octets) (a c : Option Octets) → Done reply (session a a c c) 0
-done_none reply a c = record { messages = []; short = λ k d h. absurd (omega arith); count = refl; read = Consumes-nil a; written = Appends-nil c }
 
 frames_of : (ms : List Octets) (m : Octets) → flat_map frame (ms ++ m ∷ []) ≡ flat_map frame ms ++ frame m
 frames_of ms m = flat_map-append frame ms (m ∷ []) ∙ ap (λ x. flat_map frame ms ++ x) (append-nil (frame m))
