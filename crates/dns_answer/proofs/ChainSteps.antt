@@ -155,7 +155,7 @@ goes-on z t k sought s k' m first follows are e count =
     let r = λ (o : Outcome). ending z o in
     let o = outcome_at z t (last_of m ns) in
     let nodes : sum (map (depth_in z) (s ∷ ns)) + (r o).nodes
-        ≡ depth_in z s + (sum (map (depth_in z) ns) + (r o).nodes) =
+    ≡ depth_in z s + (sum (map (depth_in z) ns) + (r o).nodes) =
     let c = sum_cons (depth_in z s) (map (depth_in z) ns) in omega (arith, c) in
     let misses : 2 * length (s ∷ ns) + (r o).misses ≡ 2 + (2 * length ns + (r o).misses) =
     omega arith in

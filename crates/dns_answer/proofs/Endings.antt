@@ -65,8 +65,15 @@ Ends-denied z rcode is {w} {w'} e a plain =
 lowered : (n : DomainName) (ttl t : ℕ) (ds : List Octets) → length ds ≡ 1
     → item authority (map (λ (r : ResourceRecord). record r { ttl = min r.ttl (soa_minimum r.rdata) })
     (map (λ (d : Octets). record { owner = n; ttl = ttl; rtype = t; rdata = d }) ds))
-    ≡ record { section = authority; records = map (λ (d : Octets). record { owner = n;
-    ttl = min ttl (soa_minimum (get_or ds 0 [])); rtype = t; rdata = d }) ds } ∷ []
+    ≡ record {
+      section = authority;
+      records = map (λ (d : Octets). record {
+        owner = n;
+        ttl = min ttl (soa_minimum (get_or ds 0 []));
+        rtype = t;
+        rdata = d;
+      }) ds;
+    } ∷ []
 lowered n ttl t [] e = absurd (omega arith)
 lowered n ttl t (d ∷ []) e = refl
 lowered n ttl t (d ∷ d' ∷ ds) e = absurd (omega arith)

@@ -187,7 +187,6 @@ fn offer_from<'z, const N: usize, const SIZE: usize>(
 }
 
 // Offers the set of a type at a node, if there is one.
-#[inline(always)]
 fn offer_type<const N: usize, const SIZE: usize>(
     node: &Node<'_>,
     rtype: RType,

@@ -163,12 +163,7 @@ fn put_reply<'q, 'z: 'q, const N: usize, const SIZE: usize>(
         steps.old steps.new }
 {
     match judge(question, origin) {
-        Err(rcode) => put_refusal(
-            head.reply(false, false, rcode),
-            Some(question),
-            draft,
-            out,
-        ),
+        Err(rcode) => put_refusal(head.reply(false, false, rcode), Some(question), draft, out),
         Ok(sought) => put_answer(steps, head, question, sought, draft, out),
     }
 }

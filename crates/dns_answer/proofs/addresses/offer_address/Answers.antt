@@ -9,9 +9,6 @@ use Rattle.dns_answer.proofs.Offering.{Offers-empty}
 use Rattle.dns_answer.proofs.TargetLaws.{none-outside}
 use Rattle.dns_answer.proofs.addresses.offer_address.Goals as goal
 
-pub begin-requires : goal.begin-requires
-begin-requires g c = omega (arith, c.requires.room.visits)
-
 pub returns-in-Some-clause-took : goal.returns-in-Some-clause-took
 returns-in-Some-clause-took g c =
     let z = c.args.steps.now.zone in

@@ -1,11 +1,11 @@
-use Rattle.std.proofs.Common.{rules, inl, inr, ◌≡◌, List, take, take_all, ◌<◌, ◌≤◌, get_or, length, [], ◌&&◌, refl, sym, ap, ap₂, ◌∙◌, subst, arith}
+use Rattle.std.proofs.Common.{inr, ◌≡◌, List, take, take_all, ◌<◌, get_or, length, [], ◌&&◌, refl, sym, ap, ap₂, ◌∙◌, subst, arith}
 use Rattle.dns_spec.specs.Records.{ZoneContents}
 use Rattle.dns_spec.specs.Data.{target}
 use Rattle.std.specs.List.{filter_map, list_all}
 use Rattle.dns_spec.specs.Names.{Octets}
 use Rattle.dns_answer.specs.Walks.{Took}
 use Rattle.dns_answer.specs.Targets.{target_nodes, target_misses, side_takes}
-use Rattle.dns_answer.proofs.Taking.{Took-none, Took-then, Took-within, HasRoom-after}
+use Rattle.dns_answer.proofs.Taking.{Took-none, Took-then, Took-within}
 use Rattle.dns_answer.proofs.Offering.{Offers-is, Offers-empty, Offers-then}
 use Rattle.dns_answer.proofs.TargetLaws.{side_items-none, side_items-more, Took-more, Took-rest, Offers-rest, all-more}
 use Rattle.dns_answer.proofs.addresses.offer_addresses.Goals as goal
@@ -17,26 +17,6 @@ targets-init g c = record {
   bound = Took-none;
   all = refl;
 }
-
-pub offer_target-all-requires : goal.offer_target-all-requires
-offer_target-all-requires g c =
-    let inv = c.targets.invariant in
-    let inside = c.targets-test.true in (
-      search rules,
-      (
-        search rules,
-        (
-          c.requires.node ∙ sym inv.took.zone,
-          (
-            c.requires.set.valid,
-            (
-              search rules,
-              HasRoom-after inv.bound (omega (arith, c.requires.set.few)) c.requires.room,
-            ),
-          ),
-        ),
-      ),
-    )
 
 pub targets-preserved : goal.targets-preserved
 targets-preserved g c =
@@ -57,11 +37,6 @@ targets-preserved g c =
       bound = Took-within (omega arith) (omega arith) (Took-then inv.bound one.bound);
       all = ap₂ (λ a b. a && b) inv.all one.meant ∙ sym (all-more p set i inside);
     }
-
-pub returns-clause-bound : goal.returns-clause-bound
-returns-clause-bound g c =
-    let most : c.targets.i ≤ 64 = omega (arith, c.targets.auto.i-end, c.len-i-end.ensures.value, c.requires.set.few) in
-    Took-within (omega (arith, most)) most c.targets.invariant.bound
 
 pub returns-clause-took : goal.returns-clause-took
 returns-clause-took g c =
@@ -84,6 +59,3 @@ returns-then-is_full-clause-offers g c =
 pub returns-then-is_full-clause-took : goal.returns-then-is_full-clause-took
 returns-then-is_full-clause-took g c =
     Took-rest c.args.steps.now.zone (side_takes c.args.side) c.args.set.now c.targets.i c.targets.invariant.took
-
-pub returns-then-is_full-clause-all : goal.returns-then-is_full-clause-all
-returns-then-is_full-clause-all g c = inl (sym c.if-is_full.ensures)

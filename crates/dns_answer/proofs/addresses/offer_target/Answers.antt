@@ -1,8 +1,6 @@
-use Rattle.std.proofs.Common.{rules, sym, ap, ◌∙◌, arith}
-use Rattle.std.proofs.lemmas.Bool.{false≢true}
+use Rattle.std.proofs.Common.{sym, ap, ◌∙◌, arith}
 use Rattle.dns_spec.proofs.DomainNames.NameLaws.{length-is_name}
 use Rattle.dns_answer.specs.Targets.{target_items, targets_of_first, side_takes}
-use Rattle.dns_answer.proofs.WaySteps.{leads-to}
 use Rattle.dns_answer.proofs.Taking.{Took-within}
 use Rattle.dns_answer.proofs.Offering.{Offers-empty}
 use Rattle.dns_answer.proofs.TargetLaws.{items-untaken, items-stood, depth-few}
@@ -21,15 +19,6 @@ returns-then-not-takes-clause-offers g c =
     let ms = targets_of_first c.args.i c.args.set.now in
     Offers-empty _ (ap (target_items c.args.steps.now.zone p ms) is
     ∙ items-untaken c.args.steps.now.zone p ms c.in-Some.target (sym c.if-not-takes.ensures))
-
-pub offer_address-requires : goal.offer_address-requires
-offer_address-requires g c = (
-  search rules,
-  (
-    leads-to c.args.steps.now.zone c.args.node.now.zone c.rtype.result.0 _ c.lead.result c.requires.node (λ e. absurd (false≢true e)) c.lead.ensures,
-    (search rules, (search rules, search rules)),
-  ),
-)
 
 pub returns-then-not-stood_before-clause-bound : goal.returns-then-not-stood_before-clause-bound
 returns-then-not-stood_before-clause-bound g c =

@@ -1,9 +1,8 @@
-use Rattle.std.proofs.Common.{◌≡◌, refl, sym, ap, ◌∙◌, arith, false}
+use Rattle.std.proofs.Common.{refl, sym, ap, ◌∙◌, arith, false}
 use Rattle.std.proofs.lemmas.Bool.{or_from}
 use Rattle.std.specs.List.{list_any}
 use Rattle.std.specs.Option.{option_to_list}
 use Rattle.dns_spec.specs.Names.{same}
-use Rattle.dns_answer.specs.Targets.{targets_of_first}
 use Rattle.dns_answer.proofs.TargetLaws.{any-more, stood-some, same-lower}
 use Rattle.dns_answer.proofs.addresses.stood_before.Goals as goal
 use Rattle.dns_answer.proofs.addresses.stood_before.Goals.{in-Some+else-eq, in_default}
@@ -30,8 +29,3 @@ earlier-preserved c =
           ap (λ o. list_any p (option_to_list o)) w.in-Some.is ∙ or_from (p w.in-Some.earlier) false other refl
       | in_default w ↦ ap (λ o. list_any p (option_to_list o)) w.in_default.is
     ])
-
-pub returns : goal.returns
-returns c =
-    let all : c.earlier.i ≡ c.args.count = omega (arith, c.earlier-test.false, c.earlier.auto.i-end) in
-    sym (ap (λ k. list_any (same c.args.target.now) (targets_of_first k c.args.set.now)) (sym all) ∙ c.earlier.invariant)

@@ -1,26 +1,12 @@
 use Rattle.std.proofs.Common.{◌≡◌, ◌||◌, All, drop, length, sym, ap, ap₂, subst, ◌∙◌, arith}
 use Rattle.std.proofs.Math.Bool.{or-false}
-use Rattle.std.proofs.lemmas.Bool.{or_left, or_right}
-use Rattle.std.proofs.lemmas.List.{nil_from_length}
+use Rattle.std.proofs.lemmas.Bool.{or_right}
 use Rattle.std.specs.List.{list_any}
 use Rattle.dns_spec.specs.Names.{folded, same}
 use Rattle.dns_zone.specs.declared.sought.Sought.{Sought}
 use Rattle.dns_answer.proofs.SeekSteps.{any-lower}
 use Rattle.dns_answer.proofs.TargetLaws.{same-lower}
 use Rattle.dns_answer.proofs.chain.is_among.Goals as goal
-
-pub returns-in_default : goal.returns-in_default
-returns-in_default c =
-    let n = c.args.name.now in
-    let none = nil_from_length c.args.earlier.now c.in_default.ensures.cases in
-    c.same.ensures ∙ sym (or-false (same n c.args.last.now.name))
-    ∙ ap (λ es. same n c.args.last.now.name || list_any (λ (s : Sought). same n s.name) es) (sym none)
-
-pub returns-then-eq : goal.returns-then-eq
-returns-then-eq c =
-    let n = c.args.name.now in
-    let low = c.requires.low (omega (arith, ap length c.in-Some.ensures.cases.0)) in
-    sym (or_left _ _ (sym (same-lower n c.args.last.now.name c.requires.name low) ∙ sym c.if-eq.ensures))
 
 pub returns-then-has_equal : goal.returns-then-has_equal
 returns-then-has_equal c =

@@ -26,7 +26,3 @@ returns c =
       c.in_ok-next.ensures.1,
       ap folded c.in_ok-next.ensures.0 ∙ c.in_ok-target.ensures.lower ∙ sym c.in_ok-next.ensures.0,
     )
-
-pub is_among-requires-clause-name : goal.is_among-requires-clause-name
-is_among-requires-clause-name c =
-    ap folded c.in_ok-next.ensures.0 ∙ c.in_ok-target.ensures.lower ∙ sym c.in_ok-next.ensures.0

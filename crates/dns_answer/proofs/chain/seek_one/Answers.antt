@@ -1,4 +1,4 @@
-use Rattle.std.proofs.Common.{rules, ◌≡◌, [], ◌∷◌, true, refl, sym, ap, ◌∙◌, subst, arith, Some, None}
+use Rattle.std.proofs.Common.{◌≡◌, [], ◌∷◌, true, refl, sym, ap, ◌∙◌, subst, arith, Some, None}
 use Rattle.std.proofs.lemmas.Bool.{false≢true}
 use Rattle.dns_spec.specs.Records.{ZoneContents}
 use Rattle.dns_spec.specs.Answer.{positive, negative, referral_to}
@@ -9,30 +9,13 @@ use Rattle.dns_answer.specs.Chain.{chain_rest}
 use Rattle.dns_answer.specs.Ending.{TookRest, ending, asked_item}
 use Rattle.dns_answer.specs.Walks.{AreRecords}
 use Rattle.dns_answer.specs.Seeking.{NextIs, names_of, aliases_left}
-use Rattle.dns_answer.proofs.Taking.{Took-none, Took-within, HasRoom-after, HasRoom-within}
+use Rattle.dns_answer.proofs.Taking.{Took-none, Took-within}
 use Rattle.dns_answer.proofs.WaySteps.{leads-to}
 use Rattle.dns_answer.proofs.Offering.{Offers-nothing}
 use Rattle.dns_answer.proofs.Endings.{Ends-positive, Offers-none}
 use Rattle.dns_answer.proofs.ChainSteps.{ends-cut, ends-nothing, no-alias_cut}
 use Rattle.dns_answer.proofs.SeekSteps.{is-last, no-alias, ends-none, ends-asked, has-alias, alias-ends, alias-goes_on, seeks, took}
 use Rattle.dns_answer.proofs.chain.seek_one.Goals as goal
-
-pub look_up-requires-clause-room : goal.look_up-requires-clause-room
-look_up-requires-clause-room g c = HasRoom-within (omega arith) c.requires.room
-
-pub refer-requires : goal.refer-requires
-refer-requires g c =
-    let zone = sym c.look_up.ensures.took.zone in
-    let found = rw zone at c.in-Cut.ensures.found in (
-      search rules,
-      (
-        rw zone at c.requires.apex,
-        (
-          (c.args.sought.now.name, found),
-          HasRoom-after c.in-Cut.ensures.took (omega arith) c.requires.room,
-        ),
-      ),
-    )
 
 pub returns-in-Cut : goal.returns-in-Cut
 returns-in-Cut g c =
@@ -60,25 +43,6 @@ returns-in-Nothing g c =
     (ends-nothing z c.args.qtype (aliases_left before) before s found.no_cut found.none)
     c.requires.below.labels c.in-Nothing.ensures.took Took-none (Offers-nothing _) denied
     (λ r. absurd (false≢true (sym denied.referral ∙ r)))
-
-pub end_with-requires : goal.end_with-requires
-end_with-requires g c =
-    let zone = c.look_up.ensures.took.zone in
-    let took = c.in-Records.ensures.took in
-    let kept = c.in-Some.ensures.kept in
-    let records = rw (sym c.or_start-node.ensures) at c.in-Records.ensures.found in (
-      search rules,
-      (
-        records.zone ∙ sym zone,
-        (
-          kept,
-          (
-            rw (sym zone) at c.requires.apex,
-            HasRoom-after c.in-Records.ensures.took (omega arith) c.requires.room,
-          ),
-        ),
-      ),
-    )
 
 pub returns-in_default : goal.returns-in_default
 returns-in_default g c =

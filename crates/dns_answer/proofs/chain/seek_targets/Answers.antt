@@ -1,10 +1,9 @@
-use Rattle.std.proofs.Common.{ℕ, suc, ◌+◌, ◌-◌, ◌*◌, ◌<◌, ◌≤◌, ◌≡◌, ◌∷◌, ◌++◌, [], List, All, drop, refl, sym, ap, subst, ◌∙◌, arith, length}
-use Rattle.std.proofs.lemmas.List.Elements.{All-nil}
+use Rattle.std.proofs.Common.{ℕ, suc, ◌+◌, ◌-◌, ◌*◌, ◌<◌, ◌≤◌, ◌≡◌, ◌∷◌, [], All, drop, sym, ap, subst, ◌∙◌, arith, length}
 use Rattle.dns_spec.specs.Names.{folded}
 use Rattle.dns_zone.specs.declared.sought.Sought.{Sought}
 use Rattle.dns_answer.specs.Seeking.{names_of, TookFrom, Completes}
 use Rattle.dns_answer.proofs.SeekSteps.{names-more, names-count, lower-more}
-use Rattle.dns_answer.proofs.Taking.{HasRoom-after, HasRoom-within}
+use Rattle.dns_answer.proofs.Taking.{HasRoom-after}
 use Rattle.dns_answer.proofs.chain.seek_targets.Goals as goal
 
 -- one alias fewer may be followed
@@ -39,7 +38,7 @@ names-preserved g c =
     let completes = subst (λ y. Completes now.draft c.seek_one.new.draft now.steps c.seek_one.new.steps
     y c.args.qtype before (s ∷ before) s m.name) i.led.zone next.completes in
     let led : Completes c.args.draft.now c.seek_one.new.draft c.args.steps.now c.seek_one.new.steps z
-        c.args.qtype first (s ∷ before) c.args.target.name m.name = record {
+    c.args.qtype first (s ∷ before) c.args.target.name m.name = record {
       zone = completes.zone;
       seeks = λ last v rest. i.led.seeks last v (completes.seeks last v rest);
       took = λ last rest. i.led.took last (completes.took last rest);
@@ -52,24 +51,4 @@ names-preserved g c =
       lower = subst (λ es. All (λ (s : Sought). folded s.name ≡ s.name) (drop 1 es)) (sym c.push-in-Alias.ensures.items) (lower-more now.earlier.items now.sought i.lower (λ _. i.low));
       low = next.lower;
       lead = rw i.led.zone at next.lead;
-    }
-
-pub names-init : goal.names-init
-names-init g c =
-    let w = c.args.draft.now in
-    let s = c.args.steps.now in
-    let first = c.args.first.name ∷ [] in
-    let only : c.push.new.self.items ≡ c.args.first ∷ [] =
-    c.push.ensures.items ∙ ap (λ (es : List Sought). es ++ c.args.first ∷ []) c.new-earlier.ensures in
-    let count = names-count c.push.new.self.items in
-    let one = ap length only in
-    record {
-      led = subst (λ (es : List Sought). Completes w w s s s.zone c.args.qtype first (names_of es) c.args.target.name c.args.target.name) (sym only)
-          (record { zone = refl; seeks = λ last v h. h; took = λ last h. h });
-      below = c.requires.below;
-      room = HasRoom-within (omega arith) c.requires.room;
-      few = omega (arith, ap length only);
-      lower = subst (λ es. All (λ (s : Sought). folded s.name ≡ s.name) (drop 1 es)) (sym only) (All-nil (λ (s : Sought). folded s.name ≡ s.name));
-      low = c.requires.lower;
-      lead = c.requires.lead;
     }

@@ -32,5 +32,7 @@ returns g c =
     (c.min-ttl.ensures
     ∙ (λ j. min (c.ttl.ensures j) ((c.soa_minimum.ensures ∙ ap soa_minimum c.rdata.ensures.value) j)))
     in
-    Ends-denied z (code_of c.args.rcode) _ (item ∙ ap (λ n. record { section = authority;
-    records = records_at n c.min-ttl.result set } ∷ []) (sym origin)) c.offer.ensures c.ended-2.ensures
+    Ends-denied z (code_of c.args.rcode) _ (item ∙ ap (λ n. record {
+      section = authority;
+      records = records_at n c.min-ttl.result set;
+    } ∷ []) (sym origin)) c.offer.ensures c.ended-2.ensures

@@ -1,4 +1,4 @@
-use Rattle.std.proofs.Common.{rules, refl, sym, ap, ◌∙◌, arith}
+use Rattle.std.proofs.Common.{refl, ap, ◌∙◌}
 use Rattle.std.proofs.lemmas.Bool.{false≢true}
 use Rattle.std.specs.Option.{is_some}
 use Rattle.dns_spec.specs.Records.{ZoneContents, rrset}
@@ -6,7 +6,7 @@ use Rattle.dns_spec.specs.Data.{type_ns}
 use Rattle.dns_spec.specs.Sets.{set_of}
 use Rattle.dns_answer.specs.Targets.{set_targets}
 use Rattle.dns_answer.proofs.Endings.{Ends-referred, cut-has_servers, Offers-others, Took-referred}
-use Rattle.dns_answer.proofs.Taking.{Took-none, HasRoom-after, HasRoom-within}
+use Rattle.dns_answer.proofs.Taking.{Took-none}
 use Rattle.dns_answer.proofs.ending.refer.Goals as goal
 
 pub unreachable-requires : goal.unreachable-requires
@@ -15,32 +15,6 @@ unreachable-requires g c =
     false≢true (ap is_some c.in_default.ensures.set
     ∙ ap (λ (z : ZoneContents). is_some (set_of (rrset z c.args.cut.now.name type_ns))) below.zone
     ∙ cut-has_servers c.args.steps.now.zone c.requires.cut.0 c.args.cut.now.name below.cut)
-
-pub offer_addresses-are_all_inside-requires : goal.offer_addresses-are_all_inside-requires
-offer_addresses-are_all_inside-requires g c =
-    let kept = c.in-Some.ensures.kept in
-    let room = c.requires.room in (
-      search rules,
-      (
-        search rules,
-        (c.requires.cut.1.zone, (kept, HasRoom-within (omega arith) room)),
-      ),
-    )
-
-pub offer_addresses-requires : goal.offer_addresses-requires
-offer_addresses-requires g c =
-    let bound = c.offer_addresses-are_all_inside.ensures.bound in
-    let kept = c.in-Some.ensures.kept in
-    let room = c.requires.room in (
-      search rules,
-      (
-        search rules,
-        (
-          c.requires.cut.1.zone ∙ sym bound.zone,
-          (kept, HasRoom-after bound (omega arith) room),
-        ),
-      ),
-    )
 
 pub returns-then-not-are_all_inside-clause-ends : goal.returns-then-not-are_all_inside-clause-ends
 returns-then-not-are_all_inside-clause-ends g c =
