@@ -50,7 +50,8 @@ module _ (p : DomainName → Bool) (alike : Respects p) where
           → side_items z all_names (filter p before) (cond b (m ∷ filter p ms) (filter p ms))
           ≡ cond (b && not (list_any (same m) before)) (addresses_of z m) [] ++ side_items z p (before ++ m ∷ []) ms
       go true e rest =
-          ap (λ b. cond (not b) (addresses_of z m) [] ++ side_items z all_names (filter p before ++ m ∷ []) (filter p ms)) (any-filter m true before e)
+          ap (λ b. cond (not b) (addresses_of z m) [] ++ side_items z all_names
+          (filter p before ++ m ∷ []) (filter p ms)) (any-filter m true before e)
           ∙ ap (λ xs. cond (not (list_any (same m) before)) (addresses_of z m) [] ++ side_items z all_names xs (filter p ms)) (sym (last true e))
           ∙ ap (λ xs. cond (not (list_any (same m) before)) (addresses_of z m) [] ++ xs) rest
       go false e rest = ap (λ xs. side_items z all_names xs (filter p ms)) (sym (last false e ∙ append-nil (filter p before))) ∙ rest
@@ -82,7 +83,8 @@ module _ (z : ZoneContents) (c : DomainName) (ts : List DomainName) where
       let out = filter (not_inside c) ts in
       let apart : Each (λ m. list_any (same m) in_c ≡ false) out =
       each_weaker (λ m. not_inside c m ≡ true) (λ m. list_any (same m) in_c ≡ false) out
-      (λ m e. any-filter (inside c) alike_inside m false ts (not-true (inside c m) e)) (filter_each (not_inside c) ts)
+      (λ m e. any-filter (inside c) alike_inside m false ts (not-true (inside c m) e))
+      (filter_each (not_inside c) ts)
       in
       side_items-append z all_names [] in_c out ∙ ap (λ xs. xs ++ side_items z all_names in_c out) side-inside
       ∙ ap (λ xs. side_items z (inside c) [] ts ++ xs)
@@ -186,7 +188,8 @@ module _ (z : ZoneContents) (front : List Item) (clear : NoAddresses front) wher
           ∙ sym (ap (side_items z all_names []) e ∙ side_items-none z all_names)
 
   adds-set : (rs : List ResourceRecord) (u : ℕ) → AreOf u rs → Adds z front (positive (item answer rs))
-  adds-set rs u e = adds-plain no_error is [] (ap targets_of (sym whole)) (go (is_target_type u) refl)
+  adds-set rs u e =
+      adds-plain no_error is [] (ap targets_of (sym whole)) (go (is_target_type u) refl)
     where
       is : List Item
       is = item answer rs
@@ -195,7 +198,8 @@ module _ (z : ZoneContents) (front : List Item) (clear : NoAddresses front) wher
       whole = append-nil is
 
       go : (b : Bool) → is_target_type u ≡ b → NoAddresses (is ++ []) ⊎ (targets_of (is ++ []) ≡ [])
-      go true f = inl (subst NoAddresses (sym whole) (no-addresses answer u rs e (targets-apart u f)))
+      go true f =
+          inl (subst NoAddresses (sym whole) (no-addresses answer u rs e (targets-apart u f)))
       go false f = inr (ap targets_of whole ∙ no-targets answer u rs e f)
 
   adds-referral : (c : DomainName) → Adds z front (referral_to z c)
@@ -204,7 +208,9 @@ module _ (z : ZoneContents) (front : List Item) (clear : NoAddresses front) wher
       let in_c = filter (inside c) (targets_of is) in
       let out = filter (not_inside c) (targets_of is) in
       let servers : AreOf type_ns (with_owner c (rrset z c type_ns)) = shown (rrset z c type_ns) (each_of_type type_ns (at z c)) in
-      let none = NoAddresses-append front is clear (no-addresses authority type_ns (with_owner c (rrset z c type_ns)) servers refl) in
+      let none =
+      NoAddresses-append front is clear
+      (no-addresses authority type_ns (with_owner c (rrset z c type_ns)) servers refl) in
       let whole : (in_c ++ []) ++ (out ++ []) ≡ in_c ++ out =
       ap₂ (λ xs ys. xs ++ ys) (append-nil in_c) (append-nil out) in
       record {
@@ -244,7 +250,8 @@ module _ (z : ZoneContents) (front : List Item) (clear : NoAddresses front) wher
 aliases_clear : (z : ZoneContents) (q : DomainName) (t : ℕ) → NoAddresses (alias_items z q t)
 aliases_clear z q t =
     let each = each_flat_map IsAlias (λ (i : Item). Each IsAlias i.records) (λ (i : Item). i.records) (alias_items z q t) (λ i h. h) (each_alias_item z q t) in
-    each_weaker IsAlias NotAddress (records_of (alias_items z q t)) (λ r h. ap is_address_type h) each
+    each_weaker IsAlias NotAddress (records_of (alias_items z q t))
+    (λ r h. ap is_address_type h) each
 
 -- the whole answer is what is to come at the question's name
 module _ (z : ZoneContents) (q : DomainName) (t : ℕ) where
@@ -258,7 +265,8 @@ module _ (z : ZoneContents) (q : DomainName) (t : ℕ) where
   unfolding outcome_at
   adds-last = adds z (alias_items z q t) (aliases_clear z q t) t (cut_of z (last_sought z q t)) (found z (last_sought z q t))
 
-  main-front : main_items (outcome z q t) ≡ alias_items z q t ++ main_items (outcome_at z t (last_sought z q t))
+  main-front : main_items (outcome z q t) ≡ alias_items z q t ++ main_items
+      (outcome_at z t (last_sought z q t))
   unfolding outcome
   main-front = append_assoc (alias_items z q t) last.answers last.authorities
 
@@ -305,17 +313,21 @@ module _ (z : ZoneContents) (q : DomainName) (t : ℕ) where
       ≡ 2 * length (chain z q t) + length (targets (outcome z q t))
   unfolding chain chain_rest
   misses-are =
-      ap (λ n. 2 * length (chain z q t) + n) (adds-last.misses ∙ ap length (sym (targets_last z q t)))
+      ap (λ n. 2 * length (chain z q t) + n)
+      (adds-last.misses ∙ ap length (sym (targets_last z q t)))
 
   -- a referral without aliases before it does not speak for the zone
   pub speaks-unless : (b : Bool) → (length (alias_items z q t) == 0) ≡ not b
-      → is_authoritative (outcome z q t) ≡ not (is_some (chain_rest z t 16 [] q).outcome.referral && not b)
+      → is_authoritative (outcome z q t) ≡ not
+      (is_some (chain_rest z t 16 [] q).outcome.referral && not b)
   unfolding outcome chain chain_rest
   speaks-unless b e = go adds-last.speaks
     where
       go : (last.referral ≡ None) ⊎ (last.answers ≡ [])
-          → not (is_some last.referral && length (front ++ last.answers) == 0) ≡ not (is_some last.referral && not b)
+          → not (is_some last.referral && length (front ++ last.answers) == 0) ≡ not
+          (is_some last.referral && not b)
       go (inl none) = rw none refl
       go (inr none) =
           ap (λ (is : List Item). not (is_some last.referral && length is == 0))
-          (ap (λ is. front ++ is) none ∙ append-nil front) ∙ ap (λ x. not (is_some last.referral && x)) e
+          (ap (λ is. front ++ is) none ∙ append-nil front)
+          ∙ ap (λ x. not (is_some last.referral && x)) e

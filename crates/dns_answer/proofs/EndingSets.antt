@@ -41,7 +41,8 @@ targets_of_set s owner ttl set b e =
     of r = cond (has_target_type r) (target r.rtype r.rdata) None
 
     shown : List Octets → List ResourceRecord
-    shown ds = map (λ (d : Octets). record { owner = owner; ttl = ttl; rtype = set.rtype; rdata = d }) ds
+    shown ds =
+        map (λ (d : Octets). record { owner = owner; ttl = ttl; rtype = set.rtype; rdata = d }) ds
 
     go : (b : Bool) → is_target_type set.rtype ≡ b → (ds : List Octets) → filter_map of (shown ds)
         ≡ cond b (filter_map (λ (d : Octets). target set.rtype d) ds) []

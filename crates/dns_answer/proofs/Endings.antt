@@ -63,7 +63,8 @@ Ends-denied z rcode is {w} {w'} e a plain =
 
 -- its SOA: a set of one record, with the lesser TTL
 lowered : (n : DomainName) (ttl t : ℕ) (ds : List Octets) → length ds ≡ 1
-    → item authority (map (λ (r : ResourceRecord). record r { ttl = min r.ttl (soa_minimum r.rdata) })
+    → item authority
+    (map (λ (r : ResourceRecord). record r { ttl = min r.ttl (soa_minimum r.rdata) })
     (map (λ (d : Octets). record { owner = n; ttl = ttl; rtype = t; rdata = d }) ds))
     ≡ record {
       section = authority;
@@ -85,7 +86,8 @@ module _ (z : ZoneContents) where
       let few = few_soa z kept.low kept.passes in
       let one = ap length (one_soa z kept.low kept.passes) in
       let some = from_set (rrset z z.origin type_soa) e in
-      sym (length-map set.rdata (λ (d : Octets). record { owner = z.origin; ttl = set.ttl; rtype = set.rtype; rdata = d }))
+      sym (length-map set.rdata (λ (d : Octets).
+      record { owner = z.origin; ttl = set.ttl; rtype = set.rtype; rdata = d }))
       ∙ ap length f ∙ omega (arith, one, few, some)
     where
       from_set : (rs : List ResourceRecord) → set_of rs ≡ Some set → 0 < length rs
@@ -98,7 +100,8 @@ module _ (z : ZoneContents) where
       → ttl ≡ min set.ttl (soa_minimum (get_or set.rdata 0 []))
       → negative_soa z ≡ record { section = authority; records = records_at z.origin ttl set } ∷ []
   soa-item kept set ttl e f g =
-      ap (λ rs. item authority (map (λ (r : ResourceRecord). record r { ttl = min r.ttl (soa_minimum r.rdata) }) rs)) (sym f)
+      ap (λ rs. item authority
+      (map (λ (r : ResourceRecord). record r { ttl = min r.ttl (soa_minimum r.rdata) }) rs)) (sym f)
       ∙ lowered z.origin set.ttl set.rtype set.rdata (soa-one kept set e f)
       ∙ ap (λ k. record { section = authority; records = records_at z.origin k set } ∷ []) (sym g)
 

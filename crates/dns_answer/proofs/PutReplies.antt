@@ -50,15 +50,18 @@ module _ (z : ZoneContents) (h : Header) (q : MessageQuestion) where
   truncates : (limit : ℕ) → truncated z q (keep_longest z limit q)
       ≡ (offered (empty_draft q limit) (chain_rest z q.qtype 16 [] q.qname).required).full
   truncates limit =
-      ap (λ rs. nat_lt (length (keep_longest z limit q)) (length rs)) (required-are z q.qname q.qtype)
+      ap (λ rs. nat_lt (length (keep_longest z limit q)) (length rs))
+      (required-are z q.qname q.qtype)
       ∙ ap (λ js. nat_lt (length (kept (size (Some q)) limit js)) (length r.required))
       (items-are z q.qname q.qtype ∙ required-first z q.qname q.qtype)
       ∙ offered-truncated q limit r.required _
 
-  authoritative : (v : Verdict) (led : Bool) → v.is_referral ≡ is_some r.outcome.referral → Followed z q.qtype q.qname v led
+  authoritative : (v : Verdict) (led : Bool) → v.is_referral ≡ is_some r.outcome.referral
+      → Followed z q.qtype q.qname v led
       → not (v.is_referral && not led) ≡ is_authoritative (outcome z q.qname q.qtype)
   authoritative v led refers followed =
-      go v.is_referral (is_some r.outcome.referral) (leads_on z q.qtype q.qname) refers followed ∙ sym (authority-is z q.qname q.qtype)
+      go v.is_referral (is_some r.outcome.referral) (leads_on z q.qtype q.qname) refers followed
+      ∙ sym (authority-is z q.qname q.qtype)
     where
       go : (a b f : Bool) → a ≡ b → (a ≡ true → led ≡ f) → not (a && not led) ≡ not (b && not f)
       go true b f e more = ap (λ x. not (not x)) (more refl) ∙ ap (λ x. not (x && not f)) e

@@ -128,7 +128,9 @@ module _ (z : ZoneContents) (t : ℕ) (before : List DomainName) (s : DomainName
   Chain is r = chain_rest z t (aliases_left before) before s ≡ after_sets is (depth_in z s) r
 
   aliases-at : alias_set z s ≡ with_owner s cnames
-  aliases-at = alias-found z s (with_owner s rs) records.no_cut records.records ∙ of_type-shown s type_cname rs
+  aliases-at =
+      alias-found z s (with_owner s rs) records.no_cut records.records
+      ∙ of_type-shown s type_cname rs
 
   -- no alias among them is followed
   pub no-alias : HasNoAlias t rs → leads_on z t s ≡ false
@@ -141,9 +143,11 @@ module _ (z : ZoneContents) (t : ℕ) (before : List DomainName) (s : DomainName
       ends-plain z t (aliases_left before) before s o (no-alias none)
       (outcome-found z t s (with_owner s rs) records.no_cut records.records ∙ is)
 
-  none-of : HasNoAlias t rs → (follows_alias t && has_any (of_type type_cname (with_owner s rs))) ≡ false
+  none-of : HasNoAlias t rs
+      → (follows_alias t && has_any (of_type type_cname (with_owner s rs))) ≡ false
   none-of none =
-      ap (λ xs. follows_alias t && has_any xs) (of_type-shown s type_cname rs ∙ sym aliases-at) ∙ no-alias none
+      ap (λ xs. follows_alias t && has_any xs) (of_type-shown s type_cname rs ∙ sym aliases-at)
+      ∙ no-alias none
 
   pub ends-none : IsShown t rs None → Chain [] (ending z (negative z no_error))
   ends-none shown =
@@ -162,7 +166,8 @@ module _ (z : ZoneContents) (t : ℕ) (before : List DomainName) (s : DomainName
 
       alias-item : item answer (alias_set z s) ≡ asked_item s set
       alias-item =
-          ap (item answer) aliases-at ∙ item-shown answer node.name s cnames set (sym shown.1) are_set
+          ap (item answer) aliases-at
+          ∙ item-shown answer node.name s cnames set (sym shown.1) are_set
 
       some-alias : has_any (alias_set z s) ≡ true
       some-alias = ap has_any aliases-at ∙ some_any s cnames set shown.1
@@ -176,7 +181,9 @@ module _ (z : ZoneContents) (t : ℕ) (before : List DomainName) (s : DomainName
           ∙ go set.rdata (ap set_of are_set ∙ sym shown.1)
         where
           of : List Octets → List ResourceRecord
-          of ds = map (λ (d : Octets). record { owner = node.name; ttl = set.ttl; rtype = set.rtype; rdata = d }) ds
+          of ds =
+              map (λ (d : Octets).
+              record { owner = node.name; ttl = set.ttl; rtype = set.rtype; rdata = d }) ds
 
           go : (ds : List Octets) → set_of (of ds) ≡ Some set
               → first_target (with_owner s (of ds)) ≡ target set.rtype (get_or ds 0 [])
@@ -198,7 +205,8 @@ module _ (z : ZoneContents) (t : ℕ) (before : List DomainName) (s : DomainName
 
       -- it leads to another name
       pub alias-goes_on : (m : Sought) → NextIs set (s ∷ before) z.origin (Some m)
-          → Chain (asked_item s set) (chain_rest z t (aliases_left (s ∷ before)) (s ∷ before) m.name)
+          → Chain (asked_item s set)
+          (chain_rest z t (aliases_left (s ∷ before)) (s ∷ before) m.name)
       alias-goes_on m next =
           goes-on z t (aliases_left before) before s (aliases_left (s ∷ before)) m.name
           (asked_item s set) shown.0 alias-item

@@ -5,7 +5,8 @@ use Rattle.dns_answer.specs.Walks.{HasRoom, Took}
 
 -- a walk that goes on no further took no more than any
 pub Took-none : {s : Walk} {nodes misses : ℕ} → Took s s nodes misses
-Took-none = record { zone = refl; from = omega arith; visits = omega arith; comparisons = omega arith }
+Took-none =
+    record { zone = refl; from = omega arith; visits = omega arith; comparisons = omega arith }
 
 pub Took-then : {s s' s'' : Walk} {n m n' m' : ℕ} → Took s s' n m → Took s' s'' n' m'
     → Took s s'' (n + n') (m + m')

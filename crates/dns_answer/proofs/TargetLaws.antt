@@ -52,7 +52,8 @@ first-more set i h =
 pub any-more : (p : DomainName → Bool) (set : RecordSet) (i : ℕ) → i < length set.rdata
     → list_any p (targets_of_first (i + 1) set) ≡ (list_any p (targets_of_first i set)
     || list_any p (option_to_list (target set.rtype (get_or set.rdata i []))))
-any-more p set i h = ap (list_any p) (first-more set i h) ∙ list_any-append p (targets_of_first i set) _
+any-more p set i h =
+    ap (list_any p) (first-more set i h) ∙ list_any-append p (targets_of_first i set) _
 
 pub stood-some : (p : DomainName → Bool) (set : RecordSet) (count i : ℕ) (m : DomainName)
     → i < count → count ≤ length set.rdata → target set.rtype (get_or set.rdata i []) ≡ Some m
@@ -133,12 +134,14 @@ module _ (z : ZoneContents) (p : DomainName → Bool) where
       → side_nodes z p (ms ++ ns) ≡ side_nodes z p ms + side_nodes z p ns
   nodes-append ms ns =
       ap (λ xs. depths z (targets_in_zone z xs)) (filter-append p ms ns)
-      ∙ ap (depths z) (filter-append (λ (m : DomainName). at_or_below m z.origin) (filter p ms) (filter p ns))
+      ∙ ap (depths z)
+      (filter-append (λ (m : DomainName). at_or_below m z.origin) (filter p ms) (filter p ns))
       ∙ depths-append z (targets_in_zone z (filter p ms)) (targets_in_zone z (filter p ns))
 
   misses-append : (ms ns : List DomainName)
       → length (filter p (ms ++ ns)) ≡ length (filter p ms) + length (filter p ns)
-  misses-append ms ns = ap length (filter-append p ms ns) ∙ length-append (filter p ms) (filter p ns)
+  misses-append ms ns =
+      ap length (filter-append p ms ns) ∙ length-append (filter p ms) (filter p ns)
 
   nodes-one : (o : Option DomainName) → side_nodes z p (option_to_list o) ≡ target_nodes z p o
   nodes-one None = refl
@@ -162,7 +165,8 @@ module _ (z : ZoneContents) (p : DomainName → Bool) where
       go false = refl
 
   pub Took-more : (set : RecordSet) (i : ℕ) {s s' s'' : Walk} → i < length set.rdata
-      → Took s s' (side_nodes z p (targets_of_first i set)) (length (filter p (targets_of_first i set)))
+      → Took s s' (side_nodes z p (targets_of_first i set))
+      (length (filter p (targets_of_first i set)))
       → Took s' s'' (target_nodes z p (target set.rtype (get_or set.rdata i [])))
       (target_misses p (target set.rtype (get_or set.rdata i [])))
       → Took s s'' (side_nodes z p (targets_of_first (i + 1) set))
@@ -192,7 +196,8 @@ Took-rest z p set i {s} {s'} took =
     let ms = targets_of_first i set in
     let ns = filter_map (λ (d : Octets). target set.rtype d) (drop i set.rdata) in
     subst (λ all. Took s s' (side_nodes z p all) (length (filter p all))) (first-rest set i)
-    (Took-within (omega (arith, nodes-append z p ms ns)) (omega (arith, misses-append z p ms ns)) took)
+    (Took-within (omega (arith, nodes-append z p ms ns))
+    (omega (arith, misses-append z p ms ns)) took)
 
 -- a full reply has been offered all of them
 pub Offers-rest : (z : ZoneContents) (p : DomainName → Bool) (set : RecordSet) (i : ℕ)
@@ -240,7 +245,9 @@ none-at z m none =
 pub none-outside : (z : ZoneContents) (m : DomainName) → IsBuilt z
     → at_or_below m z.origin ≡ false → addresses_of z m ≡ []
 none-outside z m kept out =
-    none-at z m (λ r a e. false≢true (sym out ∙ sym (same-under r.owner m z.origin e) ∙ owner_inside z kept r a))
+    none-at z m
+    (λ r a e. false≢true
+    (sym out ∙ sym (same-under r.owner m z.origin e) ∙ owner_inside z kept r a))
 
 -- nor one that does not exist
 pub none-missing : (z : ZoneContents) (m : DomainName) → exists z m ≡ false → addresses_of z m ≡ []
@@ -248,9 +255,11 @@ none-missing z m out =
     none-at z m (λ r a e. false≢true (sym out ∙ some z.records r a (itself-under r.owner m e)))
   where
     some : (rs : List ResourceRecord) (r : ResourceRecord) → Among r rs
-        → at_or_below r.owner m ≡ true → list_any (λ (r : ResourceRecord). at_or_below r.owner m) rs ≡ true
+        → at_or_below r.owner m ≡ true
+        → list_any (λ (r : ResourceRecord). at_or_below r.owner m) rs ≡ true
     some [] r a e = absurd a
-    some (s ∷ rs) r (inl is) e = or_left _ _ (ap (λ (r : ResourceRecord). at_or_below r.owner m) (sym is) ∙ e)
+    some (s ∷ rs) r (inl is) e =
+        or_left _ _ (ap (λ (r : ResourceRecord). at_or_below r.owner m) (sym is) ∙ e)
     some (s ∷ rs) r (inr a) e = or_right (at_or_below s.owner m) _ (some rs r a e)
 
 -- the addresses of a name are those of its lower case

@@ -111,7 +111,8 @@ records-there z start n node h = record {
   zone = ap (λ (v : ZoneNode). v.zone) h.at_name;
   records =
       ap (λ b. cond b (Some (with_owner n (at z n))) (option_map (λ w. with_owner n (at z w)) (source_of_synthesis z n))) h.stands
-      ∙ ap (λ rs. Some (with_owner n rs)) (sym (at-folded z n)) ∙ ap (λ (v : ZoneNode). Some (with_owner n (at v.zone v.name))) (sym h.at_name);
+      ∙ ap (λ rs. Some (with_owner n rs)) (sym (at-folded z n))
+      ∙ ap (λ (v : ZoneNode). Some (with_owner n (at v.zone v.name))) (sym h.at_name);
 }
 
 -- for one that is not
@@ -133,7 +134,9 @@ module _ (z : ZoneContents) (start : ZoneNode) (n : DomainName) (above : Option 
   records-by_wildcard node there is = record {
     no_cut = h.no_cut refl;
     zone = ap (λ (v : ZoneNode). v.zone) is ∙ h.zone;
-    records = by_wildcard true there ∙ ap (λ y. Some (with_owner n (at y (asterisk ∷ encloser.name)))) (sym h.zone)
+    records =
+        by_wildcard true there
+        ∙ ap (λ y. Some (with_owner n (at y (asterisk ∷ encloser.name)))) (sym h.zone)
         ∙ ap (λ (v : ZoneNode). Some (with_owner n (at v.zone v.name))) (sym is);
   }
 

@@ -25,14 +25,16 @@ targets-preserved g c =
     let p = side_takes c.args.side in
     let set = c.args.set.now in
     let i = c.targets.i in
-    let inside : i < length set.rdata = omega (arith, c.targets-test.true, c.len-i-end.ensures.value) in
+    let inside : i < length set.rdata =
+    omega (arith, c.targets-test.true, c.len-i-end.ensures.value) in
     let o = target set.rtype (get_or set.rdata i []) in
     let one = c.offer_target-all.ensures in
     let offered = rw inv.took.zone at one.offers in
     let taken = subst (λ (y : ZoneContents). Took c.targets.steps c.offer_target-all.new.steps
     (target_nodes y p o) (target_misses p o)) inv.took.zone one.took in
     record {
-      offers = Offers-is _ _ _ _ (side_items-more z p set i inside) (Offers-then _ _ _ _ _ inv.offers offered);
+      offers = Offers-is _ _ _ _ (side_items-more z p set i inside)
+          (Offers-then _ _ _ _ _ inv.offers offered);
       took = Took-more z p set i inside inv.took taken;
       bound = Took-within (omega arith) (omega arith) (Took-then inv.bound one.bound);
       all = ap₂ (λ a b. a && b) inv.all one.meant ∙ sym (all-more p set i inside);
@@ -40,13 +42,15 @@ targets-preserved g c =
 
 pub returns-clause-took : goal.returns-clause-took
 returns-clause-took g c =
-    Took-rest c.args.steps.now.zone (side_takes c.args.side) c.args.set.now c.targets.i c.targets.invariant.took
+    Took-rest c.args.steps.now.zone
+    (side_takes c.args.side) c.args.set.now c.targets.i c.targets.invariant.took
 
 pub returns-clause-all : goal.returns-clause-all
 returns-clause-all g c =
     let set = c.args.set.now in
     let whole : take c.targets.i set.rdata ≡ set.rdata =
-    take_all c.targets.i set.rdata (omega (arith, c.targets-test.false, c.len-i-end.ensures.value)) in
+    take_all c.targets.i set.rdata
+    (omega (arith, c.targets-test.false, c.len-i-end.ensures.value)) in
     inr (c.targets.invariant.all ∙ ap (λ (ds : List Octets). list_all (side_takes c.args.side)
     (filter_map (λ (d : Octets). target set.rtype d) ds)) whole)
 
@@ -58,4 +62,5 @@ returns-then-is_full-clause-offers g c =
 
 pub returns-then-is_full-clause-took : goal.returns-then-is_full-clause-took
 returns-then-is_full-clause-took g c =
-    Took-rest c.args.steps.now.zone (side_takes c.args.side) c.args.set.now c.targets.i c.targets.invariant.took
+    Took-rest c.args.steps.now.zone
+    (side_takes c.args.side) c.args.set.now c.targets.i c.targets.invariant.took

@@ -7,7 +7,8 @@ use Rattle.dns_answer.proofs.addresses.offer_from.Goals as goal
 
 pub returns-in-Encloser-clause-offers : goal.returns-in-Encloser-clause-offers
 returns-in-Encloser-clause-offers g c =
-    Offers-empty _ (none-missing c.args.steps.now.zone c.args.target.now.name c.in-Encloser.ensures.way.missing)
+    Offers-empty _
+    (none-missing c.args.steps.now.zone c.args.target.now.name c.in-Encloser.ensures.way.missing)
 
 pub returns-clause-offers : goal.returns-clause-offers
 returns-clause-offers g c =

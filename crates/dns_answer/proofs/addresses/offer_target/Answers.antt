@@ -10,7 +10,8 @@ pub returns-in_default-clause-offers : goal.returns-in_default-clause-offers
 returns-in_default-clause-offers g c =
     let is = sym c.target.ensures.value ∙ c.in_default.is in
     let p = side_takes c.args.side in
-    Offers-empty _ (ap (target_items c.args.steps.now.zone p (targets_of_first c.args.i c.args.set.now)) is)
+    Offers-empty _
+    (ap (target_items c.args.steps.now.zone p (targets_of_first c.args.i c.args.set.now)) is)
 
 pub returns-then-not-takes-clause-offers : goal.returns-then-not-takes-clause-offers
 returns-then-not-takes-clause-offers g c =

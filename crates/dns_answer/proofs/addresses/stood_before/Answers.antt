@@ -26,6 +26,7 @@ earlier-preserved c =
           let low = w.in-Some.ensures.lower in
           let other = sym (same-lower c.args.target.now w.in-Some.earlier c.requires.lower low)
           ∙ sym w.eq.ensures ∙ w.if-eq.false in
-          ap (λ o. list_any p (option_to_list o)) w.in-Some.is ∙ or_from (p w.in-Some.earlier) false other refl
+          ap (λ o. list_any p (option_to_list o)) w.in-Some.is
+          ∙ or_from (p w.in-Some.earlier) false other refl
       | in_default w ↦ ap (λ o. list_any p (option_to_list o)) w.in_default.is
     ])

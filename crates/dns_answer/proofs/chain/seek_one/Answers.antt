@@ -28,7 +28,8 @@ returns-in-Cut g c =
     is-last c.args.steps.now c.args.qtype before s [] (ending z (referral_to z name))
     (ends-cut z c.args.qtype (aliases_left before) before s name cut) c.requires.below.labels
     c.in-Cut.ensures.took
-    (subst (λ y. TookRest c.look_up.new.steps c.refer.new.steps (ending y (referral_to y name))) zone
+    (subst (λ y. TookRest c.look_up.new.steps c.refer.new.steps
+    (ending y (referral_to y name))) zone
     c.refer.ensures.took) (Offers-nothing _) (rw zone at c.refer.ensures.ends)
     (λ r. no-alias_cut z c.args.qtype s name cut)
 
@@ -52,7 +53,8 @@ returns-in_default g c =
     let at_node = c.or_start-node.result.now in
     let records = subst (AreRecords z s) (sym c.or_start-node.ensures) c.in-Records.ensures.found in
     let shown = c.in_default.ensures.shown in
-    let denied = rw (ap (λ (v : ZoneNode). v.zone) c.requires.apex.node) at c.deny-in_default.ensures in
+    let denied =
+    rw (ap (λ (v : ZoneNode). v.zone) c.requires.apex.node) at c.deny-in_default.ensures in
     is-last c.args.steps.now c.args.qtype before s [] (ending z (negative z no_error))
     (ends-none z c.args.qtype before s at_node records shown)
     c.requires.below.labels c.in-Records.ensures.took Took-none (Offers-nothing _) denied
@@ -89,11 +91,13 @@ returns-in_default-next_sought g c =
     let origin : c.lent.result ≡ z.origin =
     c.lent.ensures.value ∙ c.origin.ensures.value
     ∙ ap (λ (y : ZoneContents). y.origin) c.look_up.ensures.took.zone in
-    let next = subst (λ o. NextIs set (s ∷ before) o None) origin c.in_default-next_sought.ensures in
+    let next =
+    subst (λ o. NextIs set (s ∷ before) o None) origin c.in_default-next_sought.ensures in
     let ended = c.ended.ensures in
     is-last c.args.steps.now c.args.qtype before s (asked_item s set) (ending z (positive []))
     (alias-ends z c.args.qtype before s at_node records set c.in-Some.ensures.kept shown next)
-    c.requires.below.labels c.in-Records.ensures.took Took-none (rw c.ttl.ensures at c.offer.ensures)
+    c.requires.below.labels c.in-Records.ensures.took Took-none
+    (rw c.ttl.ensures at c.offer.ensures)
     (Ends-positive z [] (Offers-nothing _) (Offers-none z [] refl) ended)
     (λ r. absurd (false≢true (sym ended.referral ∙ r)))
 
@@ -111,7 +115,8 @@ returns g c =
     let origin : c.lent.result ≡ z.origin =
     c.lent.ensures.value ∙ c.origin.ensures.value
     ∙ ap (λ (y : ZoneContents). y.origin) c.look_up.ensures.took.zone in
-    let next = subst (λ o. NextIs set (s ∷ before) o (Some m)) origin c.in-Some-next_sought.ensures in
+    let next =
+    subst (λ o. NextIs set (s ∷ before) o (Some m)) origin c.in-Some-next_sought.ensures in
     let first = c.in-Records.ensures.took in
     let below = c.requires.below in
     let rest = chain_rest z c.args.qtype (aliases_left (s ∷ before)) (s ∷ before) m.name in
@@ -127,6 +132,7 @@ returns g c =
       completes = record {
         zone = first.zone;
         seeks = λ last v says. seeks z c.args.qtype before s (asked_item s set) rest e offered says;
-        took = λ last more. took z c.args.qtype before s (asked_item s set) rest e below.labels first more;
+        took = λ last more. took z c.args.qtype before s
+            (asked_item s set) rest e below.labels first more;
       };
     }

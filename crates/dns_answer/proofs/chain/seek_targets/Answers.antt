@@ -35,10 +35,11 @@ names-preserved g c =
     let next = rw c.as_slice.ensures.value at c.in-Alias.ensures in
     let more : names_of c.push-in-Alias.new.self.items ≡ s ∷ before = ap names_of c.push-in-Alias.ensures.items ∙ names-more now.earlier.items now.sought in
     let count = names-count c.push-in-Alias.new.self.items in
-    let completes = subst (λ y. Completes now.draft c.seek_one.new.draft now.steps c.seek_one.new.steps
+    let completes =
+    subst (λ y. Completes now.draft c.seek_one.new.draft now.steps c.seek_one.new.steps
     y c.args.qtype before (s ∷ before) s m.name) i.led.zone next.completes in
-    let led : Completes c.args.draft.now c.seek_one.new.draft c.args.steps.now c.seek_one.new.steps z
-    c.args.qtype first (s ∷ before) c.args.target.name m.name = record {
+    let led : Completes c.args.draft.now c.seek_one.new.draft c.args.steps.now
+    c.seek_one.new.steps z c.args.qtype first (s ∷ before) c.args.target.name m.name = record {
       zone = completes.zone;
       seeks = λ last v rest. i.led.seeks last v (completes.seeks last v rest);
       took = λ last rest. i.led.took last (completes.took last rest);

@@ -30,7 +30,8 @@ returns g c =
     (ap (λ n. records_at n set.ttl set) (sym here) ∙ kept ∙ ap (λ n. rrset z n set.rtype) here
     ∙ ap (rrset z z.origin) c.in-Some.ensures.rtype)
     (c.min-ttl.ensures
-    ∙ (λ j. min (c.ttl.ensures j) ((c.soa_minimum.ensures ∙ ap soa_minimum c.rdata.ensures.value) j)))
+    ∙ (λ j. min (c.ttl.ensures j)
+    ((c.soa_minimum.ensures ∙ ap soa_minimum c.rdata.ensures.value) j)))
     in
     Ends-denied z (code_of c.args.rcode) _ (item ∙ ap (λ n. record {
       section = authority;

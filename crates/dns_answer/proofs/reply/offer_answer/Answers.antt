@@ -22,7 +22,8 @@ seek-followed_alias-requires g c =
 
 pub returns-clause-answers : goal.returns-clause-answers
 returns-clause-answers g c =
-    answers-found c.args.steps.now.zone c.args.head.now c.args.question.now c.seek-followed_alias.result.1
+    answers-found c.args.steps.now.zone c.args.head.now c.args.question.now
+    c.seek-followed_alias.result.1
     c.apex-apex.ensures.zone c.requires.asked (ap (λ (q : MessageQuestion). q.qtype) c.question.view_is)
     c.seek-followed_alias.ensures.seeks c.seek-followed_alias.ensures.followed
     (elim c.if-verdict.branch [
