@@ -1,17 +1,7 @@
-use Rattle.std.proofs.Common.{rules}
 use Rattle.dns_answer.specs.Draft.{empty_draft}
 use Rattle.dns_answer.specs.DraftForm.{Holds}
 use Rattle.dns_answer.proofs.PutReplies.{answer-put}
 use Rattle.dns_answer.proofs.reply.put_answer.Goals as goal
-
-pub offer_answer-head-requires : goal.offer_answer-head-requires
-offer_answer-head-requires g c = (
-  search rules,
-  (
-    c.requires.visits,
-    (c.requires.comparisons, (c.requires.asked, (c.requires.below, c.begin.ensures.draft.askable.qname))),
-  ),
-)
 
 pub returns-clause-reply : goal.returns-clause-reply
 returns-clause-reply g c =

@@ -16,14 +16,5 @@ calls-preserved g c =
       counted = search rules;
     }
 
-pub calls-init : goal.calls-init
-calls-init g c = record {
-  within = search rules;
-  room = search rules;
-  low = λ k d h. subst (λ o. o < 256) (sym (get_or_default_zero _ k d h)) (omega (arith, c.type_inv.buf k));
-  consumed = search rules;
-  counted = search rules;
-}
-
 pub returns-then-came-eq0-clause-low : goal.returns-then-came-eq0-clause-low
 returns-then-came-eq0-clause-low g c = λ k d h. subst (λ o. o < 256) (sym (get_or_default_zero _ k d h)) (omega (arith, c.type_inv.buf k))
