@@ -6,7 +6,7 @@ use Rattle.std.specs.List.{flat_map}
 use Rattle.dns_spec.specs.Names.{DomainName}
 use Rattle.dns_spec.specs.Records.{ResourceRecord, ZoneContents}
 use Rattle.dns_spec.specs.Layout.{answer, Item}
-use Rattle.dns_spec.specs.Answer.{item, follows_alias, alias_set, alias_items, chain, chain_from, has_any, outcome, is_authoritative, targets, nodes_to, targets_in_zone, most_visits, most_comparisons}
+use Rattle.dns_spec.specs.Answer.{most_aliases, item, follows_alias, alias_set, alias_items, chain, chain_from, has_any, outcome, is_authoritative, targets, nodes_to, targets_in_zone, most_visits, most_comparisons}
 use Rattle.dns_zone.specs.Nodes.{Walk}
 use Rattle.dns_answer.specs.Walks.{Took}
 use Rattle.dns_answer.specs.Chain.{chain_rest}
@@ -34,31 +34,31 @@ module _ (z : ZoneContents) (q : DomainName) (t : ℕ) where
       some [] more e = absurd (cc)
       some (r ∷ rs) more e = false_from_ne_true (suc (length more) == 0) (λ h. let k = eqb-true (suc (length more)) 0 h in absurd (omega (arith, k)))
 
-      both : (b : Bool) → (b && has_any (alias_set z q)) ≡ true → (length (cond b (flat_map (λ n. item answer (alias_set z n)) (cond b (chain_from z 16 [] q) (q ∷ []))) []) == 0) ≡ false
+      both : (b : Bool) → (b && has_any (alias_set z q)) ≡ true → (length (cond b (flat_map (λ n. item answer (alias_set z n)) (cond b (chain_from z most_aliases [] q) (q ∷ []))) []) == 0) ≡ false
       both true e = some (alias_set z q) _ e
       both false e = absurd (cc)
 
       go : (b : Bool) → (follows_alias t && has_any (alias_set z q)) ≡ b → (length (alias_items z q t) == 0) ≡ not b
       go true e = both (follows_alias t) e
       go false e =
-          ap (λ ns. length (cond (follows_alias t) (flat_map (λ n. item answer (alias_set z n)) ns) []) == 0) (last-name z t 16 [] q e)
-          ∙ ap (λ (is : List Item). length is == 0) (none-shown z t 16 [] q e)
+          ap (λ ns. length (cond (follows_alias t) (flat_map (λ n. item answer (alias_set z n)) ns) []) == 0) (last-name z t most_aliases [] q e)
+          ∙ ap (λ (is : List Item). length is == 0) (none-shown z t most_aliases [] q e)
 
   pub authority-is : is_authoritative (outcome z q t)
-      ≡ not (is_some (chain_rest z t 16 [] q).outcome.referral && not (leads_on z t q))
+      ≡ not (is_some (chain_rest z t most_aliases [] q).outcome.referral && not (leads_on z t q))
   authority-is = speaks-unless z q t (leads_on z t q) aliases-shown
 
   chain-some : 1 ≤ length (chain z q t)
   unfolding chain chain_from
   chain-some = go (follows_alias t)
     where
-      go : (b : Bool) → 1 ≤ length (cond b (chain_from z 16 [] q) (q ∷ []))
+      go : (b : Bool) → 1 ≤ length (cond b (chain_from z most_aliases [] q) (q ∷ []))
       go true = omega arith
       go false = omega arith
 
   -- with the apex, no more nodes than may be
   pub visits-fit : (s s' : Walk) (misses : ℕ) → s.visits ≤ 1
-      → Took s s' (chain_rest z t 16 [] q).nodes misses → s'.visits ≤ most_visits z q t
+      → Took s s' (chain_rest z t most_aliases [] q).nodes misses → s'.visits ≤ most_visits z q t
   visits-fit s s' misses first took =
       let a = nodes-are z q t in
       let b = nodes-sum z (chain z q t) in
@@ -67,6 +67,6 @@ module _ (z : ZoneContents) (q : DomainName) (t : ℕ) where
       omega arith
 
   pub comparisons-fit : (s s' : Walk) (nodes : ℕ) → s.comparisons ≤ 17 * s.visits
-      → Took s s' nodes (chain_rest z t 16 [] q).misses
+      → Took s s' nodes (chain_rest z t most_aliases [] q).misses
       → s'.comparisons ≤ most_comparisons z q t s'.visits
   comparisons-fit s s' nodes first took = let a = misses-are z q t in omega arith

@@ -15,7 +15,7 @@ use Rattle.dns_spec.specs.Sets.{rising_types, of_first_type, of_lowest_type}
 use Rattle.dns_spec.specs.Tree.{cut_of, found}
 use Rattle.dns_spec.specs.Reading.{no_error, name_error}
 use Rattle.dns_spec.specs.Layout.{Section, answer, authority, Item, records_of}
-use Rattle.dns_spec.specs.Answer.{item, follows_alias, alias_items, last_sought, has_any, asked_records, Outcome, referral_to, negative, negative_soa, positive, outcome_by, outcome_at, outcome, targets_of, targets_inside, targets, extra, main_items, items, required_items, chain, targets_in_zone, is_authoritative}
+use Rattle.dns_spec.specs.Answer.{most_aliases, item, follows_alias, alias_items, last_sought, has_any, asked_records, Outcome, referral_to, negative, negative_soa, positive, outcome_by, outcome_at, outcome, targets_of, targets_inside, targets, extra, main_items, items, required_items, chain, targets_in_zone, is_authoritative}
 use Rattle.dns_spec.proofs.Records.SortedOnce.{Each, each_weaker, filter_each}
 use Rattle.dns_spec.proofs.Replies.WritableItems.{each_append, each_flat_map}
 use Rattle.dns_spec.proofs.Replies.RequiredItems.{IsAlias, target_of, each_of_type, each_alias_item}
@@ -274,7 +274,7 @@ module _ (z : ZoneContents) (q : DomainName) (t : ℕ) where
   unfolding outcome
   inside-last = refl
 
-  pub items-are : items z q t ≡ (chain_rest z t 16 [] q).items
+  pub items-are : items z q t ≡ (chain_rest z t most_aliases [] q).items
   unfolding items chain chain_rest
   items-are =
       let main = front ++ main_items last in
@@ -284,7 +284,7 @@ module _ (z : ZoneContents) (q : DomainName) (t : ℕ) where
       ∙ ap (λ xs. main ++ xs) adds-last.all ∙ append_assoc front (main_items last) (glue ++ others)
       ∙ ap (λ xs. front ++ xs) (sym (append_assoc (main_items last) glue others))
 
-  pub required-are : required_items z q t ≡ (chain_rest z t 16 [] q).required
+  pub required-are : required_items z q t ≡ (chain_rest z t most_aliases [] q).required
   unfolding required_items chain chain_rest
   required-are =
       let main = front ++ main_items last in
@@ -292,24 +292,24 @@ module _ (z : ZoneContents) (q : DomainName) (t : ℕ) where
       ∙ ap (λ xs. main ++ xs) adds-last.glue ∙ append_assoc front (main_items last) (glue_by z last.referral (ending_targets last))
 
   -- what is required comes first
-  pub required-first : (chain_rest z t 16 [] q).items ≡ (chain_rest z t 16 [] q).required
+  pub required-first : (chain_rest z t most_aliases [] q).items ≡ (chain_rest z t most_aliases [] q).required
       ++ others_by z last.referral (ending_targets last)
   unfolding chain chain_rest
   required-first = sym (append_assoc front (ending_required z last) _)
 
-  pub rcode-is : (outcome z q t).rcode ≡ (chain_rest z t 16 [] q).outcome.rcode
+  pub rcode-is : (outcome z q t).rcode ≡ (chain_rest z t most_aliases [] q).outcome.rcode
   unfolding outcome chain chain_rest
   rcode-is = refl
 
   -- what it takes
-  pub nodes-are : (chain_rest z t 16 [] q).nodes
+  pub nodes-are : (chain_rest z t most_aliases [] q).nodes
       ≡ depths z (chain z q t) + depths z (targets_in_zone z (targets (outcome z q t)))
   unfolding chain chain_rest
   nodes-are =
       ap (λ n. depths z (chain z q t) + n)
       (adds-last.nodes ∙ ap (λ ms. depths z (targets_in_zone z ms)) (sym (targets_last z q t)))
 
-  pub misses-are : (chain_rest z t 16 [] q).misses
+  pub misses-are : (chain_rest z t most_aliases [] q).misses
       ≡ 2 * length (chain z q t) + length (targets (outcome z q t))
   unfolding chain chain_rest
   misses-are =
@@ -319,7 +319,7 @@ module _ (z : ZoneContents) (q : DomainName) (t : ℕ) where
   -- a referral without aliases before it does not speak for the zone
   pub speaks-unless : (b : Bool) → (length (alias_items z q t) == 0) ≡ not b
       → is_authoritative (outcome z q t) ≡ not
-      (is_some (chain_rest z t 16 [] q).outcome.referral && not b)
+      (is_some (chain_rest z t most_aliases [] q).outcome.referral && not b)
   unfolding outcome chain chain_rest
   speaks-unless b e = go adds-last.speaks
     where

@@ -6,7 +6,7 @@ use Rattle.dns_spec.specs.Reading.{Header, MessageQuestion}
 use Rattle.dns_spec.specs.Query.{reply_head}
 use Rattle.dns_spec.specs.Layout.{Item, layout}
 use Rattle.dns_spec.specs.LayoutSize.{size}
-use Rattle.dns_spec.specs.Answer.{outcome, items, is_authoritative}
+use Rattle.dns_spec.specs.Answer.{most_aliases, outcome, items, is_authoritative}
 use Rattle.dns_spec.specs.Reply.{kept, truncated, answered, keep_longest}
 use Rattle.dns_spec.proofs.Replies.FewItems.{few_nodes}
 use Rattle.dns_spec.proofs.Layouts.LayoutSize.{length-layout}
@@ -45,10 +45,10 @@ offered-question d (i ∷ is) = offered-question (offer d i) is ∙ go d.full (n
 
 module _ (z : ZoneContents) (h : Header) (q : MessageQuestion) where
   abbrev r : Rest
-  r = chain_rest z q.qtype 16 [] q.qname
+  r = chain_rest z q.qtype most_aliases [] q.qname
 
   truncates : (limit : ℕ) → truncated z q (keep_longest z limit q)
-      ≡ (offered (empty_draft q limit) (chain_rest z q.qtype 16 [] q.qname).required).full
+      ≡ (offered (empty_draft q limit) (chain_rest z q.qtype most_aliases [] q.qname).required).full
   truncates limit =
       ap (λ rs. nat_lt (length (keep_longest z limit q)) (length rs))
       (required-are z q.qname q.qtype)
@@ -74,7 +74,7 @@ module _ (z : ZoneContents) (h : Header) (q : MessageQuestion) where
       → head ≡ reply_head h aa v.is_truncated (code_of v.rcode) → Answers z h q w w' head
   answers-found {w = w} {w' = w'} {v = v} led zone name type seeks followed authority is_head =
       let says : SeeksFrom w w' z q.qtype [] q.qname v =
-      subst (λ r. Says w w' r v) (λ i. chain_rest (zone i) (type i) 16 [] (name i)) seeks in
+      subst (λ r. Says w w' r v) (λ i. chain_rest (zone i) (type i) most_aliases [] (name i)) seeks in
       let led_is = λ (e : v.is_referral ≡ true).
       followed e ∙ (λ i. leads_on (zone i) (type i) (name i)) in
       let speaks = authority ∙ authoritative v led says.referral led_is in
@@ -108,8 +108,8 @@ pub answer-costs : (h : Header) (q : MessageQuestion) (n : DomainName) (t : ℕ)
     → s.visits ≡ 0 → s.comparisons ≡ 0 → s1.visits ≡ s.visits + 1 → s1.comparisons ≡ s.comparisons → s1.zone ≡ s.zone → TookFrom s1.zone s1 s' t [] n → Costs (answered h q) s s'
 answer-costs h q n t s s1 s' name same_name same_type visits comparisons one_visit same_count zone took =
     let z = s.zone in
-    let there : TookRest s1 s' (chain_rest z q.qtype 16 [] q.qname) =
-    subst (TookRest s1 s') (λ i. chain_rest (zone i) (same_type i) 16 [] (same_name i)) took in
+    let there : TookRest s1 s' (chain_rest z q.qtype most_aliases [] q.qname) =
+    subst (TookRest s1 s') (λ i. chain_rest (zone i) (same_type i) most_aliases [] (same_name i)) took in
     let fits = visits-fit z q.qname q.qtype s1 s' _ (omega (arith, visits, one_visit)) there in
     let few = few_nodes z q.qname q.qtype name in
     record {

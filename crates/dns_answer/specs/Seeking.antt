@@ -7,7 +7,7 @@ use Rattle.dns_spec.specs.Names.{DomainName, folded, same, at_or_below}
 use Rattle.dns_spec.specs.Data.{target, type_cname}
 use Rattle.dns_spec.specs.Sets.{RecordSet, set_of}
 use Rattle.dns_spec.specs.Records.{ZoneContents, ResourceRecord, of_type}
-use Rattle.dns_spec.specs.Answer.{follows_alias, alias_set, has_any, asked_records}
+use Rattle.dns_spec.specs.Answer.{most_aliases, follows_alias, alias_set, has_any, asked_records}
 use Rattle.dns_zone.specs.Nodes.{Walk, ZoneNode}
 use Rattle.dns_answer.specs.DraftForm.{State}
 use Rattle.dns_zone.specs.Starts.{IsBelow}
@@ -25,7 +25,7 @@ names_of ss = reverse (map (λ (s : Sought). s.name) ss)
 
 -- how many aliases may still be followed
 abbrev pub aliases_left : List DomainName → ℕ
-aliases_left before = 16 - length before
+aliases_left before = most_aliases - length before
 
 -- What is still to come of an answer at the name s is offered, and the header says how its last
 -- name is answered.
@@ -63,7 +63,7 @@ pub record Completes (w w' : State) (s s' : Walk) (z : ZoneContents) (t : ℕ)
 -- The name has an alias, which leads to the name m.
 pub record LeadsTo (w w' : State) (s s' : Walk) (t : ℕ) (before : List DomainName) (n : DomainName)
     (m : Sought) (l : Option ZoneNode) : Type 0 where
-  pub more : length before < 16
+  pub more : length before < most_aliases
   pub below : IsBelow m s.zone.origin
   pub lower : folded m.name ≡ m.name
   pub lead : IfSome l (IsLeadTo s.zone true)
@@ -103,7 +103,7 @@ unsought origin sought o =
 -- the next name sought after an alias, where the names so far are these; or why there is none
 abbrev pub NextIs : RecordSet → List DomainName → DomainName → Option Sought → Type 0
 NextIs set sought origin None =
-    (16 < length sought) ⊎ (unsought origin sought (alias_target set) ≡ None)
+    (most_aliases < length sought) ⊎ (unsought origin sought (alias_target set) ≡ None)
 NextIs set sought origin (Some m) =
-    (length sought ≤ 16) × (unsought origin sought (alias_target set) ≡ Some m.name)
+    (length sought ≤ most_aliases) × (unsought origin sought (alias_target set) ≡ Some m.name)
     × IsBelow m origin × (folded m.name ≡ m.name)

@@ -3,6 +3,7 @@ ghost use Rattle.std.specs.Prelude.{◌≡◌, ◌+◌, ◌*◌, ◌≤◌, ◌<
 ghost use Rattle.std.specs.List.{list_any};
 ghost use Rattle.dns_spec.specs.Names.{folded, names_equal, same};
 ghost use Rattle.dns_spec.specs.Records.{at};
+ghost use Rattle.dns_spec.specs.Answer.{most_aliases};
 ghost use Rattle.dns_zone.specs.Nodes.{IsSetOf};
 ghost use Rattle.dns_zone.specs.Starts.{IsBelow};
 ghost use Rattle.dns_answer.specs.Walks.{IsApex, IsLeadTo, HasRoom};
@@ -44,7 +45,7 @@ pub(crate) fn seek<'q, 'z: 'q, const N: usize, const SIZE: usize>(
 ) -> (Verdict, bool)
     requires apex { IsApex steps.old.zone apex.now }
     requires below { IsBelow first steps.old.zone.origin }
-    requires room { HasRoom steps.old (129 * (16 + 129)) }
+    requires room { HasRoom steps.old (129 * (most_aliases + 129)) }
     ensures seeks { SeeksFrom draft.old draft.new steps.old.zone qtype [] first.entry.name
         result.0 }
     ensures took { TookFrom steps.old.zone steps.old steps.new qtype [] first.entry.name }

@@ -1,5 +1,6 @@
 use Rattle.std.proofs.Common.{ℕ, suc, ◌+◌, ◌-◌, ◌*◌, ◌<◌, ◌≤◌, ◌≡◌, ◌∷◌, [], All, drop, sym, ap, subst, ◌∙◌, arith, length}
 use Rattle.dns_spec.specs.Names.{folded}
+use Rattle.dns_spec.specs.Answer.{most_aliases}
 use Rattle.dns_zone.specs.declared.sought.Sought.{Sought}
 use Rattle.dns_answer.specs.Seeking.{names_of, TookFrom, Completes}
 use Rattle.dns_answer.proofs.SeekSteps.{names-more, names-count, lower-more}
@@ -7,7 +8,7 @@ use Rattle.dns_answer.proofs.Taking.{HasRoom-after}
 use Rattle.dns_answer.proofs.chain.seek_targets.Goals as goal
 
 -- one alias fewer may be followed
-less : (a b : ℕ) → a ≡ suc b → b < 16 → 127 + 2 + 129 * ((16 - a) + 129) ≤ 129 * ((16 - b) + 129)
+less : (a b : ℕ) → a ≡ suc b → b < most_aliases → 127 + 2 + 129 * ((most_aliases - a) + 129) ≤ 129 * ((most_aliases - b) + 129)
 less a b e h = omega arith
 
 pub returns-in-Last-clause-seeks : goal.returns-in-Last-clause-seeks
