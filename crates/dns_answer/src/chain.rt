@@ -75,7 +75,7 @@ fn seek_targets<'q, 'z: 'q, const N: usize, const SIZE: usize>(
     requires below { IsBelow target steps.old.zone.origin }
     requires lower { folded target.name ≡ target.name }
     requires lead { IfSome lead (IsLeadTo steps.old.zone true) }
-    requires room { HasRoom steps.old (129 * (15 + 129)) }
+    requires room { HasRoom steps.old (129 * (most_aliases + 128)) }
     ensures seeks { SeeksFrom draft.old draft.new steps.old.zone qtype (first.entry.name ∷ [])
         target.entry.name result }
     ensures took { TookFrom steps.old.zone steps.old steps.new qtype (first.entry.name ∷ [])
