@@ -9,7 +9,7 @@ use crate::fault::Stop;
 use crate::load::{LoadFault, Refusal, load, write_refusal};
 use crate::report::write_loaded;
 use dns_name::{Name, Tally};
-use dns_zone::{Zone, print};
+use dns_zone::CheckedZone;
 use std::alloc::Global;
 use std::io::{Read, Write};
 
@@ -72,14 +72,18 @@ fn report_refusal<W: Write>(
 }
 
 // Reports a zone that passes.
-fn report_zone<W: Write>(flags: Flags, zone: &Zone, sink: &mut Tally<W>) -> Result<bool, Stop>
+fn report_zone<W: Write>(
+    flags: Flags,
+    zone: &CheckedZone,
+    sink: &mut Tally<W>,
+) -> Result<bool, Stop>
     requires { sink.old.failures < 2 ^ 64 - 1 }
     ensures written { WrittenAs (passing (options_of flags) zone.now) result
         (W.contents sink.old.device) (W.contents sink.new.device) }
     ensures sink { sink.new.failures ≡ sink_failures_after sink.old.failures result }
 {
     if flags.print {
-        print(zone, sink)?;
+        zone.print(sink)?;
     } else if !flags.quiet {
         write_loaded(zone, sink)?;
     }

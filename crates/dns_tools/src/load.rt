@@ -9,7 +9,7 @@ use crate::fault::Stop;
 use crate::report::{write_check_faults, write_read_fault};
 use dns_master::{ReadCode, ReadFault};
 use dns_name::{Name, SinkFailed, Tally};
-use dns_zone::{BuildFault, CheckFault, Store, Zone};
+use dns_zone::{BuildFault, CheckFault, CheckedZone, Store, Zone};
 use std::alloc::{AllocError, Global};
 use std::io::{Read, Write};
 
@@ -60,7 +60,7 @@ pub(crate) fn load<R: Read>(
     alloc: Global,
     origin: &Name,
     source: &mut Tally<R>,
-) -> Result<Zone, LoadFault>
+) -> Result<CheckedZone, LoadFault>
     requires { source.old.failures < 2 ^ 64 - 1 }
     ensures counted { source.new.failures ≡ failures_after_load source.old.failures result }
     ensures meaning { LoadedAs (R.remaining source.old.device) (R.remaining source.new.device)
@@ -68,14 +68,14 @@ pub(crate) fn load<R: Read>(
 {
     let origin = origin.fold();
     let records = Store::read(alloc, &origin, source)?;
-    match records.build(alloc, &origin) {
+    match records.check(alloc, &origin) {
         Ok(zone) => Ok(zone),
         Err(BuildFault::Faults(faults)) => Err(LoadFault::Refused(Refusal::Zone(faults))),
         Err(BuildFault::NoMemory) => Err(LoadFault::Stopped(Stop::Memory)),
     }
 }
 
-/// Loads the same zone, to be served: the ways to its targets are known.
+/// Loads the same zone, to be served.
 pub fn load_zone<R: Read>(
     alloc: Global,
     origin: &Name,
@@ -86,9 +86,7 @@ pub fn load_zone<R: Read>(
     ensures meaning { LoadedAs (R.remaining source.old.device) (R.remaining source.new.device)
         origin.now result }
 {
-    let mut zone = load(alloc, origin, source)?;
-    zone.find_leads(alloc)?;
-    Ok(zone)
+    Ok(Zone::of(alloc, load(alloc, origin, source)?)?)
 }
 
 /// Writes why a file gives no zone, in the lines of the checker's report.

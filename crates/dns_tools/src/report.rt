@@ -8,7 +8,7 @@ ghost use Rattle.dns_master.specs.Codes.{fault_of};
 use crate::parts::{Part, write_parts};
 use dns_master::ReadFault;
 use dns_name::{SinkFailed, Tally};
-use dns_zone::{CheckFault, Zone};
+use dns_zone::{CheckFault, CheckedZone};
 use std::io::Write;
 
 /// Writes the line of a fault of the file: `line 7: R11`.
@@ -58,7 +58,10 @@ fn write_check_fault<W: Write>(fault: &CheckFault, sink: &mut Tally<W>) -> Resul
 }
 
 /// Writes the lines of a zone that passes: `zone example/IN: loaded serial 1` and `OK`.
-pub(crate) fn write_loaded<W: Write>(zone: &Zone, sink: &mut Tally<W>) -> Result<(), SinkFailed>
+pub(crate) fn write_loaded<W: Write>(
+    zone: &CheckedZone,
+    sink: &mut Tally<W>,
+) -> Result<(), SinkFailed>
     requires { sink.old.failures < 2 ^ 64 - 1 }
     ensures { Writes W.contents sink.old sink.new result (loaded_report zone.now) }
 {

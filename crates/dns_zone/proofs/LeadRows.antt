@@ -9,7 +9,7 @@ use Rattle.dns_spec.specs.Data.{type_ns, type_cname}
 use Rattle.dns_spec.specs.Records.{ResourceRecord, ZoneContents, rrset}
 use Rattle.dns_spec.specs.Sets.{set_of}
 use Rattle.dns_spec.specs.Tree.{cut_of, is_cut}
-use Rattle.dns_zone.specs.NodeForm.{zone_of_tree, IsNodeAt, IsZoneTree, IsLeadRow, IsLeadAt, AreLeads, type_at}
+use Rattle.dns_zone.specs.NodeForm.{IsNodeAt, IsZoneTree, IsLeadRow, IsLeadAt, AreLeads, type_at}
 use Rattle.dns_zone.specs.TreeForm.{row_name, row_at}
 use Rattle.dns_zone.specs.declared.row.Row.{Row}
 use Rattle.dns_zone.specs.declared.tree.Tree.{Tree}
@@ -21,25 +21,25 @@ use Rattle.dns_zone.proofs.WayLaws.{cut-none, cut-by_set, no_cut-at_origin, one_
 
 -- the name of a row
 abbrev pub name_at : Tree → ℕ → DomainName
-name_at t k = row_name t.records (row_at t.rows k)
+name_at t k = row_name t.zone.records (row_at t.rows k)
 
 -- the row of the origin, or of a name below it that may be a lead
 pub record IsOnWay (t : Tree) (rtype k : ℕ) : Type 0 where
   pub at : IsNodeAt t k
-  pub inside : at_or_below (name_at t k) t.origin ≡ true
-  pub longer : (k ≡ 0) ⊎ (length t.origin < length (name_at t k))
-  pub long : length t.origin ≤ length (name_at t k)
-  pub uncut : rtype ≡ type_cname → cut_of (zone_of_tree t) (name_at t k) ≡ None
+  pub inside : at_or_below (name_at t k) t.zone.origin ≡ true
+  pub longer : (k ≡ 0) ⊎ (length t.zone.origin < length (name_at t k))
+  pub long : length t.zone.origin ≤ length (name_at t k)
+  pub uncut : rtype ≡ type_cname → cut_of t.zone (name_at t k) ≡ None
 
 pub begins : (t : Tree) (rtype : ℕ) → IsZoneTree t → IsOnWay t rtype 0
 begins t rtype kept =
-    let z = zone_of_tree t in
-    let named : name_at t 0 ≡ t.origin = row_is t.records (row_at t.rows 0) t.origin kept.tree.origin in
+    let z = t.zone in
+    let named : name_at t 0 ≡ t.zone.origin = row_is t.zone.records (row_at t.rows 0) t.zone.origin kept.tree.origin in
     let size = ap length named in
     record {
       at = record { kept = kept; row = kept.tree.some };
-      inside = ap (λ n. at_or_below n t.origin) named
-          ∙ itself-under t.origin t.origin (same-from t.origin t.origin refl);
+      inside = ap (λ n. at_or_below n t.zone.origin) named
+          ∙ itself-under t.zone.origin t.zone.origin (same-from t.zone.origin t.zone.origin refl);
       longer = inl refl;
       long = omega arith;
       uncut = λ e. no_cut-at_origin z (name_at t 0) (omega arith);
@@ -49,20 +49,20 @@ begins t rtype kept =
 pub goes_on : (t : Tree) (rtype k j : ℕ) (l : Octets) → IsOnWay t rtype k → IsNodeAt t j
     → name_at t j ≡ map to_ascii_lowercase l ∷ name_at t k
     → (rtype ≡ type_cname
-    → is_some (set_of (rrset (zone_of_tree t) (name_at t j) type_ns)) ≡ false)
+    → is_some (set_of (rrset t.zone (name_at t j) type_ns)) ≡ false)
     → IsOnWay t rtype j
 goes_on t rtype k j l way at named servers =
-    let z = zone_of_tree t in
+    let z = t.zone in
     let n = name_at t k in
     let kid = map to_ascii_lowercase l in
     let size = ap length named in
     let lower : folded (name_at t j) ≡ name_at t j = (is_row t j at).lower in
-    let below_origin : below (name_at t j) t.origin ≡ true =
-    ap (λ m. below m t.origin) named ∙ below-cons kid n t.origin ∙ way.inside in
+    let below_origin : below (name_at t j) t.zone.origin ≡ true =
+    ap (λ m. below m t.zone.origin) named ∙ below-cons kid n t.zone.origin ∙ way.inside in
     record {
       at = at;
-      inside = ap (λ m. at_or_below m t.origin) named
-          ∙ under-trans (kid ∷ n) n t.origin (one_under kid n) way.inside;
+      inside = ap (λ m. at_or_below m t.zone.origin) named
+          ∙ under-trans (kid ∷ n) n t.zone.origin (one_under kid n) way.inside;
       longer = inr (omega (arith, size, way.long));
       long = omega (arith, size, way.long);
       uncut = λ e. ap (cut_of z) named ∙ cut-none z kid n (way.uncut e)
@@ -70,11 +70,11 @@ goes_on t rtype k j l way at named servers =
           ∙ cut-by_set z (name_at t j) below_origin ∙ servers e);
     }
 
-pub lead_is : (t : Tree) (rtype k : ℕ) → IsOnWay t rtype k → IsLeadAt (zone_of_tree t) t.rows rtype k
+pub lead_is : (t : Tree) (rtype k : ℕ) → IsOnWay t rtype k → IsLeadAt t.zone t.rows rtype k
 lead_is t rtype k way = go way.longer
   where
-    go : (k ≡ 0) ⊎ (length t.origin < length (name_at t k))
-        → IsLeadAt (zone_of_tree t) t.rows rtype k
+    go : (k ≡ 0) ⊎ (length t.zone.origin < length (name_at t k))
+        → IsLeadAt t.zone t.rows rtype k
     go (inl none) = inl none
     go (inr longer) = inr (record {
       row = way.at.row;
@@ -109,22 +109,22 @@ leads-more z rows leads j k r are count inside is lead = λ i fits. go i fits (c
 
 -- a lead that is kept for a record
 pub kept-lead : (t : Tree) (rs : List ResourceRecord) (leads : List ℕ) (place rtype : ℕ)
-    (r : ResourceRecord) → IsZoneTree t → rs ≡ t.records → leads ≡ t.leads → place < length rs
+    (r : ResourceRecord) → IsZoneTree t → rs ≡ t.zone.records → leads ≡ t.leads → place < length rs
     → place < length leads → r ≡ get_or rs place r → r.rtype ≡ rtype
     → (get_or leads place 0 ≡ 0 → ⊥)
-    → IsLeadRow (zone_of_tree t) t.rows rtype (get_or leads place 0)
+    → IsLeadRow t.zone t.rows rtype (get_or leads place 0)
 kept-lead t rs leads place rtype r kept e f inside known is typed some =
-    let z = zone_of_tree t in
-    let typed_at : type_at t.records place ≡ rtype =
-    get_or-map (λ (s : ResourceRecord). s.rtype) t.records place r 0
+    let z = t.zone in
+    let typed_at : type_at t.zone.records place ≡ rtype =
+    get_or-map (λ (s : ResourceRecord). s.rtype) t.zone.records place r 0
     (subst (λ (xs : List ResourceRecord). place < length xs) e inside)
     ∙ ap (λ (s : ResourceRecord). s.rtype)
     (sym (subst (λ (xs : List ResourceRecord). r ≡ get_or xs place r) e is)) ∙ typed in
     let lead = kept.leads place (subst (λ xs. place < length xs) f known) in
     go (subst (λ k. IsLeadAt z t.rows k (get_or leads place 0)) typed_at
-    (subst (λ xs. IsLeadAt z t.rows (type_at t.records place) (get_or xs place 0)) (sym f) lead))
+    (subst (λ xs. IsLeadAt z t.rows (type_at t.zone.records place) (get_or xs place 0)) (sym f) lead))
   where
-    go : IsLeadAt (zone_of_tree t) t.rows rtype (get_or leads place 0)
-        → IsLeadRow (zone_of_tree t) t.rows rtype (get_or leads place 0)
+    go : IsLeadAt t.zone t.rows rtype (get_or leads place 0)
+        → IsLeadRow t.zone t.rows rtype (get_or leads place 0)
     go (inl none) = absurd (some none)
     go (inr row) = row

@@ -8,7 +8,7 @@ use Rattle.dns_spec.specs.Tree.{exists}
 use Rattle.dns_spec.proofs.Records.SortedOnce.{Each, each_weaker}
 use Rattle.dns_spec.proofs.Records.RecordOrder.{contains_among}
 use Rattle.dns_zone.specs.Nodes.{IsNode}
-use Rattle.dns_zone.specs.NodeForm.{zone_of_tree, IsNodeAt}
+use Rattle.dns_zone.specs.NodeForm.{IsNodeAt}
 use Rattle.dns_zone.specs.TreeForm.{first_of, row_name, row_label, row_at, kids_at, IsRow, IsKid, AreKids}
 use Rattle.dns_zone.specs.declared.row.Row.{Row}
 use Rattle.dns_zone.specs.declared.tree.Tree.{Tree}
@@ -33,7 +33,7 @@ row_exists rs row n h =
 
 module _ (t : Tree) (k : ℕ) (at : IsNodeAt t k) where
   abbrev rs : List ResourceRecord
-  rs = t.records
+  rs = t.zone.records
 
   abbrev row : Row
   row = row_at t.rows k
@@ -44,7 +44,7 @@ module _ (t : Tree) (k : ℕ) (at : IsNodeAt t k) where
   pub is_row : IsRow rs row name
   is_row = at.kept.tree.each k at.row
 
-  pub node_is : IsNode (zone_of_tree t) name
+  pub node_is : IsNode t.zone name
   node_is = record {
     built = at.kept.built;
     lower = is_row.lower;
@@ -95,10 +95,10 @@ module _ (t : Tree) (k : ℕ) (at : IsNodeAt t k) where
         let whole = row_is rs (row_at kids i) (the_kid.label ∷ name) the_kid.is_row in
         ap (row_name rs) row_of_kid ∙ whole ∙ ap (λ (n : DomainName). first_of n ∷ name) (sym whole)
 
-    pub kid_exists : exists (zone_of_tree t) (row_label rs (row_at kids i) ∷ name) ≡ true
+    pub kid_exists : exists t.zone (row_label rs (row_at kids i) ∷ name) ≡ true
     kid_exists =
         let whole = row_is rs (row_at kids i) (the_kid.label ∷ name) the_kid.is_row in
-        subst (λ (l : Octets). exists (zone_of_tree t) (l ∷ name) ≡ true) (sym (ap first_of whole))
+        subst (λ (l : Octets). exists t.zone (l ∷ name) ≡ true) (sym (ap first_of whole))
         (row_exists rs (row_at kids i) (the_kid.label ∷ name) the_kid.is_row)
 
     pub kid_at : IsNodeAt t (start + i)

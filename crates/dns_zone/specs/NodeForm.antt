@@ -7,10 +7,6 @@ use Rattle.dns_zone.specs.TreeForm.{IsTree, row_name, row_at}
 use Rattle.dns_zone.specs.declared.row.Row.{Row}
 use Rattle.dns_zone.specs.declared.tree.Tree.{Tree}
 
--- the zone whose names the tree has
-abbrev pub zone_of_tree : Tree → ZoneContents
-zone_of_tree t = record { origin = t.origin; records = t.records }
-
 -- the row of a lead for records of a type
 pub record IsLeadRow (z : ZoneContents) (rows : List Row) (rtype k : ℕ) : Type 0 where
   pub row : k < length rows
@@ -31,13 +27,13 @@ AreLeads z rows leads =
 
 -- what the tree of a zone keeps
 pub record IsZoneTree (t : Tree) : Type 0 where
-  pub built : IsBuilt (zone_of_tree t)
-  pub tree : IsTree t.origin t.records t.rows t.bounds
-  pub leads : AreLeads (zone_of_tree t) t.rows t.leads
+  pub built : IsBuilt t.zone
+  pub tree : IsTree t.zone.origin t.zone.records t.rows t.bounds
+  pub leads : AreLeads t.zone t.rows t.leads
 
 -- the node of a row
 abbrev pub node_at : Tree → ℕ → ZoneNode
-node_at t k = record { zone = zone_of_tree t; name = row_name t.records (row_at t.rows k) }
+node_at t k = record { zone = t.zone; name = row_name t.zone.records (row_at t.rows k) }
 
 -- a node of the tree
 pub record IsNodeAt (t : Tree) (k : ℕ) : Type 0 where

@@ -3,7 +3,7 @@ ghost use Rattle.std.specs.Prelude.{◌≡◌, ◌==◌, ◌&&◌, is_some, IfOk
 ghost use Rattle.dns_spec.specs.Data.{type_ns, type_cname};
 ghost use Rattle.dns_spec.specs.Records.{rrset};
 ghost use Rattle.dns_spec.specs.Sets.{set_of};
-ghost use Rattle.dns_zone.specs.NodeForm.{zone_of_tree, IsZoneTree, node_at, IsNodeAt, IsLeadAt, AreLeads};
+ghost use Rattle.dns_zone.specs.NodeForm.{IsZoneTree, node_at, IsNodeAt, IsLeadAt, AreLeads};
 ghost use Rattle.dns_zone.specs.Starts.{IsBelow};
 
 use crate::entry::Entry;
@@ -22,9 +22,9 @@ use std::alloc::{AllocError, Global};
 /// record.
 pub(crate) fn leads_of(alloc: Global, tree: &Tree) -> Result<Vec<usize>, AllocError>
     requires { IsZoneTree tree.now }
-    ensures { IfOk result (λ leads. AreLeads (zone_of_tree tree.now) tree.now.rows leads.items) }
+    ensures { IfOk result (λ leads. AreLeads tree.now.zone tree.now.rows leads.items) }
 {
-    let records = tree.records.lent();
+    let records = tree.zone.records();
     let mut leads = Vec::with_capacity(alloc, records.len())?;
     'records: for record in records {
         leads.push(lead_of(tree, record))?;
@@ -35,10 +35,10 @@ pub(crate) fn leads_of(alloc: Global, tree: &Tree) -> Result<Vec<usize>, AllocEr
 // The row of a record's lead, or 0.
 fn lead_of(tree: &Tree, entry: &Entry) -> usize
     requires { IsZoneTree tree.now }
-    ensures { IsLeadAt (zone_of_tree tree.now) tree.now.rows entry.now.rtype result }
+    ensures { IsLeadAt tree.now.zone tree.now.rows entry.now.rtype result }
 {
     match target(entry) {
-        Some(name) => match Sought::below(&name, &tree.origin.lent()) {
+        Some(name) => match Sought::below(&name, &tree.zone.origin().lent()) {
             Some(sought) => last_on_way(tree, &sought, entry.rtype),
             None => 0,
         },
@@ -50,8 +50,8 @@ fn lead_of(tree: &Tree, entry: &Entry) -> usize
 // origin. The way of an alias ends before a cut.
 fn last_on_way(tree: &Tree, sought: &Sought<'_>, rtype: RType) -> usize
     requires tree { IsZoneTree tree.now }
-    requires below { IsBelow sought.now tree.now.origin }
-    ensures { IsLeadAt (zone_of_tree tree.now) tree.now.rows rtype.0 result }
+    requires below { IsBelow sought.now tree.now.zone.origin }
+    ensures { IsLeadAt tree.now.zone tree.now.rows rtype.0 result }
 {
     let octets = sought.name.octets();
     let mut starts = [0; MOST_LABELS];
@@ -76,7 +76,7 @@ fn last_on_way(tree: &Tree, sought: &Sought<'_>, rtype: RType) -> usize
 fn ends_before(tree: &Tree, row: RowNumber, rtype: RType) -> bool
     requires { IsNodeAt tree.now row.0 }
     ensures { result ≡ (rtype.0 == type_cname
-        && is_some (set_of (rrset (zone_of_tree tree.now) (node_at tree.now row.0).name type_ns))) }
+        && is_some (set_of (rrset tree.now.zone (node_at tree.now row.0).name type_ns))) }
 {
     rtype == RType::CNAME && Node::at(tree, row).set(RType::NS).is_some()
 }

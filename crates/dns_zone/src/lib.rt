@@ -40,7 +40,7 @@ pub use set::RecordSet;
 pub use sought::Sought;
 pub use steps::Steps;
 pub use store::Store;
-pub use zone::Zone;
+pub use zone::{CheckedZone, Zone};
 
 #[cfg(test)]
 mod tests;

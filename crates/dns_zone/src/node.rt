@@ -7,7 +7,7 @@ ghost use Rattle.dns_spec.specs.Records.{ResourceRecord, at, rrset};
 ghost use Rattle.dns_spec.specs.Sets.{set_of, of_lowest_type};
 ghost use Rattle.dns_spec.specs.Tree.{exists};
 ghost use Rattle.dns_zone.specs.Nodes.{IsNode, IsLead, IsSetOf};
-ghost use Rattle.dns_zone.specs.NodeForm.{zone_of_tree, IsZoneTree, node_at, IsNodeAt};
+ghost use Rattle.dns_zone.specs.NodeForm.{IsZoneTree, node_at, IsNodeAt};
 ghost use Rattle.dns_zone.specs.TreeForm.{kids_at};
 
 use crate::entry::Entry;
@@ -88,8 +88,8 @@ impl<'z> Node<'z> {
     // The node of the zone's origin.
     pub(crate) fn of_origin(tree: &'z Tree) -> Node<'z>
         requires { IsZoneTree tree.now }
-        ensures node { result ≡ record { zone = zone_of_tree tree.now; name = tree.now.origin } }
-        ensures exists { IsNode (zone_of_tree tree.now) tree.now.origin }
+        ensures node { result ≡ record { zone = tree.now.zone; name = tree.now.zone.origin } }
+        ensures exists { IsNode tree.now.zone tree.now.zone.origin }
     {
         Node {
             tree,
@@ -135,7 +135,7 @@ impl<'z> Node<'z> {
         ensures { result ≡ self.now.name }
     {
         let row = &self.tree.rows.lent()[self.row.0];
-        NameRef::new(octets_of(self.tree.records.lent(), row))
+        NameRef::new(octets_of(self.tree.zone.records(), row))
     }
 
     /// A node at which the way to the target of a record may begin, of the record of the type at
@@ -188,17 +188,17 @@ impl<'z> Node<'z> {
         ensures node { IsNode self.now.zone self.now.name }
     {
         let row = &self.tree.rows.lent()[self.row.0];
-        &self.tree.records.lent()[row.first as usize..row.own_end as usize]
+        &self.tree.zone.records()[row.first as usize..row.own_end as usize]
     }
 }
 
 // The lead of the record at a place, where one is kept and the record is of the type.
 fn lead_at<'z>(tree: &'z Tree, place: usize, rtype: RType) -> Option<Lead<'z>>
     requires { IsZoneTree tree.now }
-    ensures { IfSome result (λ v. (v.zone ≡ zone_of_tree tree.now)
-        × IsLead (zone_of_tree tree.now) rtype.0 v.name) }
+    ensures { IfSome result (λ v. (v.zone ≡ tree.now.zone)
+        × IsLead tree.now.zone rtype.0 v.name) }
 {
-    let (records, leads) = (tree.records.lent(), tree.leads.lent());
+    let (records, leads) = (tree.zone.records(), tree.leads.lent());
     if place >= records.len() || place >= leads.len() {
         return None;
     }
@@ -222,10 +222,10 @@ pub(crate) fn kid_of(
     requires comparisons { steps.old.comparisons ≤ 4294967278 }
 
     ensures child { IsSome result ↔ IsTrue
-        (exists (zone_of_tree tree.now) (label.now ∷ (node_at tree.now row.0).name)) }
+        (exists tree.now.zone (label.now ∷ (node_at tree.now row.0).name)) }
     ensures at { IfSome result (λ k. IsNodeAt tree.now k.0) }
     ensures node { IfSome result (λ k. node_at tree.now k.0 ≡ record {
-      zone = zone_of_tree tree.now;
+      zone = tree.now.zone;
       name = map to_ascii_lowercase label.now ∷ (node_at tree.now row.0).name;
     }) }
 
@@ -236,7 +236,7 @@ pub(crate) fn kid_of(
     ensures same_zone { steps.new.zone ≡ steps.old.zone }
 {
     let (start, kids) = kids_of(tree, row);
-    let found = find(tree.records.lent(), kids, label.octets(), steps)?;
+    let found = find(tree.zone.records(), kids, label.octets(), steps)?;
     Some(RowNumber(start + found))
 }
 

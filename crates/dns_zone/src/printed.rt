@@ -12,7 +12,7 @@ ghost use Rattle.dns_name.specs.Counted.{Writes, Fills};
 ghost use Rattle.dns_zone.specs.ZoneForm.{is_chosen};
 
 use crate::entry::Entry;
-use crate::zone::Zone;
+use crate::zone::{CheckedZone, Zone};
 use dns_name::{SinkFailed, Tally, TextBuffer};
 use dns_rdata::{RType, Rdata};
 use itoa::Buffer;
@@ -46,8 +46,22 @@ pub fn print<W: Write>(zone: &Zone, sink: &mut Tally<W>) -> Result<(), PrintFaul
         → (o : DomainName) → Means o (zone_text zone.now) (records (printed_records zone.now)) }
     ensures same_records { IsPermutation zone.now.records (printed_records zone.now) }
 {
-    write_records(zone.records(), sink)?;
-    Ok(())
+    zone.checked().print(sink)
+}
+
+impl CheckedZone {
+    /// Writes the canonical text of the zone: all of what `print` says.
+    pub fn print<W: Write>(&self, sink: &mut Tally<W>) -> Result<(), PrintFault>
+        requires { sink.old.failures < 2 ^ 64 - 1 }
+        ensures writes { Writes W.contents sink.old sink.new result (zone_text self.now) }
+        ensures meaning { All HasZoneType self.now.records
+            → length (zone_text self.now) ≤ most_octets
+            → (o : DomainName) → Means o (zone_text self.now) (records (printed_records self.now)) }
+        ensures same_records { IsPermutation self.now.records (printed_records self.now) }
+    {
+        write_records(self.records(), sink)?;
+        Ok(())
+    }
 }
 
 fn write_records<W: Write>(records: &[Entry], sink: &mut Tally<W>) -> Result<(), SinkFailed>

@@ -2,7 +2,7 @@
 ghost use Rattle.std.specs.Prelude.{◌≡◌, ◌+◌, ◌<◌};
 ghost use Rattle.dns_spec.specs.Names.{folded};
 ghost use Rattle.dns_zone.specs.Nodes.{IsNode};
-ghost use Rattle.dns_zone.specs.NodeForm.{zone_of_tree, IsZoneTree};
+ghost use Rattle.dns_zone.specs.NodeForm.{IsZoneTree};
 ghost use Rattle.dns_zone.specs.ZoneForm.{IsBuilt};
 
 use crate::node::Node;
@@ -24,12 +24,12 @@ pub struct Steps<'z> {
 
 impl<'z> Model for Steps<'z> {
     ghost use Rattle.dns_zone.specs.Nodes.{Walk};
-    ghost use Rattle.dns_zone.specs.NodeForm.{zone_of_tree, IsZoneTree};
+    ghost use Rattle.dns_zone.specs.NodeForm.{IsZoneTree};
 
     ghost Value = { Walk };
 
     ghost view = { λ s. record {
-      zone = zone_of_tree s.tree.now;
+      zone = s.tree.now.zone;
       visits = s.visits;
       comparisons = s.comparisons;
     } };
@@ -48,7 +48,7 @@ impl<'z> Steps<'z> {
     // The same over the tree of a zone that is being made.
     pub(crate) fn over(tree: &'z Tree) -> Steps<'z>
         requires { IsZoneTree tree.now }
-        ensures { result ≡ record { zone = zone_of_tree tree.now; visits = 0; comparisons = 0 } }
+        ensures { result ≡ record { zone = tree.now.zone; visits = 0; comparisons = 0 } }
     {
         Steps {
             tree,
@@ -79,7 +79,7 @@ impl<'z> Steps<'z> {
         ensures lower { folded self.now.zone.origin ≡ self.now.zone.origin }
         ensures built { IsBuilt self.now.zone }
     {
-        &self.tree.origin
+        self.tree.zone.origin()
     }
 
     /// The node of the origin. It is counted.

@@ -9,7 +9,7 @@ ghost use Rattle.dns_zone.specs.ZoneForm.{ReportsFaults};
 
 use crate::entry::Entry;
 use crate::fault::BuildFault;
-use crate::zone::Zone;
+use crate::zone::CheckedZone;
 use dns_master::{Gathers, ReadCode, ReadFault, Record, read_into};
 use dns_name::{Name, Tally};
 use std::alloc::{AllocError, Global};
@@ -94,18 +94,18 @@ impl Store {
     }
 
     /// The zone of an origin and of its records, each kept once (RFC 2181 5), in canonical order
-    /// (RFC 4034 6.1, 6.3), as `Zone::build` makes it of a list of records.
+    /// (RFC 4034 6.1, 6.3), by the checks of `Zone::build`.
     ///
     /// `Faults` tells all faults of the zone, where it has one; `NoMemory` comes only where none
     /// was found. Either way the records are let go. The limit is that of a zone file.
-    pub fn build(self, alloc: Global, origin: &Name) -> Result<Zone, BuildFault>
+    pub fn check(self, alloc: Global, origin: &Name) -> Result<CheckedZone, BuildFault>
         requires { length self ≤ most_records }
         ensures ok { IfOk result (λ zone. zone ≡ ordered_zone origin.now self) }
         ensures passes { IfOk result (λ zone. faults (zone_of origin.now self) ≡ []) }
         ensures faults { IfErr result (λ fault. ReportsFaults fault (zone_of origin.now self)) }
     {
         let Store { entries, .. } = self;
-        Zone::of_entries(alloc, origin, entries)
+        CheckedZone::of_entries(alloc, origin, entries)
     }
 }
 

@@ -15,14 +15,14 @@ use crate::kept::Kept;
 use crate::label_key::{first_octets, label_key};
 use crate::lookup::{are_all_under, count_in_front, count_under};
 use crate::row::Row;
-use dns_name::{Name, NameRef};
+use crate::zone::CheckedZone;
+use dns_name::NameRef;
 use std::alloc::{AllocError, Global};
 
-/// The names of a zone, and its records in canonical order.
+/// A zone, and its names.
 #[derive(Drop)]
 pub(crate) struct Tree {
-    pub(crate) origin: Name,
-    pub(crate) records: Kept<Entry>,
+    pub(crate) zone: CheckedZone,
     pub(crate) rows: Kept<Row>,
     pub(crate) bounds: Kept<usize>,
     /// For each record the row of its lead, or 0.

@@ -1,4 +1,4 @@
-//! Zones that may be served.
+//! Zones without a fault: as they are printed, and as they are served.
 ghost use Rattle.std.specs.Prelude.{◌≡◌, ◌≤◌, [], length, IfOk};
 ghost use Rattle.std.specs.Result.{IfErr};
 ghost use Rattle.std.specs.List.{filter};
@@ -8,7 +8,7 @@ ghost use Rattle.dns_spec.specs.Checks.{faults};
 ghost use Rattle.dns_spec.specs.Meaning.{most_records};
 ghost use Rattle.dns_spec.specs.ZonePrinted.{is_soa};
 ghost use Rattle.dns_zone.specs.ZoneForm.{IsBuilt, ReportsFaults};
-ghost use Rattle.dns_zone.specs.NodeForm.{zone_of_tree, IsZoneTree};
+ghost use Rattle.dns_zone.specs.NodeForm.{IsZoneTree};
 
 use crate::entry::Entry;
 use crate::fault::BuildFault;
@@ -26,6 +26,74 @@ use std::marker::Model;
 
 /// A zone that has no fault: an origin, and records in canonical order, each once. It has at most
 /// 100,000.
+///
+/// It may be printed. To be served it is made a `Zone`, whose names can be walked.
+#[derive(Drop)]
+pub struct CheckedZone {
+    origin: Name,
+    records: Kept<Entry>,
+}
+
+impl Model for CheckedZone {
+    ghost use Rattle.dns_spec.specs.Records.{ZoneContents};
+    ghost use Rattle.dns_zone.specs.ZoneForm.{IsBuilt};
+
+    ghost Value = { ZoneContents };
+
+    ghost view = { λ z. record { origin = z.origin; records = z.records } };
+
+    ghost invariant = { λ z. IsBuilt (record { origin = z.origin; records = z.records }) };
+}
+
+impl CheckedZone {
+    // The zone of an origin and of records, each kept once, in canonical order; or all its faults.
+    pub(crate) fn of_entries(
+        alloc: Global,
+        origin: &Name,
+        records: Vec<Entry>,
+    ) -> Result<CheckedZone, BuildFault>
+        requires { length records.items ≤ most_records }
+        ensures ok { IfOk result (λ zone. zone ≡ ordered_zone origin.now records.items) }
+        ensures passes { IfOk result (λ zone. faults (zone_of origin.now records.items) ≡ []) }
+        ensures faults { IfErr result (λ fault. ReportsFaults fault
+            (zone_of origin.now records.items)) }
+    {
+        let origin = origin.fold();
+        let records = ordered(alloc, &origin.lent(), records)?;
+        let found = faults(alloc, &origin.lent(), records.as_slice())?;
+        if !found.is_empty() {
+            return Err(BuildFault::Faults(found));
+        }
+        let records = Kept::new(records);
+        Ok(CheckedZone { origin, records })
+    }
+
+    /// The name at and below which the zone speaks, in lower case.
+    pub fn origin(&self) -> &Name
+        ensures origin { result.now ≡ self.now.origin }
+        ensures lower { folded self.now.origin ≡ self.now.origin }
+        ensures built { IsBuilt self.now }
+    {
+        &self.origin
+    }
+
+    /// The serial number of its SOA (RFC 1035 3.3.13).
+    pub fn serial(&self) -> u32
+        ensures { result ≡ zone_serial self.now }
+    {
+        serial_at(&self.origin.lent(), self.records.lent())
+    }
+
+    // Its records, in canonical order.
+    pub(crate) fn records(&self) -> &[Entry]
+        ensures records { result.now ≡ self.now.records }
+        ensures built { IsBuilt self.now }
+    {
+        self.records.lent()
+    }
+}
+
+/// A zone that has no fault, and whose names can be walked: it may be served.
 #[derive(Drop)]
 pub struct Zone {
     tree: Tree,
@@ -36,9 +104,9 @@ impl Model for Zone {
 
     ghost Value = { ZoneContents };
 
-    ghost use Rattle.dns_zone.specs.NodeForm.{zone_of_tree, IsZoneTree};
+    ghost use Rattle.dns_zone.specs.NodeForm.{IsZoneTree};
 
-    ghost view = { λ z. zone_of_tree z.tree };
+    ghost view = { λ z. z.tree.zone };
 
     ghost invariant = { λ z. IsZoneTree z.tree };
 }
@@ -61,49 +129,26 @@ impl Zone {
             store.add(read)?;
         }
         drop(records);
-        store.build(alloc, origin)
+        let zone = store.check(alloc, origin)?;
+        Ok(Zone::of(alloc, zone)?)
     }
 
-    // The same of records as a zone keeps them.
-    pub(crate) fn of_entries(
-        alloc: Global,
-        origin: &Name,
-        records: Vec<Entry>,
-    ) -> Result<Zone, BuildFault>
-        requires { length records.items ≤ most_records }
-        ensures ok { IfOk result (λ zone. zone ≡ ordered_zone origin.now records.items) }
-        ensures passes { IfOk result (λ zone. faults (zone_of origin.now records.items) ≡ []) }
-        ensures faults { IfErr result (λ fault. ReportsFaults fault
-            (zone_of origin.now records.items)) }
+    /// The zone that was checked, to be served: its names are found, and where the way to each
+    /// target begins, so that an alias to a name of many labels costs a question no more than a
+    /// short one. Memory is taken for 28 octets for each name and for 8 for each record.
+    pub fn of(alloc: Global, zone: CheckedZone) -> Result<Zone, AllocError>
+        ensures { IfOk result (λ whole. whole ≡ zone) }
     {
-        let origin = origin.fold();
-        let records = ordered(alloc, &origin.lent(), records)?;
-        let found = faults(alloc, &origin.lent(), records.as_slice())?;
-        if !found.is_empty() {
-            return Err(BuildFault::Faults(found));
-        }
-        let Rows { rows, bounds } = rows_of(alloc, &origin.lent(), records.as_slice())?;
-        let records = Kept::new(records);
+        let Rows { rows, bounds } = rows_of(alloc, &zone.origin().lent(), zone.records())?;
         let leads = Kept::new(Vec::new(alloc));
-        Ok(Zone {
-            tree: Tree {
-                origin,
-                records,
-                rows,
-                bounds,
-                leads,
-            },
-        })
-    }
-
-    /// Looks for where the way to each target begins, as it is worth for a zone that is served: an
-    /// alias to a name of many labels then costs a question no more than a short one. Nothing else
-    /// changes. Memory is taken for 8 octets for each record.
-    pub fn find_leads(&mut self, alloc: Global) -> Result<(), AllocError>
-        ensures { self.new ≡ self.old }
-    {
-        self.tree.leads = Kept::new(leads_of(alloc, &self.tree)?);
-        Ok(())
+        let mut tree = Tree {
+            zone,
+            rows,
+            bounds,
+            leads,
+        };
+        tree.leads = Kept::new(leads_of(alloc, &tree)?);
+        Ok(Zone { tree })
     }
 
     /// The name at and below which the zone speaks, in lower case.
@@ -112,30 +157,29 @@ impl Zone {
         ensures lower { folded self.now.origin ≡ self.now.origin }
         ensures built { IsBuilt self.now }
     {
-        &self.tree.origin
+        self.tree.zone.origin()
     }
 
     /// The serial number of its SOA (RFC 1035 3.3.13).
     pub fn serial(&self) -> u32
         ensures { result ≡ zone_serial self.now }
     {
-        serial_at(&self.tree.origin.lent(), self.tree.records.lent())
+        self.tree.zone.serial()
+    }
+
+    // The zone that was checked.
+    pub(crate) fn checked(&self) -> &CheckedZone
+        ensures { result.now ≡ self.now }
+    {
+        &self.tree.zone
     }
 
     // Its names.
     pub(crate) fn tree(&self) -> &Tree
-        ensures zone { zone_of_tree result.now ≡ self.now }
+        ensures zone { result.now.zone ≡ self.now }
         ensures tree { IsZoneTree result.now }
     {
         &self.tree
-    }
-
-    // Its records, in canonical order.
-    pub(crate) fn records(&self) -> &[Entry]
-        ensures records { result.now ≡ self.now.records }
-        ensures built { IsBuilt self.now }
-    {
-        self.tree.records.lent()
     }
 }
 

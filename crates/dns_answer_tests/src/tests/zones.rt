@@ -41,10 +41,7 @@ pub(super) fn zone(alloc: Global, origin: &[u8], text: &[u8]) -> Result<Zone, Fa
         return Err(Fail::new("a faulty file"));
     };
     match Zone::build(alloc, &origin, records) {
-        Ok(mut zone) => {
-            zone.find_leads(alloc)?;
-            Ok(zone)
-        }
+        Ok(zone) => Ok(zone),
         Err(BuildFault::Faults(_)) => Err(Fail::new("a faulty zone")),
         Err(BuildFault::NoMemory) => Err(Fail::new("no memory")),
     }

@@ -1,7 +1,7 @@
 //! Zones that are built, and faults that are reported.
 
 use super::texts::{PRINTED, built, file_with};
-use crate::{BuildFault, Store, print};
+use crate::{BuildFault, Store, Zone, print};
 use dns_master::read_zone;
 use dns_name::{Name, Tally};
 use std::test::Fail;
@@ -82,11 +82,15 @@ fn a_zone_is_built_of_a_store(rt: HostRuntime) -> Result<(), Fail> {
     if store.count() > 100_000 {
         return Err("nine records are too many".into());
     }
-    let Ok(zone) = store.build(rt.alloc(), &origin) else {
+    let Ok(zone) = store.check(rt.alloc(), &origin) else {
         panic!(rt; "no zone of a store");
     };
+    assert_eq!(rt; zone.serial(), 1);
     let mut sink = Tally::new(Vec::new(rt.alloc()));
-    assert_eq!(rt; print(&zone, &mut sink), Ok(()));
+    assert_eq!(rt; zone.print(&mut sink), Ok(()));
+    assert_eq!(rt; sink.into_inner().as_slice(), PRINTED);
+    let mut sink = Tally::new(Vec::new(rt.alloc()));
+    assert_eq!(rt; print(&Zone::of(rt.alloc(), zone)?, &mut sink), Ok(()));
     assert_eq!(rt; sink.into_inner().as_slice(), PRINTED);
     Ok(())
 }

@@ -1,20 +1,20 @@
 use Rattle.std.proofs.Common.{◌≡◌, ◌∷◌, [], ◌+◌, ◌<◌, List, length, length-append, get_or, sym, ap, ◌∙◌, subst}
 use Rattle.dns_spec.specs.Records.{ResourceRecord}
-use Rattle.dns_zone.specs.NodeForm.{zone_of_tree, AreLeads}
+use Rattle.dns_zone.specs.NodeForm.{AreLeads}
 use Rattle.dns_zone.proofs.LeadRows.{leads-more}
 use Rattle.dns_zone.proofs.leads.leads_of.Goals as goal
 
 pub records-preserved : goal.records-preserved
 records-preserved c =
-    let z = zone_of_tree c.args.tree.now in
+    let z = c.args.tree.now.zone in
     let rows = c.args.tree.now.rows in
     let r = c.record-item.result in
     let j = c.records.record-index in
     let before = c.records.invariant in
     let inside : j < length z.records =
-    subst (λ (rs : List ResourceRecord). j < length rs) c.lent-records.ensures c.records-test.true in
+    subst (λ (rs : List ResourceRecord). j < length rs) c.records-records.ensures.records c.records-test.true in
     let is : r ≡ get_or z.records j r =
-    subst (λ (rs : List ResourceRecord). r ≡ get_or rs j r) c.lent-records.ensures c.record-item.is in
+    subst (λ (rs : List ResourceRecord). r ≡ get_or rs j r) c.records-records.ensures.records c.record-item.is in
     record {
       leads = subst (AreLeads z rows) (sym c.in_ok-push.ensures.items)
           (leads-more z rows c.records.leads.items j c.lead_of.result r before.leads before.count

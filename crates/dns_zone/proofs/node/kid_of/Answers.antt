@@ -5,7 +5,7 @@ use Rattle.dns_spec.specs.Names.{Octets, DomainName}
 use Rattle.dns_spec.specs.Records.{ResourceRecord}
 use Rattle.dns_spec.specs.Tree.{exists}
 use Rattle.dns_spec.proofs.Records.SortedOnce.{Each, Among}
-use Rattle.dns_zone.specs.NodeForm.{zone_of_tree, node_at, IsNodeAt}
+use Rattle.dns_zone.specs.NodeForm.{node_at, IsNodeAt}
 use Rattle.dns_zone.specs.TreeForm.{row_name, row_label, row_at, kids_at, IsRow}
 use Rattle.dns_zone.specs.declared.row.Row.{Row}
 use Rattle.dns_zone.proofs.Existing.{child-exists}
@@ -17,8 +17,8 @@ find-requires-clause-rows c =
     let t = c.args.tree.now in
     let k = c.args.row.0 in
     subst (λ (rs : List ResourceRecord). Each (λ (r : Row). IsRow rs r (row_name rs r))
-    c.kids_of-start.result.1.now) (sym c.lent.ensures)
-    (subst (Each (λ (r : Row). IsRow t.records r (row_name t.records r)))
+    c.kids_of-start.result.1.now) (sym c.records.ensures.records)
+    (subst (Each (λ (r : Row). IsRow t.zone.records r (row_name t.zone.records r)))
     (sym c.kids_of-start.ensures.kids) (kid_rows t k c.requires.at))
 
 pub returns-in_err-found-clause-child : goal.returns-in_err-found-clause-child
@@ -27,15 +27,15 @@ returns-in_err-found-clause-child c =
     let k = c.args.row.0 in
     let l = c.args.label.now in
     let labels = ap (λ (rs : List ResourceRecord). map (row_label rs)
-    c.kids_of-start.result.1.now) c.lent.ensures
-    ∙ ap (map (row_label t.records)) c.kids_of-start.ensures.kids in
+    c.kids_of-start.result.1.now) c.records.ensures.records
+    ∙ ap (map (row_label t.zone.records)) c.kids_of-start.ensures.kids in
     let asked = c.octets.result.now in
-    let absent : exists (zone_of_tree t) (l ∷ row_name t.records (row_at t.rows k)) ≡ true
+    let absent : exists t.zone (l ∷ row_name t.zone.records (row_at t.rows k)) ≡ true
     → Among (map to_ascii_lowercase asked)
-    (map (row_label c.lent.result.now) c.kids_of-start.result.1.now) =
+    (map (row_label c.records.result.now) c.kids_of-start.result.1.now) =
     λ h. subst (Among (map to_ascii_lowercase asked)) (sym labels)
     (subst (λ (x : Octets). Among x
-    (map (row_label t.records) (kids_at t.rows t.bounds k)))
+    (map (row_label t.zone.records) (kids_at t.rows t.bounds k)))
     (ap (map to_ascii_lowercase) (sym c.octets.ensures.value))
     ((are_kids t k c.requires.at).all l h))
     in
@@ -67,14 +67,14 @@ returns-clause-child c =
     let k = c.args.row.0 in
     let l = c.args.label.now in
     let i = c.in_ok-found.found in
-    let n = row_name t.records (row_at t.rows k) in
+    let n = row_name t.zone.records (row_at t.rows k) in
     let fits = subst (λ (xs : List Row). i < length xs) c.kids_of-start.ensures.kids
     c.in_ok-found.ensures.found.0 in
-    let label = found_label t.records _ _ (kids_at t.rows t.bounds k) i _ l c.lent.ensures
+    let label = found_label t.zone.records _ _ (kids_at t.rows t.bounds k) i _ l c.records.ensures.records
     c.kids_of-start.ensures.kids c.octets.ensures.value c.in_ok-found.ensures.found.1 in
-    let present : exists (zone_of_tree t) (l ∷ n) ≡ true =
-    sym (child-exists (zone_of_tree t) l n (is_row t k c.requires.at).lower)
-    ∙ ap (λ (x : Octets). exists (zone_of_tree t) (x ∷ n)) (sym label)
+    let present : exists t.zone (l ∷ n) ≡ true =
+    sym (child-exists t.zone l n (is_row t k c.requires.at).lower)
+    ∙ ap (λ (x : Octets). exists t.zone (x ∷ n)) (sym label)
     ∙ kid_exists t k c.requires.at i fits
     in (λ h. present, λ h. refl)
 
@@ -86,9 +86,9 @@ returns-clause-node c =
     let i = c.in_ok-found.found in
     let fits = subst (λ (xs : List Row). i < length xs) c.kids_of-start.ensures.kids
     c.in_ok-found.ensures.found.0 in
-    let label = found_label t.records _ _ (kids_at t.rows t.bounds k) i _ l c.lent.ensures
+    let label = found_label t.zone.records _ _ (kids_at t.rows t.bounds k) i _ l c.records.ensures.records
     c.kids_of-start.ensures.kids c.octets.ensures.value c.in_ok-found.ensures.found.1 in
     ap (λ (j : ℕ). node_at t (j + i)) c.kids_of-start.ensures.start
-    ∙ ap (λ (n : DomainName). record { zone = zone_of_tree t; name = n })
+    ∙ ap (λ (n : DomainName). record { zone = t.zone; name = n })
     (kid_name t k c.requires.at i fits
-    ∙ ap (λ (x : Octets). x ∷ row_name t.records (row_at t.rows k)) label)
+    ∙ ap (λ (x : Octets). x ∷ row_name t.zone.records (row_at t.rows k)) label)

@@ -2,7 +2,6 @@ use Rattle.std.proofs.Common.{sym, ap, ◌∙◌, subst}
 use Rattle.dns_spec.specs.Records.{ResourceRecord}
 use Rattle.dns_spec.specs.Names.{DomainName}
 use Rattle.dns_zone.specs.Nodes.{ZoneNode, IsLead}
-use Rattle.dns_zone.specs.NodeForm.{zone_of_tree}
 use Rattle.dns_zone.proofs.LeadRows.{kept-lead}
 use Rattle.dns_zone.proofs.node.lead_at.Goals as goal
 
@@ -12,19 +11,19 @@ at-requires c =
     ∙ c.if-record-rtype.false in
     record {
       kept = c.requires;
-      row = (kept-lead c.args.tree.now c.lent-records.result.now c.lent-leads.result.now
+      row = (kept-lead c.args.tree.now c.records-records.result.now c.lent-leads.result.now
           c.args.place c.args.rtype.0 c.index-records-place.result c.requires
-          c.lent-records.ensures c.lent-leads.ensures c.if-place-records.false
+          c.records-records.ensures.records c.lent-leads.ensures c.if-place-records.false
           c.if-place-leads.false c.index-records-place.is typed c.if-lead-eq0.false).row;
     }
 
 pub returns : goal.returns
 returns c =
-    let z = zone_of_tree c.args.tree.now in
+    let z = c.args.tree.now.zone in
     let typed = ap (λ (r : ResourceRecord). r.rtype) (sym c.record.view_is)
     ∙ c.if-record-rtype.false in
-    let lead = kept-lead c.args.tree.now c.lent-records.result.now c.lent-leads.result.now
-    c.args.place c.args.rtype.0 c.index-records-place.result c.requires c.lent-records.ensures
+    let lead = kept-lead c.args.tree.now c.records-records.result.now c.lent-leads.result.now
+    c.args.place c.args.rtype.0 c.index-records-place.result c.requires c.records-records.ensures.records
     c.lent-leads.ensures c.if-place-records.false c.if-place-leads.false
     c.index-records-place.is typed c.if-lead-eq0.false in (
       ap (λ (v : ZoneNode). v.zone) c.at.ensures,

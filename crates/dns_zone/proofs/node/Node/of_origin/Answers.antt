@@ -1,6 +1,5 @@
 use Rattle.std.proofs.Common.{ap}
 use Rattle.dns_spec.specs.Names.{DomainName}
-use Rattle.dns_zone.specs.NodeForm.{zone_of_tree}
 use Rattle.dns_zone.specs.TreeForm.{row_at}
 use Rattle.dns_zone.proofs.GrowingKids.{row_is}
 use Rattle.dns_zone.proofs.Existing.{origin-node}
@@ -12,8 +11,8 @@ invariant_of-result c = record { kept = c.requires; row = c.requires.tree.some }
 pub returns-clause-node : goal.returns-clause-node
 returns-clause-node c =
     let t = c.args.tree.now in
-    ap (λ (n : DomainName). record { zone = zone_of_tree t; name = n })
-    (row_is t.records (row_at t.rows 0) t.origin c.requires.tree.origin)
+    ap (λ (n : DomainName). record { zone = t.zone; name = n })
+    (row_is t.zone.records (row_at t.rows 0) t.zone.origin c.requires.tree.origin)
 
 pub returns-clause-exists : goal.returns-clause-exists
-returns-clause-exists c = origin-node (zone_of_tree c.args.tree.now) c.requires.built
+returns-clause-exists c = origin-node c.args.tree.now.zone c.requires.built

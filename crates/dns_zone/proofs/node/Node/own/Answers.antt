@@ -17,7 +17,7 @@ pub returns-clause-own : goal.returns-clause-own
 returns-clause-own c =
     let k = c.self.inside.row.0 in
     ap₂ (λ (rows : List Row) (rs : List ResourceRecord).
-    span rs (row_at rows k).first (row_at rows k).own_end) c.lent.ensures c.lent-2.ensures
+    span rs (row_at rows k).first (row_at rows k).own_end) c.lent.ensures c.records.ensures.records
     ∙ (is_row c.self.inside.tree.now k c.self.invariant).own
     ∙ ap (λ (v : ZoneNode). at v.zone v.name) c.self.view_is
 

@@ -2,13 +2,12 @@ use Rattle.std.proofs.Common.{◌≡◌, ap, ◌∙◌, subst}
 use Rattle.dns_spec.specs.Names.{DomainName}
 use Rattle.dns_spec.specs.Records.{ZoneContents, first_serial, zone_serial}
 use Rattle.dns_zone.proofs.BuiltZone.{soas_at, serial_is}
-use Rattle.dns_zone.proofs.zone.Zone.serial.Goals as goal
+use Rattle.dns_zone.proofs.zone.CheckedZone.serial.Goals as goal
 
 pub returns : goal.returns
 returns c =
-    let at_origin =
-    c.serial_at.ensures ∙ ap (λ (o : DomainName). first_serial (soas_at o c.lent-2.result.now)) c.lent.ensures.value
-    ∙ ap (λ xs. first_serial (soas_at c.self.inside.tree.origin xs)) c.lent-2.ensures in
+    let at_origin = c.serial_at.ensures
+    ∙ ap (λ (o : DomainName). first_serial (soas_at o c.lent-2.result.now)) c.lent.ensures.value
+    ∙ ap (λ xs. first_serial (soas_at c.self.inside.origin xs)) c.lent-2.ensures in
     subst (λ (z : ZoneContents). c.serial_at.result ≡ zone_serial z) c.self.view_is
-    (serial_is _ c.serial_at.result c.self.invariant.built
-    at_origin)
+    (serial_is _ c.serial_at.result c.self.invariant at_origin)
