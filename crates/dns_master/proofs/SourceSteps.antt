@@ -66,7 +66,7 @@ module _ (old mid new : Option Octets) (o : DomainName) (r : Reader) (held : Oct
         size = omega (arith, size, so.size, p.size);
         means = λ rest goes_on later h.
             let step : ReaderMeans r goes_on (held ++ (p.came ++ rest)) (after p.gathered.came later) =
-            subst (λ x. ReaderMeans r goes_on x (after p.gathered.came later)) (append_assoc held p.came rest) (p.gathered.taken rest goes_on later h) in
+            subst (λ x. ReaderMeans r goes_on x (after p.gathered.came later)) (append_assoc held p.came rest) (p.gathered.taken rest goes_on later tt h) in
             let all : TextMeans o [] goes_on (so.given ++ (p.came ++ rest)) (after found (after p.gathered.came later)) =
             so.means (p.came ++ rest) goes_on (after p.gathered.came later) step in
             subst (λ rs. TextMeans o [] goes_on (given ++ rest) (after rs later)) (sym p.gathered.grown)
@@ -87,7 +87,7 @@ module _ (old mid new : Option Octets) (o : DomainName) (r : Reader) (held : Oct
             (let found_rest = looked_at 16777216 given rest (omega (arith, size, so.size, p.few)) in
             let goes_on : Bool = nat_lt 16777216 (length (given ++ rest)) in
             let step : ReaderMeans r goes_on (held ++ (p.came ++ found_rest.0)) (fault_at fault line) =
-            subst (λ x. ReaderMeans r goes_on x (fault_at fault line)) (append_assoc held p.came found_rest.0) (p.is_faulty found_rest.0 goes_on) in
+            subst (λ x. ReaderMeans r goes_on x (fault_at fault line)) (append_assoc held p.came found_rest.0) (p.is_faulty found_rest.0 goes_on tt) in
             looked-means o (given ++ rest) (given ++ found_rest.0) goes_on (fault_at fault line) (sym found_rest.1) refl
             (subst (λ x. TextMeans o [] goes_on x (fault_at fault line)) (sym (append_assoc so.given p.came found_rest.0))
             (so.means (p.came ++ found_rest.0) goes_on (fault_at fault line) step))));

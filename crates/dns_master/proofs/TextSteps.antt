@@ -234,10 +234,12 @@ over-at_end goes_on is_open (o ∷ rest) e = absurd (stuck-faulty (extent_by goe
 over-at_end true is_open [] e = absurd (none-some too_long (sym e))
 over-at_end false is_open [] e = (refl, refl)
 
-pub same_sort : (text : Octets) (ps : List Token) (words : List Word) (outcome : form.Outcome) → Reads false text ps outcome → words ≡ token_words ps
-    → kind_of (ended ps) ≡ kind_by_words (list_any is_blank (take 1 text)) words
-same_sort text ps words outcome h e =
-    ap (λ b. kind_by_words b (token_words ps)) (begins-blank false text ps outcome h) ∙ ap (kind_by_words (list_any is_blank (take 1 text))) (sym e)
+-- the sort of an entry, by its first words as they are kept and the later ones
+pub same_sort : (text : Octets) (kept kept' later : List Word) (lines : ℕ) (outcome : form.Outcome) (b : Bool) (read : EntryRead text (kept ++ later) lines outcome)
+    → b ≡ list_any is_blank (take 1 text) → kept' ≡ kept → kind_of (ended read.tokens) ≡ kind_by_words b (kept' ++ later)
+same_sort text kept kept' later lines outcome b read is same =
+    ap (λ x. kind_by_words x (token_words read.tokens)) (begins-blank false text read.tokens outcome read.reads ∙ sym is)
+    ∙ ap (kind_by_words b) (sym read.words_are) ∙ ap (λ ws. kind_by_words b (ws ++ later)) (sym same)
 
 module _ (o : DomainName) (earlier : List Entry) (goes_on : Bool) (text rest : Octets) (words : List Word) (lines : ℕ) (is_ended is_open : Bool)
     (read : EntryRead text words lines (outcome_of is_ended is_open rest)) where
@@ -289,9 +291,6 @@ ended-shorter text rest (p ∷ ps) c =
     let first : length c.spelled.0 < length text = front-shorter text p c.spelled.0 c.spelled.1 in
     let more : length rest ≤ length c.spelled.0 = tokens-shorter c.spelled.0 rest ps c.spelled.2 in
     omega (arith, first, more)
-
-pub read-shorter : (text rest : Octets) (ps : List Token) → Reads false text ps (form.ended rest) → length rest < length text
-read-shorter text rest ps h = ended-shorter text rest ps (reads-ended false text ps rest h)
 
 some-shorter : (text rest : Octets) → (text ≡ [] → ⊥) → rest ≡ [] → length rest < length text
 some-shorter [] rest some e = absurd (some refl)

@@ -1,10 +1,11 @@
 -- What a reader learns here: how the tokens of an entry are read from left to right, by the cases
 -- of the code, and what a text means from one of its entries on.
-use Rattle.std.specs.Prelude.{◌≡◌, ℕ, Bool, true, false, List, [], ◌∷◌, length, if◌then◌else◌, Some, None}
+use Rattle.std.specs.Prelude.{◌≡◌, ℕ, ◌⊎◌, Option, Bool, true, false, List, [], ◌∷◌, length, if◌then◌else◌, Some, None}
 use Rattle.std.specs.List.{filter, filter_map}
+use Rattle.std.specs.Option.{unwrap_or}
 use Rattle.dns_spec.specs.Names.{Octets, DomainName}
 use Rattle.dns_spec.specs.DataText.{Word}
-use Rattle.dns_spec.specs.ZoneText.{Token, blank, comment, word, quoted_string, opening, closing, line_end, Entry, token_front, TokensThen, cut_entries, with_end, is_line_end, word_of, extent_by}
+use Rattle.dns_spec.specs.ZoneText.{Token, blank, comment, word, quoted_string, opening, closing, line_end, Entry, token_front, TokensThen, cut_entries, with_end, is_line_end, word_of, extent_by, stop_at, stop_fault}
 use Rattle.dns_spec.specs.Meaning.{Meaning, EntriesMean}
 
 -- How reading goes on after a token: not at all, since a parenthesis is misplaced, or since the
@@ -62,6 +63,12 @@ IsWrong text = (ps : List Token) × Reads false text ps wrong
 
 abbrev pub outcome_of : Bool → Bool → Octets → Outcome
 outcome_of is_ended is_open rest = if is_ended then ended rest else unended is_open rest
+
+-- an entry is ended by its line end, or by the end of a text that does not go on past its limit
+abbrev pub IsWhole : Option Bool → Bool → Bool → Octets → Type 0
+IsWhole goes_on is_ended is_open rest =
+    (is_ended ≡ true)
+    ⊎ (stop_fault (extent_by (unwrap_or goes_on true)) is_open (stop_at rest) ≡ None)
 
 -- what a text means from an entry on, after the entries before it
 pub record TextMeans (o : DomainName) (earlier : List Entry) (goes_on : Bool) (text : Octets)

@@ -6,7 +6,6 @@ pub mod WordsLeft
 pub mod Steps
 pub mod RecordForm
 pub mod ReaderForm
-pub mod RecordsForm
 pub mod SourceForm
 pub mod PieceForm
 pub mod OwnedBody

@@ -1,6 +1,6 @@
 -- What a reader learns here: what entries at the front of a text say of it, whatever comes after
 -- it.
-use Rattle.std.specs.Prelude.{◌≡◌, ℕ, ◌+◌, ◌≤◌, ◌<◌, Bool, true, false, List, [], ◌++◌, length, Option}
+use Rattle.std.specs.Prelude.{⊤, ◌≡◌, ℕ, ◌+◌, ◌≤◌, ◌<◌, Bool, true, false, List, [], ◌++◌, length, Option, None, MatchOption}
 use Rattle.std.specs.Io.KnownBytes.{Consumes, IsAtEnd}
 use Rattle.dns_spec.specs.Names.{Octets, DomainName}
 use Rattle.dns_spec.specs.Records.{ResourceRecord}
@@ -17,17 +17,31 @@ ReaderMeans r goes_on text m =
     (o : DomainName) (earlier : List Entry) → Knows o earlier r → r.line ≡ line_after earlier
     → TextMeans o earlier goes_on text m
 
+-- What may come after a text, and whether that goes on past its limit, by whether the text does,
+-- where this is known.
+abbrev pub MayFollow : Option Bool → Octets → Bool → Type 0
+MayFollow goes_on more past = MatchOption goes_on ⊤ (λ known. (more ≡ []) × (past ≡ known))
+
 -- Entries were taken from the front of a text, which gave these records: whatever comes after the
 -- text, what is left of it means, with the records before it the whole means.
-abbrev pub FrontTaken : Reader → Octets → List ResourceRecord → Reader → Octets → Type 0
-FrontTaken old text rs new rest =
-    (more : Octets) (goes_on : Bool) (later : Meaning) → ReaderMeans new goes_on (rest ++ more) later
-    → ReaderMeans old goes_on (text ++ more) (after rs later)
+abbrev pub FrontTaken : Option Bool → Reader → Octets → List ResourceRecord → Reader → Octets → Type 0
+FrontTaken goes_on old text rs new rest =
+    (more : Octets) (past : Bool) (later : Meaning) → MayFollow goes_on more past
+    → ReaderMeans new past (rest ++ more) later → ReaderMeans old past (text ++ more) (after rs later)
 
 -- a text has this fault, whatever comes after it
-abbrev pub FrontFaulty : Reader → Octets → FileFault → ℕ → Type 0
-FrontFaulty r text fault line =
-    (more : Octets) (goes_on : Bool) → ReaderMeans r goes_on (text ++ more) (fault_at fault line)
+abbrev pub FrontFaulty : Option Bool → Reader → Octets → FileFault → ℕ → Type 0
+FrontFaulty goes_on r text fault line =
+    (more : Octets) (past : Bool) → MayFollow goes_on more past
+    → ReaderMeans r past (text ++ more) (fault_at fault line)
+
+-- the entry that a text begins with was taken, which gave these records, and a text is left
+pub record TakesFirst (goes_on : Option Bool) (old : Reader) (text : Octets)
+    (rs : List ResourceRecord) (new : Reader) (rest : Octets) : Type 0 where
+  pub taken : FrontTaken goes_on old text rs new rest
+  pub counted : new.count ≡ old.count + length rs
+  pub shorter : length rest < length text
+  pub lines : new.line + length rest ≤ old.line + length text
 
 -- all entries of a text were taken, and their records added to what the caller keeps them in
 pub record TextGathered (r : Reader) (goes_on : Bool) (text : Octets)
@@ -37,11 +51,11 @@ pub record TextGathered (r : Reader) (goes_on : Bool) (text : Octets)
   pub means : ReaderMeans r goes_on text (records came)
 
 -- entries were taken from the front, where the records were added to what the caller keeps them in
-pub record FrontGathered (old : Reader) (text : Octets) (new : Reader) (rest : Octets)
-    (before after : List ResourceRecord) : Type 0 where
+pub record FrontGathered (goes_on : Option Bool) (old : Reader) (text : Octets) (new : Reader)
+    (rest : Octets) (before after : List ResourceRecord) : Type 0 where
   pub came : List ResourceRecord
   pub grown : after ≡ before ++ came
-  pub taken : FrontTaken old text came new rest
+  pub taken : FrontTaken goes_on old text came new rest
 
 -- A piece was read, and what entries were ended then was taken: `more` is false at the end of the
 -- source.
@@ -53,7 +67,7 @@ pub record PieceTaken (old new : Option Octets) (before : Reader) (held : Octets
   pub size : length came + left' ≡ left
   pub over : more ≡ false → (came ≡ []) × IsAtEnd new
   pub some : more ≡ true → left' < left
-  pub gathered : FrontGathered before (held ++ came) now held' found found'
+  pub gathered : FrontGathered None before (held ++ came) now held' found found'
 
 -- a piece was read, with which the octets at hand have this fault
 pub record PieceFaulty (old new : Option Octets) (before : Reader) (held : Octets) (left : ℕ)
@@ -61,4 +75,4 @@ pub record PieceFaulty (old new : Option Octets) (before : Reader) (held : Octet
   pub came : Octets
   pub consumed : Consumes old new came
   pub few : length came ≤ left
-  pub is_faulty : FrontFaulty before (held ++ came) fault line
+  pub is_faulty : FrontFaulty None before (held ++ came) fault line

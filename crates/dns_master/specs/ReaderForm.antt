@@ -2,13 +2,12 @@
 -- an entry changes of that.
 use Rattle.std.specs.Prelude.{◌≡◌, ◌+◌, Bool, true, false, List, [], ◌∷◌, Option, None, Some}
 use Rattle.std.specs.Option.{option_map, option_or}
-use Rattle.dns_spec.specs.Names.{Octets, DomainName}
+use Rattle.dns_spec.specs.Names.{DomainName}
 use Rattle.dns_spec.specs.DataText.{Word}
 use Rattle.dns_spec.specs.Records.{ResourceRecord}
 use Rattle.dns_spec.specs.ZoneText.{Entry}
 use Rattle.dns_spec.specs.FileFaults.{FileFault, no_owner}
-use Rattle.dns_spec.specs.Meaning.{Fields, EntryKind, EntryMeaning, gives, faulty, RecordGives, KindGives, kind_of, Meaning, fault_at, after, line_after}
-use Rattle.dns_master.specs.EntryForm.{TextMeans}
+use Rattle.dns_spec.specs.Meaning.{Fields, EntryKind, EntryMeaning, gives, faulty, RecordGives, KindGives, kind_of}
 use Rattle.dns_master.specs.RecordForm.{Inherited, TtlOf}
 use Rattle.dns_master.specs.declared.state.Reader.{Reader}
 
@@ -68,25 +67,3 @@ abbrev pub TakesRecord : Reader → Fields → Reader → Type 0
 TakesRecord old f new =
     (o : DomainName) (earlier : List Entry) → Knows o earlier old
     → RecordTaken o earlier old.owner f old new
-
--- an entry was taken, and a text is left: what that means after the entry, the whole means with
--- what the entry gives before it
-pub record EntryDone (o : DomainName) (earlier : List Entry) (goes_on : Bool) (text rest : Octets)
-    (taken : List ResourceRecord) (old new : Reader) : Type 0 where
-  pub entry : Entry
-  pub known : Knows o (entry ∷ earlier) new
-  pub line_is : new.line ≡ line_after (entry ∷ earlier)
-  pub means : (later : Meaning) → TextMeans o (entry ∷ earlier) goes_on rest later
-      → TextMeans o earlier goes_on text (after taken later)
-
--- the entry was taken that a text begins with, which gives these records
-abbrev pub TakesFirst : Reader → Bool → Octets → Octets → List ResourceRecord → Reader → Type 0
-TakesFirst old goes_on text rest taken new =
-    (o : DomainName) (earlier : List Entry) → Knows o earlier old → old.line ≡ line_after earlier
-    → EntryDone o earlier goes_on text rest taken old new
-
--- the entry that a text begins with has this fault
-abbrev pub RefusesFirst : Reader → Bool → Octets → FileFault → Type 0
-RefusesFirst r goes_on text fault =
-    (o : DomainName) (earlier : List Entry) → Knows o earlier r
-    → TextMeans o earlier goes_on text (fault_at fault (line_after earlier))

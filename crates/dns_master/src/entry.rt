@@ -2,11 +2,12 @@
 //! (RFC 1035 5.1).
 ghost use Rattle.std.specs.Prelude.{◌≡◌, ◌≢◌, ◌+◌, ◌≤◌, ◌++◌, [], ◌∷◌, ◌⊎◌, true, false, Some, None, length, take, IfOk, IfErr, IfSome, OnOk};
 ghost use Rattle.std.specs.List.{list_any};
-ghost use Rattle.std.specs.Option.{option_map};
+ghost use Rattle.std.specs.Option.{option_map, unwrap_or};
+ghost use Rattle.std.specs.Bool.{MatchBool};
 ghost use Rattle.dns_spec.specs.FileFaults.{bad_parenthesis};
-ghost use Rattle.dns_spec.specs.ZoneText.{beginning, is_blank, begins_line_end, is_cut_short, extent_by, stop_at, stop_fault, string_fault, token_fault, unless_cut_short};
+ghost use Rattle.dns_spec.specs.ZoneText.{is_blank, begins_line_end, is_cut_short, extent_by, stop_at, stop_fault, string_fault, token_fault, unless_cut_short};
 ghost use Rattle.dns_master.specs.TokenForm.{shown_token};
-ghost use Rattle.dns_master.specs.EntryForm.{EntryRead, IsWrong, outcome_of, step, line_ends};
+ghost use Rattle.dns_master.specs.EntryForm.{EntryRead, IsWhole, IsWrong, outcome_of, step, line_ends};
 ghost use Rattle.dns_master.specs.WordsForm.{WordTaken, words_in};
 ghost use Rattle.dns_master.specs.WordsLeft.{later_words};
 ghost use Rattle.dns_master.specs.Steps.{shown_step};
@@ -153,38 +154,24 @@ pub(crate) fn begins_blank(text: &[u8]) -> bool
     text.first().is_some_and(|first| is_blank(*first))
 }
 
-/// Whether an entry may end as it does: it is ended by its line end, or by the end of a text that
-/// does not go on.
-pub(crate) fn check_end(end: &EntryEnd<'_>, goes_on: bool) -> Result<(), EntryFault>
-    ensures ok { OnOk result ((end.now.is_ended ≡ true)
-        ⊎ (stop_fault (extent_by goes_on) end.now.is_open (stop_at end.now.rest.now) ≡ None)) }
-    ensures err { IfErr result (λ fault. (end.now.is_ended ≡ false)
-        × (stop_fault (extent_by goes_on) end.now.is_open (stop_at end.now.rest.now)
-        ≡ Some (entry_fault_of fault))) }
-{
-    if end.is_ended {
-        return Ok(());
-    }
-    match end_fault(end, goes_on) {
-        Some(fault) => Err(fault),
-        None => Ok(()),
-    }
-}
-
-/// Whether an entry is ended by its line end, where its text is a beginning of one that may go on.
+/// Whether an entry is at hand as a whole: ended by its line end, or by the end of a text that does
+/// not go on. `goes_on` is whether the text goes on past its limit, where that is known.
 ///
 /// False where more of the text would be needed to tell; else the entry's fault by its place.
-pub(crate) fn is_ended(end: &EntryEnd<'_>) -> Result<bool, EntryFault>
-    ensures ok { IfOk result (λ now. now ≡ end.now.is_ended) }
+pub(crate) fn is_whole(end: &EntryEnd<'_>, goes_on: Option<bool>) -> Result<bool, EntryFault>
+    ensures ok { IfOk result (λ whole. MatchBool whole
+        (IsWhole goes_on end.now.is_ended end.now.is_open end.now.rest.now) (goes_on ≡ None)) }
     ensures err { IfErr result (λ fault. (end.now.is_ended ≡ false)
-        × (stop_fault beginning end.now.is_open (stop_at end.now.rest.now)
-        ≡ Some (entry_fault_of fault)) × (fault ≢ EntryFault.TooLong)) }
+        × (stop_fault (extent_by (unwrap_or goes_on true)) end.now.is_open
+        (stop_at end.now.rest.now) ≡ Some (entry_fault_of fault))
+        × (goes_on ≡ None → fault ≢ EntryFault.TooLong)) }
 {
     if end.is_ended {
         return Ok(true);
     }
-    match end_fault(end, true) {
-        None | Some(EntryFault::TooLong) => Ok(false),
+    match end_fault(end, goes_on.unwrap_or(true)) {
+        None => Ok(true),
+        Some(EntryFault::TooLong) if goes_on.is_none() => Ok(false),
         Some(fault) => Err(fault),
     }
 }
@@ -244,8 +231,8 @@ fn token_fault(place: &[u8]) -> EntryFault
     EntryFault::BadOctet
 }
 
-/// Whether more octets might end what the text is: an escape or CR LF.
-pub(crate) fn is_cut_short(text: &[u8]) -> bool
+// Whether more octets might end what the text is: an escape or CR LF.
+fn is_cut_short(text: &[u8]) -> bool
     ensures { result ≡ is_cut_short text.now }
 {
     match text {

@@ -1,6 +1,6 @@
 //! Why a zone file gives no records.
 ghost use Rattle.std.specs.Prelude.{◌≡◌};
-ghost use Rattle.dns_master.specs.Codes.{code_number};
+ghost use Rattle.dns_master.specs.Codes.{IsFaultOf, code_number};
 
 use dns_rdata::RdataFault;
 use std::alloc::{AllocError, AllocFailed};
@@ -202,4 +202,20 @@ pub struct ReadFault {
     /// The line on which the faulty entry begins, counted from 1; 0 where the source failed or no
     /// memory was found.
     pub line: u32,
+}
+
+/// The fault of an entry that begins on this line.
+pub(crate) fn entry_fault(refusal: Refusal, line: u32) -> ReadFault
+    ensures { IsFaultOf refusal line result }
+{
+    match refusal {
+        Refusal::Faulty(fault) => ReadFault {
+            code: fault.into(),
+            line,
+        },
+        Refusal::NoMemory => ReadFault {
+            code: ReadCode::NoMemory,
+            line: 0,
+        },
+    }
 }

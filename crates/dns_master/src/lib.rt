@@ -11,10 +11,8 @@ mod pieces;
 mod reader;
 mod record;
 mod run;
-mod scan;
 mod source;
 mod state;
-mod stream;
 mod token;
 mod words;
 
@@ -22,4 +20,3 @@ pub use fault::{ReadCode, ReadFault};
 pub use gathers::Gathers;
 pub use reader::{MOST_RECORDS, read_into, read_zone};
 pub use record::Record;
-pub use state::Records;

@@ -1,15 +1,14 @@
 //! A zone file that is read piece by piece.
 ghost use Rattle.std.specs.Prelude.{◌≡◌, ◌≢◌, ◌+◌, ◌-◌, ◌^◌, ◌<◌, ◌≤◌, ◌++◌, ◌⊎◌, [], length, IfOk, IfErr, IfSome, OnOk, None};
+ghost use Rattle.dns_spec.specs.Meaning.{fault_at, most_records};
 ghost use Rattle.dns_master.specs.Codes.{OfEntry, fault_of, failures_after_read};
 ghost use Rattle.dns_master.specs.ReaderForm.{Knows, handed};
-ghost use Rattle.dns_master.specs.PieceForm.{FrontTaken, FrontFaulty, FrontGathered, PieceTaken, PieceFaulty};
+ghost use Rattle.dns_master.specs.PieceForm.{TakesFirst, FrontFaulty, FrontGathered, PieceTaken, PieceFaulty, ReaderMeans, TextGathered};
 
-use crate::fault::{ReadCode, ReadFault};
+use crate::fault::{EntryFault, ReadCode, ReadFault, Refusal, entry_fault};
 use crate::gathers::Gathers;
-use crate::scan::Scan;
 use crate::source::{MOST_OCTETS, PIECE, append_piece};
 use crate::state::Reader;
-use crate::stream::entry_fault;
 use dns_name::{Name, Tally};
 use dns_rdata::{DataRoom, Word};
 use std::alloc::Global;
@@ -19,13 +18,15 @@ use std::io::Read;
 /// hand.
 #[derive(Drop)]
 pub(crate) struct Begun {
-    pub(crate) alloc: Global,
+    alloc: Global,
     pub(crate) reader: Reader,
-    pub(crate) room: DataRoom,
+    room: DataRoom,
     pub(crate) held: Vec<u8>,
+    /// How many octets were held when entries were last taken from them. Nothing is taken again
+    /// before twice as many are, so that an entry of many pieces is read in linear time.
+    tried: usize,
     /// How many more octets may be looked at.
     pub(crate) left: usize,
-    scan: Scan,
 }
 
 impl Begun {
@@ -43,7 +44,7 @@ impl Begun {
             room: DataRoom::new(alloc),
             held: Vec::new(alloc),
             left: MOST_OCTETS,
-            scan: Scan::new(),
+            tried: 0,
         }
     }
 
@@ -84,7 +85,7 @@ impl Begun {
             Err(code) => return Err(ReadFault { code, line: 0 }),
         };
         self.left -= self.held.len() - before;
-        if self.scan.finds_end(self.held.as_slice()) {
+        if self.held.len() / 2 >= self.tried {
             self.take_front(found)?;
         }
         Ok(more)
@@ -94,77 +95,111 @@ impl Begun {
     fn take_front<G: Gathers>(&mut self, found: &mut G) -> Result<(), ReadFault>
         requires count { length (G.gathered found.old) ≡ self.old.reader.count }
         requires fits { self.old.reader.line + length self.old.held.items ≤ 16777217 }
-        ensures ok { OnOk result (FrontGathered self.old.reader self.old.held.items
+        ensures ok { OnOk result (FrontGathered None self.old.reader self.old.held.items
             self.new.reader self.new.held.items (G.gathered found.old) (G.gathered found.new)) }
         ensures count { OnOk result (length (G.gathered found.new) ≡ self.new.reader.count) }
         ensures left { self.new.left ≡ self.old.left }
         ensures fits { OnOk result (self.new.reader.line + length self.new.held.items
             ≤ self.old.reader.line + length self.old.held.items) }
         ensures err { IfErr result (OfEntry
-            (FrontFaulty self.old.reader self.old.held.items)) }
+            (FrontFaulty None self.old.reader self.old.held.items)) }
     {
-        let mut kept = Vec::new(self.alloc);
         let rest = take_entries(
             self.alloc,
             &mut self.reader,
             &mut self.room,
             self.held.as_slice(),
+            None,
             found,
         )?;
-        kept.extend_from_slice(rest)?;
-        self.held = kept;
-        self.scan = Scan::new();
+        if rest.len() < self.held.len() {
+            let mut kept = Vec::new(self.alloc);
+            kept.extend_from_slice(rest)?;
+            self.held = kept;
+        }
+        self.tried = self.held.len();
+        Ok(())
+    }
+
+    /// Adds the records of what is left of a text, after which it is over or goes on past its limit.
+    pub(crate) fn finish<G: Gathers>(self, goes_on: bool, found: &mut G) -> Result<(), ReadFault>
+        requires count { length (G.gathered found.old) ≡ self.reader.count }
+        requires fits { self.reader.line + length self.held.items ≤ 16777217 }
+        ensures ok { OnOk result (TextGathered self.reader goes_on self.held.items
+            (G.gathered found.old) (G.gathered found.new)) }
+        ensures few { OnOk result (length (G.gathered found.new) ≤ most_records) }
+        ensures err { IfErr result (OfEntry (λ fault line.
+            ReaderMeans self.reader goes_on self.held.items (fault_at fault line))) }
+    {
+        let mut begun = self;
+        take_entries(
+            begun.alloc,
+            &mut begun.reader,
+            &mut begun.room,
+            begun.held.as_slice(),
+            Some(goes_on),
+            found,
+        )?;
+        if goes_on {
+            return Err(entry_fault(Refusal::Faulty(EntryFault::TooLong), begun.reader.line));
+        }
         Ok(())
     }
 }
 
-// Adds the records of the entries that are ended in a text, and gives what is left of it.
+// Adds the records of the entries in front of a text that are at hand as a whole, and gives the text
+// after them. `goes_on` is whether the text goes on past its limit, where that is known.
 fn take_entries<'a, G: Gathers>(
     alloc: Global,
     reader: &mut Reader,
     room: &mut DataRoom,
     text: &'a [u8],
+    goes_on: Option<bool>,
     found: &mut G,
 ) -> Result<&'a [u8], ReadFault>
     requires fits { reader.old.line + length text.now ≤ 16777217 }
     requires count { length (G.gathered found.old) ≡ reader.old.count }
-    ensures ok { IfOk result (λ rest. FrontGathered reader.old text.now reader.new rest.now
+    ensures ok { IfOk result (λ rest. FrontGathered goes_on reader.old text.now reader.new rest.now
         (G.gathered found.old) (G.gathered found.new)) }
     ensures count { OnOk result (length (G.gathered found.new) ≡ reader.new.count) }
     ensures lines { IfOk result (λ rest. reader.new.line + length rest.now
         ≤ reader.old.line + length text.now) }
-    ensures err { IfErr result (OfEntry (FrontFaulty reader.old text.now)) }
+    ensures same { IfOk result (λ rest. length text.now ≤ length rest.now
+        → rest.now ≡ text.now) }
+    ensures all { IfOk result (λ rest. goes_on ≢ None → rest.now ≡ []) }
+    ensures err { IfErr result (OfEntry (FrontFaulty goes_on reader.old text.now)) }
 {
     let mut words = Vec::new(alloc);
     let mut rest = text;
-    'entries: while let Some((is_record, others)) = next_ended(reader, rest, &mut words, room)? {
+    'entries: while let Some((is_record, others)) = next_entry(
+        reader, rest, goes_on, &mut words, room,
+    )? {
         add_taken(is_record, reader, found)?;
         rest = others;
     }
     Ok(rest)
 }
 
-// Takes the entry that a text begins with, where it is ended, as `take_ended` of a reader does.
-fn next_ended<'a>(
+// Takes the entry that a text begins with, as `take_entry` of a reader does; `None` at its end too.
+fn next_entry<'a>(
     reader: &mut Reader,
     text: &'a [u8],
+    goes_on: Option<bool>,
     words: &mut Vec<Word<'a>>,
     room: &mut DataRoom,
 ) -> Result<Option<(bool, &'a [u8])>, ReadFault>
     requires fits { reader.old.line + length text.now ≤ 16777217 }
-    ensures ok { IfOk result (λ next. IfSome next (λ x. FrontTaken reader.old text.now
+    ensures ok { IfOk result (λ next. IfSome next (λ x. TakesFirst goes_on reader.old text.now
         (handed x.0 reader.new.last) reader.new x.1.now)) }
-    ensures none { IfOk result (λ next. next ≡ None → reader.new ≡ reader.old) }
-    ensures counted { IfOk result (λ next. IfSome next (λ x.
-        reader.new.count ≡ reader.old.count + length (handed x.0 reader.new.last))) }
-    ensures shorter { IfOk result (λ next. IfSome next (λ x.
-        length x.1.now < length text.now)) }
-    ensures lines { IfOk result (λ next. IfSome next (λ x.
-        reader.new.line + length x.1.now ≤ reader.old.line + length text.now)) }
-    ensures err { IfErr result (OfEntry (FrontFaulty reader.old text.now)) }
+    ensures none { IfOk result (λ next. next ≡ None
+        → (reader.new ≡ reader.old) × (goes_on ≢ None → text.now ≡ [])) }
+    ensures err { IfErr result (OfEntry (FrontFaulty goes_on reader.old text.now)) }
 {
+    if text.is_empty() {
+        return Ok(None);
+    }
     let line = reader.line;
-    match reader.take_ended(text, words, room) {
+    match reader.take_entry(text, goes_on, words, room) {
         Ok(next) => Ok(next),
         Err(refusal) => Err(entry_fault(refusal, line)),
     }

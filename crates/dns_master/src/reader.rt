@@ -7,17 +7,16 @@ ghost use Rattle.dns_spec.specs.Data.{Valid, lower_case};
 ghost use Rattle.dns_spec.specs.DataText.{Says};
 ghost use Rattle.dns_spec.specs.TypeText.{text_in_lower_case};
 ghost use Rattle.dns_spec.specs.Meaning.{Nothing, TtlSays, gives, faulty, directive, owned, unowned, kind_by_words, fields, records, fault_at, most_records};
-ghost use Rattle.dns_master.specs.Codes.{ForFault, OfEntry, entry_fault_of, fault_of, failures_after_read};
+ghost use Rattle.dns_master.specs.Codes.{ForFault, entry_fault_of, fault_of, failures_after_read};
 ghost use Rattle.dns_master.specs.SourceForm.{GivesMeaning, Decides};
 ghost use Rattle.dns_master.specs.OwnedBody.{with_owner};
 ghost use Rattle.dns_master.specs.RecordForm.{IsKept};
-ghost use Rattle.dns_master.specs.ReaderForm.{Knows, TakesEntry, RefusesEntry, RecordMeans, TakesRecord, TakesFirst, RefusesFirst, handed};
-ghost use Rattle.dns_master.specs.RecordsForm.{StillGives, came, given_so_far};
-ghost use Rattle.dns_master.specs.PieceForm.{FrontTaken, FrontFaulty, ReaderMeans, TextGathered};
+ghost use Rattle.dns_master.specs.ReaderForm.{Knows, TakesEntry, RefusesEntry, RecordMeans, TakesRecord, handed};
+ghost use Rattle.dns_master.specs.PieceForm.{TakesFirst, FrontFaulty};
 ghost use Rattle.dns_master.specs.WordsLeft.{words_left};
 
 use crate::directive::{is_directive, read_default_ttl, read_origin};
-use crate::entry::{begins_blank, check_end, is_ended, read_entry};
+use crate::entry::{begins_blank, is_whole, read_entry};
 use crate::entry_words::EntryWords;
 use crate::fault::{EntryFault, ReadCode, ReadFault, Refusal};
 use crate::fields::{Fields, is_other_class, stated_ttl, type_and_words};
@@ -25,7 +24,7 @@ use crate::gathers::{Gathers, WholeRecords};
 use crate::pieces::Begun;
 use crate::record::{Record, RecordBody};
 use crate::source::{is_more, new_piece};
-use crate::state::{Reader, Records};
+use crate::state::Reader;
 use crate::words::{is_word, spell_name};
 use dns_name::{Name, Tally};
 use dns_rdata::{DataRoom, RType, Rdata, Word, Words};
@@ -105,60 +104,13 @@ pub fn read_into<R: Read, G: Gathers>(
     let mut begun = Begun::new(alloc, origin);
     'pieces: while begun.left > 0 {
         if !begun.take_piece(source, piece.as_mut_slice(), found)? {
-            return finish(begun, false, found);
+            return begun.finish(false, found);
         }
     }
     match is_more(alloc, source, piece.as_mut_slice()) {
-        Ok(goes_on) => finish(begun, goes_on, found),
+        Ok(goes_on) => begun.finish(goes_on, found),
         Err(code) => Err(ReadFault { code, line: 0 }),
     }
-}
-
-// Adds the records of what is left of a text, after which it is over or goes on past its limit.
-fn finish<G: Gathers>(begun: Begun, goes_on: bool, found: &mut G) -> Result<(), ReadFault>
-    requires count { length (G.gathered found.old) ≡ begun.reader.count }
-    requires fits { begun.reader.line + length begun.held.items ≤ 16777217 }
-    ensures ok { OnOk result (TextGathered begun.reader goes_on begun.held.items
-        (G.gathered found.old) (G.gathered found.new)) }
-    ensures few { OnOk result (length (G.gathered found.new) ≤ most_records) }
-    ensures err { IfErr result (OfEntry (λ fault line.
-        ReaderMeans begun.reader goes_on begun.held.items (fault_at fault line))) }
-{
-    let mut entries = Records {
-        reader: begun.reader,
-        words: Vec::new(begun.alloc),
-        room: begun.room,
-        rest: begun.held.as_slice(),
-        goes_on,
-    };
-    gather(&mut entries, found)
-}
-
-// Adds all records that are still to come.
-fn gather<G: Gathers>(entries: &mut Records<'_>, found: &mut G) -> Result<(), ReadFault>
-    requires { length (G.gathered found.old) ≡ given_so_far entries.old }
-    ensures ok { OnOk result (TextGathered entries.old.reader entries.old.goes_on
-        entries.old.rest.now (G.gathered found.old) (G.gathered found.new)) }
-    ensures few { OnOk result (length (G.gathered found.new) ≤ most_records) }
-    ensures err { IfErr result (OfEntry (λ fault line.
-        StillGives entries.old (fault_at fault line))) }
-{
-    'records: while entries.advance()? {
-        add_last(entries, found)?;
-    }
-    Ok(())
-}
-
-// Adds the current record.
-fn add_last<G: Gathers>(entries: &Records<'_>, found: &mut G) -> Result<(), ReadFault>
-    ensures ok { OnOk result (G.gathered found.new
-        ≡ G.gathered found.old ++ came true entries.now) }
-    ensures err { IfErr result (λ f. (f.code ≡ ReadCode.NoMemory) × (f.line ≡ 0)) }
-{
-    if let Some(last) = entries.record() {
-        found.add(last)?;
-    }
-    Ok(())
 }
 
 impl Reader {
@@ -179,64 +131,27 @@ impl Reader {
     }
 
     /// Takes the entry that a text begins with: gives whether it is a record, which is the last one
-    /// then, and the text after it.
+    /// then, and the text after it. `goes_on` is whether the text goes on past its limit. Where that
+    /// is not known, more of it may come: `None` where that would be needed to tell, and then nothing
+    /// was taken.
     pub(crate) fn take_entry<'a>(
         &mut self,
         text: &'a [u8],
-        goes_on: bool,
-        words: &mut Vec<Word<'a>>,
-        room: &mut DataRoom,
-    ) -> Result<(bool, &'a [u8]), Refusal>
-        requires some { text.now ≢ [] }
-        requires fits { self.old.line + length text.now ≤ 16777217 }
-        ensures ok { IfOk result (λ x. TakesFirst self.old goes_on text.now x.1.now
-            (handed x.0 self.new.last) self.new) }
-        ensures counted { IfOk result (λ x.
-            self.new.count ≡ self.old.count + length (handed x.0 self.new.last)) }
-        ensures some { IfOk result (λ x. IsTrue x.0 → IsSome self.new.last) }
-        ensures shorter { IfOk result (λ x. length x.1.now < length text.now) }
-        ensures lines { IfOk result (λ x. self.new.line + length x.1.now
-            ≤ self.old.line + length text.now) }
-        ensures stays { IfErr result (λ _. self.new.line ≡ self.old.line) }
-        ensures err { IfErr result (λ refusal. ForFault refusal
-            (RefusesFirst self.old goes_on text.now)) }
-    {
-        let end = read_entry(text, words)?;
-        check_end(&end, goes_on)?;
-        let (lines, rest) = (end.lines, end.rest);
-        let found = EntryWords {
-            kept: words.as_slice(),
-            later: end.later,
-        };
-        let taken = self.take_words(begins_blank(text), found, room)?;
-        self.line += lines;
-        Ok((taken, rest))
-    }
-
-    /// Takes the entry that a text begins with, where the text tells its end whatever comes after
-    /// it: gives whether it is a record, which is the last one then, and the text after it. `None`
-    /// where more of the text would be needed to tell; then nothing was taken.
-    pub(crate) fn take_ended<'a>(
-        &mut self,
-        text: &'a [u8],
+        goes_on: Option<bool>,
         words: &mut Vec<Word<'a>>,
         room: &mut DataRoom,
     ) -> Result<Option<(bool, &'a [u8])>, Refusal>
+        requires some { text.now ≢ [] }
         requires fits { self.old.line + length text.now ≤ 16777217 }
-        ensures ok { IfOk result (λ found. IfSome found (λ x. FrontTaken self.old text.now
+        ensures ok { IfOk result (λ found. IfSome found (λ x. TakesFirst goes_on self.old text.now
             (handed x.0 self.new.last) self.new x.1.now)) }
-        ensures none { IfOk result (λ found. found ≡ None → self.new ≡ self.old) }
-        ensures counted { IfOk result (λ found. IfSome found (λ x.
-            self.new.count ≡ self.old.count + length (handed x.0 self.new.last))) }
-        ensures shorter { IfOk result (λ found. IfSome found (λ x.
-            length x.1.now < length text.now)) }
-        ensures lines { IfOk result (λ found. IfSome found (λ x.
-            self.new.line + length x.1.now ≤ self.old.line + length text.now)) }
+        ensures none { IfOk result (λ found. found ≡ None
+            → (self.new ≡ self.old) × (goes_on ≡ None)) }
         ensures err { IfErr result (λ refusal. ForFault refusal
-            (λ fault. FrontFaulty self.old text.now fault self.old.line)) }
+            (λ fault. FrontFaulty goes_on self.old text.now fault self.old.line)) }
     {
         let end = read_entry(text, words)?;
-        if !is_ended(&end)? {
+        if !is_whole(&end, goes_on)? {
             return Ok(None);
         }
         let (lines, rest) = (end.lines, end.rest);

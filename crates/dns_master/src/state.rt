@@ -1,11 +1,10 @@
 //! What the reader of zone files keeps from entry to entry.
-ghost use Rattle.std.specs.Prelude.{◌+◌, ◌≤◌, length};
+ghost use Rattle.std.specs.Prelude.{◌≤◌};
 ghost use Rattle.std.specs.Option.{ForSome};
 ghost use Rattle.dns_spec.specs.Meaning.{most_records};
 
 use crate::record::Record;
 use dns_name::Name;
-use dns_rdata::{DataRoom, Word};
 
 /// What the entries so far give to those after them.
 #[derive(Drop)]
@@ -27,16 +26,4 @@ pub(crate) struct Reader {
     ghost default_short: { ForSome default_ttl (λ n. n ≤ 2147483647) },
     ghost stated_short: { ForSome stated_ttl (λ n. n ≤ 2147483647) },
     ghost few: { count ≤ most_records },
-}
-
-/// The records of the text of a zone file, one after another, up to its first fault (RFC 1035
-/// section 5).
-#[derive(Drop)]
-pub struct Records<'a> {
-    pub(crate) reader: Reader,
-    pub(crate) words: Vec<Word<'a>>,
-    pub(crate) room: DataRoom,
-    pub(crate) rest: &'a [u8],
-    pub(crate) goes_on: bool,
-    ghost fits: { reader.line + length rest.now ≤ 16777217 },
 }

@@ -73,6 +73,17 @@ fn a_fault_at_the_end_of_a_piece(rt: HostRuntime) -> Result<(), Fail> {
     Ok(())
 }
 
+// Once it was looked at, an entry of many pieces is looked at again when twice as many octets are held.
+#[test]
+fn a_fault_of_an_entry_of_many_pieces(rt: HostRuntime) -> Result<(), Fail> {
+    let mut text = repeated(rt.alloc(), b"$X (", 1)?;
+    text.extend_from_slice(repeated(rt.alloc(), b"\n", 8_190)?.as_slice())?;
+    text.extend_from_slice(b")\n")?;
+    text.extend_from_slice(repeated(rt.alloc(), b"\n", 12_288)?.as_slice())?;
+    assert_eq!(rt; taken(rt.alloc(), &text)?, ((5, 1), 16_384));
+    Ok(())
+}
+
 #[test]
 fn a_file_from_sources_of_few_octets(rt: HostRuntime) -> Result<(), Fail> {
     let text = after_comment(rt.alloc(), 9_000, MIXED)?;

@@ -1,7 +1,7 @@
 //! Records that files mean.
 
-use super::reading::{ONE, by, example, read};
-use dns_master::{Record, Records};
+use super::reading::{ONE, by, read};
+use dns_master::Record;
 use std::process::Abort;
 use std::test::Fail;
 
@@ -197,16 +197,6 @@ const WORDS: [Case<'static>; 5] = [
 fn compare<R: Abort + AllocGlobal>(rt: &R, text: &[u8], meant: &[Meant<'_>]) -> Result<(), Fail> {
     judge_all(rt, &read(rt.alloc(), text)??, text, meant)?;
     judge_all(rt, &read(rt.alloc(), by(text, ONE))??, text, meant)?;
-    let origin = example()?;
-    let mut entries = Records::new(rt.alloc(), &origin, text);
-    for wanted in meant {
-        assert!(rt; entries.advance()?, "of {text:?}");
-        assert!(rt; entries.record().is_some(), "of {text:?}");
-        if let Some(lent) = entries.record() {
-            judge(rt, text, lent, wanted);
-        }
-    }
-    assert!(rt; !entries.advance()?, "of {text:?}");
     Ok(())
 }
 

@@ -1,10 +1,10 @@
-use Rattle.std.proofs.Common.{◌≡◌, ◌-◌, ◌≤◌, length, subst, arith}
+use Rattle.std.proofs.Common.{◌≡◌, None, ◌-◌, ◌≤◌, length, subst, arith}
 use Rattle.dns_master.specs.PieceForm.{PieceTaken}
 use Rattle.dns_master.proofs.PieceSteps.{nothing-gathered, piece-taken}
 use Rattle.dns_master.proofs.pieces.Begun.take_piece.Goals as goal
 
-pub returns-else-finds_end-clause-ok : goal.returns-else-finds_end-clause-ok
-returns-else-finds_end-clause-ok g c =
+pub returns-else-len-self-clause-ok : goal.returns-else-len-self-clause-ok
+returns-else-len-self-clause-ok g c =
     let found = g.G.Gathers.gathered c.args.found.now in
     let old = g.R.Read.remaining c.args.source.now.device in
     let new = g.R.Read.remaining c.append_piece.new.source.device in
@@ -14,4 +14,4 @@ returns-else-finds_end-clause-ok g c =
     (c.args.self.now.left - n) c.in-Ok.more found found) size
     (piece-taken old new c.args.self.now.reader c.args.self.now.reader c.args.self.now.held.items c.append_piece.new.text.items c.append_piece.new.text.items
     c.args.self.now.left c.min-asked.result c.in-Ok.more found found c.in-Ok.ensures.ok most
-    (nothing-gathered c.args.self.now.reader c.append_piece.new.text.items found))
+    (nothing-gathered None c.args.self.now.reader c.append_piece.new.text.items found))

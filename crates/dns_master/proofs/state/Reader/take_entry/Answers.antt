@@ -1,9 +1,13 @@
-use Rattle.std.proofs.Common.{◌≡◌, ◌+◌, ◌++◌, subst, sym, ap, ◌∙◌}
+use Rattle.std.proofs.Common.{◌≡◌, ◌+◌, ◌∷◌, ◌++◌, None, true, subst, sym, ap, ◌∙◌, arith}
+use Rattle.std.specs.Option.{unwrap_or}
+use Rattle.dns_spec.specs.FileFaults.{bad_parenthesis, fault_code}
 use Rattle.dns_spec.specs.ZoneText.{ended}
-use Rattle.dns_spec.specs.Meaning.{EntryKind, KindGives, kind_of, kind_by_words, faulty}
+use Rattle.dns_spec.specs.Meaning.{EntryKind, KindGives, faulty, line_after}
 use Rattle.dns_master.specs.Codes.{entry_fault_of}
+use Rattle.dns_master.specs.EntryForm.{IsWhole}
 use Rattle.dns_name.proofs.Results.{fault_handed_on}
 use Rattle.dns_master.proofs.TextSteps.{wrong-faulty, same_sort, entry-means, entry-faulty, entry-ends_faulty, entry-line, entry-shorter}
+use Rattle.dns_master.proofs.PieceSteps.{always, end-faulty, entry-on, other_than_long}
 use Rattle.dns_master.specs.WordsLeft.{later_words}
 use Rattle.dns_master.specs.declared.fault.Refusal.TheVariants.{Faulty}
 use Rattle.dns_master.proofs.Refusals.{ForFault-map}
@@ -11,45 +15,44 @@ use Rattle.dns_master.proofs.state.Reader.take_entry.Goals as goal
 
 pub returns-in_err-end-clause-err : goal.returns-in_err-end-clause-err
 returns-in_err-end-clause-err c =
-    fault_handed_on c.from_residual.result c.in_err-end.field-0.0 _ c.from_residual.ensures.1 (ForFault-map c.in_err-end.field-0.0 (λ fault reported o earlier known.
-    rw reported.0 (wrong-faulty o earlier c.args.goes_on c.args.text.now reported.1)) c.in_err-end.ensures.err)
+    fault_handed_on c.from_residual.result c.in_err-end.field-0.0 _ c.from_residual.ensures.1 (ForFault-map c.in_err-end.field-0.0 (λ fault reported more past may o earlier known line.
+    rw reported.0 (rw line (end-faulty c.args.goes_on o earlier c.args.text.now more past bad_parenthesis (line_after earlier) may
+    (wrong-faulty o earlier (unwrap_or c.args.goes_on true) c.args.text.now reported.1) (λ _ e. omega (arith, ap fault_code e))))) c.in_err-end.ensures.err)
 
-pub returns-in_err-check_end-clause-err : goal.returns-in_err-check_end-clause-err
-returns-in_err-check_end-clause-err c =
-    fault_handed_on c.from_residual-in_err-check_end.result (Faulty c.in_err-check_end.field-0.0) _ c.from_residual-in_err-check_end.ensures.1 (λ o earlier known.
-    let read = c.in_ok-end.ensures.ok in
-    entry-ends_faulty o earlier c.args.goes_on c.args.text.now c.in_ok-end.end.rest.now _ _ c.in_ok-end.end.is_ended c.in_ok-end.end.is_open read
-    c.in_err-check_end.ensures.err.0 (entry_fault_of c.in_err-check_end.field-0.0) c.in_err-check_end.ensures.err.1)
+pub returns-in_err-is_whole-clause-err : goal.returns-in_err-is_whole-clause-err
+returns-in_err-is_whole-clause-err c =
+    fault_handed_on c.from_residual-in_err-is_whole.result (Faulty c.in_err-is_whole.field-0.0) _ c.from_residual-in_err-is_whole.ensures.1 (λ more past may o earlier known line.
+    let reported = c.in_err-is_whole.ensures.err in
+    rw line (end-faulty c.args.goes_on o earlier c.args.text.now more past (entry_fault_of c.in_err-is_whole.field-0.0) (line_after earlier) may
+    (entry-ends_faulty o earlier (unwrap_or c.args.goes_on true) c.args.text.now c.in_ok-end.end.rest.now _ _ c.in_ok-end.end.is_ended c.in_ok-end.end.is_open c.in_ok-end.ensures.ok
+    reported.0 (entry_fault_of c.in_err-is_whole.field-0.0) reported.1)
+    (λ unknown. other_than_long c.in_err-is_whole.field-0.0 (reported.2 unknown))))
 
 pub returns-in_err-taken-clause-err : goal.returns-in_err-taken-clause-err
 returns-in_err-taken-clause-err c =
-    fault_handed_on c.from_residual-in_err-taken.result c.in_err-taken.field-0.0 _ c.from_residual-in_err-taken.ensures.1 (ForFault-map c.in_err-taken.field-0.0 (λ fault given o earlier known.
-    let read = c.in_ok-end.ensures.ok in
-    let sort : kind_of (ended read.tokens) ≡ kind_by_words c.begins_blank.result (c.as_slice.result.now ++ later_words c.in_ok-end.end.later) =
-    same_sort c.args.text.now read.tokens _ _ read.reads read.words_are
-    ∙ ap (λ b. kind_by_words b (c.read_entry.new.kept.items ++ later_words c.in_ok-end.end.later)) (sym c.begins_blank.ensures)
-    ∙ ap (λ ws. kind_by_words c.begins_blank.result (ws ++ later_words c.in_ok-end.end.later)) (sym c.as_slice.ensures.value) in
-    entry-faulty o earlier c.args.goes_on c.args.text.now c.in_ok-end.end.rest.now _ _ c.in_ok-end.end.is_ended c.in_ok-end.end.is_open read
-    c.in_ok-check_end.ensures.ok fault
-    (subst (λ (s : EntryKind). KindGives o earlier s (faulty fault)) (sym sort) (given o earlier known))) c.in_err-taken.ensures.err)
+    let sort = same_sort c.args.text.now c.read_entry.new.kept.items c.as_slice.result.now (later_words c.in_ok-end.end.later) _ _ c.begins_blank.result c.in_ok-end.ensures.ok
+    c.begins_blank.ensures c.as_slice.ensures.value in
+    let whole = always (IsWhole c.args.goes_on c.in_ok-end.end.is_ended c.in_ok-end.end.is_open c.in_ok-end.end.rest.now) (c.args.goes_on ≡ None) _ c.if-not-branch.false c.in_ok-is_whole.ensures.ok in
+    fault_handed_on c.from_residual-in_err-taken.result c.in_err-taken.field-0.0 _ c.from_residual-in_err-taken.ensures.1 (ForFault-map c.in_err-taken.field-0.0 (λ fault given more past may o earlier known line.
+    let on = entry-on c.args.goes_on more past c.args.text.now c.in_ok-end.end.rest.now _ _ _ _ may whole c.in_ok-end.ensures.ok in
+    rw line (entry-faulty o earlier past (c.args.text.now ++ more) (c.in_ok-end.end.rest.now ++ more) _ _ c.in_ok-end.end.is_ended c.in_ok-end.end.is_open on.0 on.1 fault
+    (subst (λ (s : EntryKind). KindGives o earlier s (faulty fault)) (sym sort) (given o earlier known)))) c.in_err-taken.ensures.err)
 
 pub returns-clause-ok : goal.returns-clause-ok
-returns-clause-ok c = λ o earlier known line.
-    let read = c.in_ok-end.ensures.ok in
-    let sort : kind_of (ended read.tokens) ≡ kind_by_words c.begins_blank.result (c.as_slice.result.now ++ later_words c.in_ok-end.end.later) =
-    same_sort c.args.text.now read.tokens _ _ read.reads read.words_are
-    ∙ ap (λ b. kind_by_words b (c.read_entry.new.kept.items ++ later_words c.in_ok-end.end.later)) (sym c.begins_blank.ensures)
-    ∙ ap (λ ws. kind_by_words c.begins_blank.result (ws ++ later_words c.in_ok-end.end.later)) (sym c.as_slice.ensures.value) in
-    let done = c.in_ok-taken.ensures.ok o earlier (ended read.tokens) known sort in
+returns-clause-ok c =
+    let sort = same_sort c.args.text.now c.read_entry.new.kept.items c.as_slice.result.now (later_words c.in_ok-end.end.later) _ _ c.begins_blank.result c.in_ok-end.ensures.ok
+    c.begins_blank.ensures c.as_slice.ensures.value in
+    let whole = always (IsWhole c.args.goes_on c.in_ok-end.end.is_ended c.in_ok-end.end.is_open c.in_ok-end.end.rest.now) (c.args.goes_on ≡ None) _ c.if-not-branch.false c.in_ok-is_whole.ensures.ok in
     record {
-      entry = ended read.tokens;
-      known = done.known;
-      line_is = ap (λ n. n + c.in_ok-end.end.lines) (c.in_ok-taken.ensures.line ∙ line)
-          ∙ sym (entry-line o earlier c.args.goes_on c.args.text.now c.in_ok-end.end.rest.now _ _ c.in_ok-end.end.is_ended c.in_ok-end.end.is_open read);
-      means = entry-means o earlier c.args.goes_on c.args.text.now c.in_ok-end.end.rest.now _ _ c.in_ok-end.end.is_ended c.in_ok-end.end.is_open read
-          c.in_ok-check_end.ensures.ok _ done.given;
+      taken = λ more past later may h o earlier known line.
+          let on = entry-on c.args.goes_on more past c.args.text.now c.in_ok-end.end.rest.now _ _ _ _ may whole c.in_ok-end.ensures.ok in
+          let done = c.in_ok-taken.ensures.ok o earlier (ended c.in_ok-end.ensures.ok.tokens) known sort in
+          let line_is = ap (λ n. n + c.in_ok-end.end.lines) (c.in_ok-taken.ensures.line ∙ line)
+          ∙ sym (entry-line o earlier true c.args.text.now c.in_ok-end.end.rest.now _ _ c.in_ok-end.end.is_ended c.in_ok-end.end.is_open c.in_ok-end.ensures.ok) in
+          entry-means o earlier past (c.args.text.now ++ more) (c.in_ok-end.end.rest.now ++ more) _ _ c.in_ok-end.end.is_ended c.in_ok-end.end.is_open on.0 on.1 _ done.given later
+          (h o (ended c.in_ok-end.ensures.ok.tokens ∷ earlier) done.known line_is);
+      counted = c.in_ok-taken.ensures.counted;
+      shorter = entry-shorter (unwrap_or c.args.goes_on true) c.args.text.now c.in_ok-end.end.rest.now _ _ c.in_ok-end.end.is_ended c.in_ok-end.end.is_open c.requires.some
+          c.in_ok-end.ensures.ok whole;
+      lines = omega (arith, c.in_ok-end.ensures.bound, c.in_ok-taken.ensures.line);
     }
-
-pub returns-clause-shorter : goal.returns-clause-shorter
-returns-clause-shorter c =
-    entry-shorter c.args.goes_on c.args.text.now c.in_ok-end.end.rest.now _ _ c.in_ok-end.end.is_ended c.in_ok-end.end.is_open c.requires.some c.in_ok-end.ensures.ok c.in_ok-check_end.ensures.ok

@@ -1,0 +1,28 @@
+use Rattle.std.proofs.Common.{sym, subst}
+use Rattle.std.proofs.lemmas.Option.{none-some}
+use Rattle.dns_spec.specs.Names.{Octets}
+use Rattle.dns_spec.specs.Meaning.{fault_at}
+use Rattle.dns_master.specs.PieceForm.{ReaderMeans}
+use Rattle.dns_master.specs.declared.fault.Refusal.TheVariants.{Faulty}
+use Rattle.dns_master.specs.declared.fault.EntryFault.TheVariants.{TooLong}
+use Rattle.dns_master.proofs.PieceSteps.{all-faulty, all-gathered, all-too_long}
+use Rattle.dns_master.proofs.Refusals.{entry-told, OfEntry-map}
+use Rattle.dns_name.proofs.Results.{fault_handed_on}
+use Rattle.dns_master.proofs.pieces.Begun.finish.Goals as goal
+
+pub returns-in_err-take_entries-clause-err : goal.returns-in_err-take_entries-clause-err
+returns-in_err-take_entries-clause-err g c =
+    fault_handed_on c.from_residual.result c.in_err-take_entries.field-0.0 _ c.from_residual.ensures.1 (OfEntry-map c.in_err-take_entries.field-0.0
+    (λ fault line h. subst (λ (x : Octets). ReaderMeans c.args.self.reader c.args.goes_on x (fault_at fault line)) c.as_slice.ensures.value
+    (all-faulty c.args.goes_on c.args.self.reader c.as_slice.result.now fault line h)) c.in_err-take_entries.ensures.err)
+
+pub returns-then-goes_on-clause-err : goal.returns-then-goes_on-clause-err
+returns-then-goes_on-clause-err g c =
+    entry-told (Faulty TooLong) c.take_entries.new.reader.line c.entry_fault.result _ c.entry_fault.ensures
+    (all-too_long c.args.goes_on c.args.self.reader c.take_entries.new.reader c.args.self.held.items _ _ _ _ c.as_slice.ensures.value (c.in_ok-take_entries.ensures.all (λ e. none-some _ (sym e)))
+    c.in_ok-take_entries.ensures.ok c.if-goes_on.true)
+
+pub returns-clause-ok : goal.returns-clause-ok
+returns-clause-ok g c =
+    all-gathered c.args.goes_on c.args.self.reader c.take_entries.new.reader c.args.self.held.items _ _ _ _ c.as_slice.ensures.value (c.in_ok-take_entries.ensures.all (λ e. none-some _ (sym e)))
+    c.in_ok-take_entries.ensures.ok c.if-goes_on.false
