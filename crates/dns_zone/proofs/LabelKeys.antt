@@ -1,101 +1,142 @@
--- The order of labels is that of their keys, where these differ.
-use Rattle.std.proofs.Common.{◌≡◌, ℕ, ◌+◌, ◌<◌, ◌≤◌, ◌⊎◌, inl, inr, [], ◌∷◌, map, drop, get_or, refl, sym, ap, ◌∙◌, arith, is_lt, Ordering, Less, Equal, Greater, nat_cmp}
-use Rattle.std.proofs.lemmas.Bool.{cases_lt, false≢true}
+-- The order of labels is that of their keys, where these differ; where they are the same it is that
+-- of what follows the keys, or of the labels' lengths.
+use Rattle.std.proofs.Common.{◌≡◌, ℕ, zero, suc, ◌+◌, ◌*◌, ◌^◌, ◌<◌, ◌≤◌, ◌⊎◌, inl, inr, [], ◌∷◌, ◌-◌, ◌/◌, add-one, drop-cons, map, length, drop, get_or, refl, sym, ap, ◌∙◌, arith, Ordering, Less, Equal, Greater, nat_cmp}
+use Rattle.std.proofs.Math.Nat.{mul-le-mul_right, one-le-pow}
+use Rattle.std.proofs.lemmas.Bool.{cases_lt, cases_order}
 use Rattle.std.proofs.lemmas.Cmp.{nat_list_cmp_total}
+use Rattle.std.proofs.lemmas.Str.Ascii.{lowercase_is}
 use Rattle.std.specs.Char.{to_ascii_lowercase}
 use Rattle.std.specs.Cmp.{nat_cmp_is}
 use Rattle.std.specs.Ordering.{ordering_then, ordering_reverse}
 use Rattle.dns_spec.specs.Names.{Octets, DomainName, folded, label_order}
-use Rattle.dns_zone.specs.LabelKey.{IsKey}
+use Rattle.dns_zone.specs.LabelKey.{IsKey, key_of}
 use Rattle.dns_zone.specs.TreeForm.{first_of}
 
--- labels that differ in their first octet, or have it alike
-by_head : (a b : Octets) → get_or a 0 0 < get_or b 0 0 → label_order a b ≡ Less
-by_head [] [] h = absurd (omega arith)
-by_head [] (y ∷ b) h = refl
-by_head (x ∷ a) [] h = absurd (omega arith)
-by_head (x ∷ a) (y ∷ b) h =
-    ap (λ (o : Ordering). ordering_then o (label_order a b)) (sym (nat_cmp_is x y Less h))
+abbrev Low : Octets → Type 0
+Low a = (i : ℕ) → get_or a i 0 < 256
 
-by_tail : (a b : Octets) → get_or a 0 0 ≡ get_or b 0 0
-    → label_order (drop 1 a) (drop 1 b) ≡ Less → label_order a b ≡ Less
-by_tail [] [] h e = e
-by_tail [] (y ∷ b) h e = refl
-by_tail (x ∷ []) [] h e = absurd (false≢true (ap is_lt e))
-by_tail (x ∷ z ∷ a) [] h e = absurd (false≢true (ap is_lt e))
-by_tail (x ∷ a) (y ∷ b) h e =
-    ap (λ (o : Ordering). ordering_then o (label_order a b)) (sym (nat_cmp_is x y Equal h)) ∙ e
+rest_low : (x : ℕ) (a : Octets) → Low (x ∷ a) → Low a
+rest_low x a low = λ i. low (suc i)
 
--- the second octet and those after it are the first and those after it of the rest
-rest_at : (i : ℕ) (a : Octets) → get_or (drop 1 a) i 0 ≡ get_or a (i + 1) 0
-rest_at i [] = search arith
-rest_at i (x ∷ a) = search arith
+pub key_low : (n : ℕ) (a : Octets) → Low a → key_of n a < 256 ^ n
+unfolding key_of
+key_low zero a low = omega arith
+key_low (suc n) [] low = omega (arith, one-le-pow (suc n) 256 (omega arith))
+key_low (suc n) (x ∷ a) low =
+    let first : x ≤ 255 = let h = low 0 in omega arith in
+    omega (arith, key_low n a (rest_low x a low), mul-le-mul_right (256 ^ n) first)
 
-second : (a : Octets) → get_or (drop 1 (drop 1 a)) 0 0 ≡ get_or a 2 0
-second a = rest_at 0 (drop 1 a) ∙ rest_at 1 a
+-- numbers of a first digit and the rest: the first digits decide, or the rests do
+lesser_parts : (p x y k l : ℕ) → k < p → l < p → x * p + k < y * p + l
+    → (x < y) ⊎ ((x ≡ y) × (k < l))
+lesser_parts p x y k l s t h = go (cases_order x y)
+  where
+    go : (x ≡ y) ⊎ ((x < y) ⊎ (y < x)) → (x < y) ⊎ ((x ≡ y) × (k < l))
+    go (inl e) = inr (e, omega (arith, ap (λ z. z * p) e))
+    go (inr (inl m)) = inl m
+    go (inr (inr m)) =
+        let more : suc y * p ≤ x * p = mul-le-mul_right p (omega arith) in absurd (omega arith)
 
-third : (a : Octets) → get_or (drop 1 (drop 1 (drop 1 a))) 0 0 ≡ get_or a 3 0
-third a = rest_at 0 (drop 1 (drop 1 a)) ∙ rest_at 1 (drop 1 a) ∙ rest_at 2 a
+same_parts : (p x y k l : ℕ) → k < p → l < p → x * p + k ≡ y * p + l → (x ≡ y) × (k ≡ l)
+same_parts p x y k l s t h = go (cases_order x y)
+  where
+    go : (x ≡ y) ⊎ ((x < y) ⊎ (y < x)) → (x ≡ y) × (k ≡ l)
+    go (inl e) = (e, omega (arith, ap (λ z. z * p) e))
+    go (inr (inl m)) =
+        let more : suc x * p ≤ y * p = mul-le-mul_right p (omega arith) in absurd (omega arith)
+    go (inr (inr m)) =
+        let more : suc y * p ≤ x * p = mul-le-mul_right p (omega arith) in absurd (omega arith)
 
-module _ {j k : ℕ} {a b : Octets} (p : IsKey j a) (q : IsKey k b) (h : j < k) where
-  from_fourth : get_or a 0 0 ≡ get_or b 0 0 → get_or a 1 0 ≡ get_or b 1 0
-      → get_or a 2 0 ≡ get_or b 2 0
-      → label_order (drop 1 (drop 1 (drop 1 a))) (drop 1 (drop 1 (drop 1 b))) ≡ Less
-  from_fourth e f g =
-      by_head (drop 1 (drop 1 (drop 1 a))) (drop 1 (drop 1 (drop 1 b)))
-      (omega (arith, third a, third b, p.value, q.value, e, f, g, h))
+-- labels that begin alike
+same_head : (x y : ℕ) (a b : Octets) → x ≡ y
+    → label_order (x ∷ a) (y ∷ b) ≡ label_order a b
+same_head x y a b e =
+    ap (λ (o : Ordering). ordering_then o (label_order a b)) (sym (nat_cmp_is x y Equal e))
 
-  from_third : get_or a 0 0 ≡ get_or b 0 0 → get_or a 1 0 ≡ get_or b 1 0
-      → label_order (drop 1 (drop 1 a)) (drop 1 (drop 1 b)) ≡ Less
-  from_third e f = go (cases_lt (get_or a 2 0) (get_or b 2 0))
-    where
-      go : (get_or a 2 0 < get_or b 2 0) ⊎ (get_or b 2 0 ≤ get_or a 2 0)
-          → label_order (drop 1 (drop 1 a)) (drop 1 (drop 1 b)) ≡ Less
-      go (inl l) =
-          by_head (drop 1 (drop 1 a)) (drop 1 (drop 1 b)) (omega (arith, second a, second b, l))
-      go (inr l) =
-          let g : get_or a 2 0 ≡ get_or b 2 0 =
-          omega (arith, p.value, q.value, p.fourth, q.fourth, e, f, l, h) in
-          by_tail (drop 1 (drop 1 a)) (drop 1 (drop 1 b)) (second a ∙ g ∙ sym (second b))
-          (from_fourth e f g)
+lesser : (n : ℕ) (a b : Octets) → Low a → Low b → key_of n a < key_of n b → label_order a b ≡ Less
+unfolding key_of
+lesser zero a b v w h = absurd (omega arith)
+lesser (suc n) a [] v w h = absurd (omega arith)
+lesser (suc n) [] (y ∷ b) v w h = refl
+lesser (suc n) (x ∷ a) (y ∷ b) v w h =
+    go (lesser_parts (256 ^ n) x y (key_of n a) (key_of n b) (key_low n a (rest_low x a v))
+    (key_low n b (rest_low y b w)) h)
+    (lesser n a b (rest_low x a v) (rest_low y b w))
+  where
+    go : (x < y) ⊎ ((x ≡ y) × (key_of n a < key_of n b))
+        → (key_of n a < key_of n b → label_order a b ≡ Less)
+        → label_order (x ∷ a) (y ∷ b) ≡ Less
+    go (inl l) rest =
+        ap (λ (o : Ordering). ordering_then o (label_order a b)) (sym (nat_cmp_is x y Less l))
+    go (inr (e, l)) rest = same_head x y a b e ∙ rest l
 
-  from_second : get_or a 0 0 ≡ get_or b 0 0 → label_order (drop 1 a) (drop 1 b) ≡ Less
-  from_second e = go (cases_lt (get_or a 1 0) (get_or b 1 0))
-    where
-      go : (get_or a 1 0 < get_or b 1 0) ⊎ (get_or b 1 0 ≤ get_or a 1 0)
-          → label_order (drop 1 a) (drop 1 b) ≡ Less
-      go (inl l) = by_head (drop 1 a) (drop 1 b) (omega (arith, rest_at 0 a, rest_at 0 b, l))
-      go (inr l) =
-          let f : get_or a 1 0 ≡ get_or b 1 0 =
-          omega (arith, p.value, q.value, p.third, p.fourth, q.third, q.fourth, e, l, h) in
-          by_tail (drop 1 a) (drop 1 b) (rest_at 0 a ∙ f ∙ sym (rest_at 0 b)) (from_third e f)
+alike : (n x y : ℕ) (a b : Octets) → Low (x ∷ a) → Low (y ∷ b)
+    → key_of (suc n) (x ∷ a) ≡ key_of (suc n) (y ∷ b) → (x ≡ y) × (key_of n a ≡ key_of n b)
+unfolding key_of
+alike n x y a b v w h =
+    same_parts (256 ^ n) x y (key_of n a) (key_of n b) (key_low n a (rest_low x a v))
+    (key_low n b (rest_low y b w)) h
 
-  pub lesser_key : label_order a b ≡ Less
-  lesser_key = go (cases_lt (get_or a 0 0) (get_or b 0 0))
-    where
-      go : (get_or a 0 0 < get_or b 0 0) ⊎ (get_or b 0 0 ≤ get_or a 0 0) → label_order a b ≡ Less
-      go (inl l) = by_head a b l
-      go (inr l) =
-          let e : get_or a 0 0 ≡ get_or b 0 0 =
-          omega (
-            arith,
-            p.value,
-            q.value,
-            p.second,
-            p.third,
-            p.fourth,
-            q.second,
-            q.third,
-            q.fourth,
-            l,
-            h,
-          ) in
-          by_tail a b e (from_second e)
+one_more : (j k : ℕ) → nat_cmp (suc j) (suc k) ≡ nat_cmp j k
+one_more j k = go (cases_order j k)
+  where
+    go : (j ≡ k) ⊎ ((j < k) ⊎ (k < j)) → nat_cmp (suc j) (suc k) ≡ nat_cmp j k
+    go (inl e) = sym (nat_cmp_is (suc j) (suc k) Equal (ap suc e)) ∙ nat_cmp_is j k Equal e
+    go (inr (inl l)) =
+        sym (nat_cmp_is (suc j) (suc k) Less (omega arith)) ∙ nat_cmp_is j k Less l
+    go (inr (inr l)) =
+        sym (nat_cmp_is (suc j) (suc k) Greater (omega arith)) ∙ nat_cmp_is j k Greater l
 
-pub greater_key : {j k : ℕ} {a b : Octets} → IsKey j a → IsKey k b → k < j
-    → label_order a b ≡ Greater
-greater_key {j} {k} {a} {b} p q h =
-    nat_list_cmp_total.antisymm a b ∙ ap ordering_reverse (lesser_key q p h)
+-- a label with no octets beyond its key begins the other
+lengths : (n : ℕ) (a b : Octets) → Low a → Low b → key_of n a ≡ key_of n b
+    → (length a ≤ n) ⊎ (length b ≤ n) → nat_cmp (length a) (length b) ≡ label_order a b
+lengths n [] [] v w h s = refl
+lengths n [] (y ∷ b) v w h s = sym (nat_cmp_is 0 (length (y ∷ b)) Less (omega arith))
+lengths n (x ∷ a) [] v w h s = sym (nat_cmp_is (length (x ∷ a)) 0 Greater (omega arith))
+lengths zero (x ∷ a) (y ∷ b) v w h (inl s) = absurd (omega arith)
+lengths zero (x ∷ a) (y ∷ b) v w h (inr s) = absurd (omega arith)
+lengths (suc n) (x ∷ a) (y ∷ b) v w h s =
+    let e = alike n x y a b v w h in
+    one_more (length a) (length b)
+    ∙ lengths n a b (rest_low x a v) (rest_low y b w) e.1 (fewer s)
+    ∙ sym (same_head x y a b e.0)
+  where
+    fewer : (length (x ∷ a) ≤ suc n) ⊎ (length (y ∷ b) ≤ suc n) → (length a ≤ n) ⊎ (length b ≤ n)
+    fewer (inl t) = inl (omega arith)
+    fewer (inr t) = inr (omega arith)
+
+rests : (n : ℕ) (a b : Octets) → Low a → Low b → key_of n a ≡ key_of n b → n ≤ length a
+    → n ≤ length b → label_order (drop n a) (drop n b) ≡ label_order a b
+rests zero a b v w h l m = refl
+rests (suc n) [] b v w h l m = absurd (omega arith)
+rests (suc n) (x ∷ a) [] v w h l m = absurd (omega arith)
+rests (suc n) (x ∷ a) (y ∷ b) v w h l m =
+    let e = alike n x y a b v w h in
+    rests n a b (rest_low x a v) (rest_low y b w) e.1 (omega arith) (omega arith)
+    ∙ sym (same_head x y a b e.0)
+
+pub by_length : {k : ℕ} {a b : Octets} → IsKey k a → IsKey k b
+    → (length a ≤ 8) ⊎ (length b ≤ 8) → nat_cmp (length a) (length b) ≡ label_order a b
+by_length {k} {a} {b} p q s = lengths 8 a b p.low q.low (sym p.value ∙ q.value) s
+
+pub after_key : {k : ℕ} {a b : Octets} → IsKey k a → IsKey k b → 8 ≤ length a → 8 ≤ length b
+    → label_order (drop 8 a) (drop 8 b) ≡ label_order a b
+after_key {k} {a} {b} p q l m = rests 8 a b p.low q.low (sym p.value ∙ q.value) l m
+
+lesser_key : {j k : ℕ} {a b : Octets} → IsKey j a → IsKey k b → j < k → label_order a b ≡ Less
+lesser_key {j} {k} {a} {b} p q h =
+    lesser 8 a b p.low q.low (let e = p.value in let f = q.value in omega arith)
+
+pub key_order : {j k : ℕ} {a b : Octets} → IsKey j a → IsKey k b → (j ≡ k → ⊥)
+    → nat_cmp j k ≡ label_order a b
+key_order {j} {k} {a} {b} p q n = go (cases_order j k)
+  where
+    go : (j ≡ k) ⊎ ((j < k) ⊎ (k < j)) → nat_cmp j k ≡ label_order a b
+    go (inl e) = absurd (n e)
+    go (inr (inl l)) = sym (nat_cmp_is j k Less l) ∙ sym (lesser_key p q l)
+    go (inr (inr l)) =
+        sym (nat_cmp_is j k Greater l)
+        ∙ sym (nat_list_cmp_total.antisymm a b ∙ ap ordering_reverse (lesser_key q p l))
 
 -- the first label of a name in lower case is in lower case
 pub first_lower : (n : DomainName) → folded n ≡ n
@@ -103,16 +144,61 @@ pub first_lower : (n : DomainName) → folded n ≡ n
 first_lower [] h = refl
 first_lower (l ∷ n) h = ap first_of h
 
-pub key_order : {j k : ℕ} {a b : Octets} → IsKey j a → IsKey k b → (j ≡ k → ⊥)
-    → nat_cmp j k ≡ label_order a b
-key_order {j} {k} {a} {b} p q n = go (cases_lt j k)
+lower_low : (x : ℕ) → x < 256 → to_ascii_lowercase x < 256
+lower_low x h = go (cases_lt x 65) (cases_lt 90 x)
   where
-    go : (j < k) ⊎ (k ≤ j) → nat_cmp j k ≡ label_order a b
-    go (inl l) = sym (nat_cmp_is j k Less l) ∙ sym (lesser_key p q l)
-    go (inr l) =
-        let more : k < j = higher (cases_lt k j) in
-        sym (nat_cmp_is j k Greater more) ∙ sym (greater_key p q more)
-      where
-        higher : (k < j) ⊎ (j ≤ k) → k < j
-        higher (inl m) = m
-        higher (inr m) = absurd (n (omega arith))
+    go : (x < 65) ⊎ (65 ≤ x) → (90 < x) ⊎ (x ≤ 90) → to_ascii_lowercase x < 256
+    go (inl l) s = omega (arith, (lowercase_is x).1 l)
+    go (inr l) (inl m) = omega (arith, (lowercase_is x).2 m)
+    go (inr l) (inr m) = omega (arith, (lowercase_is x).0 (l, m))
+
+pub label_low : (l : Octets) → Low l → Low (map to_ascii_lowercase l)
+label_low [] low i = low i
+label_low (x ∷ l) low zero = lower_low x (low 0)
+label_low (x ∷ l) low (suc i) = label_low l (rest_low x l low) i
+
+-- after the last octet nothing is missing of a key
+key_none : (n : ℕ) → key_of n [] ≡ 0
+unfolding key_of
+key_none zero = refl
+key_none (suc n) = refl
+
+pub key_end : (n : ℕ) (l : Octets) → (n ≡ 0) ⊎ (l ≡ []) → key_of n l ≡ 0
+unfolding key_of
+key_end n l (inl e) = ap (λ k. key_of k l) e
+key_end n l (inr e) = ap (key_of n) e ∙ key_none n
+
+-- the octets that are still to come have the rest of a key
+pub record IsPart (l : Octets) (i key worth : ℕ) : Type 0 where
+  pub value : key_of 8 l ≡ key + key_of (8 - i) (drop i l)
+  pub counts : worth ≡ 256 ^ (8 - i) / 256
+
+module _ (l : Octets) (i key worth : ℕ) (inside : i < length l) (few : i < 8)
+    (part : IsPart l i key worth) where
+  places : 8 - i ≡ suc (8 - (i + 1))
+  places = omega arith
+
+  pub worth_is : worth ≡ 256 ^ (8 - (i + 1))
+  worth_is = omega (arith, part.counts, ap (λ k. 256 ^ k / 256) places)
+
+  step : key_of (8 - i) (drop i l)
+      ≡ get_or l i 0 * 256 ^ (8 - (i + 1)) + key_of (8 - (i + 1)) (drop (i + 1) l)
+  unfolding key_of
+  step =
+      ap (λ k. key_of k (drop i l)) places
+      ∙ ap (key_of (suc (8 - (i + 1)))) (drop-cons l i 0 inside)
+      ∙ ap (λ k. get_or l i 0 * 256 ^ (8 - (i + 1)) + key_of (8 - (i + 1)) (drop k l))
+      (sym (add-one i))
+
+  grown : key_of 8 l
+      ≡ (key + get_or l i 0 * worth) + key_of (8 - (i + 1)) (drop (i + 1) l)
+  grown = omega (arith, part.value, step, ap (λ k. get_or l i 0 * k) worth_is)
+
+  pub key_fits : Low l → key + get_or l i 0 * worth < 2 ^ 64
+  key_fits low = omega (arith, grown, key_low 8 l low)
+
+  pub one_octet : IsPart l (i + 1) (key + get_or l i 0 * worth) (worth / 256)
+  one_octet = record {
+    value = grown;
+    counts = ap (λ k. k / 256) worth_is;
+  }

@@ -32,7 +32,6 @@ pub mod TopmostCut
 pub mod CheckedNames
 pub mod GrowingNames
 pub mod LabelKeys
-pub mod AlikeKeys
 pub mod LowerCase
 pub mod LabelStarts
 pub mod WayLaws

@@ -1,5 +1,5 @@
 //! Keys of labels: their first octets as one number, by which most labels are told apart.
-ghost use Rattle.std.specs.Prelude.{◌≡◌, ◌≤◌, [], ◌∷◌, map, length};
+ghost use Rattle.std.specs.Prelude.{◌≡◌, ◌≤◌, map, length};
 ghost use Rattle.std.specs.Char.{to_ascii_lowercase};
 ghost use Rattle.dns_spec.specs.Names.{label_order};
 ghost use Rattle.dns_zone.specs.LabelKey.{IsKey};
@@ -10,27 +10,21 @@ use dns_name::NameRef;
 use std::cmp::Ordering;
 
 /// How many octets a key has.
-pub(crate) const KEY_OCTETS: usize = 4;
+pub(crate) const KEY_OCTETS: usize = 8;
 
-/// The first four octets of a label in lower case as a number, the first highest; an octet that it
+/// The first eight octets of a label in lower case as a number, the first highest; an octet that it
 /// does not have is 0. Of two labels with different keys, the one with the lesser key comes first.
-pub(crate) fn label_key(label: &[u8]) -> u32
+pub(crate) fn label_key(label: &[u8]) -> u64
     ensures { IsKey result (map to_ascii_lowercase label.now) }
 {
-    match label {
-        [] => 0,
-        [a] => key_of(*a, 0, 0, 0),
-        [a, b] => key_of(*a, *b, 0, 0),
-        [a, b, c] => key_of(*a, *b, *c, 0),
-        [a, b, c, d, ..] => key_of(*a, *b, *c, *d),
+    let mut key = 0;
+    // What the next octet counts for.
+    let mut worth = 1 << 56;
+    'octets: for i in 0..label.len().min(KEY_OCTETS) {
+        key += u64::from(lower_case(label[i])) * worth;
+        worth /= 256;
     }
-}
-
-// The key of a label that begins with these octets, or has as many of them as are not 0.
-fn key_of(a: u8, b: u8, c: u8, d: u8) -> u32
-    ensures { IsKey result (map to_ascii_lowercase (a ∷ b ∷ c ∷ d ∷ [])) }
-{
-    u32::from_be_bytes([lower_case(a), lower_case(b), lower_case(c), lower_case(d)])
+    key
 }
 
 /// The octets of a name's first label. The root has none.

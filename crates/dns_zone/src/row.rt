@@ -19,5 +19,5 @@ pub(crate) struct Row {
     /// How many octets the name's first label has.
     pub(crate) label_octets: u8,
     /// The key of the name's first label.
-    pub(crate) key: u32,
+    pub(crate) key: u64,
 }

@@ -55,7 +55,7 @@ pub(crate) fn find(
 // The order of a row's label and of another, whose key this is: one comparison, which is counted.
 // Mostly their keys differ. Where these are the same, a label that has no octets beyond its key
 // begins the other.
-fn order(records: &[Entry], row: &Row, key: u32, label: &[u8], steps: &mut Steps<'_>) -> Ordering
+fn order(records: &[Entry], row: &Row, key: u64, label: &[u8], steps: &mut Steps<'_>) -> Ordering
     requires row { IsRow records.now row.now (row_name records.now row.now) }
     requires key { IsKey key (map to_ascii_lowercase label.now) }
     requires room { steps.old.comparisons < 4294967295 }

@@ -36,7 +36,7 @@ pub(crate) struct Rows {
     pub(crate) bounds: Kept<usize>,
 }
 
-/// The rows of all names of a zone. Memory is taken for 28 octets for each name.
+/// The rows of all names of a zone. Memory is taken for 32 octets for each name.
 pub(crate) fn rows_of(
     alloc: Global,
     origin: &NameRef<'_>,

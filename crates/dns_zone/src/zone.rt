@@ -135,7 +135,7 @@ impl Zone {
 
     /// The zone that was checked, to be served: its names are found, and where the way to each
     /// target begins, so that an alias to a name of many labels costs a question no more than a
-    /// short one. Memory is taken for 28 octets for each name and for 8 for each record.
+    /// short one. Memory is taken for 32 octets for each name and for 8 for each record.
     pub fn of(alloc: Global, zone: CheckedZone) -> Result<Zone, AllocError>
         ensures { IfOk result (λ whole. whole ≡ zone) }
     {

@@ -4,8 +4,7 @@ use Rattle.std.specs.Char.{to_ascii_lowercase}
 use Rattle.dns_spec.specs.Names.{label_order}
 use Rattle.dns_zone.specs.LabelKey.{IsKey}
 use Rattle.dns_zone.specs.TreeForm.{row_label, row_name}
-use Rattle.dns_zone.proofs.LabelKeys.{first_lower, key_order}
-use Rattle.dns_zone.proofs.AlikeKeys.{by_length, after_key}
+use Rattle.dns_zone.proofs.LabelKeys.{first_lower, key_order, by_length, after_key}
 use Rattle.dns_zone.proofs.search.order.Goals as goal
 use Rattle.dns_zone.proofs.search.order.Goals.{then-count-le-KEY_OCTETS-via-then-count-le-KEY_OCTETS, then-count-le-KEY_OCTETS-via-else-count-le-KEY_OCTETS+then-label-le-KEY_OCTETS}
 
@@ -29,7 +28,7 @@ returns-then-count-le-KEY_OCTETS-clause-order c =
     let row_key : IsKey c.args.key own =
     subst (λ k. IsKey k own) c.if-row-key.false (subst (IsKey row.key) lower c.requires.row.key) in
     let own_count = c.requires.row.label_octets in
-    let short : (length own ≤ 4) ⊎ (length label ≤ 4) =
+    let short : (length own ≤ 8) ⊎ (length label ≤ 8) =
     elim c.then-count-le-KEY_OCTETS.branch [
       | then-count-le-KEY_OCTETS-via-then-count-le-KEY_OCTETS w ↦
           inl (let h = w.if-count-le-KEY_OCTETS.true in omega arith)
@@ -54,7 +53,7 @@ returns-clause-order c =
     let long = c.if-count-le-KEY_OCTETS.false in
     let asked = c.if-label-le-KEY_OCTETS.false in
     c.order_to.ensures
-    ∙ ap₂ label_order (c.split_at.ensures.back ∙ ap (drop 4) c.label_of-own.ensures)
+    ∙ ap₂ label_order (c.split_at.ensures.back ∙ ap (drop 8) c.label_of-own.ensures)
     (ap (map to_ascii_lowercase) c.split_at-2.ensures.back
-    ∙ sym (drop-map to_ascii_lowercase 4 c.args.label.now))
+    ∙ sym (drop-map to_ascii_lowercase 8 c.args.label.now))
     ∙ after_key row_key c.requires.key (omega arith) (omega arith)
