@@ -1,7 +1,7 @@
 -- What a reader learns here: what one piece of data is at a place of a message.
-use Rattle.std.specs.Prelude.{◌≡◌, ℕ, ◌+◌, ◌<◌, ◌≤◌, List, ◌++◌, length, slice_get, Some, IsTrue}
+use Rattle.std.specs.Prelude.{◌≡◌, ℕ, ◌+◌, ◌<◌, ◌≤◌, List, ◌++◌, length, slice_get, Some, IsTrue, if◌then◌else◌, ◌==◌, [], ◌∷◌}
 use Rattle.dns_spec.specs.Names.{Octets, DomainName, wire}
-use Rattle.dns_spec.specs.Data.{width, Piece, fixed, domain, string, strings, anything, are_strings}
+use Rattle.dns_spec.specs.Data.{class_in, pieces_of, width, Piece, fixed, domain, string, strings, anything, are_strings}
 use Rattle.dns_spec.specs.Reading.{NameAt, OctetsAt, PiecesAt, DataAt}
 
 -- From place i to place j stands this piece, which reads o without compression; the data ends at
@@ -27,6 +27,10 @@ NoPieceAt b p i e = (j : ℕ) (o : Octets) → PieceAt b p i e j o → j ≤ e �
 
 abbrev pub NoPiecesAt : Octets → List Piece → ℕ → ℕ → Type 0
 NoPiecesAt b ps i e = (d : Octets) → PiecesAt b ps i e d → ⊥
+
+-- the pieces of data: the types have their forms in class IN alone
+abbrev pub data_pieces : ℕ → ℕ → List Piece
+data_pieces t c = if c == class_in then pieces_of t else anything ∷ []
 
 abbrev pub NoDataAt : Octets → ℕ → ℕ → ℕ → ℕ → Type 0
 NoDataAt b t c i e = (d : Octets) → DataAt b t c i e d → ⊥

@@ -1,12 +1,39 @@
-use Rattle.std.proofs.Common.{arith, subst}
-use Rattle.dns_spec.specs.Reading.{PiecesAt}
-use Rattle.std.proofs.lemmas.Result.{IfOk-weaker}
+use Rattle.std.proofs.Common.{ℕ, List, subst, arith, ◌≡◌}
+use Rattle.std.proofs.lemmas.List.{nil_from_length}
+use Rattle.std.proofs.lemmas.Result.{err_from_is_err_and}
+use Rattle.dns_spec.specs.Names.{Octets}
+use Rattle.dns_spec.specs.Data as Data
+use Rattle.dns_rdata.specs.TypeRows.{pieces_in}
+use Rattle.dns_rdata.specs.declared.table.Piece.{Piece}
+use Rattle.dns_wire.specs.Pieces.{ArePiecesRead}
+use Rattle.dns_wire.proofs.PieceLemmas.{pieces_none, piece_more, pieces_end}
 use Rattle.dns_wire.proofs.ValidData.{data_valid}
 use Rattle.dns_wire.proofs.data.read_data.Goals as goal
 
+left : {b o : Octets} {all : List Data.Piece} {i e j : ℕ} {ps qs : List Piece} → ps ≡ qs
+    → ArePiecesRead b all i e (pieces_in ps) j o → ArePiecesRead b all i e (pieces_in qs) j o
+left {b} {o} {all} {i} {e} {j} same reading =
+    subst (λ ps. ArePiecesRead b all i e (pieces_in ps) j o) same reading
+
+pub returns-in_err-place-clause-err : goal.returns-in_err-place-clause-err
+returns-in_err-place-clause-err c =
+    let reading = left c.in-Some.ensures.cases.0 c.pieces.invariant in
+    let p = err_from_is_err_and c.from_residual.result c.from_residual.ensures.1 in
+    rw (p.1, p.2) (λ some d at. pieces_none reading (c.in_err-place.ensures.err some) d at.2)
+
+pub pieces-preserved : goal.pieces-preserved
+pieces-preserved c =
+    piece_more (left c.in-Some.ensures.cases.0 c.pieces.invariant) c.in_ok-place.ensures.ok
+
+pub returns-clause-ok : goal.returns-clause-ok
+returns-clause-ok c =
+    let none = nil_from_length c.pieces.pieces.now c.in_default.ensures.cases in (
+      c.requires.ordered,
+      c.requires.within,
+      pieces_end (left none c.pieces.invariant) c.if-place-end.false,
+    )
+
 pub returns-clause-valid : goal.returns-clause-valid
 returns-clause-valid c =
-    IfOk-weaker c.read_pieces.result _ _ (λ read at.
-    data_valid c.args.message.now c.args.rtype.0 c.args.rclass c.args.at c.args.end read.items
-    (c.requires.ordered, c.requires.within, subst (λ ps. PiecesAt c.args.message.now ps c.args.at c.args.end read.items) c.pieces_of_data.ensures at) (omega arith))
-    c.read_pieces.ensures.ok
+    data_valid c.args.message.now c.args.rtype.0 c.args.rclass c.args.at c.args.end
+    c.pieces.data.items (returns-clause-ok c) (omega arith)

@@ -1,11 +1,25 @@
-use Rattle.std.proofs.Common.{sym, subst}
-use Rattle.std.specs.Result.{IfErr}
+use Rattle.std.proofs.Common.{rules, sym, ap, ◌∙◌, take, ◌-◌, arith, subst}
+use Rattle.dns_spec.specs.Data.{Part, piece_front}
+use Rattle.dns_spec.specs.Names.{Octets}
 use Rattle.dns_rdata.specs.TypeRows.{piece_of}
-use Rattle.dns_wire.specs.WireFault.{UnlessNoMemory}
+use Rattle.dns_rdata.proofs.PartLemmas.{lent_octets}
 use Rattle.dns_wire.specs.Pieces.{NoPieceAt}
+use Rattle.dns_wire.proofs.PieceLemmas.{long_name_none, piece_read}
 use Rattle.dns_wire.proofs.data.read_piece.Goals as goal
 
-pub returns-in-Domain-clause-err : goal.returns-in-Domain-clause-err
-returns-in-Domain-clause-err c =
-    subst (λ p. IfErr c.read_domain.result (λ fault. UnlessNoMemory fault (NoPieceAt c.args.message.now (piece_of p) c.args.at c.args.end)))
-    (sym c.in-Domain.is) c.read_domain.ensures.err
+pub returns-then-place-end-clause-err : goal.returns-then-place-end-clause-err
+returns-then-place-end-clause-err c _ =
+    let m = c.args.message.now in
+    subst (λ p. NoPieceAt m (piece_of p) c.args.at c.args.end) (sym c.in-Domain.is)
+    (long_name_none m c.args.at c.args.end _ _ c.in_ok-name.ensures.name (omega arith))
+
+pub returns-clause-ok : goal.returns-clause-ok
+returns-clause-ok c =
+    let own_is =
+    c.split_at-2.ensures.front ∙ ap (take (c.args.end - c.args.at)) c.split_at.ensures.back in
+    piece_read c.args.message.now (piece_of c.args.piece) c.args.at c.args.end _ _ _ _ _
+    c.requires.ordered c.requires.within (search rules)
+    (ap (piece_front (piece_of c.args.piece)) (sym own_is) ∙ c.in-Some.ensures.0)
+    (ap (λ (x : Part × Octets). x.1) (lent_octets c.in-Some.part c.in-Some.ensures.1)
+    ∙ sym c.octets_of.ensures)
+    c.in_ok-extend_from_slice-2.ensures.items
