@@ -107,7 +107,15 @@ where
         return Err(FaultWord::NotBound);
     };
     let mut connections = Connections { listener, asked: 0 };
-    Ok(take_connections(rt, zone, &mut connections, turns, room))
+    let mut are_said = true;
+    'connections: for _ in 0..turns {
+        if let Err(word) = connections.serve_next(rt, zone, room) {
+            are_said = say_of_turn(rt, are_said, word);
+        }
+    }
+    let are_all_asked = connections.asked == u64::from(turns);
+    prove!(are_all_asked);
+    Ok(are_said)
 }
 
 fn listening<R: Net<Listener = TcpListener, Stream = TcpStream>>(
@@ -122,27 +130,6 @@ fn listening<R: Net<Listener = TcpListener, Stream = TcpStream>>(
 struct Connections {
     listener: TcpListener,
     asked: u64,
-}
-
-// Serves so many connections, one after another, and tells whether standard error had each word
-// that was due.
-fn take_connections<R: Clock + Eprint + AllocGlobal>(
-    rt: &R,
-    zone: &Zone,
-    connections: &mut Connections,
-    turns: u32,
-    room: &mut StreamRoom,
-) -> bool
-    requires { connections.old.asked + turns < 2 ^ 64 }
-    ensures { connections.new.asked ≡ connections.old.asked + turns }
-{
-    let mut are_said = true;
-    'connections: for _ in 0..turns {
-        if let Err(word) = connections.serve_next(rt, zone, room) {
-            are_said = say_of_turn(rt, are_said, word);
-        }
-    }
-    are_said
 }
 
 impl Connections {
@@ -163,7 +150,13 @@ impl Connections {
             return Err(TurnWord::NotAccepted);
         };
         let peer = Peer::new(stream, rt);
-        let served = serve_peer(rt.alloc(), zone, &peer, room);
+        // Questions that come together are read together, where there is memory for that.
+        let Ok(source) = buffered(rt.alloc(), &peer) else {
+            return Err(TurnWord::from(StreamFault::SourceFailed));
+        };
+        let mut source = Tally::new(Messages::new(source, &peer));
+        let mut sink = Tally::new(&peer);
+        let served = serve_stream_in(zone, &mut source, &mut sink, MOST_MESSAGES, room);
         match served {
             Err(StreamFault::Cut) => {}
             Ok(count) if count < MOST_MESSAGES => {}
@@ -174,22 +167,6 @@ impl Connections {
         served?;
         Ok(())
     }
-}
-
-// Answers the messages of a connection, and tells how many there were.
-fn serve_peer<C: Clock>(
-    alloc: Global,
-    zone: &Zone,
-    peer: &Peer<'_, C>,
-    room: &mut StreamRoom,
-) -> Result<u32, StreamFault> {
-    // Questions that come together are read together, where there is memory for that.
-    let Ok(source) = buffered(alloc, peer) else {
-        return Err(StreamFault::SourceFailed);
-    };
-    let mut source = Tally::new(Messages::new(source, peer));
-    let mut sink = Tally::new(peer);
-    serve_stream_in(zone, &mut source, &mut sink, MOST_MESSAGES, room)
 }
 
 // A source that reads ahead, or one without a buffer where there is no memory.

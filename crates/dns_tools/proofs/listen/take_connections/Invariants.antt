@@ -1,6 +1,0 @@
-use Rattle.std.proofs.Common.{◌≡◌, ◌+◌}
-use Rattle.dns_tools.proofs.listen.take_connections.Given as goal
-
--- each turn asked for one connection
-abbrev pub invariant-connections : goal.invariant-connections
-invariant-connections g l = record { asked : l.connections.asked ≡ l.initial.connections.asked + l.counter }
