@@ -1,15 +1,12 @@
 -- The owners of a zone, as they are added to the names that are checked, and the origin.
-use Rattle.std.proofs.Common.{◌≡◌, ℕ, zero, suc, ◌+◌, ◌-◌, ◌≤◌, true, false, ◌⊎◌, inl, inr, List, [], ◌∷◌, ◌++◌, length, map, take, drop, refl, sym, ap, ◌∙◌, subst, arith, get_or, ◌<◌, is_gt, is_lt, Ordering, Less, Equal, Greater, length-append}
+use Rattle.std.proofs.Common.{◌≡◌, ℕ, zero, suc, true, false, ◌⊎◌, inl, inr, List, [], ◌∷◌, ◌++◌, length, map, take, drop, refl, sym, ap, ◌∙◌, subst, arith, get_or, ◌<◌, is_gt, is_lt, Ordering, Less, Equal, Greater}
 use Rattle.std.proofs.lemmas.Bool.{true≢false}
 use Rattle.std.proofs.lemmas.List.{append_assoc, map_push}
-use Rattle.std.proofs.lemmas.List.Concat.{flat_map-cons}
-use Rattle.std.proofs.Math.Seq.{take-append_seam, drop-append_seam}
-use Rattle.std.specs.List.{flat_map}
 use Rattle.std.proofs.lemmas.Cmp.{tied_itself}
 use Rattle.std.specs.Borrow.{Bor}
 use Rattle.std.specs.List.Sorted.{IsPartitionedBy}
 use Rattle.std.specs.Ordering.{ordering_reverse}
-use Rattle.dns_spec.specs.Names.{Octets, DomainName, folded, at_or_below, name_order, wire}
+use Rattle.dns_spec.specs.Names.{Octets, DomainName, folded, at_or_below, name_order}
 use Rattle.dns_spec.specs.Records.{ResourceRecord, ZoneContents}
 use Rattle.dns_spec.proofs.Records.SortedOnce.{Each, Among, Rises, each_at, each_weaker}
 use Rattle.dns_zone.specs.KeyForm.{name_key}
@@ -20,7 +17,6 @@ use Rattle.dns_zone.specs.ZoneForm.{AreOrdered, IsFront}
 use Rattle.dns_zone.specs.declared.names.CheckedName.{CheckedName}
 use Rattle.dns_zone.proofs.AtName.{owners_in_order}
 use Rattle.dns_zone.proofs.CheckedNames.{among_map, map_among, itself_upto, equal_upto, one_key, cut_among, none_at, upto_parted, upto_among, after_each, in_order, last_checked, last_upto}
-use Rattle.dns_zone.proofs.KeyOrder.{key_length}
 use Rattle.dns_zone.proofs.NameOrder.{name_order_total, tied-same}
 use Rattle.dns_zone.proofs.NameTree.{under-from, under-order}
 use Rattle.dns_zone.proofs.ReportedNames.{one_lower, once_rise, IsName, names_checked}
@@ -78,26 +74,6 @@ root_first z ns = record {
         append-nil : (xs : DomainName) → xs ++ [] ≡ xs
         append-nil [] = refl
         append-nil (x ∷ xs) = ap (λ ys. x ∷ ys) (append-nil xs)
-
--- the key of the first owner, cut from those of all by the length of its wire form
-pub first_key : (n : DomainName) (ns ms : List DomainName) (keys octets : Octets)
-    → keys ≡ flat_map name_key ns → ns ≡ n ∷ ms → octets ≡ wire n
-    → (length octets - 1 ≤ length keys) × (take (length octets - 1) keys ≡ name_key n)
-    × (drop (length octets - 1) keys ≡ flat_map name_key ms)
-first_key n ns ms keys octets e f g =
-    let later = flat_map name_key ms in
-    let whole : keys ≡ name_key n ++ later =
-    e ∙ ap (flat_map name_key) f ∙ flat_map-cons name_key n ms in
-    let long : length octets ≡ length (wire n) = ap length g in
-    let count : length octets - 1 ≡ length (name_key n) = omega (arith, long, key_length n) in
-    let size : length keys ≡ length (name_key n) + length later =
-    ap length whole ∙ length-append (name_key n) later in (
-      omega (arith, count, size),
-      ap (take (length octets - 1)) whole ∙ ap (λ k. take k (name_key n ++ later)) count
-          ∙ take-append_seam (name_key n) later,
-      ap (drop (length octets - 1)) whole ∙ ap (λ k. drop k (name_key n ++ later)) count
-          ∙ drop-append_seam (name_key n) later,
-    )
 
 -- one owner more
 module _ (z : ZoneContents) (ordered : AreOrdered z.records) (ns ms : List DomainName)

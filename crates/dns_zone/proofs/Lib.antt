@@ -1,4 +1,5 @@
 pub mod Entries
+pub mod KeyedNames
 pub mod Targets
 pub mod KnownRecords
 pub mod RisenRecords

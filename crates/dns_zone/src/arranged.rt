@@ -1,254 +1,222 @@
-//! Records brought near to canonical order by few moves.
+//! Records brought into canonical order by few moves.
 //!
-//! A sort compares whole names, which takes time. So places are sorted in the records' stead, by the
-//! fronts of keys first and then by keys, and each record is moved once.
+//! A sort compares whole names, which takes time. So runs of records of one owner are sorted in
+//! the records' stead, by the fronts of their keys and then by whole keys, and each record is moved
+//! once.
 ghost use Rattle.std.specs.Prelude.{◌≡◌, ◌<◌, ◌≤◌, All, length, IfOk};
 ghost use Rattle.std.specs.List.Sorted.{IsPermutation};
 ghost use Rattle.dns_spec.specs.Meaning.{most_records};
+ghost use Rattle.dns_zone.specs.KeyedForm.{AreKeyed};
 
 use crate::entry::Entry;
-use crate::key::Key;
-use crate::lookup::count_in_front;
+use crate::keyed::key_at;
 use crate::order::own_order;
-use dns_name::NameRef;
 use std::alloc::{AllocError, Global};
 use std::cmp::Ordering;
 
 // How many octets of an owner's key, after that of the origin, are kept beside it.
-const FRONT_OCTETS: usize = 24;
+const FRONT_OCTETS: usize = 16;
 
-// Records of one owner that stand side by side, from one place up to another; the first octets of the
-// owner's key after that of the origin, and where a longer key stands among those that are kept.
+// Records of one owner that stand side by side, from one place up to another, and the first octets
+// of the owner's key after that of the origin.
 #[derive(Drop)]
 struct Run {
-    front: [u64; 3],
+    front: [u64; 2],
     at: u32,
     end: u32,
-    key: usize,
 }
 
-/// Moves records into the order of their owners. With the records of each owner in order that is the
-/// canonical order, but nothing here says so: who needs it looks, and sorts where they are not.
+/// Moves records, with where their keys begin, into canonical order. Duplicates are kept, and
+/// nothing here says that it is that order: who needs it looks, and sorts where it is not. The
+/// first `base` octets of the keys are that of the origin.
 ///
-/// Memory is taken for 40 octets for each run of records of one owner, for as much again where the
-/// runs are not in order, for each key that is longer than its front, and for 8 octets for each
+/// Memory is taken for 24 octets for each run of records of one owner, and for 4 octets for each
 /// record.
 pub(crate) fn arrange(
     alloc: Global,
-    origin: &NameRef<'_>,
+    base: usize,
+    keys: &[u8],
     records: &mut [Entry],
+    starts: &mut [u32],
 ) -> Result<(), AllocError>
-    requires { length records.old ≤ most_records }
-    ensures { IsPermutation records.old records.new }
+    requires keyed { AreKeyed keys.now records.old starts.old }
+    requires few { length records.old ≤ most_records }
+    ensures permutation { IsPermutation records.old records.new }
+    ensures keyed { AreKeyed keys.now records.new starts.new }
 {
-    let mut keys = Vec::new(alloc);
-    let runs = runs(alloc, origin, records, &mut keys)?;
-    let mut places = places(alloc, runs, records, keys.as_slice())?;
-    put_in_places(records, places.as_mut_slice());
+    let runs = runs(alloc, base, keys, records, starts)?;
+    let mut places = places(alloc, keys, records, starts, runs.as_slice())?;
+    put_in_places(keys, records, starts, places.as_mut_slice());
     Ok(())
 }
 
-// The runs of records of one owner. The keys that are longer than what stands beside a run are added.
+// The runs of records whose keys begin at one place, in order.
 fn runs(
     alloc: Global,
-    origin: &NameRef<'_>,
+    base: usize,
+    keys: &[u8],
     records: &[Entry],
-    keys: &mut Vec<u8>,
+    starts: &[u32],
 ) -> Result<Vec<Run>, AllocError>
-    requires { length records.now ≤ most_records }
+    requires count { length starts.now ≡ length records.now }
+    requires few { length records.now ≤ most_records }
     ensures { IfOk result (λ runs.
         All (λ (r : Run). r.end ≤ length records.now) runs.items) }
 {
     let mut runs = Vec::with_capacity(alloc, records.len())?;
-    let base = Key::of(origin);
-    let Some(first) = records.first() else {
-        return Ok(runs);
-    };
-    let mut last = first.owner();
-    let mut key = Key::of(&last);
+    let (origin, _) = keys.split_at(base.min(keys.len()));
     let mut at = 0;
     'runs: while at < records.len() {
-        let owner = records[at].owner();
-        let end = end_of_run(records, at);
-        key.move_to(&last, &owner);
+        let end = end_of_run(starts, at);
         runs.push(Run {
-            front: front_of(base.octets(), key.octets()),
+            front: front_of(origin, key_at(keys, starts[at], &records[at])),
             at: at as u32,
             end: end as u32,
-            key: keys.len(),
         })?;
-        if key.octets().len() > base.octets().len() + FRONT_OCTETS {
-            keys.extend_from_slice(key.octets())?;
-        }
-        last = owner;
         at = end;
     }
+    runs.sort_unstable_by(|one, other| run_order(keys, records, starts, one, other));
     Ok(runs)
 }
 
-// Where the records end that have the owner of the one at `at`.
-fn end_of_run(records: &[Entry], at: usize) -> usize
-    requires { at < length records.now }
+// Where the places end that have the same start as the one at `at`.
+fn end_of_run(starts: &[u32], at: usize) -> usize
+    requires { at < length starts.now }
     ensures after { at < result }
-    ensures within { result ≤ length records.now }
+    ensures within { result ≤ length starts.now }
 {
-    let first = &records[at];
-    match records.get(at + 1) {
-        Some(next) if next.owner() == first.owner() => {
-            at + 1 + count_in_front(&records[at + 1..], &first.owner())
-        }
-        _ => at + 1,
+    let mut end = at + 1;
+    'starts: while end < starts.len() && starts[end] == starts[at] {
+        end += 1;
     }
+    end
 }
 
-// The first octets of an owner's key after that of the origin, as numbers. An owner outside the zone
-// has those that stand before or after it.
-fn front_of(origin: &[u8], key: &[u8]) -> [u64; 3] {
+// The first octets of an owner's key after that of the origin, as numbers. An owner outside the
+// zone has those that stand before or after it.
+fn front_of(origin: &[u8], key: &[u8]) -> [u64; 2] {
     let Some(inside) = key.strip_prefix(origin) else {
-        return [if key.cmp(origin).is_lt() { 0 } else { u64::MAX }; 3];
+        return [if key.cmp(origin).is_lt() { 0 } else { u64::MAX }; 2];
     };
     let mut front = [0; FRONT_OCTETS];
     let count = inside.len().min(FRONT_OCTETS);
     front[..count].copy_from_slice(&inside[..count]);
-    let [
-        a,
-        b,
-        c,
-        d,
-        e,
-        f,
-        g,
-        h,
-        i,
-        j,
-        k,
-        l,
-        m,
-        n,
-        o,
-        p,
-        q,
-        r,
-        s,
-        t,
-        u,
-        v,
-        w,
-        x,
-    ] = front;
+    let [a, b, c, d, e, f, g, h, i, j, k, l, m, n, o, p] = front;
     [
         u64::from_be_bytes([a, b, c, d, e, f, g, h]),
         u64::from_be_bytes([i, j, k, l, m, n, o, p]),
-        u64::from_be_bytes([q, r, s, t, u, v, w, x]),
     ]
 }
 
-// For each place the one from which its record comes. Owners whose fronts are alike are compared.
-fn places(
-    alloc: Global,
-    mut runs: Vec<Run>,
-    records: &[Entry],
-    keys: &[u8],
-) -> Result<Vec<usize>, AllocError>
-    requires { All (λ (r : Run). r.end ≤ length records.now) runs.items }
-    ensures { IfOk result (λ places. All (λ p. p < length records.now) places.items) }
-{
-    runs.sort_by(|one, other| run_order(records, keys, one, other))?;
-    places_of(alloc, runs.as_slice(), records.len())
+fn run_order(keys: &[u8], records: &[Entry], starts: &[u32], one: &Run, other: &Run) -> Ordering {
+    let ([a, b], [x, y]) = (one.front, other.front);
+    if a != x {
+        return a.cmp(&x);
+    }
+    b.cmp(&y).then_with(|| key_of(keys, records, starts, one).cmp(key_of(
+        keys, records, starts, other,
+    )))
 }
 
-// The places of runs, one after another, where there are `count` places.
-fn places_of(alloc: Global, runs: &[Run], count: usize) -> Result<Vec<usize>, AllocError>
-    requires { All (λ (r : Run). r.end ≤ count) runs.now }
-    ensures { IfOk result (λ places. All (λ p. p < count) places.items) }
+// The key of a run's owner.
+fn key_of<'a>(keys: &'a [u8], records: &[Entry], starts: &[u32], run: &Run) -> &'a [u8] {
+    match (starts.get(run.at as usize), records.get(run.at as usize)) {
+        (Some(start), Some(first)) => key_at(keys, *start, first),
+        _ => &[],
+    }
+}
+
+// For each place the one from which its record comes. Records of one owner are sorted.
+fn places(
+    alloc: Global,
+    keys: &[u8],
+    records: &[Entry],
+    starts: &[u32],
+    runs: &[Run],
+) -> Result<Vec<u32>, AllocError>
+    requires { All (λ (r : Run). r.end ≤ length records.now) runs.now }
+    ensures { IfOk result (λ places. All (λ p. p < length records.now) places.items) }
 {
-    let mut places = Vec::with_capacity(alloc, count)?;
-    'runs: for run in runs {
+    let mut places = Vec::with_capacity(alloc, records.len())?;
+    let mut first = 0;
+    let mut rest = runs;
+    'runs: while let Some((run, others)) = rest.split_first() {
         'places: for at in run.at..run.end {
-            places.push(at as usize)?;
+            places.push(at)?;
         }
+        rest = others;
+        if goes_on(keys, records, starts, run, others) {
+            continue;
+        }
+        if places.len() > first + 1 {
+            sort_own(records, places.as_mut_slice(), first);
+        }
+        first = places.len();
     }
     Ok(places)
 }
 
-fn run_order(records: &[Entry], keys: &[u8], one: &Run, other: &Run) -> Ordering {
-    let ([a, b, c], [x, y, z]) = (one.front, other.front);
-    if a != x {
-        return a.cmp(&x);
+fn goes_on(keys: &[u8], records: &[Entry], starts: &[u32], run: &Run, others: &[Run]) -> bool {
+    match others.first() {
+        Some(next) => run_order(keys, records, starts, run, next).is_eq(),
+        None => false,
     }
-    b.cmp(&y).then_with(|| c.cmp(&z)).then_with(|| key_at(records, keys, one).cmp(key_at(
-        records, keys, other,
-    )))
 }
 
-// The key of a run's owner, where it is among those that are kept.
-fn key_at<'a>(records: &[Entry], keys: &'a [u8], run: &Run) -> &'a [u8] {
-    let (Some(first), Some((_, key))) = (
-        records.get(run.at as usize),
-        keys.split_at_checked(run.key),
-    ) else {
-        return &[];
-    };
-    let octets = first.owner().octets().len().saturating_sub(1);
-    key.get(..octets).unwrap_or(&[])
+fn sort_own(records: &[Entry], places: &mut [u32], first: usize)
+    requires first { first ≤ length places.old }
+    requires below { All (λ p. p < length records.now) places.old }
+    ensures below { All (λ p. p < length records.now) places.new }
+    ensures count { length places.new ≡ length places.old }
+{
+    let own = &mut places[first..];
+    own.sort_unstable_by(|one, other| order_at(records, *one, *other));
+}
+
+fn order_at(records: &[Entry], one: u32, other: u32) -> Ordering {
+    match (records.get(one as usize), records.get(other as usize)) {
+        (Some(one), Some(other)) => own_order(one, other),
+        _ => Ordering::Equal,
+    }
 }
 
 // Moves to each place the record that comes there.
-fn put_in_places(records: &mut [Entry], places: &mut [usize])
-    requires { All (λ p. p < length records.old) places.old }
-    ensures { IsPermutation records.old records.new }
+fn put_in_places(keys: &[u8], records: &mut [Entry], starts: &mut [u32], places: &mut [u32])
+    requires keyed { AreKeyed keys.now records.old starts.old }
+    requires few { length records.old ≤ most_records }
+    requires below { All (λ p. p < length records.old) places.old }
+    ensures permutation { IsPermutation records.old records.new }
+    ensures keyed { AreKeyed keys.now records.new starts.new }
 {
     if places.len() != records.len() {
         return;
     }
     'places: for at in 0..records.len() {
-        settle(records, places, at);
+        settle(keys, records, starts, places, at);
     }
 }
 
-// Moves to the place `first` the record that comes there, and on to the place which that leaves, until
-// the record of `first` is moved.
-fn settle(records: &mut [Entry], places: &mut [usize], first: usize)
+// Moves to the place `first` the record that comes there, and on to the place which that leaves,
+// until the record of `first` is moved.
+fn settle(keys: &[u8], records: &mut [Entry], starts: &mut [u32], places: &mut [u32], first: usize)
     requires first { first < length records.old }
+    requires keyed { AreKeyed keys.now records.old starts.old }
+    requires few { length records.old ≤ most_records }
     requires count { length places.old ≡ length records.old }
     requires below { All (λ p. p < length records.old) places.old }
     ensures permutation { IsPermutation records.old records.new }
-    ensures count { length places.new ≡ length records.old }
+    ensures keyed { AreKeyed keys.now records.new starts.new }
     ensures below { All (λ p. p < length records.old) places.new }
 {
     let mut at = first;
     'moves: for _ in 0..records.len() {
-        let from = places[at];
-        places[at] = at;
+        let from = places[at] as usize;
+        places[at] = at as u32;
         if from == first {
             return;
         }
         records.swap(at, from);
+        starts.swap(at, from);
         at = from;
     }
-}
-
-/// Sorts the records of each owner that stand side by side.
-pub(crate) fn sort_runs(records: &mut [Entry])
-    ensures { IsPermutation records.old records.new }
-{
-    let mut at = 0;
-    'runs: while at < records.len() {
-        let end = end_of_run(records, at);
-        sort_run(records, at, end);
-        at = end;
-    }
-}
-
-// Sorts the records of one owner from one place up to another. Mostly it has one.
-fn sort_run(records: &mut [Entry], at: usize, end: usize)
-    requires order { at < end }
-    requires within { end ≤ length records.old }
-    ensures { IsPermutation records.old records.new }
-{
-    if end - at == 1 {
-        return;
-    }
-    let own = &mut records[at..end];
-    own.sort_unstable_by(|one, other| own_order(one, other));
 }

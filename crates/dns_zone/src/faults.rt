@@ -4,13 +4,15 @@ ghost use Rattle.dns_spec.specs.Names.{folded};
 ghost use Rattle.dns_spec.specs.Checks.{faults};
 ghost use Rattle.dns_spec.specs.Meaning.{most_records};
 ghost use Rattle.dns_zone.specs.ZoneForm.{AreOrdered};
+ghost use Rattle.dns_zone.specs.KeyForm.{name_key};
+ghost use Rattle.dns_zone.specs.KeyedForm.{key_in, AreKeyed};
 ghost use Rattle.dns_zone.specs.NamesForm.{IsChecked, name_of};
 ghost use Rattle.dns_zone.specs.ReportedForm.{failed_from, reported_at};
 
 use crate::entry::Entry;
 use crate::fault::CheckFault;
-use crate::key::Key;
-use crate::names::{CheckedName, checked_names, keys_of};
+use crate::keyed::Keyed;
+use crate::names::{CheckedName, checked_names};
 use crate::owner::Owner;
 use crate::survey::Survey;
 use crate::target::LastTarget;
@@ -25,17 +27,19 @@ pub(crate) fn faults(
     alloc: Global,
     origin: &NameRef<'_>,
     records: &[Entry],
+    keyed: &Keyed,
 ) -> Result<Vec<CheckFault>, AllocError>
     requires ordered { AreOrdered records.now }
     requires few { length records.now ≤ most_records }
     requires lower { folded origin.now ≡ origin.now }
+    requires origin { key_in keyed.now.keys.items 0 origin.now ≡ name_key origin.now }
+    requires keyed { AreKeyed keyed.now.keys.items records.now keyed.now.starts.items }
     ensures { IfOk result (λ found. found.items ≡ faults
         (record { origin = origin.now; records = records.now })) }
 {
-    let key = Key::of(origin);
-    let keys = keys_of(alloc, records)?;
-    let names = checked_names(alloc, origin, key.octets(), records, keys.as_slice())?;
-    let survey = Survey::new(origin, key.octets(), records, names.as_slice());
+    let (key, _) = keyed.keys.as_slice().split_at(origin.octets().len() - 1);
+    let names = checked_names(alloc, origin, key, records, keyed)?;
+    let survey = Survey::new(origin, key, records, names.as_slice());
     let mut found = Vec::new(alloc);
     let mut last = LastTarget::new();
     let mut next = 0_usize;
@@ -72,6 +76,9 @@ fn add_failed(
     requires { length failed.now ≤ 15 }
     ensures { OnOk result (found.new.items ≡ found.old.items ++ failed_from name.now 1 failed.now) }
 {
+    if !failed.contains(&true) {
+        return Ok(());
+    }
     let mut rest = failed;
     let mut code = 1;
     'checks: while let Some((fails, others)) = rest.split_first() {

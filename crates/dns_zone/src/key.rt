@@ -1,5 +1,5 @@
 //! Keys of names: octets whose plain order is the canonical order of the names.
-ghost use Rattle.std.specs.Prelude.{◌≡◌, ◌+◌, ◌<◌, ◌++◌, [], length};
+ghost use Rattle.std.specs.Prelude.{◌≡◌, ◌+◌, ◌<◌, ◌≤◌, ◌++◌, [], length};
 ghost use Rattle.dns_spec.specs.Names.{DomainName, folded, at_or_below, below};
 ghost use Rattle.dns_name.specs.WireForm.{labels_of, IsWireForm};
 ghost use Rattle.dns_zone.specs.KeyForm.{raised, ended, name_key, EndsWith};
@@ -64,7 +64,8 @@ impl Key {
 
     /// Its octets, one fewer than the wire form of the name has.
     pub(crate) fn octets(&self) -> &[u8]
-        ensures { result.now ≡ self.now }
+        ensures value { result.now ≡ self.now }
+        ensures bound { length result.now ≤ 255 }
     {
         self.octets.as_slice()
     }

@@ -9,6 +9,7 @@ mod fault;
 mod faults;
 mod kept;
 mod key;
+mod keyed;
 mod label_key;
 mod labels;
 mod leads;

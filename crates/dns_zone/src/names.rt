@@ -1,7 +1,6 @@
 //! The names of a zone that are checked: its origin and all owners, each once, in canonical order.
 ghost use Rattle.std.specs.Prelude.{◌≡◌, ◌≤◌, ◌&&◌, nat_lt, length, IfOk, OnOk};
 ghost use Rattle.std.specs.Bool.{OnTrue};
-ghost use Rattle.std.specs.List.{flat_map};
 ghost use Rattle.std.specs.List.Sorted.{IsNonDecreasingBy, IsPartitionedBy};
 ghost use Rattle.dns_spec.specs.Names.{DomainName, folded};
 ghost use Rattle.dns_spec.specs.Tree.{is_cut};
@@ -9,11 +8,12 @@ ghost use Rattle.dns_spec.specs.Meaning.{most_records};
 ghost use Rattle.dns_spec.specs.Records.{ResourceRecord, ZoneContents, at};
 ghost use Rattle.dns_zone.specs.ZoneForm.{AreOrdered, IsFront};
 ghost use Rattle.dns_zone.specs.KeyForm.{name_key};
+ghost use Rattle.dns_zone.specs.KeyedForm.{AreKeyed};
 ghost use Rattle.dns_zone.specs.NamesForm.{own_in, is_covered, is_upto, IsLastAt, AreChecked, AreOwners, ComesNext, IsTopmost};
-ghost use Rattle.dns_zone.specs.ReportedForm.{owners_once};
 
 use crate::entry::Entry;
-use crate::key::{Key, is_below};
+use crate::key::is_below;
+use crate::keyed::{Keyed, key_at};
 use crate::lookup::{count_in_front, has_type};
 use dns_name::NameRef;
 use dns_rdata::RType;
@@ -52,29 +52,6 @@ impl<'a> CheckedName<'a> {
     }
 }
 
-/// The keys of the owners of records in canonical order, one after another.
-pub(crate) fn keys_of(alloc: Global, records: &[Entry]) -> Result<Vec<u8>, AllocError>
-    requires { AreOrdered records.now }
-    ensures { IfOk result (λ keys. keys.items ≡ flat_map name_key (owners_once records.now)) }
-{
-    let mut keys = Vec::new(alloc);
-    let Some(first) = records.first() else {
-        return Ok(keys);
-    };
-    let mut last = first.owner();
-    let mut key = Key::of(&last);
-    let mut rest = records;
-    'owners: while let Some((first, _)) = rest.split_first() {
-        let owner = first.owner();
-        let (_, others) = rest.split_at(count_in_front(rest, &owner));
-        key.move_to(&last, &owner);
-        keys.extend_from_slice(key.octets())?;
-        rest = others;
-        last = owner;
-    }
-    Ok(keys)
-}
-
 /// The names that are checked of the zone of records in canonical order, with the key of the origin
 /// and those of the owners.
 pub(crate) fn checked_names<'a>(
@@ -82,17 +59,17 @@ pub(crate) fn checked_names<'a>(
     origin: &NameRef<'_>,
     key: &'a [u8],
     records: &[Entry],
-    keys: &'a [u8],
+    keyed: &'a Keyed,
 ) -> Result<Vec<CheckedName<'a>>, AllocError>
     requires lower { folded origin.now ≡ origin.now }
     requires key { key.now ≡ name_key origin.now }
     requires ordered { AreOrdered records.now }
     requires few { length records.now ≤ most_records }
-    requires keys { keys.now ≡ flat_map name_key (owners_once records.now) }
+    requires keyed { AreKeyed keyed.now.keys.items records.now keyed.now.starts.items }
     ensures { IfOk result (λ names. AreChecked
         (record { origin = origin.now; records = records.now }) names.items) }
 {
-    let mut names = owners(alloc, origin, key, records, keys)?;
+    let mut names = owners(alloc, origin, key, records, keyed)?;
     add_origin(origin, key, records, &mut names)?;
     Ok(names)
 }
@@ -103,26 +80,25 @@ fn owners<'a>(
     origin: &NameRef<'_>,
     key: &[u8],
     records: &[Entry],
-    keys: &'a [u8],
+    keyed: &'a Keyed,
 ) -> Result<Vec<CheckedName<'a>>, AllocError>
     requires lower { folded origin.now ≡ origin.now }
     requires key { key.now ≡ name_key origin.now }
     requires ordered { AreOrdered records.now }
     requires few { length records.now ≤ most_records }
-    requires keys { keys.now ≡ flat_map name_key (owners_once records.now) }
+    requires keyed { AreKeyed keyed.now.keys.items records.now keyed.now.starts.items }
     ensures { IfOk result (λ names. AreOwners
         (record { origin = origin.now; records = records.now }) names.items) }
 {
     let mut names = Vec::with_capacity(alloc, records.len())?;
     let mut first = 0;
     let mut rest = records;
-    let mut left = keys;
     let mut last: &[u8] = &[];
     let mut cut = 0;
     'owners: while let Some((record, _)) = rest.split_first() {
         let owner = record.owner();
         let (own, others) = rest.split_at(count_in_front(rest, &owner));
-        let (next, after) = left.split_at(owner.octets().len() - 1);
+        let next = key_at(keyed.keys.as_slice(), keyed.starts[first], record);
         let end = first + own.len();
         cut = cut_of(key, last, cut, next, own);
         names.push(CheckedName {
@@ -133,7 +109,6 @@ fn owners<'a>(
         })?;
         first = end;
         rest = others;
-        left = after;
         last = next;
     }
     Ok(names)

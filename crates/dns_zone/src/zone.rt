@@ -15,7 +15,7 @@ use crate::fault::BuildFault;
 use crate::faults::faults;
 use crate::kept::Kept;
 use crate::leads::leads_of;
-use crate::ordered::ordered;
+use crate::ordered::{Canonical, ordered};
 use crate::store::Store;
 use crate::tree::{Rows, Tree, rows_of};
 use dns_master::Record;
@@ -59,8 +59,9 @@ impl CheckedZone {
             (zone_of origin.now records.items)) }
     {
         let origin = origin.fold();
-        let records = ordered(alloc, &origin.lent(), records)?;
-        let found = faults(alloc, &origin.lent(), records.as_slice())?;
+        let Canonical { records, keyed } = ordered(alloc, &origin.lent(), records)?;
+        let found = faults(alloc, &origin.lent(), records.as_slice(), &keyed)?;
+        drop(keyed);
         if !found.is_empty() {
             return Err(BuildFault::Faults(found));
         }

@@ -1,7 +1,8 @@
 //! Records that are arranged before they are sorted.
 
-use crate::arranged::{arrange, sort_runs};
+use crate::arranged::arrange;
 use crate::entry::Entry;
+use crate::keyed::{Keyed, keys_of};
 use crate::order::record_order;
 use dns_master::read_zone;
 use dns_name::{Name, Tally};
@@ -37,8 +38,15 @@ fn records_are_arranged_in_canonical_order(rt: HostRuntime) -> Result<(), Fail> 
     // The last one stands at the origin.
     if let Some(soa) = read.last() {
         let soa = Entry::of(rt.alloc(), soa)?;
-        arrange(rt.alloc(), &soa.owner(), records.as_mut_slice())?;
-        sort_runs(records.as_mut_slice());
+        let owner = soa.owner();
+        let Keyed { keys, mut starts } = keys_of(rt.alloc(), &owner, records.as_slice())?;
+        arrange(
+            rt.alloc(),
+            owner.octets().len().saturating_sub(1),
+            keys.as_slice(),
+            records.as_mut_slice(),
+            starts.as_mut_slice(),
+        )?;
     }
     for (one, next) in records.iter().zip(records.iter().skip(1)) {
         assert!(rt;

@@ -1,12 +1,15 @@
 use Rattle.std.proofs.Common.{◌<◌, ◌∙◌, All, subst}
-use Rattle.std.proofs.lemmas.List.Sorted.{IsPermutation-trans, length_permutation}
+use Rattle.std.proofs.lemmas.List.Sorted.{IsPermutation-trans}
 use Rattle.dns_zone.proofs.arranged.put_in_places.Goals as goal
 
 pub places-preserved : goal.places-preserved
 places-preserved c =
-    let same_length = length_permutation c.args.records.now c.places.records c.places.invariant.permutation in
+    let inv = c.places.invariant in
     record {
-      permutation = IsPermutation-trans c.args.records.now c.places.records c.settle.new.records c.places.invariant.permutation c.settle.ensures.permutation;
-      below = subst (λ n. All (λ p. p < n) c.settle.new.places) same_length c.settle.ensures.below;
-      count = c.settle.auto.places ∙ c.places.invariant.count;
+      permutation = IsPermutation-trans c.args.records.now c.places.records c.settle.new.records
+          inv.permutation c.settle.ensures.permutation;
+      keyed = c.settle.ensures.keyed;
+      size = c.settle.auto.records ∙ inv.size;
+      below = subst (λ n. All (λ p. p < n) c.settle.new.places) inv.size c.settle.ensures.below;
+      count = c.settle.auto.places ∙ inv.count;
     }

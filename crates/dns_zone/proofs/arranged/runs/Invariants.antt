@@ -1,13 +1,9 @@
-use Rattle.std.proofs.Common.{◌≡◌, ◌≤◌, ◌-◌, All, length}
-use Rattle.dns_zone.specs.KeyForm.{name_key}
+use Rattle.std.proofs.Common.{◌≤◌, ◌-◌, All, length}
 use Rattle.dns_zone.specs.declared.arranged.Run.{Run}
 use Rattle.dns_zone.proofs.arranged.runs.Given as goal
 
 abbrev pub invariant-runs : goal.invariant-runs
-invariant-runs l = record {
-  key : l.key ≡ name_key l.last;
-  within : All (λ (r : Run). r.end ≤ length l.records) l.runs.items;
-}
+invariant-runs l = All (λ (r : Run). r.end ≤ length l.records) l.runs.items
 
 abbrev pub decreases-runs : goal.decreases-runs
 decreases-runs l = length l.records - l.at

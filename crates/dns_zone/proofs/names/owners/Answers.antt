@@ -1,20 +1,20 @@
-use Rattle.std.proofs.Common.{rules, ◌≡◌, ◌+◌, ◌-◌, ◌≤◌, ◌∷◌, ◌++◌, List, [], length, map, take, drop, sym, ap, ap₂, ◌∙◌, subst, arith, refl}
+use Rattle.std.proofs.Common.{rules, ◌≡◌, ◌+◌, ◌-◌, ◌∷◌, ◌++◌, List, [], length, map, take, drop, sym, ap, ap₂, ◌∙◌, subst, arith, refl}
 use Rattle.std.proofs.lemmas.List.{drop-drop, map_push}
-use Rattle.std.specs.List.{flat_map}
-use Rattle.dns_spec.specs.Names.{DomainName, wire}
+use Rattle.dns_spec.specs.Names.{DomainName}
 use Rattle.dns_spec.specs.Records.{ResourceRecord, ZoneContents}
 use Rattle.dns_spec.proofs.Records.SortedOnce.{Each}
 use Rattle.dns_zone.specs.KeyForm.{name_key}
+use Rattle.dns_zone.specs.KeyedForm.{key_in}
 use Rattle.dns_zone.specs.NamesForm.{own_in, first_owner, name_of, IsTopmost, IsChecked}
 use Rattle.dns_zone.specs.OwnerForm.{IsOwner}
 use Rattle.dns_zone.specs.ReportedForm.{owners_once}
 use Rattle.dns_zone.specs.declared.names.CheckedName.{CheckedName}
-use Rattle.dns_zone.proofs.GrowingNames.{LastName, root_first, first_key, comes_next, added_last, each_added, all_added}
-use Rattle.dns_zone.proofs.KeyOrder.{some_octets}
+use Rattle.dns_zone.proofs.GrowingNames.{LastName, root_first, comes_next, added_last, each_added, all_added}
+use Rattle.dns_zone.proofs.KeyedNames.{first_keyed}
 use Rattle.dns_zone.proofs.OwnersWalk.{Step, step, all_owners}
 use Rattle.dns_zone.proofs.TopmostCut.{topmost_fits}
 use Rattle.dns_zone.proofs.names.owners.Goals as goal
-use Rattle.dns_zone.proofs.names.owners.Goals.{After-octets, In_ok-push}
+use Rattle.dns_zone.proofs.names.owners.Goals.{In_ok-push}
 
 pub owners-init : goal.owners-init
 owners-init c =
@@ -27,31 +27,17 @@ owners-init c =
       whole = all_owners z c.requires.ordered;
       part = refl;
       count = omega arith;
-      keys = c.requires.keys;
       last = subst (λ ns. LastName z (map (name_of z) ns) (owners_once rs) [] 0) none
           (root_first z (owners_once rs));
     }
 
-pub overflow_sub-octets : goal.overflow_sub-octets
-overflow_sub-octets c =
-    let long : length c.octets.result.now ≡ length (wire c.owner-owner.result) =
-    ap length c.octets.ensures.value in
-    omega (arith, long, some_octets c.owner-owner.result)
-
-pub split_at-requires-in-Some : goal.split_at-requires-in-Some
-split_at-requires-in-Some c =
+pub index-requires : goal.index-requires
+index-requires c =
     let rest_is : c.owners.rest.now ≡ c.in-Some.record.now ∷ c.in-Some.field-0-1.now =
     search rules in
-    let name_is : c.owner-owner.result ≡ c.in-Some.record.now.owner = search rules in
-    let next =
-    step _ _ c.in-Some.record.now c.in-Some.field-0-1.now _ _ _ _ name_is
-    c.owner-owner.ensures.lower rest_is c.owners.invariant.whole
-    (record {
-      count = c.count_in_front.ensures.value;
-      own_is = c.split_at.ensures.front;
-      others_are = c.split_at.ensures.back;
-    }) in
-    (first_key _ _ _ _ _ c.owners.invariant.keys next.names c.octets.ensures.value).0
+    let count = c.owners.invariant.count in
+    let starts = c.requires.keyed.count in
+    omega (arith, count, starts, ap length rest_is)
 
 pub cut_of-cut-requires-clause-fits : goal.cut_of-cut-requires-clause-fits
 cut_of-cut-requires-clause-fits c =
@@ -102,7 +88,7 @@ module _ (c : In_ok-push) where
 
   abbrev added : CheckedName
   added = record {
-    key = c.split_at-in-Some.result.0;
+    key = c.key_at-next.result;
     first = c.owners.first;
     end = c.owners.first + length own;
     cut = c.cut_of-cut.result;
@@ -126,13 +112,18 @@ module _ (c : In_ok-push) where
   name_there : name_of z added ≡ n
   name_there = ap (first_owner c.args.origin.now) own_there ∙ stepped.first c.args.origin.now
 
-  keys : (length c.octets.result.now - 1 ≤ length c.owners.left.now)
-      × (take (length c.octets.result.now - 1) c.owners.left.now ≡ name_key n)
-      × (drop (length c.octets.result.now - 1) c.owners.left.now ≡ flat_map name_key (owners_once others))
-  keys = first_key _ _ _ _ _ c.owners.invariant.keys stepped.names c.octets.ensures.value
-
-  key : c.split_at-in-Some.result.0.now ≡ name_key n
-  key = c.split_at-in-Some.ensures.front ∙ keys.1
+  key : c.key_at-next.result.now ≡ name_key n
+  key =
+      let rest_is : c.owners.rest.now ≡ c.in-Some.record.now ∷ c.in-Some.field-0-1.now =
+      search rules in
+      let name_is : c.in-Some.record.now.owner ≡ n = search rules in
+      let count = c.owners.invariant.count in
+      c.key_at-next.ensures.value
+      ∙ ap₂ (λ ks s. key_in ks s c.in-Some.record.now.owner) c.as_slice.ensures.value
+      c.index.ensures
+      ∙ first_keyed _ _ _ c.requires.keyed c.owners.first _ c.in-Some.record.now _
+      (omega (arith, count, ap length rest_is)) (sym c.owners.invariant.part ∙ rest_is)
+      ∙ ap name_key name_is
 
   whole : map (name_of z) c.owners.names.items ++ n ∷ owners_once others
       ≡ owners_once c.args.records.now
@@ -188,11 +179,10 @@ owners-preserved c =
           ∙ ap (λ k. drop (c.owners.first + k) c.args.records.now)
           (sym c.split_at.ensures.front_len);
       count = omega (arith, count, size);
-      keys = c.split_at-in-Some.ensures.back ∙ (keys c).2;
       last = subst (λ ns. LastName (z c) (map (name_of (z c)) ns) (owners_once (others c))
-          c.split_at-in-Some.result.0.now c.cut_of-cut.result) items
+          c.key_at-next.result.now c.cut_of-cut.result) items
           (subst (λ ms. LastName (z c) ms (owners_once (others c))
-          c.split_at-in-Some.result.0.now c.cut_of-cut.result) (sym (names c))
+          c.key_at-next.result.now c.cut_of-cut.result) (sym (names c))
           (added_last (z c) c.requires.ordered (map (name_of (z c)) old) (owners_once (others c))
           (n c) (whole c) c.owner-owner.ensures.lower _ _ (key c) (topmost c)));
     }

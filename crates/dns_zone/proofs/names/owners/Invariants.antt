@@ -1,8 +1,6 @@
 use Rattle.std.proofs.Common.{◌≡◌, ◌+◌, ◌++◌, length, map, drop}
-use Rattle.std.specs.List.{flat_map}
 use Rattle.dns_spec.specs.Records.{ZoneContents}
 use Rattle.dns_spec.proofs.Records.SortedOnce.{Each}
-use Rattle.dns_zone.specs.KeyForm.{name_key}
 use Rattle.dns_zone.specs.NamesForm.{name_of, IsChecked}
 use Rattle.dns_zone.specs.ReportedForm.{HasOwners, owners_once}
 use Rattle.dns_zone.proofs.GrowingNames.{LastName}
@@ -17,7 +15,6 @@ invariant-owners l =
       whole : HasOwners z l.rest;
       part : l.rest ≡ drop l.first l.records;
       count : l.first + length l.rest ≡ length l.records;
-      keys : l.left ≡ flat_map name_key (owners_once l.rest);
       last : LastName z (map (name_of z) l.names.items) (owners_once l.rest) l.last l.cut;
     }
 

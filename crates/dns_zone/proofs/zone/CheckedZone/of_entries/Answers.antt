@@ -18,7 +18,7 @@ pub returns-then-not-is_empty-clause-faults : goal.returns-then-not-is_empty-cla
 returns-then-not-is_empty-clause-faults c =
     let same =
     found_of_read c.args.origin.now c.fold-origin.result c.args.records.items
-    c.in_ok-records.records.items _ c.in_ok-found.found.items c.fold-origin.ensures
+    c.in_ok-records.field-0.records.items _ c.in_ok-found.found.items c.fold-origin.ensures
     c.in_ok-records.ensures.records c.as_slice.ensures.value (c.in_ok-found.ensures
     ∙ ap (λ (o : DomainName). faults (record { origin = o; records = c.as_slice.result.now }))
     c.lent-2.ensures.value) in (
@@ -40,7 +40,7 @@ invariant_of-result c =
     subst (λ (xs : List ResourceRecord). IsBuilt
     (record { origin = c.fold-origin.result; records = xs })) (sym c.new-records.ensures)
     (built c.args.origin.now c.fold-origin.result c.args.records.items
-    c.in_ok-records.records.items _ c.in_ok-found.found.items c.fold-origin.ensures
+    c.in_ok-records.field-0.records.items _ c.in_ok-found.found.items c.fold-origin.ensures
     c.in_ok-records.ensures.records c.as_slice.ensures.value (c.in_ok-found.ensures
     ∙ ap (λ (o : DomainName). faults (record { origin = o; records = c.as_slice.result.now }))
     c.lent-2.ensures.value) (omega (arith, c.in_ok-found.found.ok.0)) c.requires
@@ -53,7 +53,7 @@ returns-clause-passes c =
     in
     let none : length c.in_ok-found.found.items ≡ 0 = omega (arith, c.in_ok-found.found.ok.0) in
     sym (found_of_read c.args.origin.now c.fold-origin.result c.args.records.items
-    c.in_ok-records.records.items _ c.in_ok-found.found.items c.fold-origin.ensures
+    c.in_ok-records.field-0.records.items _ c.in_ok-found.found.items c.fold-origin.ensures
     c.in_ok-records.ensures.records c.as_slice.ensures.value (c.in_ok-found.ensures
     ∙ ap (λ (o : DomainName). faults (record { origin = o; records = c.as_slice.result.now }))
     c.lent-2.ensures.value))

@@ -1,0 +1,10 @@
+use Rattle.std.proofs.Common.{◌≡◌, length, ap, arith}
+use Rattle.dns_spec.specs.Names.{wire}
+use Rattle.dns_zone.proofs.KeyOrder.{some_octets}
+use Rattle.dns_zone.proofs.keyed.key_at.Goals as goal
+
+pub overflow_sub-octets : goal.overflow_sub-octets
+overflow_sub-octets c =
+    let long : length c.octets.result.now ≡ length (wire c.owner.result) =
+    ap length c.octets.ensures.value in
+    omega (arith, long, some_octets c.owner.result)
