@@ -75,8 +75,70 @@ fn runs(
         })?;
         at = end;
     }
-    runs.sort_unstable_by(|one, other| run_order(keys, records, starts, one, other));
+    runs.sort_unstable_by(|one, other| front_order(one, other));
+    let mut first = 0;
+    'alike: while first < runs.len() {
+        let end = end_of_alike(runs.as_slice(), first);
+        if end > first + 1 {
+            sort_alike(keys, records, starts, runs.as_mut_slice(), first, end);
+        }
+        first = end;
+    }
     Ok(runs)
+}
+
+// Where the runs end that have the front of the one at `first`.
+fn end_of_alike(runs: &[Run], first: usize) -> usize
+    requires { first < length runs.now }
+    ensures after { first < result }
+    ensures within { result ≤ length runs.now }
+{
+    let mut end = first + 1;
+    'runs: while end < runs.len() && front_order(&runs[first], &runs[end]).is_eq() {
+        end += 1;
+    }
+    end
+}
+
+// Sorts runs whose fronts are alike: by the octets after those that all of their keys begin with,
+// and then by their keys.
+fn sort_alike(
+    keys: &[u8],
+    records: &[Entry],
+    starts: &[u32],
+    runs: &mut [Run],
+    first: usize,
+    end: usize,
+)
+    requires order { first < end }
+    requires fits { end ≤ length runs.old }
+    requires within { All (λ (r : Run). r.end ≤ length records.now) runs.old }
+    ensures within { All (λ (r : Run). r.end ≤ length records.now) runs.new }
+    ensures count { length runs.new ≡ length runs.old }
+{
+    let begins = key_of(keys, records, starts, &runs[first]);
+    let mut shared = begins;
+    'shared: for at in first..end {
+        shared = common_front(shared, key_of(keys, records, starts, &runs[at]));
+    }
+    'fronts: for at in first..end {
+        runs[at].front = front_of(shared, key_of(keys, records, starts, &runs[at]));
+    }
+    let alike = &mut runs[first..end];
+    alike.sort_unstable_by(|one, other| run_order(keys, records, starts, one, other));
+}
+
+// The octets that both begin with.
+fn common_front<'a>(one: &'a [u8], other: &[u8]) -> &'a [u8] {
+    if other.starts_with(one) {
+        return one;
+    }
+    let count = one
+        .iter()
+        .zip(other.iter())
+        .take_while(|(a, b)| a == b)
+        .count();
+    one.split_at(count.min(one.len())).0
 }
 
 // Where the places end that have the same start as the one at `at`.
@@ -108,12 +170,16 @@ fn front_of(origin: &[u8], key: &[u8]) -> [u64; 2] {
     ]
 }
 
-fn run_order(keys: &[u8], records: &[Entry], starts: &[u32], one: &Run, other: &Run) -> Ordering {
+fn front_order(one: &Run, other: &Run) -> Ordering {
     let ([a, b], [x, y]) = (one.front, other.front);
     if a != x {
         return a.cmp(&x);
     }
-    b.cmp(&y).then_with(|| key_of(keys, records, starts, one).cmp(key_of(
+    b.cmp(&y)
+}
+
+fn run_order(keys: &[u8], records: &[Entry], starts: &[u32], one: &Run, other: &Run) -> Ordering {
+    front_order(one, other).then_with(|| key_of(keys, records, starts, one).cmp(key_of(
         keys, records, starts, other,
     )))
 }
