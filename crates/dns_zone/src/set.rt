@@ -33,8 +33,8 @@ impl<'z> Model for RecordSet<'z> {
 
 impl<'z> RecordSet<'z> {
     /// The first name in the data of the record at `i`, the first at 0, lent out of the zone: of NS
-    /// the server, of CNAME the alias's own name, of MX the exchange (RFC 1035 3.3.1, 3.3.9,
-    /// 3.3.11). It is in lower case. Condition: `i` is below `len`.
+    /// the server, of CNAME the alias's target, of MX the exchange (RFC 1035 3.3.1, 3.3.9, 3.3.11).
+    /// It is in lower case. Condition: `i` is below `len`.
     pub fn target(&self, i: usize) -> Option<NameRef<'z>>
         requires { i < length self.now.rdata }
         ensures value { result ≡ target self.now.rtype (get_or self.now.rdata i []) }

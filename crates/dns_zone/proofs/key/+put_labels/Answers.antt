@@ -1,8 +1,8 @@
-use Rattle.std.proofs.Common.{◌≡◌, ℕ, zero, suc, ◌==◌, ◌<◌, false, ◌++◌, length, ap, sym, ◌∙◌, arith, length-append, append-nil}
+use Rattle.std.proofs.Common.{◌≡◌, ℕ, zero, suc, ◌==◌, ◌<◌, false, ◌++◌, length, ap, ◌+◌, ◌∷◌, sym, ◌∙◌, arith, length-append, append-nil}
 use Rattle.std.proofs.lemmas.Bool.{eqb-true, false≢true}
 use Rattle.std.proofs.lemmas.List.{nil_from_length}
-use Rattle.dns_spec.specs.Names.{wire}
-use Rattle.dns_name.specs.WireForm.{labels_of}
+use Rattle.dns_spec.specs.Names.{Octets, wire}
+use Rattle.dns_name.specs.WireForm.{labels_of, IsWireForm}
 use Rattle.dns_zone.specs.KeyForm.{name_key}
 use Rattle.dns_zone.proofs.CommonEnds.{size, some, ends_whole, after_ends}
 use Rattle.dns_zone.proofs.key.+put_labels.Goals as goal
@@ -42,6 +42,18 @@ overflow_sub-after t c =
     (after_ends _ _ _ _ c.requires.wire c.in-Some.ensures.1 c.requires.end c.in-Some.ensures.0
     c.requires.ends (omega (arith, more, c.requires.room))).1
 
+-- a name has its first label after its length, and then the others
+parts : (octets after label : Octets) → IsWireForm octets → IsWireForm after
+    → labels_of octets ≡ label ∷ labels_of after → length octets ≡ length label + 1 + length after
+parts octets after label whole rest first =
+    omega (
+      arith,
+      size octets whole,
+      size after rest,
+      ap (λ n. length (wire n)) first,
+      length-append label (wire (labels_of after)),
+    )
+
 -- the key has room for the first label, and before it for the others
 pub put_label-requires : goal.put_label-requires
 put_label-requires t c =
@@ -53,10 +65,7 @@ put_label-requires t c =
       arith,
       on.1,
       c.requires.room,
-      size _ c.requires.wire,
-      size _ first.1,
-      ap (λ n. length (wire n)) first.0,
-      length-append c.in-Some.label (wire (labels_of c.in-Some.after.now)),
+      parts _ _ _ c.requires.wire first.1 first.0,
       ap length c.octets.ensures.value,
       c.split_at_mut-others.ensures.back_len,
     )
@@ -73,9 +82,6 @@ put_labels-requires t c =
       on.1,
       front,
       c.requires.room,
-      size _ c.requires.wire,
-      size _ first.1,
-      ap (λ n. length (wire n)) first.0,
-      length-append c.in-Some.label (wire (labels_of c.in-Some.after.now)),
+      parts _ _ _ c.requires.wire first.1 first.0,
     ) in
     (omega (arith, less), (first.1, (c.requires.end, (on.0, omega (arith, on.1, front)))))
