@@ -1,5 +1,5 @@
 -- What calls of a source give together.
-use Rattle.std.proofs.Common.{◌≡◌, ℕ, ◌+◌, ◌-◌, ◌*◌, ◌^◌, ◌<◌, ◌≤◌, min, All, [], ◌∷◌, ◌++◌, slice_index, length, take, Option, Err, subst, sym, ap, ap₂, ◌∙◌, arith, length-append}
+use Rattle.std.proofs.Common.{◌≡◌, ℕ, ◌+◌, ◌-◌, ◌*◌, ◌^◌, ◌<◌, ◌≤◌, min, All, [], ◌∷◌, ◌++◌, slice_index, length, take, Option, subst, sym, ap, ap₂, ◌∙◌, arith, length-append}
 use Rattle.std.proofs.Math.Seq.{take-append-add}
 use Rattle.std.specs.Io.KnownBytes.{Consumes}
 use Rattle.std.proofs.lemmas.List.Elements.{All-head}
@@ -10,9 +10,7 @@ use Rattle.std.proofs.KnownBytes.{Consumes-trans}
 use Rattle.dns_spec.specs.Query.{most_over_udp}
 use Rattle.dns_spec.specs.Names.{Octets}
 use Rattle.dns_spec.specs.Layout.{octets16}
-use Rattle.dns_serve.specs.Reads.{Passed, Gives, GivesSome, GivesFewer, GivesBeginning, GivesPart, GivesPartOfBody, GivesMessage, GivesBody, MessageRead, BodyRead}
-use Rattle.dns_serve.specs.declared.fault.StreamFault.{StreamFault}
-use Rattle.dns_serve.specs.declared.fault.StreamFault.TheVariants.{SourceFailed, SinkFailed, Cut}
+use Rattle.dns_serve.specs.Reads.{Passed, Gives, GivesSome, GivesFewer, GivesBeginning, GivesPart, GivesPartOfBody, GivesMessage, GivesBody}
 use Rattle.dns_serve.proofs.Frames.{no_frame_short, cut_first, no_frame_inside, cut_inside, kept_front}
 
 -- what came before stands at the front of a buffer, and what comes now after it
@@ -36,6 +34,13 @@ fewer_after a b c n m front consumed le f = record {
   octets = front ++ f.octets;
   consumed = Consumes-trans a b c front f.octets consumed f.consumed;
   fewer = omega (arith, length-append front f.octets, f.fewer, le);
+}
+
+pub fewer_still : (a b : Option Octets) (n m : ℕ) → m ≤ n → GivesFewer a b m → GivesFewer a b n
+fewer_still a b n m le f = record {
+  octets = f.octets;
+  consumed = f.consumed;
+  fewer = omega (arith, f.fewer, le);
 }
 
 -- octets of a length came, and then too few
@@ -105,13 +110,6 @@ number_again (x ∷ y ∷ []) n low two value =
     let is : n ≡ x * 256 + y = value ∙ omega arith in
     ap octets16 is ∙ two_octets x y e.0 e.1.0
 number_again (x ∷ y ∷ z ∷ zs) n low two value = absurd (omega (arith, two))
-
--- why a message did not come after its length
-pub body_fault : (a b c : Option Octets) (n : ℕ) (buf : Octets) (fault : StreamFault) → n < 2 ^ 16 → Consumes a b (octets16 n)
-    → BodyRead b c n buf (Err fault) → MessageRead a c buf (Err fault)
-body_fault a b c n buf SourceFailed h l f = beginning_after a b c n h l f
-body_fault a b c n buf SinkFailed h l f = f
-body_fault a b c n buf Cut h l f = part_after a b c n h l f
 
 -- what is kept of a message came whole, and then all of the rest, or too little
 pub body_came : (a b c : Option Octets) (count kept first skipped : ℕ) (buf others : Octets) → kept ≡ min count most_over_udp → length buf ≡ kept → kept ≤ first

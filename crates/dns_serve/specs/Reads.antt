@@ -81,10 +81,3 @@ pub record GivesBody (old new : Option Octets) (count : ℕ) (kept : Octets) : T
 pub record GivesPartOfBody (old new : Option Octets) (count : ℕ) : Type 0 where
   pub fewer : GivesFewer old new count
   pub over : IsAtEnd new
-
--- what was read where a message of so many octets is due
-abbrev pub BodyRead : Option Octets → Option Octets → ℕ → Octets → Result ℕ StreamFault → Type 0
-BodyRead old new count buf (Ok n) = GivesBody old new count (take n buf)
-BodyRead old new count buf (Err SourceFailed) = GivesFewer old new count
-BodyRead old new count buf (Err SinkFailed) = ⊥
-BodyRead old new count buf (Err Cut) = GivesPartOfBody old new count

@@ -4,7 +4,7 @@ ghost use Rattle.std.specs.Prelude.{◌≡◌, ℕ, ◌+◌, ◌-◌, ◌^◌, �
 ghost use Rattle.dns_name.specs.Counted.{Writes};
 ghost use Rattle.dns_spec.specs.Layout.{octets16};
 ghost use Rattle.dns_spec.specs.Stream.{reply_frame};
-ghost use Rattle.dns_serve.specs.Reads.{MessageRead, BodyRead};
+ghost use Rattle.dns_serve.specs.Reads.{MessageRead};
 ghost use Rattle.dns_serve.specs.Streams.{SessionOf, reply_over_tcp, source_failures_after, sink_failures_after};
 
 use crate::fault::StreamFault;
@@ -136,7 +136,15 @@ fn read_message<R: Read>(
     if came < 2 {
         return Err(StreamFault::Cut);
     }
-    let kept = read_body(source, message, room, message_length(&length))?;
+    let count = message_length(&length);
+    let kept = count.min(MOST_KEPT);
+    let (front, _) = message.split_at_mut(kept);
+    if read_full(source, front)? < kept {
+        return Err(StreamFault::Cut);
+    }
+    if skip(source, room, count - kept)? < count - kept {
+        return Err(StreamFault::Cut);
+    }
     Ok(Some(kept))
 }
 
@@ -146,32 +154,6 @@ fn message_length(octets: &[u8]) -> usize
     ensures below { result < 2 ^ 16 }
 {
     usize::from(BigEndian::read_u16(octets))
-}
-
-// Reads a message of so many octets, and answers how many of them are kept.
-fn read_body<R: Read>(
-    source: &mut Tally<R>,
-    message: &mut [u8],
-    room: &mut [u8],
-    count: usize,
-) -> Result<usize, StreamFault>
-    requires source { source.old.failures < 2 ^ 64 - 1 }
-    requires message { length message.old ≡ 512 }
-    requires room { 0 < length room.old }
-    ensures read { BodyRead (R.remaining source.old.device) (R.remaining source.new.device)
-        count message.new result }
-    ensures kept { IfOk result (λ kept. kept ≤ 512) }
-    ensures source { source.new.failures ≡ source_failures_after source.old.failures result }
-{
-    let kept = count.min(MOST_KEPT);
-    let (front, _) = message.split_at_mut(kept);
-    if read_full(source, front)? < kept {
-        return Err(StreamFault::Cut);
-    }
-    if skip(source, room, count - kept)? < count - kept {
-        return Err(StreamFault::Cut);
-    }
-    Ok(kept)
 }
 
 // Writes the reply to a message after its length, in one call where the sink takes it, or nothing

@@ -1,6 +1,6 @@
-use Rattle.std.proofs.Common.{arith}
+use Rattle.std.proofs.Common.{arith, ◌∙◌}
 use Rattle.std.proofs.lemmas.Result.{err_from_is_err_and}
-use Rattle.dns_serve.proofs.Readings.{short_beginning, first_alone, length_came, body_fault, message_after}
+use Rattle.dns_serve.proofs.Readings.{short_beginning, first_alone, length_came, fewer_after, fewer_still, beginning_after, part_after, message_after, body_came, body_cut}
 use Rattle.dns_serve.proofs.stream.read_message.Goals as goal
 
 pub returns-in_err-came-clause-read : goal.returns-in_err-came-clause-read
@@ -10,15 +10,69 @@ returns-in_err-came-clause-read g c =
 
 pub returns-then-came-lt2-clause-read : goal.returns-then-came-lt2-clause-read
 returns-then-came-lt2-clause-read g c =
-    first_alone _ _ c.read_full.new.buf _ c.in_ok-came.ensures.low c.read_full.auto.buf (omega (arith, c.if-came-eq0.false, c.if-came-lt2.true)) c.in_ok-came.ensures.ok
+    first_alone _ _ c.read_full.new.buf _ c.in_ok-came.ensures.low c.read_full.auto.buf
+    (omega (arith, c.if-came-eq0.false, c.if-came-lt2.true)) c.in_ok-came.ensures.ok
 
-pub returns-in_err-kept-clause-read : goal.returns-in_err-kept-clause-read
-returns-in_err-kept-clause-read g c =
-    let p = err_from_is_err_and c.from_residual-in_err-kept.result c.from_residual-in_err-kept.ensures.1 in
-    let length = length_came _ _ c.read_full.new.buf _ _ c.read_full.auto.buf c.if-came-lt2.false c.message_length.ensures.octets c.in_ok-came.ensures.ok in
-    rw (p.1, p.2) (body_fault _ _ _ _ c.read_body.new.message _ c.message_length.ensures.below length c.in_err-kept.ensures.read)
+pub returns-in_err-read_full-clause-read : goal.returns-in_err-read_full-clause-read
+returns-in_err-read_full-clause-read g c =
+    let p = err_from_is_err_and c.from_residual-in_err-read_full.result
+    c.from_residual-in_err-read_full.ensures.1 in
+    let length =
+    length_came _ _ c.read_full.new.buf _ _ c.read_full.auto.buf c.if-came-lt2.false
+    c.message_length-count.ensures.octets c.in_ok-came.ensures.ok in
+    let front = c.read_full-2.auto.buf ∙ c.split_at_mut-front.ensures.front_len in
+    rw (p.1, p.2) (beginning_after _ _ _ _ c.message_length-count.ensures.below length
+    (fewer_still _ _ _ _ (omega (arith, front, c.min-kept.ensures)) c.in_err-read_full.ensures.err))
+
+pub returns-then-branch-kept-clause-read : goal.returns-then-branch-kept-clause-read
+returns-then-branch-kept-clause-read g c =
+    let length =
+    length_came _ _ c.read_full.new.buf _ _ c.read_full.auto.buf c.if-came-lt2.false
+    c.message_length-count.ensures.octets c.in_ok-came.ensures.ok in
+    let front = c.read_full-2.auto.buf ∙ c.split_at_mut-front.ensures.front_len in
+    let came = c.in_ok-read_full.ensures.ok in
+    let few = c.if-branch-kept.true in
+    part_after _ _ _ _ c.message_length-count.ensures.below length
+    (record {
+      fewer = record {
+        octets = _;
+        consumed = came.consumed;
+        fewer = omega (arith, came.length_is, few, front, c.min-kept.ensures);
+      };
+      over = came.over (omega (arith, few, front));
+    })
+
+pub returns-in_err-skip-clause-read : goal.returns-in_err-skip-clause-read
+returns-in_err-skip-clause-read g c =
+    let p = err_from_is_err_and c.from_residual-in_err-skip.result
+    c.from_residual-in_err-skip.ensures.1 in
+    let length =
+    length_came _ _ c.read_full.new.buf _ _ c.read_full.auto.buf c.if-came-lt2.false
+    c.message_length-count.ensures.octets c.in_ok-came.ensures.ok in
+    let front = c.read_full-2.auto.buf ∙ c.split_at_mut-front.ensures.front_len in
+    let came = c.in_ok-read_full.ensures.ok in
+    let fits = c.min-kept.ensures in
+    rw (p.1, p.2) (beginning_after _ _ _ _ c.message_length-count.ensures.below length
+    (fewer_after _ _ _ _ _ _ came.consumed
+    (omega (arith, came.length_is, came.within, fits, front)) c.in_err-skip.ensures.err))
+
+pub returns-then-branch-count-clause-read : goal.returns-then-branch-count-clause-read
+returns-then-branch-count-clause-read g c =
+    let length =
+    length_came _ _ c.read_full.new.buf _ _ c.read_full.auto.buf c.if-came-lt2.false
+    c.message_length-count.ensures.octets c.in_ok-came.ensures.ok in
+    let front = c.read_full-2.auto.buf ∙ c.split_at_mut-front.ensures.front_len in
+    part_after _ _ _ _ c.message_length-count.ensures.below length
+    (body_cut _ _ _ _ _ _ _ c.read_full-2.new.buf c.min-kept.ensures front
+    c.in_ok-read_full.ensures.ok c.if-branch-count.true c.in_ok-skip.ensures.ok)
 
 pub returns-clause-read : goal.returns-clause-read
 returns-clause-read g c =
-    let length = length_came _ _ c.read_full.new.buf _ _ c.read_full.auto.buf c.if-came-lt2.false c.message_length.ensures.octets c.in_ok-came.ensures.ok in
-    message_after _ _ _ _ _ c.message_length.ensures.below length c.in_ok-kept.ensures.read
+    let length =
+    length_came _ _ c.read_full.new.buf _ _ c.read_full.auto.buf c.if-came-lt2.false
+    c.message_length-count.ensures.octets c.in_ok-came.ensures.ok in
+    let front = c.read_full-2.auto.buf ∙ c.split_at_mut-front.ensures.front_len in
+    message_after _ _ _ _ _ c.message_length-count.ensures.below length
+    (body_came _ _ _ _ _ _ _ c.read_full-2.new.buf _ c.min-kept.ensures front
+    c.if-branch-kept.false c.in_ok-read_full.ensures.ok c.if-branch-count.false
+    c.in_ok-skip.ensures.ok)
