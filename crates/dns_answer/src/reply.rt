@@ -6,11 +6,11 @@ ghost use Rattle.dns_spec.specs.Records.{ZoneContents};
 ghost use Rattle.dns_spec.specs.Reading.{Spells};
 ghost use Rattle.dns_spec.specs.Query.{is_ignored};
 ghost use Rattle.dns_spec.specs.Layout.{layout};
-ghost use Rattle.dns_spec.specs.Reply.{answered, decide, decide_question, is_meta_type, refusal, reply, reply_message, octets_of};
+ghost use Rattle.dns_spec.specs.Reply.{answered, decide, is_meta_type, refusal, reply, reply_message, octets_of};
 ghost use Rattle.dns_answer.specs.DraftForm.{blank};
 ghost use Rattle.dns_answer.specs.Limits.{limit_of};
 ghost use Rattle.dns_zone.specs.Starts.{IsBelow};
-ghost use Rattle.dns_answer.specs.Replies.{JudgedAs, IsReply, Answers, Costs, Responds, visits_for, names_for, comparisons_for};
+ghost use Rattle.dns_answer.specs.Replies.{JudgedAs, IsReply, Costs, Responds, visits_for, names_for, comparisons_for};
 
 use crate::chain::seek;
 use crate::draft::Draft;
@@ -135,36 +135,13 @@ fn respond_with<const N: usize, const SIZE: usize>(
     match lent_query(datagram) {
         QueryRef::Absent => None,
         QueryRef::Refused(head) => Some(put_refusal(head, None, draft, out)),
-        QueryRef::Query(head, question) => {
-            Some(put_reply(steps, origin, &head, &question, draft, out))
-        }
-    }
-}
-
-// Puts the reply to a query: a refusal, or an answer.
-fn put_reply<'q, 'z: 'q, const N: usize, const SIZE: usize>(
-    steps: &mut Steps<'z>,
-    origin: &Name,
-    head: &Head,
-    question: &QuestionRef<'q>,
-    draft: &mut Draft<N, SIZE>,
-    out: &mut [u8],
-) -> usize
-    requires blank { draft.old ≡ blank SIZE }
-    requires origin { origin.now ≡ steps.old.zone.origin }
-    requires visits { steps.old.visits ≡ 0 }
-    requires comparisons { steps.old.comparisons ≡ 0 }
-    requires out { length out.old ≡ SIZE }
-    ensures reply { IsReply steps.old.zone SIZE
-        (decide_question head.now question.now (refusal steps.old.zone question.now))
-        result out.new }
-    ensures costs { Costs
-        (decide_question head.now question.now (refusal steps.old.zone question.now))
-        steps.old steps.new }
-{
-    match judge(question, origin) {
-        Err(rcode) => put_refusal(head.reply(false, false, rcode), Some(question), draft, out),
-        Ok(sought) => put_answer(steps, head, question, sought, draft, out),
+        QueryRef::Query(head, question) => match judge(&question, origin) {
+            Err(rcode) => {
+                let head = head.reply(false, false, rcode);
+                Some(put_refusal(head, Some(&question), draft, out))
+            }
+            Ok(sought) => Some(put_answer(steps, &head, &question, sought, draft, out)),
+        },
     }
 }
 
@@ -224,29 +201,10 @@ fn put_answer<'q, 'z: 'q, const N: usize, const SIZE: usize>(
     ensures costs { Costs (answered head.now question.now) steps.old steps.new }
 {
     draft.begin(Some(question));
-    let head = offer_answer(head, question, sought, steps, draft);
-    draft.finish(head, out)
-}
-
-// Offers all sets that answer a question, and answers the header of the reply.
-fn offer_answer<'q, 'z: 'q, const N: usize, const SIZE: usize>(
-    head: &Head,
-    question: &QuestionRef<'q>,
-    sought: Sought<'q>,
-    steps: &mut Steps<'z>,
-    draft: &mut Draft<N, SIZE>,
-) -> Head
-    requires visits { steps.old.visits ≡ 0 }
-    requires comparisons { steps.old.comparisons ≡ 0 }
-    requires asked { sought.name ≡ question.now.qname }
-    requires below { IsBelow sought steps.old.zone.origin }
-    requires name { IsTrue (is_name question.now.qname) }
-    ensures answers { Answers steps.old.zone head.now question.now draft.old draft.new result }
-    ensures costs { Costs (answered head.now question.now) steps.old steps.new }
-{
     let apex = steps.apex();
     let (verdict, followed_alias) = seek(sought, question.qtype, &apex, steps, draft);
     // The server speaks for the zone, unless all that it answers is a referral (RFC 1035 4.1.1).
     let only_refers = verdict.is_referral && !followed_alias;
-    head.reply(!only_refers, verdict.is_truncated, verdict.rcode)
+    let head = head.reply(!only_refers, verdict.is_truncated, verdict.rcode);
+    draft.finish(head, out)
 }

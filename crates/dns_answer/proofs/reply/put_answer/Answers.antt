@@ -1,7 +1,29 @@
+use Rattle.std.proofs.Common.{rules, not, ◌&&◌, ◌≡◌, true, sym, ap, ◌∙◌, subst, arith}
+use Rattle.dns_spec.specs.Names.{is_name}
+use Rattle.dns_spec.specs.Records.{ZoneContents}
+use Rattle.dns_spec.specs.Reading.{MessageQuestion}
+use Rattle.dns_zone.specs.Starts.{IsBelow}
 use Rattle.dns_answer.specs.Draft.{empty_draft}
 use Rattle.dns_answer.specs.DraftForm.{Holds}
-use Rattle.dns_answer.proofs.PutReplies.{answer-put}
+use Rattle.dns_answer.specs.Walks.{IsApex}
+use Rattle.dns_answer.proofs.PutReplies.{answers-found, answer-put, answer-costs}
 use Rattle.dns_answer.proofs.reply.put_answer.Goals as goal
+use Rattle.dns_answer.proofs.reply.put_answer.Goals.{then-verdict, else-verdict}
+
+pub seek-followed_alias-requires : goal.seek-followed_alias-requires
+seek-followed_alias-requires g c =
+    let apex = c.apex-apex.ensures in (
+      search rules,
+      (
+        subst (λ z. IsApex z c.apex-apex.result) (sym apex.zone)
+            (record { node = apex.node; exists = apex.exists }),
+        (
+          subst (λ (z : ZoneContents). IsBelow c.args.sought z.origin) (sym apex.zone)
+              c.requires.below,
+          record { visits = omega arith; comparisons = omega arith },
+        ),
+      ),
+    )
 
 pub returns-clause-reply : goal.returns-clause-reply
 returns-clause-reply g c =
@@ -10,5 +32,28 @@ returns-clause-reply g c =
       limit = c.begin.ensures.limit;
       full = c.begin.ensures.empty;
     } in
-    answer-put _ _ _ g.row.SIZE _ _ c.offer_answer-head.result _ _ begun c.offer_answer-head.ensures.answers
+    let followed = c.seek-followed_alias.result.1 in
+    let answers =
+    answers-found c.args.steps.now.zone c.args.head.now c.args.question.now followed
+    c.apex-apex.ensures.zone c.requires.asked
+    (ap (λ (q : MessageQuestion). q.qtype) c.question.view_is)
+    c.seek-followed_alias.ensures.seeks c.seek-followed_alias.ensures.followed
+    (elim c.if-verdict.branch [
+      | then-verdict w ↦
+          ap not (w.only_refers-is ∙ ap (λ b. b && not followed) (sym w.if-verdict.true))
+      | else-verdict w ↦
+          ap not
+          (w.only_refers-is ∙ w.if-verdict.false ∙ ap (λ b. b && not followed) (sym w.if-verdict.false))
+    ])
+    c.reply-head.ensures in
+    answer-put _ _ _ g.row.SIZE _ _ c.reply-head.result _ _ begun answers
     (λ d h. c.finish.ensures.length _ _ h.written) (λ d h. c.finish.ensures.octets _ _ h.written)
+
+pub returns-clause-costs : goal.returns-clause-costs
+returns-clause-costs g c =
+    let name : is_name c.args.question.now.qname ≡ true = search rules in
+    answer-costs c.args.head.now c.args.question.now _ _ c.args.steps.now c.apex-apex.new.self
+    c.seek-followed_alias.new.steps name c.requires.asked
+    (ap (λ (q : MessageQuestion). q.qtype) c.question.view_is)
+    c.requires.visits c.requires.comparisons c.apex-apex.ensures.visits
+    c.apex-apex.ensures.comparisons c.apex-apex.ensures.zone c.seek-followed_alias.ensures.took
