@@ -72,7 +72,7 @@ impl<const N: usize> Places<N> {
         ensures { result ≡ [] }
     {
         Places {
-            heads: no_heads(),
+            heads: [0; HEADS],
             entries: ArrayVec::new(),
         }
     }
@@ -81,7 +81,7 @@ impl<const N: usize> Places<N> {
     pub(crate) fn clear(&mut self)
         ensures { self.new ≡ [] }
     {
-        self.heads = no_heads();
+        self.heads = [0; HEADS];
         self.entries.clear();
     }
 
@@ -151,12 +151,6 @@ impl<const N: usize> Places<N> {
         }
         None
     }
-}
-
-fn no_heads() -> [u16; HEADS]
-    ensures { result ≡ replicate 128 0 }
-{
-    [0; HEADS]
 }
 
 // The chain of the suffixes with a number.

@@ -1,7 +1,7 @@
 //! Messages read from octets (RFC 1035 4.1).
 ghost use Rattle.std.specs.Prelude.{◌≡◌, ◌≤◌, ◌<◌, length, IfOk, IfErr, IsErr};
 ghost use Rattle.dns_spec.specs.Reading.{Spells};
-ghost use Rattle.dns_wire.specs.Read.{QuestionAt, WholeRecordAt, HeaderAt, AreQuestions, AreRecords, NoQuestion, NoRecord, NoQuestions, NoRecords, NoMessage};
+ghost use Rattle.dns_wire.specs.Read.{WholeRecordAt, HeaderAt, AreQuestions, AreRecords, NoRecord, NoQuestions, NoRecords, NoMessage};
 ghost use Rattle.dns_wire.specs.WireFault.{UnlessNoMemory};
 
 use crate::data::read_data;
@@ -72,28 +72,17 @@ fn read_questions(
     let mut questions = Vec::new(alloc);
     let mut place = at;
     'questions: for _ in 0..count {
-        let (question, after) = read_question(message, place)?;
-        questions.push(question)?;
-        place = after;
+        let (name, after) = read_name(message, place)?;
+        let qtype = read_u16(message, after)?;
+        let qclass = read_u16(message, after + 2)?;
+        questions.push(Question {
+            name,
+            qtype,
+            qclass,
+        })?;
+        place = after + 4;
     }
     Ok((questions, place))
-}
-
-fn read_question(message: &[u8], at: usize) -> Result<(Question, usize), WireFault>
-    requires { at ≤ length message.now }
-    ensures ok { IfOk result (λ read. QuestionAt message.now at read.0 read.1
-        × (read.1 ≤ length message.now)) }
-    ensures err { IsErr result → NoQuestion message.now at }
-{
-    let (name, at) = read_name(message, at)?;
-    let qtype = read_u16(message, at)?;
-    let qclass = read_u16(message, at + 2)?;
-    let question = Question {
-        name,
-        qtype,
-        qclass,
-    };
-    Ok((question, at + 4))
 }
 
 // So many records from a place on, and the place after them.

@@ -1,20 +1,51 @@
-use Rattle.std.proofs.Common.{refl, arith, ap, sym, subst, length, ◌∷◌, [], length-append}
-use Rattle.dns_wire.specs.Read.{QuestionsRead}
+use Rattle.std.proofs.Common.{ℕ, ◌+◌, refl, arith, ap, sym, subst, length, ◌∷◌, [], length-append}
+use Rattle.dns_spec.specs.Reading.{MessageQuestion}
+use Rattle.dns_wire.specs.Read.{QuestionAt, QuestionsRead}
 use Rattle.dns_wire.proofs.Anyway.{anyway}
-use Rattle.dns_wire.proofs.ReadLemmas.{question_more, question_none, questions_end}
+use Rattle.dns_wire.proofs.ReadLemmas.{no_qtype, no_qclass, question_more, question_none, questions_end}
 use Rattle.dns_wire.proofs.reader.read_questions.Goals as goal
 
-pub returns-in_err-question-clause-err : goal.returns-in_err-question-clause-err
-returns-in_err-question-clause-err c =
-    anyway c.from_residual.result (question_none c.questions.invariant.read c.args.count (omega arith) (c.in_err-question.ensures.err refl))
+pub returns-in_err-name-clause-err : goal.returns-in_err-name-clause-err
+returns-in_err-name-clause-err c =
+    let none = λ (q : MessageQuestion) (e : ℕ) (at : QuestionAt c.args.message.now c.questions.place q e).
+    c.in_err-name.ensures.none refl q.qname at.after_name at.name in
+    anyway _ (question_none c.questions.invariant.read c.args.count (omega arith) none)
+
+pub returns-in_err-qtype-clause-err : goal.returns-in_err-qtype-clause-err
+returns-in_err-qtype-clause-err c =
+    let none =
+    no_qtype c.args.message.now c.questions.place _ _ c.in_ok-name.ensures.name
+    (c.in_err-qtype.ensures.err refl) in
+    anyway _ (question_none c.questions.invariant.read c.args.count (omega arith) none)
+
+pub returns-in_err-qclass-clause-err : goal.returns-in_err-qclass-clause-err
+returns-in_err-qclass-clause-err c =
+    let none =
+    no_qclass c.args.message.now c.questions.place _ _ c.in_ok-name.ensures.name
+    (c.in_err-qclass.ensures.err refl) in
+    anyway _ (question_none c.questions.invariant.read c.args.count (omega arith) none)
 
 pub questions-preserved : goal.questions-preserved
 questions-preserved c =
     let pushed = c.in_ok-push.ensures.items in
+    let q : MessageQuestion = record {
+      qname = c.in_ok-name.name;
+      qtype = c.in_ok-qtype.qtype;
+      qclass = c.in_ok-qclass.qclass;
+    } in
+    let qclass = c.in_ok-qclass.ensures.ok in
+    let at : QuestionAt c.args.message.now c.questions.place q (c.in_ok-name.after + 4) = record {
+      after_name = c.in_ok-name.after;
+      name = c.in_ok-name.ensures.name;
+      qtype = c.in_ok-qtype.ensures.ok;
+      qclass = qclass;
+      end = refl;
+    } in
     record {
-      read = subst (λ xs. QuestionsRead c.args.message.now c.args.at xs c.in_ok-question.after) (sym pushed)
-          (question_more c.questions.invariant.read c.in_ok-question.question c.in_ok-question.after c.in_ok-question.ensures.ok.0 c.in_ok-question.ensures.ok.1);
-      as_many = omega (arith, ap length pushed, length-append c.questions.questions.items (c.in_ok-question.question ∷ []));
+      read = subst (λ xs. QuestionsRead c.args.message.now c.args.at xs (c.in_ok-name.after + 4))
+          (sym pushed)
+          (question_more c.questions.invariant.read q _ at (omega (arith, qclass.within)));
+      as_many = omega (arith, ap length pushed, length-append c.questions.questions.items (q ∷ []));
     }
 
 pub returns-clause-ok : goal.returns-clause-ok
