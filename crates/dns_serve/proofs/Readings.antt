@@ -1,11 +1,9 @@
 -- What calls of a source give together.
-use Rattle.std.proofs.Common.{◌≡◌, ℕ, ◌+◌, ◌-◌, ◌*◌, ◌^◌, ◌<◌, ◌≤◌, min, All, [], ◌∷◌, ◌++◌, slice_index, length, take, Option, subst, sym, ap, ap₂, ◌∙◌, arith, length-append}
+use Rattle.std.proofs.Common.{◌≡◌, ℕ, ◌+◌, ◌-◌, ◌^◌, ◌<◌, ◌≤◌, min, All, [], ◌∷◌, ◌++◌, length, take, Option, subst, sym, ap, ap₂, ◌∙◌, arith, length-append}
 use Rattle.std.proofs.Math.Seq.{take-append-add}
 use Rattle.std.specs.Io.KnownBytes.{Consumes}
 use Rattle.std.proofs.lemmas.List.Elements.{All-head}
 use Rattle.std.proofs.lemmas.List.{take_all, take-append-le}
-use Rattle.dns_spec.proofs.Streams.StreamFrames.{two_octets}
-use Rattle.dns_spec.proofs.Replies.WritableItems.{each_from_all}
 use Rattle.std.proofs.KnownBytes.{Consumes-trans}
 use Rattle.dns_spec.specs.Query.{most_over_udp}
 use Rattle.dns_spec.specs.Names.{Octets}
@@ -99,17 +97,6 @@ pub length_came : (a b : Option Octets) (buf : Octets) (count n : ℕ) → lengt
     → Gives a b (length buf) count (take count buf) → Consumes a b (octets16 n)
 length_came a b buf count n two more is g =
     subst (Consumes a b) (take_all count buf (omega (arith, two, more)) ∙ sym is) g.consumed
-
--- the two octets of a number
-pub number_again : (x : Octets) (n : ℕ) → All (λ o. o < 256) x → length x ≡ 2 → n ≡ slice_index x 0 * 256 + (slice_index x 1 * 1 + 0)
-    → octets16 n ≡ x
-number_again [] n low two value = absurd (omega (arith, two))
-number_again (x ∷ []) n low two value = absurd (omega (arith, two))
-number_again (x ∷ y ∷ []) n low two value =
-    let e = each_from_all (λ o. o < 256) (x ∷ y ∷ []) low in
-    let is : n ≡ x * 256 + y = value ∙ omega arith in
-    ap octets16 is ∙ two_octets x y e.0 e.1.0
-number_again (x ∷ y ∷ z ∷ zs) n low two value = absurd (omega (arith, two))
 
 -- what is kept of a message came whole, and then all of the rest, or too little
 pub body_came : (a b c : Option Octets) (count kept first skipped : ℕ) (buf others : Octets) → kept ≡ min count most_over_udp → length buf ≡ kept → kept ≤ first

@@ -15,6 +15,3 @@ calls-preserved g c =
       consumed = came_after _ _ _ _ _ _ _ s.front_len (subst (Consumes _ _) (sym s.front) i.consumed) r.bytes.0;
       counted = search rules;
     }
-
-pub returns-then-came-eq0-clause-low : goal.returns-then-came-eq0-clause-low
-returns-then-came-eq0-clause-low g c = λ k d h. subst (λ o. o < 256) (sym (get_or_default_zero _ k d h)) (omega (arith, c.type_inv.buf k))
