@@ -1,16 +1,16 @@
 -- How far a run goes, octet by octet and escape by escape.
-use Rattle.std.proofs.Common.{eqb-true, get_or, ◌≡◌, ℕ, zero, suc, sym, cond, nat_lt, ◌+◌, ◌≤◌, Bool, true, false, [], ◌∷◌, length, take, drop, refl, ◌∙◌, ap, arith, Option, None, Some, ◌==◌}
+use Rattle.std.proofs.Common.{eqb-true, get_or, ◌≡◌, ℕ, zero, suc, sym, cond, nat_lt, ◌+◌, ◌≤◌, ◌<◌, Bool, true, false, [], ◌∷◌, length, take, drop, refl, ◌∙◌, ap, arith, Option, None, Some, ◌==◌}
 use Rattle.std.specs.Prelude.{not}
 use Rattle.std.specs.List.{list_all, position, position_or_len}
 use Rattle.std.proofs.lemmas.Bool.{and_parts, false≢true, ltb-false}
 use Rattle.std.proofs.lemmas.Option.{none-some, same_Some}
-use Rattle.std.proofs.lemmas.List.{drop_all}
+use Rattle.std.proofs.lemmas.List.{drop_all, drop-drop, at_drop_more}
 use Rattle.std.proofs.lemmas.List.Sums.{prefix_len-le-length}
 use Rattle.dns_spec.specs.Names.{Octets}
 use Rattle.dns_spec.specs.ZoneText.{escape_left, unit_left, run_length}
 use Rattle.dns_spec.proofs.NameTexts.Escapes.{counted_escape, escape-counted}
 use Rattle.dns_spec.specs.DataText.{is_word_octet, is_string_octet}
-use Rattle.dns_master.specs.TokenForm.{by_itself, plain_length}
+use Rattle.dns_master.specs.TokenForm.{by_itself}
 use Rattle.dns_master.specs.declared.run.Run.{Run}
 use Rattle.dns_master.specs.declared.run.Run.TheVariants.{Word as WordRun, String as StringRun}
 
@@ -34,9 +34,6 @@ place-none p text e = go (nat_lt (position_or_len p text) (length text)) refl
 
 pub none-after : (p : ℕ → Bool) (text : Octets) → position p text ≡ None → [] ≡ drop (position_or_len p text) text
 none-after p text e = let all : length text ≡ position_or_len p text = place-none p text e in sym (drop_all (position_or_len p text) text (omega (arith, all)))
-
-drop-more : (n o : ℕ) (text : Octets) → drop (1 + n) (o ∷ text) ≡ drop n text
-drop-more n o text = let more : 1 + n ≡ suc n = omega arith in rw more refl
 
 is-other : (by : ℕ → Bool) (o : ℕ) → by 92 ≡ false → by o ≡ true → (o == 92) ≡ false
 is-other by o none h = go (o == 92) refl
@@ -90,48 +87,46 @@ module _ (by : ℕ → Bool) where
   run-none [] e = refl
   run-none (o ∷ text) e = absurd (omega (arith, e))
 
-  -- octets that stand in the run by themselves
-  pub run-plain : ((o : ℕ) → by o ≡ true → (o == 92) ≡ false) → (text : Octets)
-      → run_length by 0 text ≡ plain_length by text + run_length by 0 (drop (plain_length by text) text)
-  run-plain plain [] = omega arith
-  run-plain plain (o ∷ text) = go (by o) refl (run-plain plain text)
-    where
-      go : (b : Bool) → by o ≡ b → run_length by 0 text ≡ plain_length by text + run_length by 0 (drop (plain_length by text) text)
-          → run_length by 0 (o ∷ text) ≡ plain_length by (o ∷ text) + run_length by 0 (drop (plain_length by (o ∷ text)) (o ∷ text))
-      go true e others =
-          let size : plain_length by (o ∷ text) ≡ 1 + plain_length by text = rw e refl in
-          let left : run_length by 0 (drop (plain_length by (o ∷ text)) (o ∷ text)) ≡ run_length by 0 (drop (plain_length by text) text) =
-          ap (λ k. run_length by 0 (drop k (o ∷ text))) size ∙ ap (run_length by 0) (drop-more (plain_length by text) o text) in
-          let whole : run_length by 0 (o ∷ text) ≡ 1 + run_length by 0 text = run-itself o text (plain o e) e in
-          omega (arith, whole, others, size, left)
-      go false e others =
-          let size : plain_length by (o ∷ text) ≡ 0 = rw e refl in
-          let left : run_length by 0 (drop (plain_length by (o ∷ text)) (o ∷ text)) ≡ run_length by 0 (o ∷ text) = ap (λ k. run_length by 0 (drop k (o ∷ text))) size in
-          omega (arith, size, left)
-
-  -- the octet after them does not
-  pub plain-stops : (text : Octets) (o : ℕ) (others : Octets) → drop (plain_length by text) text ≡ o ∷ others → by o ≡ false
-  plain-stops [] o others e = let size : 0 ≡ suc (length others) = ap length e in absurd (omega (arith, size))
-  plain-stops (x ∷ text) o others e = go (by x) refl (plain-stops text o others) e
-    where
-      go : (b : Bool) → by x ≡ b → (drop (plain_length by text) text ≡ o ∷ others → by o ≡ false) → drop (cond (not (not b)) (1 + plain_length by text) 0) (x ∷ text) ≡ o ∷ others → by o ≡ false
-      go true h later k = later (sym (drop-more (plain_length by text) x text) ∙ k)
-      go false h later k = ap by (sym (ap (λ ys. get_or ys 0 o) k)) ∙ h
-
-  -- all octets stand in the run by themselves
-  pub plain-all : (text : Octets) → position (λ o. not (by o)) text ≡ None → length text ≡ plain_length by text
-  plain-all text e = place-none (λ o. not (by o)) text e
+one_more : (i k : ℕ) → i + 1 + k ≡ i + (1 + k)
+one_more i k = omega arith
 
 -- a backslash stands in no run by itself
 pub no-backslash : (run : Run) (o : ℕ) → by_itself run o ≡ true → (o == 92) ≡ false
 no-backslash WordRun o h = is-other is_word_octet o refl h
 no-backslash StringRun o h = is-other is_string_octet o refl h
 
+-- how the run goes on at a place
+module _ (run : Run) (text : Octets) (i : ℕ) (inside : i < length text) where
+  here : run_length (by_itself run) 0 (drop i text) ≡ run_length (by_itself run) 0 (get_or text i 0 ∷ drop (i + 1) text)
+  here = at_drop_more (run_length (by_itself run) 0) text i 0 inside
+
+  pub here-itself : by_itself run (get_or text i 0) ≡ true → run_length (by_itself run) 0 (drop i text) ≡ 1 + run_length (by_itself run) 0 (drop (i + 1) text)
+  here-itself h = here ∙ run-itself (by_itself run) (get_or text i 0) (drop (i + 1) text) (no-backslash run (get_or text i 0) h) h
+
+  pub here-end : by_itself run (get_or text i 0) ≡ false → (get_or text i 0 == 92) ≡ false → run_length (by_itself run) 0 (drop i text) ≡ 0
+  here-end h e = here ∙ run-end (by_itself run) (get_or text i 0) (drop (i + 1) text) e h
+
+  -- at a backslash, where so many octets after it belong to its escape
+  module _ (others : Octets) (k : ℕ) (backslash : (get_or text i 0 == 92) ≡ true) (is : others ≡ drop (i + 1) text) (counted : k ≡ counted_escape others) where
+    pub here-escape : (k == 0) ≡ false → k ≤ length others → run_length (by_itself run) 0 (drop i text) ≡ 1 + k + run_length (by_itself run) 0 (drop (i + (1 + k)) text)
+    here-escape some fits =
+        here ∙ ap (λ t. run_length (by_itself run) 0 (get_or text i 0 ∷ t)) (sym is)
+        ∙ run-escape (by_itself run) (get_or text i 0) others backslash (ap (λ n. n == 0) (sym counted) ∙ some) (omega (arith, counted, fits))
+        ∙ ap (λ n. 1 + n + run_length (by_itself run) 0 (drop n others)) (sym counted)
+        ∙ ap (λ t. 1 + k + run_length (by_itself run) 0 t) (ap (drop k) is ∙ drop-drop k (i + 1) text ∙ ap (λ n. drop n text) (one_more i k))
+
+    pub here-no_escape : (k == 0) ≡ true → run_length (by_itself run) 0 (drop i text) ≡ 0
+    here-no_escape none =
+        here ∙ ap (λ t. run_length (by_itself run) 0 (get_or text i 0 ∷ t)) (sym is)
+        ∙ run-no_escape (by_itself run) (get_or text i 0) others backslash (ap (λ n. n == 0) (sym counted) ∙ none)
+
 -- where octets in front all stand in a run by themselves, the run goes on after them
-pub plain-front : (by : ℕ → Bool) (n : ℕ) (text : Octets) → n ≤ length text → list_all by (take n text) ≡ true → plain_length by text ≡ n + plain_length by (drop n text)
-plain-front by zero text h e = omega arith
-plain-front by (suc n) [] h e = absurd (omega (arith, h))
-plain-front by (suc n) (o ∷ text) h e =
-    let parts = and_parts (by o) (list_all by (take n text)) e in
-    let more : plain_length by text ≡ n + plain_length by (drop n text) = plain-front by n text (omega (arith, h)) parts.1 in
-    ap (λ b. cond (not (not b)) (1 + plain_length by text) 0) parts.0 ∙ omega (arith, more)
+pub run-front : (run : Run) (n : ℕ) (text : Octets) → n ≤ length text → list_all (by_itself run) (take n text) ≡ true
+    → run_length (by_itself run) 0 text ≡ n + run_length (by_itself run) 0 (drop n text)
+run-front run zero text h e = omega arith
+run-front run (suc n) [] h e = absurd (omega (arith, h))
+run-front run (suc n) (o ∷ text) h e =
+    let parts = and_parts (by_itself run o) (list_all (by_itself run) (take n text)) e in
+    let first = run-itself (by_itself run) o text (no-backslash run o parts.0) parts.0 in
+    let more = run-front run n text (omega (arith, h)) parts.1 in
+    omega (arith, first, more)

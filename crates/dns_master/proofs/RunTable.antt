@@ -1,9 +1,9 @@
--- The table of the runs that each octet stands in says what the definitions say of it.
+-- The table of where each octet stands by itself says what the definitions say of it.
 use Rattle.std.proofs.Common.{◌≡◌, ℕ, zero, suc, ◌<◌, Bool, true, false, ◌&&◌, ◌==◌, not, refl, subst, arith, inl, inr}
 use Rattle.std.specs.Prelude.{slice_index_or}
 use Rattle.std.proofs.lemmas.Bool.{false≢true, and_parts, eqb-true, cases_Bool, eqb-false}
 use Rattle.dns_spec.specs.DataText.{is_word_octet, is_string_octet}
-use Rattle.dns_master.specs.declared.run.TheConstants.{RUNS_WITH}
+use Rattle.dns_master.specs.declared.run.TheConstants.{PLAIN_IN}
 
 abbrev all_below : (ℕ → Bool) → ℕ → Bool
 all_below p zero = true
@@ -29,8 +29,8 @@ same_test true false h = absurd (false≢true h)
 same_test false true h = absurd (false≢true h)
 same_test false false h = refl
 
-pub in-words : (o : ℕ) → o < 256 → (slice_index_or RUNS_WITH o 0 == 2) ≡ is_word_octet o
-in-words o h = same_test _ _ (every_below (λ x. agree (slice_index_or RUNS_WITH x 0 == 2) (is_word_octet x)) 256 refl o h)
+pub in-words : (o : ℕ) → o < 256 → (slice_index_or PLAIN_IN o 0 == 2) ≡ is_word_octet o
+in-words o h = same_test _ _ (every_below (λ x. agree (slice_index_or PLAIN_IN x 0 == 2) (is_word_octet x)) 256 refl o h)
 
-pub in-strings : (o : ℕ) → o < 256 → not (slice_index_or RUNS_WITH o 0 == 0) ≡ is_string_octet o
-in-strings o h = same_test _ _ (every_below (λ x. agree (not (slice_index_or RUNS_WITH x 0 == 0)) (is_string_octet x)) 256 refl o h)
+pub in-strings : (o : ℕ) → o < 256 → not (slice_index_or PLAIN_IN o 0 == 0) ≡ is_string_octet o
+in-strings o h = same_test _ _ (every_below (λ x. agree (not (slice_index_or PLAIN_IN x 0 == 0)) (is_string_octet x)) 256 refl o h)

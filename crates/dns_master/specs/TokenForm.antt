@@ -1,6 +1,5 @@
 -- What a reader learns here: what the code's runs and tokens are in the words of the definitions.
-use Rattle.std.specs.Prelude.{◌≡◌, ℕ, Bool, not, Option, Some, None}
-use Rattle.std.specs.List.{position_or_len}
+use Rattle.std.specs.Prelude.{◌≡◌, ℕ, Bool, Option, Some, None}
 use Rattle.std.specs.Borrow.{Bor}
 use Rattle.dns_spec.specs.Names.{Octets}
 use Rattle.dns_spec.specs.ZoneText.{blank, comment, word, quoted_string, opening, closing, line_end}
@@ -15,10 +14,6 @@ use Rattle.dns_master.specs.declared.token.Token.TheVariants.{Blank, Comment, Wo
 abbrev pub by_itself : Run → ℕ → Bool
 by_itself WordRun = is_word_octet
 by_itself StringRun = is_string_octet
-
--- how many octets stand in a run by themselves before the first one that does not
-abbrev pub plain_length : (ℕ → Bool) → Octets → ℕ
-plain_length by = position_or_len (λ o. not (by o))
 
 abbrev pub shown_token : Token → text.Token
 shown_token Blank = blank

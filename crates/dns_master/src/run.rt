@@ -2,9 +2,9 @@
 ghost use Rattle.std.specs.Prelude.{◌≡◌, ◌==◌, ◌≤◌, true, not, length, take, drop};
 ghost use Rattle.std.specs.List.{list_all, prefix_len, position};
 ghost use Rattle.dns_spec.specs.ZoneText.{is_blank, run_length};
-ghost use Rattle.dns_spec.specs.DataText.{is_word_octet, is_string_octet};
+ghost use Rattle.dns_spec.specs.DataText.{is_string_octet};
 ghost use Rattle.dns_spec.proofs.NameTexts.Escapes.{counted_digits, counted_escape};
-ghost use Rattle.dns_master.specs.TokenForm.{by_itself, plain_length};
+ghost use Rattle.dns_master.specs.TokenForm.{by_itself};
 
 /// What a run is made of, beside escapes.
 #[derive(Clone, Copy, Debug, PartialEq, Eq)]
@@ -15,11 +15,11 @@ pub(crate) enum Run {
     String,
 }
 
-// How many octets of a string are told at once.
+// How many octets of a string are told at once, since a string may be long.
 const GROUP: usize = 32;
 
-// In how many runs each octet stands by itself: 2 in words and in strings, 1 in strings alone.
-const RUNS_WITH: [u8; 256] = [
+// Where each octet stands by itself: 2 in words and in strings, 1 in strings alone, 0 in neither.
+const PLAIN_IN: [u8; 256] = [
     0, 0, 0, 0, 0, 0, 0, 0, 0, 1, 0, 0, 0, 0, 0, 0, 0, 0, 0, 0, 0, 0, 0, 0, 0, 0, 0, 0, 0, 0, 0, 0,
     1, 2, 0, 2, 2, 2, 2, 2, 1, 1, 2, 2, 2, 2, 2, 2, 2, 2, 2, 2, 2, 2, 2, 2, 2, 2, 2, 1, 2, 2, 2, 2,
     2, 2, 2, 2, 2, 2, 2, 2, 2, 2, 2, 2, 2, 2, 2, 2, 2, 2, 2, 2, 2, 2, 2, 2, 2, 2, 2, 2, 0, 2, 2, 2,
@@ -37,58 +37,44 @@ impl Run {
         ensures value { result ≡ run_length (by_itself self) 0 text.now }
         ensures bound { result ≤ length text.now }
     {
-        let mut length = self.plain_length(text);
-        let (_, mut rest) = text.split_at(length);
-        'escapes: while let Some((first, others)) = rest.split_first() {
-            if *first != b'\\' {
+        let mut place = self.plain_front(text);
+        'units: while place < text.len() {
+            let octet = text[place];
+            if self.has(octet) {
+                place += 1;
+                continue;
+            }
+            if octet != b'\\' {
                 break;
             }
-            let escape = escape_length(others);
+            let escape = escape_length(text.split_at(place + 1).1);
             if escape == 0 {
                 break;
             }
-            let (_, after) = others.split_at(escape);
-            let plain = self.plain_length(after);
-            length += 1 + escape + plain;
-            rest = after.split_at(plain).1;
+            place += 1 + escape;
         }
-        length
+        place
     }
 
-    // How many octets stand in the run by themselves before the first one that does not. A string
-    // may be long, so that its octets are told by groups first.
-    fn plain_length(self, text: &[u8]) -> usize
-        ensures value { result ≡ plain_length (by_itself self) text.now }
+    // How many octets in front stand in the run by themselves, as far as it is cheap to tell: those
+    // of a string, which may be long, by groups.
+    fn plain_front(self, text: &[u8]) -> usize
         ensures bound { result ≤ length text.now }
+        ensures plain { list_all (by_itself self) (take result text.now) ≡ true }
     {
         match self {
-            Run::Word => self.length_by_one(text),
-            Run::String => {
-                let front = plain_groups(text);
-                let (_, rest) = text.split_at(front);
-                front + self.length_by_one(rest)
-            }
+            Run::Word => 0,
+            Run::String => plain_groups(text),
         }
     }
 
-    // The same, octet by octet.
-    fn length_by_one(self, text: &[u8]) -> usize
-        ensures value { result ≡ plain_length (by_itself self) text.now }
-        ensures bound { result ≤ length text.now }
-    {
-        match self.plain_end(text) {
-            Some(place) => place,
-            None => text.len(),
-        }
-    }
-
-    // Where the first octet stands that is not in the run by itself.
-    fn plain_end(self, text: &[u8]) -> Option<usize>
-        ensures { result ≡ position (λ o. not (by_itself self o)) text.now }
+    // Whether an octet stands in the run by itself.
+    fn has(self, octet: u8) -> bool
+        ensures { result ≡ by_itself self octet }
     {
         match self {
-            Run::Word => text.iter().position(|octet| !is_word_octet(*octet)),
-            Run::String => text.iter().position(|octet| !is_string_octet(*octet)),
+            Run::Word => PLAIN_IN[octet as usize] == 2,
+            Run::String => PLAIN_IN[octet as usize] != 0,
         }
     }
 }
@@ -126,18 +112,6 @@ fn is_plain(octet: u8) -> bool
     ensures { result ≡ is_string_octet octet }
 {
     (octet == b'\t') | ((octet >= b' ') & (octet <= b'~') & (octet != b'"') & (octet != b'\\'))
-}
-
-fn is_word_octet(octet: u8) -> bool
-    ensures { result ≡ is_word_octet octet }
-{
-    RUNS_WITH[octet as usize] == 2
-}
-
-fn is_string_octet(octet: u8) -> bool
-    ensures { result ≡ is_string_octet octet }
-{
-    RUNS_WITH[octet as usize] != 0
 }
 
 // How many octets after a backslash belong to its escape: one that is printable and no digit, or

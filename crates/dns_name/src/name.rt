@@ -272,6 +272,7 @@ fn append_octets(octets: &mut ArrayVec<u8, MAX_OCTETS>, part: &[u8])
 }
 
 // Folds wire octets in place. Lengths are at most 63, so none of them is taken for a letter.
+#[inline(never)]
 fn lower_case(octets: &mut ArrayVec<u8, MAX_OCTETS>)
     ensures { octets.new.items ≡ map to_ascii_lowercase octets.old.items }
 {
