@@ -1,6 +1,7 @@
 -- What an entry changes of what is known of the entries so far.
-use Rattle.std.proofs.Common.{◌≡◌, ℕ, ◌+◌, ◌≤◌, Bool, true, false, cond, List, [], ◌∷◌, length, refl, sym, ap, ◌∙◌, subst, arith, inl, inr, ◌⊎◌, codes, Option, Some, None}
-use Rattle.std.specs.Prelude.{MatchOption}
+use Rattle.std.proofs.Common.{◌≡◌, ◌==◌, ℕ, ◌+◌, ◌≤◌, Bool, true, false, cond, List, [], ◌∷◌, length, refl, sym, ap, ◌∙◌, subst, arith, inl, inr, ◌⊎◌, codes, Option, Some, None}
+use Rattle.std.proofs.lemmas.Bool.{eqb-true}
+use Rattle.std.specs.Prelude.{MatchOption, if◌then◌else◌}
 use Rattle.std.specs.Option.{option_or}
 use Rattle.std.specs.List.{filter}
 use Rattle.dns_spec.specs.Names.{DomainName, folded}
@@ -12,8 +13,16 @@ use Rattle.dns_spec.specs.ZoneText.{Entry}
 use Rattle.dns_spec.specs.FileFaults.{directive_words, no_owner, FileFault, bad_owner}
 use Rattle.dns_spec.specs.Meaning.{Nothing, EntryKind, no_words, directive, owned, unowned, kind_of, kind_by_words, is_directive, Fields, fields, EntryMeaning, faulty, gives, OriginIs, NameIs, OneWord, OwnerBefore, TtlSays, nearest, directive_word, owner_word, ttl_word, is_record, IsRecord, RecordGives, KindGives}
 use Rattle.dns_master.specs.RecordForm.{TtlOf, Inherited, LastOwner, SpelledName}
-use Rattle.dns_master.specs.ReaderForm.{Knows, RecordTaken, EntryTaken, owner_of, handed}
+use Rattle.dns_master.specs.ReaderForm.{Knows, RecordTaken, EntryTaken, owner_of}
 use Rattle.dns_master.specs.declared.state.Reader.{Reader}
+
+-- the owner of the last record
+pub owner-known : (r : Reader) → (r.count ≡ 0 → ⊥) → owner_of r ≡ Some r.last.owner
+owner-known r some = go (r.count == 0) refl
+  where
+    go : (b : Bool) → (r.count == 0) ≡ b → owner_of r ≡ Some r.last.owner
+    go true e = absurd (some (eqb-true r.count 0 e))
+    go false e = rw e refl
 
 otherwise : {F N X Y : Type 0} → (X → Y) → F ⊎ (N × X) → F ⊎ (N × Y)
 otherwise f (inl h) = inl h
@@ -95,32 +104,32 @@ module _ (o : DomainName) (earlier : List Entry) where
     -- what after a record is known, where its owner is the one of its kind
     record_after : (s : EntryKind) (owner : DomainName) (f : Fields) → directive_word (codes "$origin") s ≡ None → directive_word (codes "$ttl") s ≡ None → ttl_word s ≡ f.ttl
         → counts_as_record s ≡ true → (n : DomainName) → OwnerAt s n → owner ≡ folded n → (t : RecordTaken o earlier owner f old new)
-        → After s new.origin (owner_of new.last) new.default_ttl new.stated_ttl new.count
+        → After s new.origin (owner_of new) new.default_ttl new.stated_ttl new.count
     record_after s owner f no_origin no_ttl ttl counts n is low t =
         record {
           origin_is = rw no_origin (rw t.origin_is known.origin_is);
           no_other = rw no_origin (λ m h. known.no_other m h ∙ sym t.origin_is);
-          owner_is = subst (λ x. MatchOption x (Nothing (OwnerAt s)) (λ f. (n : DomainName) × OwnerAt s n × (f ≡ folded n))) (sym (ap owner_of t.last_is ∙ ap Some t.owner_is)) (n, is, low);
+          owner_is = subst (λ x. MatchOption x (Nothing (OwnerAt s)) (λ f. (n : DomainName) × OwnerAt s n × (f ≡ folded n))) (sym (owner-known new (λ none. omega (arith, none, t.count_is)) ∙ ap Some (ap (λ (r : ResourceRecord). r.owner) t.last_is ∙ t.owner_is))) (n, is, low);
           default_is = rw no_ttl (rw t.default_is known.default_is);
           stated_is = rw ttl (t.stated_is _ known.stated_is);
           count_is = rw counts (t.count_is ∙ ap (λ k. k + 1) known.count_is);
         }
 
     pub owned-taken : (w : Word) (ws : List Word) (n owner : DomainName) → kind_of e ≡ owned w ws → NameIs o earlier w n → owner ≡ folded n → folded owner ≡ owner
-        → RecordTaken o earlier owner (fields ws) old new → EntryTaken o earlier e (handed true new.last) old new
+        → RecordTaken o earlier owner (fields ws) old new → EntryTaken o earlier e (new.last ∷ []) old new
     owned-taken w ws n owner is named low twice t =
         record {
-          given = subst (λ x. KindGives o earlier (kind_of e) (gives (handed true x))) (sym t.last_is)
+          given = subst (λ x. KindGives o earlier (kind_of e) (gives (x ∷ []))) (sym t.last_is)
               (subst (λ s. KindGives o earlier s (gives (t.taken ∷ []))) (sym is)
               (given-owner o earlier (NameIs o earlier w) (fields ws) n owner named low twice bad_owner (gives (t.taken ∷ [])) t.given));
           known = known-of_kind e (owned w ws) _ _ _ _ _ is (record_after (owned w ws) owner (fields ws) refl refl refl refl n named low t);
         }
 
     pub unowned-taken : (ws : List Word) (n owner : DomainName) → kind_of e ≡ unowned ws → OwnerBefore o earlier n → owner ≡ folded n → folded owner ≡ owner
-        → RecordTaken o earlier owner (fields ws) old new → EntryTaken o earlier e (handed true new.last) old new
+        → RecordTaken o earlier owner (fields ws) old new → EntryTaken o earlier e (new.last ∷ []) old new
     unowned-taken ws n owner is named low twice t =
         record {
-          given = subst (λ x. KindGives o earlier (kind_of e) (gives (handed true x))) (sym t.last_is)
+          given = subst (λ x. KindGives o earlier (kind_of e) (gives (x ∷ []))) (sym t.last_is)
               (subst (λ s. KindGives o earlier s (gives (t.taken ∷ []))) (sym is)
               (given-owner o earlier (OwnerBefore o earlier) (fields ws) n owner named low twice no_owner (gives (t.taken ∷ [])) t.given));
           known = known-of_kind e (unowned ws) _ _ _ _ _ is (record_after (unowned ws) owner (fields ws) refl refl refl refl n named low t);
@@ -129,8 +138,9 @@ module _ (o : DomainName) (earlier : List Entry) where
   -- `$ORIGIN`
   module _ (e : Entry) (old new : Reader) (known : Knows o earlier old) (stated_kept : new.stated_ttl ≡ old.stated_ttl)
       (same_last : new.last ≡ old.last) (same_count : new.count ≡ old.count) where
-    owner_kept : LastOwner o earlier (owner_of new.last)
-    owner_kept = subst (λ x. LastOwner o earlier (owner_of x)) (sym same_last) known.owner_is
+    owner_kept : LastOwner o earlier (owner_of new)
+    owner_kept = subst (LastOwner o earlier) (ap (λ (n : ℕ). if n == 0 then None else Some old.last.owner) (sym same_count)
+        ∙ ap (λ (r : ResourceRecord). if new.count == 0 then None else Some r.owner) (sym same_last)) known.owner_is
 
     pub origin-taken : (ws : List Word) → kind_of e ≡ directive (codes "$origin") ws → OneWord (λ w. SpelledName old.origin w new.origin) ws
         → ((n : DomainName) → OneWord (λ w. SpelledName old.origin w n) ws → n ≡ new.origin) → new.default_ttl ≡ old.default_ttl → EntryTaken o earlier e [] old new

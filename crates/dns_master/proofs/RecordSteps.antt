@@ -1,5 +1,5 @@
 -- The parts of a record one after another: the first that is wrong is the fault that is reported.
-use Rattle.std.proofs.Common.{◌≡◌, ℕ, true, false, List, [], ◌∷◌, drop, refl, sym, ap, ◌∙◌, subst, inl, inr, Option, Some, None}
+use Rattle.std.proofs.Common.{◌≡◌, ℕ, true, false, List, [], ◌∷◌, drop, refl, sym, ap, ◌∙◌, subst, inl, inr, arith, Option, Some, None}
 use Rattle.std.proofs.lemmas.Bool.{false≢true}
 use Rattle.std.proofs.lemmas.Option.{none-some, same_Some}
 use Rattle.std.specs.Prelude.{MatchOption, IfSome, if◌then◌else◌}
@@ -7,14 +7,14 @@ use Rattle.std.specs.Option.{option_or, is_none, is_some}
 use Rattle.std.specs.Bool.{IsTrue}
 use Rattle.dns_spec.specs.Names.{Octets, DomainName, folded}
 use Rattle.dns_spec.specs.Records.{ResourceRecord}
-use Rattle.dns_spec.specs.Data.{lower_case}
+use Rattle.dns_spec.specs.Data.{lower_case, cut}
 use Rattle.dns_spec.specs.DataText.{Word, Says}
 use Rattle.dns_spec.specs.ZoneText.{Entry}
 use Rattle.dns_spec.specs.FileFaults.{bad_data, bad_ttl, bad_type, no_owner, no_ttl, other_class, too_many_records}
 use Rattle.dns_spec.specs.Meaning.{Nothing, Lowest, IsRecord, Fields, EntryMeaning, faulty, gives, OriginIs, TtlSays, ttl_in_force, TypeIs, DataIs, IsNoTtl, is_other_class, are_too_many, RecordGives}
 use Rattle.dns_spec.proofs.DataWords.LoweredData.{lowered-twice}
 use Rattle.dns_spec.proofs.DataWords.TypeWords.{one_type}
-use Rattle.dns_master.specs.RecordForm.{TtlOf}
+use Rattle.dns_master.specs.RecordForm.{IsKept, TtlOf}
 
 pub type-one : (ws : List Word) (t u : ℕ) → TypeIs ws t → TypeIs ws u → t ≡ u
 type-one [] t u h k = absurd h
@@ -107,3 +107,8 @@ module _ (o : DomainName) (earlier : List Entry) (owner : DomainName) (f : Field
 -- data that words say has its names in lower case
 pub said-lowered : (t : ℕ) (ws : List Word) (o : DomainName) (d : Octets) → Says t ws o d → lower_case t d ≡ d
 said-lowered t ws o d e = ap (lower_case t) (sym e.lower) ∙ lowered-twice t e.as_spelled e.is_valid ∙ e.lower
+
+-- the root has no data, of a type without a name
+pub no_data-kept : IsKept [] 0 0 []
+unfolding cut
+no_data-kept = record { low = refl; short = omega arith; is_valid = refl; lowered = refl }

@@ -1,7 +1,7 @@
 -- What a reader learns here: what the reader of a zone file knows of the entries so far, and what
 -- an entry changes of that.
-use Rattle.std.specs.Prelude.{◌≡◌, ◌+◌, Bool, true, false, List, [], ◌∷◌, Option, None, Some}
-use Rattle.std.specs.Option.{option_map, option_or}
+use Rattle.std.specs.Prelude.{◌≡◌, ◌==◌, ◌+◌, Bool, List, [], ◌∷◌, Option, None, Some, if◌then◌else◌}
+use Rattle.std.specs.Option.{option_or}
 use Rattle.dns_spec.specs.Names.{DomainName}
 use Rattle.dns_spec.specs.DataText.{Word}
 use Rattle.dns_spec.specs.Records.{ResourceRecord}
@@ -11,24 +11,27 @@ use Rattle.dns_spec.specs.Meaning.{Fields, EntryKind, EntryMeaning, gives, fault
 use Rattle.dns_master.specs.RecordForm.{Inherited, TtlOf}
 use Rattle.dns_master.specs.declared.state.Reader.{Reader}
 
-abbrev pub owner_of : Option ResourceRecord → Option DomainName
-owner_of = option_map (λ r. r.owner)
+-- the owner of the last record, where there was one
+abbrev pub owner_of : Reader → Option DomainName
+owner_of r = if r.count == 0 then None else Some r.last.owner
+
+-- what the reader knows, where this owner was stated last
+abbrev pub KnowsOwner : DomainName → List Entry → Option DomainName → Reader → Type 0
+KnowsOwner o earlier owner r =
+    Inherited o earlier r.origin owner r.default_ttl r.stated_ttl r.count
 
 abbrev pub Knows : DomainName → List Entry → Reader → Type 0
-Knows o earlier r =
-    Inherited o earlier r.origin (owner_of r.last) r.default_ttl r.stated_ttl r.count
+Knows o earlier r = KnowsOwner o earlier (owner_of r) r
 
 -- the record that an entry is, if it is one: the last then
-abbrev pub handed : Bool → Option ResourceRecord → List ResourceRecord
-handed false last = []
-handed true None = []
-handed true (Some r) = r ∷ []
+abbrev pub handed : Bool → ResourceRecord → List ResourceRecord
+handed is_record last = if is_record then last ∷ [] else []
 
 -- a record was taken, whose owner in lower case is this
 pub record RecordTaken (o : DomainName) (earlier : List Entry) (owner : DomainName) (f : Fields)
     (old new : Reader) : Type 0 where
   pub taken : ResourceRecord
-  pub last_is : new.last ≡ Some taken
+  pub last_is : new.last ≡ taken
   pub owner_is : taken.owner ≡ owner
   pub given : RecordGives o earlier no_owner (λ n. n ≡ owner) f (gives (taken ∷ []))
   pub origin_is : new.origin ≡ old.origin
@@ -56,14 +59,14 @@ RefusesEntry r kind fault =
     (o : DomainName) (earlier : List Entry) → Knows o earlier r
     → KindGives o earlier kind (faulty fault)
 
--- what a record means that has these fields and the owner that the reader has at hand
+-- what a record means that has these fields and the last owner, whatever owner was stated before
 abbrev pub RecordMeans : Reader → Fields → EntryMeaning → Type 0
 RecordMeans r f given =
-    (o : DomainName) (earlier : List Entry) → Knows o earlier r
-    → RecordGives o earlier no_owner (λ n. n ≡ r.owner) f given
+    (o : DomainName) (earlier : List Entry) (stated : Option DomainName)
+    → KnowsOwner o earlier stated r → RecordGives o earlier no_owner (λ n. n ≡ r.last.owner) f given
 
 -- a record with these fields and that owner was taken
 abbrev pub TakesRecord : Reader → Fields → Reader → Type 0
 TakesRecord old f new =
-    (o : DomainName) (earlier : List Entry) → Knows o earlier old
-    → RecordTaken o earlier old.owner f old new
+    (o : DomainName) (earlier : List Entry) (stated : Option DomainName)
+    → KnowsOwner o earlier stated old → RecordTaken o earlier old.last.owner f old new

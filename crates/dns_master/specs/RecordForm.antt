@@ -14,6 +14,10 @@ use Rattle.dns_spec.specs.Meaning.{most_ttl, Nothing, OriginIs, OwnerBefore, Ttl
 abbrev pub SpelledName : DomainName → Word → DomainName → Type 0
 SpelledName origin w n = IsTrue (not w.is_quoted) × SpellsName origin w.raw n
 
+-- this is that name in lower case
+abbrev pub SpelledOwner : DomainName → Word → DomainName → Type 0
+SpelledOwner origin w owner = (n : DomainName) × SpelledName origin w n × (owner ≡ folded n)
+
 -- an unquoted word names a type that zones have
 abbrev pub NamedType : Word → ℕ → Type 0
 NamedType w t = IsTrue (not w.is_quoted) × NamesType w.raw t × IsTrue (is_zone_type t)

@@ -40,7 +40,7 @@ impl Begun {
     {
         Begun {
             alloc,
-            reader: Reader::new(origin),
+            reader: Reader::new(alloc, origin),
             room: DataRoom::new(alloc),
             held: Vec::new(alloc),
             left: MOST_OCTETS,
@@ -211,8 +211,8 @@ fn add_taken<G: Gathers>(is_record: bool, reader: &Reader, found: &mut G) -> Res
         ≡ G.gathered found.old ++ handed is_record reader.now.last) }
     ensures err { IfErr result (λ f. (f.code ≡ ReadCode.NoMemory) × (f.line ≡ 0)) }
 {
-    if is_record && let Some(last) = &reader.last {
-        found.add(last)?;
+    if is_record {
+        found.add(&reader.last)?;
     }
     Ok(())
 }

@@ -25,7 +25,7 @@ use crate::pieces::Begun;
 use crate::record::{Record, RecordBody};
 use crate::source::{is_more, new_piece};
 use crate::state::Reader;
-use crate::words::{is_word, spell_name};
+use crate::words::is_word;
 use dns_name::{Name, Tally};
 use dns_rdata::{DataRoom, RType, Rdata, Word, Words};
 use std::alloc::Global;
@@ -114,7 +114,7 @@ pub fn read_into<R: Read, G: Gathers>(
 }
 
 impl Reader {
-    pub(crate) fn new(origin: &Name) -> Reader
+    pub(crate) fn new(alloc: Global, origin: &Name) -> Reader
         ensures known { Knows origin.now [] result }
         ensures line { result.line ≡ 1 }
         ensures none { result.count ≡ 0 }
@@ -124,8 +124,7 @@ impl Reader {
             default_ttl: None,
             stated_ttl: None,
             line: 1,
-            owner: Name::root(),
-            last: None,
+            last: Record::without_data(alloc),
             count: 0,
         }
     }
@@ -176,7 +175,6 @@ impl Reader {
             (handed taken self.new.last) self.new) }
         ensures counted { IfOk result (λ taken.
             self.new.count ≡ self.old.count + length (handed taken self.new.last)) }
-        ensures some { IfOk result (λ taken. IsTrue taken → IsSome self.new.last) }
         ensures line { self.new.line ≡ self.old.line }
         ensures err { IfErr result (λ refusal. ForFault refusal
             (RefusesEntry self.old (kind_by_words is_blank_led (words_left words.entry)))) }
@@ -255,19 +253,17 @@ impl Reader {
         room: &mut DataRoom,
     ) -> Result<(), Refusal>
         ensures ok { OnOk result (TakesEntry self.old (owned owner.now (words_left words.entry))
-            (handed true self.new.last) self.new) }
-        ensures counted { OnOk result (self.new.count
-            ≡ self.old.count + length (handed true self.new.last)) }
-        ensures some { OnOk result (IsSome self.new.last) }
+            (self.new.last ∷ []) self.new) }
+        ensures counted { OnOk result (self.new.count ≡ self.old.count + 1) }
         ensures line { self.new.line ≡ self.old.line }
         ensures err { IfErr result (λ refusal. ForFault refusal
             (RefusesEntry self.old (owned owner.now (words_left words.entry)))) }
     {
-        if !spell_name(&mut self.owner, owner, &self.origin) {
+        if !self.last.spell_owner(owner, &self.origin) {
             return Err(Refusal::Faulty(EntryFault::BadOwner));
         }
-        self.owner.fold_in_place();
-        self.take_record(words, room)
+        self.take_record(words, room)?;
+        Ok(())
     }
 
     // Takes a record whose owner is that of the record before.
@@ -277,28 +273,23 @@ impl Reader {
         room: &mut DataRoom,
     ) -> Result<(), Refusal>
         ensures ok { OnOk result (TakesEntry self.old (unowned (words_left words.entry))
-            (handed true self.new.last) self.new) }
-        ensures counted { OnOk result (self.new.count
-            ≡ self.old.count + length (handed true self.new.last)) }
-        ensures some { OnOk result (IsSome self.new.last) }
+            (self.new.last ∷ []) self.new) }
+        ensures counted { OnOk result (self.new.count ≡ self.old.count + 1) }
         ensures line { self.new.line ≡ self.old.line }
         ensures err { IfErr result (λ refusal. ForFault refusal
             (RefusesEntry self.old (unowned (words_left words.entry)))) }
     {
-        let Some(last) = &self.last else {
+        if self.count == 0 {
             return Err(Refusal::Faulty(EntryFault::NoOwner));
-        };
-        self.owner.copy_from(&last.owner);
-        self.take_record(words, room)
+        }
+        self.take_record(words, room)?;
+        Ok(())
     }
 
-    // Takes the record of the owner that was read, and of the words after it.
+    // Takes the record of the last owner, and of the words after it.
     fn take_record(&mut self, words: EntryWords<'_, '_>, room: &mut DataRoom) -> Result<(), Refusal>
-        requires { folded self.old.owner ≡ self.old.owner }
         ensures ok { OnOk result (TakesRecord self.old (fields (words_left words.entry)) self.new) }
-        ensures counted { OnOk result (self.new.count
-            ≡ self.old.count + length (handed true self.new.last)) }
-        ensures some { OnOk result (IsSome self.new.last) }
+        ensures counted { OnOk result (self.new.count ≡ self.old.count + 1) }
         ensures line { self.new.line ≡ self.old.line }
         ensures err { IfErr result (λ refusal. ForFault refusal
             (λ fault. RecordMeans self.old (fields (words_left words.entry)) (faulty fault))) }
@@ -306,18 +297,17 @@ impl Reader {
         let fields = Fields::of(words);
         let body = self.read_body(&fields, room)?;
         self.stated_ttl = last_stated(fields.ttl.is_some(), body.ttl, self.stated_ttl);
-        put_last(&mut self.last, &self.owner, body, room);
+        room.take_back(self.last.put(body));
         self.count += 1;
         Ok(())
     }
 
-    // What the fields after the owner that was read say.
+    // What the fields after the last owner say.
     fn read_body(&self, fields: &Fields<'_, '_>, room: &mut DataRoom) -> Result<RecordBody, Refusal>
-        requires { folded self.now.owner ≡ self.now.owner }
         ensures ok { IfOk result (λ body. RecordMeans self.now fields.now
-            (gives (with_owner self.now.owner body ∷ []))) }
+            (gives (with_owner self.now.last.owner body ∷ []))) }
         ensures kept { IfOk result (λ body.
-            IsKept self.now.owner body.ttl body.rtype.0 body.rdata) }
+            IsKept self.now.last.owner body.ttl body.rtype.0 body.rdata) }
         ensures few { IfOk result (λ body. self.now.count < most_records) }
         ensures ttl { IfOk result (λ body. IfSome fields.now.ttl (λ w. TtlSays w body.ttl)) }
         ensures err { IfErr result (λ refusal. ForFault refusal
@@ -360,17 +350,6 @@ impl Reader {
             (fault ≡ bad_data) × Nothing (Says rtype.0 (words_left words.entry) self.now.origin))) }
     {
         Ok(Rdata::read_words_in(room, rtype, words, &self.origin)?)
-    }
-}
-
-// Makes the last record that of an owner. The data before it is no longer wanted.
-fn put_last(last: &mut Option<Record>, owner: &Name, body: RecordBody, room: &mut DataRoom)
-    requires { IsKept owner.now body.ttl body.rtype.0 body.rdata }
-    ensures { last.new ≡ Some (with_owner owner.now body) }
-{
-    match last {
-        Some(record) => room.take_back(record.put(owner, body)),
-        None => *last = Some(Record::new(owner, body)),
     }
 }
 

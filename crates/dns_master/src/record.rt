@@ -1,10 +1,13 @@
 //! Records of a zone file.
 ghost use Rattle.std.specs.Prelude.{◌≡◌, IfOk};
-ghost use Rattle.dns_master.specs.RecordForm.{IsKept};
+ghost use Rattle.std.specs.Bool.{OnTrue, OnFalse};
+ghost use Rattle.dns_spec.specs.Names.{DomainName, folded};
+ghost use Rattle.dns_master.specs.RecordForm.{IsKept, SpelledName, SpelledOwner};
 ghost use Rattle.dns_master.specs.OwnedBody.{with_owner};
 
+use crate::words::spell_name;
 use dns_name::Name;
-use dns_rdata::{RType, Rdata};
+use dns_rdata::{RType, Rdata, Word};
 use std::alloc::{AllocError, Global};
 use std::marker::Model;
 use std::mem::replace;
@@ -48,25 +51,36 @@ pub(crate) struct RecordBody {
 }
 
 impl Record {
-    /// The record of an owner.
-    pub(crate) fn new(owner: &Name, body: RecordBody) -> Record
-        requires { IsKept owner.now body.ttl body.rtype.0 body.rdata }
-        ensures { result ≡ with_owner owner.now body }
+    /// A record of the root without data, of a type without a name.
+    pub(crate) fn without_data(alloc: Global) -> Record
+        ensures { folded result.owner ≡ result.owner }
     {
         Record {
-            owner: owner.copied(),
-            ttl: body.ttl,
-            rtype: body.rtype,
-            rdata: body.rdata,
+            owner: Name::root(),
+            ttl: 0,
+            rtype: RType(0),
+            rdata: Rdata::empty(alloc),
         }
     }
 
-    /// Makes it the record of an owner, where it stands, and hands back the data that it had.
-    pub(crate) fn put(&mut self, owner: &Name, body: RecordBody) -> Rdata
-        requires { IsKept owner.now body.ttl body.rtype.0 body.rdata }
-        ensures { self.new ≡ with_owner owner.now body }
+    /// Makes its owner the name in lower case that an unquoted word spells, relative to the origin.
+    /// False where it spells none; then the owner is some name.
+    pub(crate) fn spell_owner(&mut self, word: &Word<'_>, origin: &Name) -> bool
+        ensures spelled { OnTrue result (SpelledOwner origin.now word.now self.new.owner) }
+        ensures none { OnFalse result
+            ((n : DomainName) → SpelledName origin.now word.now n → ⊥) }
+        ensures low { folded self.new.owner ≡ self.new.owner }
     {
-        self.owner.copy_from(owner);
+        let is_spelled = spell_name(&mut self.owner, word, origin);
+        self.owner.fold_in_place();
+        is_spelled
+    }
+
+    /// Makes it another record of its owner, where it stands, and hands back the data that it had.
+    pub(crate) fn put(&mut self, body: RecordBody) -> Rdata
+        requires { IsKept self.old.owner body.ttl body.rtype.0 body.rdata }
+        ensures { self.new ≡ with_owner self.old.owner body }
+    {
         self.ttl = body.ttl;
         self.rtype = body.rtype;
         replace(&mut self.rdata, body.rdata)

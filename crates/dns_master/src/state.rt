@@ -1,5 +1,6 @@
 //! What the reader of zone files keeps from entry to entry.
-ghost use Rattle.std.specs.Prelude.{◌≤◌};
+ghost use Rattle.std.specs.Prelude.{◌≡◌, ◌≤◌};
+ghost use Rattle.dns_spec.specs.Names.{folded};
 ghost use Rattle.std.specs.Option.{ForSome};
 ghost use Rattle.dns_spec.specs.Meaning.{most_records};
 
@@ -17,13 +18,12 @@ pub(crate) struct Reader {
     pub(crate) stated_ttl: Option<u32>,
     /// The line on which the next entry begins, counted from 1.
     pub(crate) line: u32,
-    /// The owner of the record that is read.
-    pub(crate) owner: Name,
-    /// The last record.
-    pub(crate) last: Option<Record>,
+    /// The last record, where there was one. The next one is read where it stands, its owner first.
+    pub(crate) last: Record,
     /// How many records there were so far.
     pub(crate) count: usize,
     ghost default_short: { ForSome default_ttl (λ n. n ≤ 2147483647) },
     ghost stated_short: { ForSome stated_ttl (λ n. n ≤ 2147483647) },
+    ghost low: { folded last.owner ≡ last.owner },
     ghost few: { count ≤ most_records },
 }

@@ -1,5 +1,5 @@
 //! Data of records (RFC 1035 3.2.1): octets without compression, names in lower case.
-ghost use Rattle.std.specs.Prelude.{◌≡◌, ◌≤◌, All, None, false, length, map, IfOk, MatchOption, MatchResult, IfSome, if◌then◌else◌};
+ghost use Rattle.std.specs.Prelude.{◌≡◌, ◌≤◌, [], All, None, false, length, map, IfOk, MatchOption, MatchResult, IfSome, if◌then◌else◌};
 ghost use Rattle.std.specs.Bool.{OnTrue};
 ghost use Rattle.std.specs.Option.{is_some};
 ghost use Rattle.dns_spec.specs.Data.{valid, Valid, parts, pieces_of, target, lower_case, part_folded, joined, cut, piece_front};
@@ -54,6 +54,15 @@ impl Rdata {
             return Err(RdataFault::NotOfType);
         }
         Rdata::from_octets(rtype, copied(alloc, octets)?)
+    }
+
+    /// No octets. It takes no memory.
+    pub fn empty(alloc: Global) -> Rdata
+        ensures { result ≡ [] }
+    {
+        Rdata {
+            octets: Vec::new(alloc),
+        }
     }
 
     /// A second datum of the same octets. Memory is taken once.

@@ -18,5 +18,6 @@ invariant_of-self c = record {
       let reported = (c.read_default_ttl.ensures c.in-Some.ttl).0 c.in-Some.is in
       subst (λ m. m ≤ 2147483647) (same_Some c.in-Some.ttl n e) (one-short (words_left c.args.words) c.in-Some.ttl reported);
   stated_short = c.args.self.now.stated_short;
+  low = c.args.self.now.low;
   few = c.args.self.now.few;
 }

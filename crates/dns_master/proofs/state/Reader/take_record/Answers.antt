@@ -10,14 +10,14 @@ use Rattle.dns_master.proofs.Refusals.{ForFault-map}
 use Rattle.dns_master.proofs.state.Reader.take_record.Goals as goal
 
 pub returns-in_err-body-clause-err : goal.returns-in_err-body-clause-err
-returns-in_err-body-clause-err c = fault_handed_on c.from_residual.result c.in_err-body.field-0.0 _ c.from_residual.ensures.1 (ForFault-map c.in_err-body.field-0.0 (λ fault given o earlier known.
-    subst (λ (f : Fields). RecordGives o earlier no_owner (λ n. n ≡ c.args.self.now.owner) f (faulty fault)) c.of-fields.ensures
-    (given o earlier known)) c.in_err-body.ensures.err)
+returns-in_err-body-clause-err c = fault_handed_on c.from_residual.result c.in_err-body.field-0.0 _ c.from_residual.ensures.1 (ForFault-map c.in_err-body.field-0.0 (λ fault given o earlier stated known.
+    subst (λ (f : Fields). RecordGives o earlier no_owner (λ n. n ≡ c.args.self.now.last.owner) f (faulty fault)) c.of-fields.ensures
+    (given o earlier stated known)) c.in_err-body.ensures.err)
 
 pub returns-clause-ok : goal.returns-clause-ok
-returns-clause-ok c = λ o earlier known.
+returns-clause-ok c = λ o earlier stated known.
     let body = c.in_ok-body.body in
-    let owner = c.args.self.now.owner in
+    let owner = c.args.self.now.last.owner in
     let now : c.last_stated-self.result ≡ (if is_some (fields (words_left c.args.words)).ttl then Some body.ttl else c.args.self.now.stated_ttl) =
     let some : c.is_some.result ≡ is_some (fields (words_left c.args.words)).ttl =
     c.is_some.ensures ∙ ap (λ (f : Fields). is_some f.ttl) (c.fields.view_is ∙ c.of-fields.ensures) in
@@ -25,10 +25,10 @@ returns-clause-ok c = λ o earlier known.
     ∙ ap (λ b. if b then Some body.ttl else c.args.self.now.stated_ttl) some in
     record {
       taken = with_owner owner body;
-      last_is = c.put_last.ensures;
+      last_is = c.put.ensures;
       owner_is = refl;
       given = subst (λ (f : Fields). RecordGives o earlier no_owner (λ n. n ≡ owner) f (gives (with_owner owner body ∷ []))) c.of-fields.ensures
-          (c.in_ok-body.ensures.ok o earlier known);
+          (c.in_ok-body.ensures.ok o earlier stated known);
       origin_is = refl;
       default_is = refl;
       stated_is = λ w h.
