@@ -151,16 +151,19 @@ pub(crate) fn is_covered(cut: usize, last: &[u8], key: &[u8]) -> bool
 
 /// How many of the names are not after the one whose key this is. Whether one at a place that is
 /// `probable` is the last of them is looked at first.
-pub(crate) fn count_upto(names: &[CheckedName<'_>], probable: [usize; 2], key: &[u8]) -> usize
+pub(crate) fn count_upto(names: &[CheckedName<'_>], probable: [usize; 3], key: &[u8]) -> usize
     requires { IsPartitionedBy (is_upto key.now) names.now }
     ensures { IsFront (is_upto key.now) names.now result }
 {
-    let [first, second] = probable;
+    let [first, second, third] = probable;
     if is_last_upto(names, first, key) {
         return first + 1;
     }
     if is_last_upto(names, second, key) {
         return second + 1;
+    }
+    if is_last_upto(names, third, key) {
+        return third + 1;
     }
     names.partition_point(|one| is_upto(one, key))
 }
@@ -195,7 +198,7 @@ fn add_origin<'a>(
     ensures { OnOk result (AreChecked (record { origin = origin.now; records = records.now })
         names.new.items) }
 {
-    let place = count_upto(names.as_slice(), [names.len(); 2], key);
+    let place = count_upto(names.as_slice(), [names.len(); 3], key);
     if place > 0 && names[place - 1].key == key {
         return Ok(());
     }

@@ -181,7 +181,8 @@ impl<'a> Owner<'a> {
         if !is_server && entry.rtype != RType::MX && entry.rtype != RType::SRV {
             return (false, false, false);
         }
-        let near = if is_server { self.next } else { last.place() };
+        let [place, _] = last.places();
+        let near = if is_server { self.next } else { place };
         let (is_alias, is_lost) = self
             .survey
             .target_faults(entry, near, self.name, owner_is_cut, last);

@@ -109,7 +109,8 @@ impl<'a> Survey<'a> {
         ensures last { IsLastUpto self.now target.old result.now }
     {
         let names = self.names;
-        let place = count_upto(names, [near, target.place()], target.key()) - 1;
+        let [last, other] = target.places();
+        let place = count_upto(names, [near, last, other], target.key()) - 1;
         target.keep_place(place);
         &names[place]
     }

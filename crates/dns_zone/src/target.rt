@@ -18,13 +18,13 @@ pub(crate) fn target(entry: &Entry) -> Option<NameRef<'_>>
     Rdata::target_lent(entry.rtype, entry.rdata())
 }
 
-/// The target that was looked for last, with its key, and where it was found. The next is often the
-/// same, or a sibling.
+/// The target that was looked for last, with its key, where it was found, and where another was
+/// found before it. The next is often the same, a sibling, or the other of two servers in turn.
 #[derive(Drop)]
 pub(crate) struct LastTarget {
     name: Name,
     key: Key,
-    place: usize,
+    places: [usize; 2],
 }
 
 impl Model for LastTarget {
@@ -47,7 +47,7 @@ impl LastTarget {
         LastTarget {
             name: Name::root(),
             key: Key::new(),
-            place: 0,
+            places: [0, 0],
         }
     }
 
@@ -66,15 +66,18 @@ impl LastTarget {
         self.key.octets()
     }
 
-    /// Where it was found.
-    pub(crate) fn place(&self) -> usize {
-        self.place
+    /// Where it was found, and where another was before it.
+    pub(crate) fn places(&self) -> [usize; 2] {
+        self.places
     }
 
     /// Keeps where it was found.
     pub(crate) fn keep_place(&mut self, place: usize)
         ensures { self.new ≡ self.old }
     {
-        self.place = place;
+        let [last, _] = self.places;
+        if place != last {
+            self.places = [place, last];
+        }
     }
 }

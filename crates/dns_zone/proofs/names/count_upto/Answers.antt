@@ -13,6 +13,10 @@ pub returns-then-is_last_upto-2 : goal.returns-then-is_last_upto-2
 returns-then-is_last_upto-2 c =
     last_front (is_upto c.args.key.now) c.args.names.now _ c.requires c.if-is_last_upto-2.ensures
 
+pub returns-then-is_last_upto-3 : goal.returns-then-is_last_upto-3
+returns-then-is_last_upto-3 c =
+    last_front (is_upto c.args.key.now) c.args.names.now _ c.requires c.if-is_last_upto-3.ensures
+
 pub returns : goal.returns
 returns c =
     let p = is_upto c.args.key.now in
