@@ -1,9 +1,10 @@
 //! Whether names in lower case are at or below others.
-ghost use Rattle.std.specs.Prelude.{◌≡◌, ◌<◌};
+ghost use Rattle.std.specs.Prelude.{◌≡◌, ◌<◌, false};
+ghost use Rattle.std.specs.Bool.{OnFalse};
 ghost use Rattle.dns_spec.specs.Names.{folded, at_or_below};
 ghost use Rattle.dns_zone.specs.NameEnd.{ending};
 
-use dns_name::NameRef;
+use dns_name::{NameRef, are_equal};
 
 /// Whether a name is at or below another, both in lower case.
 pub(crate) fn is_at_or_below(name: &NameRef<'_>, other: &NameRef<'_>) -> bool
@@ -12,6 +13,20 @@ pub(crate) fn is_at_or_below(name: &NameRef<'_>, other: &NameRef<'_>) -> bool
     ensures { result ≡ at_or_below name.now other.now }
 {
     shortest_end(name, other.octets().len()) == *other
+}
+
+/// Whether the octets of a name end with those of another, both in lower case. Else it is not at or
+/// below it.
+pub(crate) fn ends_alike(name: &NameRef<'_>, other: &NameRef<'_>) -> bool
+    requires name { folded name.now ≡ name.now }
+    requires other { folded other.now ≡ other.now }
+    ensures { OnFalse result (at_or_below name.now other.now ≡ false) }
+{
+    let (octets, end) = (name.octets(), other.octets());
+    if octets.len() < end.len() {
+        return false;
+    }
+    are_equal(octets.split_at(octets.len() - end.len()).1, end)
 }
 
 /// The last labels of a name, as few as have `least` octets or more on the wire; all of them where

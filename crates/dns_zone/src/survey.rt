@@ -10,8 +10,9 @@ ghost use Rattle.dns_spec.specs.Checks.{at_or_below_cut, lacks_address, has_addr
 ghost use Rattle.dns_zone.specs.KeyForm.{name_key};
 ghost use Rattle.dns_zone.specs.NamesForm.{own_in, name_of, AreChecked, IsLastUpto};
 
-use crate::above::is_at_or_below;
+use crate::above::{ends_alike, is_at_or_below};
 use crate::entry::Entry;
+use crate::key::is_under;
 use crate::lookup::has_type;
 use crate::names::{CheckedName, count_upto, is_covered};
 use crate::target::{LastTarget, target};
@@ -174,10 +175,14 @@ impl<'a> Survey<'a> {
         ensures lost { result.1 ≡ (at_or_below target.now self.now.origin
             && lacks_address self.now owner.now target.now) }
     {
-        if !is_at_or_below(target, self.origin()) {
+        // A name outside of the zone mostly ends otherwise, and needs no key.
+        if !ends_alike(target, self.origin()) {
             return (false, false);
         }
         last.move_to(target);
+        if !is_under(last.key(), self.key()) {
+            return (false, false);
+        }
         let (own, is_under_cut) = self.at(near, last);
         let is_lost = !self.has_address(target, own)
             && (!is_under_cut || owner_is_cut && is_at_or_below(target, owner));

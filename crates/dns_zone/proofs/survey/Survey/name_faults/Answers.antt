@@ -1,8 +1,8 @@
 use Rattle.std.proofs.Common.{◌&&◌, ◌==◌, ap, sym, ◌∙◌}
 use Rattle.std.specs.List.{list_any}
-use Rattle.dns_spec.specs.Names.{at_or_below}
 use Rattle.dns_spec.specs.Data.{type_cname}
 use Rattle.dns_spec.specs.Records.{ResourceRecord, at, owns}
+use Rattle.dns_zone.specs.KeyForm.{name_key}
 use Rattle.dns_zone.proofs.OwnRecords.{own-owns}
 use Rattle.dns_zone.proofs.survey.Survey.name_faults.Goals as goal
 
@@ -10,7 +10,10 @@ pub returns-clause-alias : goal.returns-clause-alias
 returns-clause-alias c =
     let z = c.args.self.now in
     let m = c.args.target.now in
-    let inside = sym c.if-not-is_at_or_below.false ∙ c.is_at_or_below.ensures ∙ ap (at_or_below m) c.origin.ensures.value in
-    c.has_type.ensures ∙ ap (list_any (λ (r : ResourceRecord). r.rtype == type_cname)) (c.at-is_under_cut.ensures.own ∙ ap (at z) c.move_to.ensures)
+    let inside = sym c.if-not-is_under.false ∙ c.is_under.ensures m z.origin c.requires.lower
+    c.key-2.ensures.lower (c.key.ensures ∙ ap name_key c.move_to.ensures) c.key-2.ensures.value in
+    c.has_type.ensures
+    ∙ ap (list_any (λ (r : ResourceRecord). r.rtype == type_cname))
+    (c.at-is_under_cut.ensures.own ∙ ap (at z) c.move_to.ensures)
     ∙ own-owns z m type_cname
     ∙ ap (λ b. b && owns z m type_cname) inside
