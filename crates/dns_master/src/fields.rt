@@ -39,18 +39,13 @@ impl<'a, 'w> Fields<'a, 'w> {
     pub(crate) fn of(words: EntryWords<'a, 'w>) -> Fields<'a, 'w>
         ensures { result ≡ fields (words_left words.entry) }
     {
-        let Some((first, others)) = words.split_first() else {
-            return Fields {
-                ttl: None,
-                class: None,
-                others: words,
-            };
-        };
-        if is_ttl_word(&first) {
-            return Fields::after_ttl(first, others);
-        }
-        if is_class_word(&first) {
-            return Fields::after_class(first, others);
+        if let Some((first, others)) = words.split_first() {
+            if is_ttl_word(&first) {
+                return Fields::after_ttl(first, others);
+            }
+            if is_class_word(&first) {
+                return Fields::after_class(first, others);
+            }
         }
         Fields {
             ttl: None,
@@ -62,50 +57,34 @@ impl<'a, 'w> Fields<'a, 'w> {
     fn after_ttl(ttl: Word<'w>, words: EntryWords<'a, 'w>) -> Fields<'a, 'w>
         ensures { result ≡ class_after ttl.entry (words_left words.entry) }
     {
-        let ttl = Some(ttl);
-        let Some((first, others)) = words.split_first() else {
-            return Fields {
-                ttl,
-                class: None,
-                others: words,
-            };
-        };
-        if is_class_word(&first) {
-            return Fields {
-                ttl,
+        match words.split_first() {
+            Some((first, others)) if is_class_word(&first) => Fields {
+                ttl: Some(ttl),
                 class: Some(first),
                 others,
-            };
-        }
-        Fields {
-            ttl,
-            class: None,
-            others: words,
+            },
+            _ => Fields {
+                ttl: Some(ttl),
+                class: None,
+                others: words,
+            },
         }
     }
 
     fn after_class(class: Word<'w>, words: EntryWords<'a, 'w>) -> Fields<'a, 'w>
         ensures { result ≡ ttl_after class.entry (words_left words.entry) }
     {
-        let class = Some(class);
-        let Some((first, others)) = words.split_first() else {
-            return Fields {
-                ttl: None,
-                class,
-                others: words,
-            };
-        };
-        if is_ttl_word(&first) {
-            return Fields {
+        match words.split_first() {
+            Some((first, others)) if is_ttl_word(&first) => Fields {
                 ttl: Some(first),
-                class,
+                class: Some(class),
                 others,
-            };
-        }
-        Fields {
-            ttl: None,
-            class,
-            others: words,
+            },
+            _ => Fields {
+                ttl: None,
+                class: Some(class),
+                others: words,
+            },
         }
     }
 }
