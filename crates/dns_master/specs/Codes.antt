@@ -32,10 +32,6 @@ abbrev pub code_number : ReadCode → ℕ
 code_number code = fault_code (fault_of code)
 
 -- the count of a source's failures: one more exactly where that is the code
-abbrev pub failures_after_code : {A : Type 0} → ℕ → Result A ReadCode → ℕ
-failures_after_code count (Ok a) = count
-failures_after_code count (Err code) = if code_number code == 16 then count + 1 else count
-
 abbrev pub failures_after_read : {A : Type 0} → ℕ → Result A ReadFault → ℕ
 failures_after_read count (Ok a) = count
 failures_after_read count (Err f) = if code_number f.code == 16 then count + 1 else count

@@ -174,26 +174,6 @@ impl<T: Drop> From<AllocFailed<T>> for ReadFault {
     }
 }
 
-impl From<AllocError> for ReadCode {
-    ghost use Rattle.dns_master.specs.declared.fault.ReadCode.{ReadCode};
-
-    ghost from_gives = { λ _ code. code ≡ ReadCode.NoMemory };
-
-    fn from(_refused: AllocError) -> ReadCode {
-        ReadCode::NoMemory
-    }
-}
-
-impl<T: Drop> From<AllocFailed<T>> for ReadCode {
-    ghost use Rattle.dns_master.specs.declared.fault.ReadCode.{ReadCode};
-
-    ghost from_gives = { λ _ code. code ≡ ReadCode.NoMemory };
-
-    fn from(_refused: AllocFailed<T>) -> ReadCode {
-        ReadCode::NoMemory
-    }
-}
-
 /// The fault of a zone file.
 #[derive(Clone, Copy, Debug, PartialEq, Eq)]
 pub struct ReadFault {

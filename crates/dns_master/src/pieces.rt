@@ -82,7 +82,7 @@ impl Begun {
         let before = self.held.len();
         let more = match append_piece(source, asked, piece, &mut self.held) {
             Ok(more) => more,
-            Err(code) => return Err(ReadFault { code, line: 0 }),
+            Err(fault) => return Err(fault),
         };
         self.left -= self.held.len() - before;
         if self.held.len() / 2 >= self.tried {

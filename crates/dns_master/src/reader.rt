@@ -97,10 +97,7 @@ pub fn read_into<R: Read, G: Gathers>(
         ⊎ (f.code ≡ ReadCode.NoMemory) → f.line ≡ 0) }
     ensures counted { source.new.failures ≡ failures_after_read source.old.failures result }
 {
-    let mut piece = match new_piece(alloc) {
-        Ok(piece) => piece,
-        Err(code) => return Err(ReadFault { code, line: 0 }),
-    };
+    let mut piece = new_piece(alloc)?;
     let mut begun = Begun::new(alloc, origin);
     'pieces: while begun.left > 0 {
         if !begun.take_piece(source, piece.as_mut_slice(), found)? {
@@ -109,7 +106,7 @@ pub fn read_into<R: Read, G: Gathers>(
     }
     match is_more(alloc, source, piece.as_mut_slice()) {
         Ok(goes_on) => begun.finish(goes_on, found),
-        Err(code) => Err(ReadFault { code, line: 0 }),
+        Err(fault) => Err(fault),
     }
 }
 

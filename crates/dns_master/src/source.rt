@@ -2,9 +2,9 @@
 ghost use Rattle.std.specs.Prelude.{◌≡◌, ◌-◌, ◌^◌, ◌<◌, ◌≤◌, ◌⊎◌, length, IfOk, IfErr};
 ghost use Rattle.dns_master.specs.SourceForm.{AppendsPiece, HasMore};
 ghost use Rattle.dns_master.specs.declared.source.TheConstants.{PIECE};
-ghost use Rattle.dns_master.specs.Codes.{failures_after_code};
+ghost use Rattle.dns_master.specs.Codes.{failures_after_read};
 
-use crate::fault::ReadCode;
+use crate::fault::{ReadCode, ReadFault};
 use dns_name::Tally;
 use std::alloc::Global;
 use std::io::Read;
@@ -16,9 +16,9 @@ pub(crate) const MOST_OCTETS: usize = 16_777_216;
 pub(crate) const PIECE: usize = 4_096;
 
 /// Room for a piece.
-pub(crate) fn new_piece(alloc: Global) -> Result<Vec<u8>, ReadCode>
+pub(crate) fn new_piece(alloc: Global) -> Result<Vec<u8>, ReadFault>
     ensures ok { IfOk result (λ piece. length piece.items ≡ PIECE) }
-    ensures err { IfErr result (λ code. code ≡ ReadCode.NoMemory) }
+    ensures err { IfErr result (λ f. (f.code ≡ ReadCode.NoMemory) × (f.line ≡ 0)) }
 {
     Ok(vec![in alloc; 0; PIECE]?)
 }
@@ -29,20 +29,23 @@ pub(crate) fn append_piece<R: Read>(
     asked: usize,
     piece: &mut [u8],
     text: &mut Vec<u8>,
-) -> Result<bool, ReadCode>
+) -> Result<bool, ReadFault>
     requires count { source.old.failures < 2 ^ 64 - 1 }
     requires some { 0 < asked }
     requires room { asked ≤ length piece.old }
     ensures ok { IfOk result (λ more. AppendsPiece (R.remaining source.old.device)
         (R.remaining source.new.device) asked text.old.items text.new.items more) }
     ensures same { length piece.new ≡ length piece.old }
-    ensures err { IfErr result (λ code. (code ≡ ReadCode.SourceFailed)
-        ⊎ (code ≡ ReadCode.NoMemory)) }
-    ensures counted { source.new.failures ≡ failures_after_code source.old.failures result }
+    ensures err { IfErr result (λ f. ((f.code ≡ ReadCode.SourceFailed)
+        ⊎ (f.code ≡ ReadCode.NoMemory)) × (f.line ≡ 0)) }
+    ensures counted { source.new.failures ≡ failures_after_read source.old.failures result }
 {
     let (front, _) = piece.split_at_mut(asked);
     let Ok(count) = source.read(front) else {
-        return Err(ReadCode::SourceFailed);
+        return Err(ReadFault {
+            code: ReadCode::SourceFailed,
+            line: 0,
+        });
     };
     let (came, _) = front.split_at(count);
     text.extend_from_slice(came)?;
@@ -54,14 +57,14 @@ pub(crate) fn is_more<R: Read>(
     alloc: Global,
     source: &mut Tally<R>,
     piece: &mut [u8],
-) -> Result<bool, ReadCode>
+) -> Result<bool, ReadFault>
     requires count { source.old.failures < 2 ^ 64 - 1 }
     requires room { 1 ≤ length piece.old }
     ensures ok { IfOk result (λ more. HasMore (R.remaining source.old.device)
         (R.remaining source.new.device) more) }
-    ensures err { IfErr result (λ code. (code ≡ ReadCode.SourceFailed)
-        ⊎ (code ≡ ReadCode.NoMemory)) }
-    ensures counted { source.new.failures ≡ failures_after_code source.old.failures result }
+    ensures err { IfErr result (λ f. ((f.code ≡ ReadCode.SourceFailed)
+        ⊎ (f.code ≡ ReadCode.NoMemory)) × (f.line ≡ 0)) }
+    ensures counted { source.new.failures ≡ failures_after_read source.old.failures result }
 {
     let mut past = Vec::new(alloc);
     append_piece(source, 1, piece, &mut past)

@@ -13,7 +13,7 @@ use Rattle.dns_master.proofs.reader.read_into.Goals as goal
 
 pub returns-in_err-take_piece-clause-decided : goal.returns-in_err-take_piece-clause-decided
 returns-in_err-take_piece-clause-decided g c =
-    fault_handed_on c.from_residual.result c.in_err-take_piece.field-0.0 _ c.from_residual.ensures.1 (λ source memory.
+    fault_handed_on c.from_residual-in_err-take_piece.result c.in_err-take_piece.field-0.0 _ c.from_residual-in_err-take_piece.ensures.1 (λ source memory.
     fault-given _ _ _ c.args.origin.now c.pieces.begun.reader c.pieces.begun.held.items c.pieces.begun.left _ c.pieces.invariant.so_far
     (fault_of c.in_err-take_piece.field-0.0.code) c.in_err-take_piece.field-0.0.line (c.in_err-take_piece.ensures.err source memory))
 
@@ -65,22 +65,22 @@ pieces-preserved g c = record {
   room = written-back c.pieces.piece.len 4096 c.take_piece.new.piece _ (search rules) (search rules);
 }
 
-pub returns-in-Ok-is_more-clause-whole : goal.returns-in-Ok-is_more-clause-whole
-returns-in-Ok-is_more-clause-whole g c =
+pub returns-in-Ok-clause-whole : goal.returns-in-Ok-clause-whole
+returns-in-Ok-clause-whole g c =
     let old = g.R.Read.remaining c.args.source.now.device in
     let mid = g.R.Read.remaining c.pieces.source.device in
     let new = g.R.Read.remaining c.is_more.new.source.device in
     let o = c.args.origin.now in
     let before = g.G.Gathers.gathered c.pieces.found in
-    let all = g.G.Gathers.gathered c.finish-in-Ok-is_more.new.found in
+    let all = g.G.Gathers.gathered c.finish-in-Ok.new.found in
     let last = c.pieces.begun in
     let full : last.left ≡ 0 = search rules in
-    let done : TextGathered last.reader c.in-Ok-is_more.goes_on last.held.items before all → Decides old new o (records all) =
-    limit-records old mid new o last.reader last.held.items last.left before c.pieces.invariant.so_far c.in-Ok-is_more.goes_on all full c.in-Ok-is_more.ensures.ok in
-    OnOk-map c.finish-in-Ok-is_more.result done c.finish-in-Ok-is_more.ensures.ok
+    let done : TextGathered last.reader c.in-Ok.goes_on last.held.items before all → Decides old new o (records all) =
+    limit-records old mid new o last.reader last.held.items last.left before c.pieces.invariant.so_far c.in-Ok.goes_on all full c.in-Ok.ensures.ok in
+    OnOk-map c.finish-in-Ok.result done c.finish-in-Ok.ensures.ok
 
-pub returns-in-Ok-is_more-clause-decided : goal.returns-in-Ok-is_more-clause-decided
-returns-in-Ok-is_more-clause-decided g c =
+pub returns-in-Ok-clause-decided : goal.returns-in-Ok-clause-decided
+returns-in-Ok-clause-decided g c =
     let old = g.R.Read.remaining c.args.source.now.device in
     let mid = g.R.Read.remaining c.pieces.source.device in
     let new = g.R.Read.remaining c.is_more.new.source.device in
@@ -88,12 +88,12 @@ returns-in-Ok-is_more-clause-decided g c =
     let before = g.G.Gathers.gathered c.pieces.found in
     let last = c.pieces.begun in
     let full : last.left ≡ 0 = search rules in
-    let done : (f : ReadFault) → OfEntry (λ fault line. ReaderMeans last.reader c.in-Ok-is_more.goes_on last.held.items (fault_at fault line)) f
+    let done : (f : ReadFault) → OfEntry (λ fault line. ReaderMeans last.reader c.in-Ok.goes_on last.held.items (fault_at fault line)) f
     → f.code ≢ SourceFailed → f.code ≢ NoMemory → Decides old new o (fault_at (fault_of f.code) f.line) =
     λ f h source memory.
-    limit-given old mid new o last.reader last.held.items last.left before c.pieces.invariant.so_far c.in-Ok-is_more.goes_on (fault_at (fault_of f.code) f.line)
-    full c.in-Ok-is_more.ensures.ok (h.told memory) in
-    IfErr-map c.finish-in-Ok-is_more.result done c.finish-in-Ok-is_more.ensures.err
+    limit-given old mid new o last.reader last.held.items last.left before c.pieces.invariant.so_far c.in-Ok.goes_on (fault_at (fault_of f.code) f.line)
+    full c.in-Ok.ensures.ok (h.told memory) in
+    IfErr-map c.finish-in-Ok.result done c.finish-in-Ok.ensures.err
 
 -- what is decided is what the source gives
 faults_given : {A : Type 0} (old new : Option Octets) (o : DomainName) (result : Result A ReadFault)
@@ -103,7 +103,7 @@ faults_given old new o result = IfErr-map result (λ f h source memory. decided-
 
 pub returns-in_err-take_piece-clause-fault : goal.returns-in_err-take_piece-clause-fault
 returns-in_err-take_piece-clause-fault g c =
-    faults_given (g.R.Read.remaining c.args.source.now.device) _ c.args.origin.now c.from_residual.result (returns-in_err-take_piece-clause-decided g c)
+    faults_given (g.R.Read.remaining c.args.source.now.device) _ c.args.origin.now c.from_residual-in_err-take_piece.result (returns-in_err-take_piece-clause-decided g c)
 
 pub returns-then-not-branch-clause-ok : goal.returns-then-not-branch-clause-ok
 returns-then-not-branch-clause-ok g c =
@@ -114,12 +114,12 @@ pub returns-then-not-branch-clause-fault : goal.returns-then-not-branch-clause-f
 returns-then-not-branch-clause-fault g c =
     faults_given (g.R.Read.remaining c.args.source.now.device) _ c.args.origin.now c.finish.result (returns-then-not-branch-clause-decided g c)
 
-pub returns-in-Ok-is_more-clause-ok : goal.returns-in-Ok-is_more-clause-ok
-returns-in-Ok-is_more-clause-ok g c =
-    OnOk-map c.finish-in-Ok-is_more.result
-    (decided-gives (g.R.Read.remaining c.args.source.now.device) _ c.args.origin.now (records (g.G.Gathers.gathered c.finish-in-Ok-is_more.new.found)))
-    (returns-in-Ok-is_more-clause-whole g c)
+pub returns-in-Ok-clause-ok : goal.returns-in-Ok-clause-ok
+returns-in-Ok-clause-ok g c =
+    OnOk-map c.finish-in-Ok.result
+    (decided-gives (g.R.Read.remaining c.args.source.now.device) _ c.args.origin.now (records (g.G.Gathers.gathered c.finish-in-Ok.new.found)))
+    (returns-in-Ok-clause-whole g c)
 
-pub returns-in-Ok-is_more-clause-fault : goal.returns-in-Ok-is_more-clause-fault
-returns-in-Ok-is_more-clause-fault g c =
-    faults_given (g.R.Read.remaining c.args.source.now.device) _ c.args.origin.now c.finish-in-Ok-is_more.result (returns-in-Ok-is_more-clause-decided g c)
+pub returns-in-Ok-clause-fault : goal.returns-in-Ok-clause-fault
+returns-in-Ok-clause-fault g c =
+    faults_given (g.R.Read.remaining c.args.source.now.device) _ c.args.origin.now c.finish-in-Ok.result (returns-in-Ok-clause-decided g c)
