@@ -1,5 +1,5 @@
 -- Names that end with the same labels, and the keys that begin alike then.
-use Rattle.std.proofs.Common.{◌≡◌, ℕ, ◌-◌, ◌<◌, ◌≤◌, true, ◌⊎◌, inl, inr, [], ◌∷◌, ◌++◌, length, take, drop, refl, sym, ap, ◌∙◌, subst, arith, append_assoc, length-append}
+use Rattle.std.proofs.Common.{◌≡◌, ℕ, ◌-◌, ◌<◌, ◌≤◌, true, ◌⊎◌, inl, inr, [], ◌∷◌, ◌++◌, length, take, drop, sym, ap, ◌∙◌, subst, arith, append_assoc, length-append}
 use Rattle.std.proofs.lemmas.Bool.{cases_order}
 use Rattle.std.proofs.Math.Seq.{take-append_seam}
 use Rattle.dns_spec.specs.Names.{Octets, DomainName, wire, is_name}
@@ -8,9 +8,6 @@ use Rattle.dns_name.specs.WireForm.{labels_of, IsWireForm}
 use Rattle.dns_zone.specs.KeyForm.{name_key, EndsWith}
 use Rattle.dns_zone.proofs.KeyOrder.{some_octets, key_length}
 use Rattle.dns_zone.proofs.KeyPrefix.{key_append}
-
-pub ends_itself : (n : DomainName) → EndsWith n n
-ends_itself n = record { front = []; whole = refl }
 
 pub ends_first : (n m : DomainName) (l : Octets) → n ≡ l ∷ m → EndsWith n m
 ends_first n m l e = record { front = l ∷ []; whole = e }

@@ -1,6 +1,6 @@
 -- Which names exist in a built zone.
-use Rattle.std.proofs.Common.{◌≡◌, ℕ, ◌-◌, ◌≤◌, ◌<◌, Bool, true, false, ◌&&◌, ◌||◌, not, ◌==◌, nat_le, List, [], ◌∷◌, ◌++◌, map, length, drop, refl, sym, ap, ap₂, ◌∙◌, arith}
-use Rattle.std.proofs.lemmas.Bool.{and_parts, false≢true, false_from_ne_true, or_right, lt-ltb}
+use Rattle.std.proofs.Common.{◌≡◌, ℕ, ◌-◌, ◌≤◌, ◌<◌, Bool, true, false, ◌&&◌, ◌||◌, not, ◌==◌, nat_le, List, [], ◌∷◌, map, length, drop, refl, sym, ap, ap₂, ◌∙◌, arith}
+use Rattle.std.proofs.lemmas.Bool.{and_parts, false≢true, or_right, lt-ltb}
 use Rattle.std.proofs.lemmas.List.{length-map}
 use Rattle.std.specs.Char.{to_ascii_lowercase}
 use Rattle.std.specs.List.{list_any}
@@ -121,18 +121,3 @@ child-exists z l n low =
     ap (λ (m : DomainName). exists z (map to_ascii_lowercase l ∷ m)) (sym low)
     ∙ exists-lower z (folded (l ∷ n)) (l ∷ n) (lower_twice (l ∷ n))
     (length-map (l ∷ n) (map to_ascii_lowercase))
-
-pub child-absent : (z : ZoneContents) (l : Octets) (n : DomainName) → IsBuilt z
-    → 255 < length (wire (l ∷ n)) → exists z (l ∷ n) ≡ false
-child-absent z l n kept long =
-    false_from_ne_true _ (λ e. let fits = exists-fits z (l ∷ n) kept e in absurd (omega arith))
-
-pub child-node : (z : ZoneContents) (l : Octets) (n : DomainName) → IsNode z n
-    → exists z (map to_ascii_lowercase l ∷ n) ≡ true → IsNode z (map to_ascii_lowercase l ∷ n)
-child-node z l n node e = record {
-  built = node.built;
-  lower =
-      ap (λ (m : DomainName). map to_ascii_lowercase (map to_ascii_lowercase l) ∷ m) node.lower
-      ∙ ap (λ (m : DomainName). m ++ n) (lower_twice (l ∷ []));
-  stands = e;
-}

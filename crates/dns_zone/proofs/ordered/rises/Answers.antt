@@ -1,17 +1,27 @@
-use Rattle.std.proofs.Common.{◌≡◌, ℕ, zero, suc, ◌-◌, ◌+◌, ◌<◌, ◌≤◌, true, false, ◌&&◌, List, [], ◌∷◌, length, drop, get_or, refl, sym, ap, ap₂, ◌∙◌, arith, is_lt}
+use Rattle.std.proofs.Common.{◌≡◌, ℕ, zero, suc, ◌-◌, ◌+◌, ◌<◌, ◌≤◌, true, ◌&&◌, List, [], ◌∷◌, length, drop, get_or, refl, sym, ap, ap₂, ◌∙◌, arith, is_lt}
 use Rattle.dns_spec.specs.Records.{ResourceRecord, record_order}
 use Rattle.dns_zone.specs.ZoneForm.{neighbours_rise}
 use Rattle.dns_zone.proofs.ordered.rises.Goals as goal
 
 -- a record and the next, among those from a place on
-rise_at : (rs : List ResourceRecord) (i : ℕ) (d e : ResourceRecord) → suc i < length rs
+rise_at : (rs : List ResourceRecord) (i : ℕ) (r s : ResourceRecord) → suc i < length rs
+    → r ≡ get_or rs i r → s ≡ get_or rs (suc i) s
     → neighbours_rise (drop i rs)
-    ≡ (is_lt (record_order (get_or rs i d) (get_or rs (suc i) e))
-    && neighbours_rise (drop (suc i) rs))
-rise_at [] i d e l = absurd (omega (arith, l))
-rise_at (r ∷ []) i d e l = absurd (omega (arith, l))
-rise_at (r ∷ s ∷ rs) zero d e l = refl
-rise_at (r ∷ s ∷ rs) (suc i) d e l = rise_at (s ∷ rs) i d e (omega (arith, l))
+    ≡ (is_lt (record_order r s) && neighbours_rise (drop (suc i) rs))
+rise_at [] i r s l e f = absurd (omega (arith, l))
+rise_at (x ∷ []) i r s l e f = absurd (omega (arith, l))
+rise_at (x ∷ y ∷ rs) zero r s l e f =
+    ap₂ (λ a b. is_lt (record_order a b) && neighbours_rise (y ∷ rs)) (sym e) (sym f)
+rise_at (x ∷ y ∷ rs) (suc i) r s l e f = rise_at (y ∷ rs) i r s (omega (arith, l)) e f
+
+rise_on : (rs : List ResourceRecord) (at : ℕ) (r s : ResourceRecord) → 1 ≤ at → at < length rs
+    → r ≡ get_or rs (at - 1) r → s ≡ get_or rs at s
+    → neighbours_rise (drop (at - 1) rs)
+    ≡ (is_lt (record_order r s) && neighbours_rise (drop at rs))
+rise_on rs at r s l m e f =
+    let next : suc (at - 1) ≡ at = omega (arith, l) in
+    rise_at rs (at - 1) r s (omega (arith, next, m)) e (f ∙ ap (λ i. get_or rs i s) (sym next))
+    ∙ ap (λ i. is_lt (record_order r s) && neighbours_rise (drop i rs)) next
 
 rise_end : (rs : List ResourceRecord) (i : ℕ) → length rs ≤ suc i
     → neighbours_rise (drop i rs) ≡ true
@@ -25,36 +35,24 @@ pub records-preserved : goal.records-preserved
 records-preserved c =
     let rs = c.args.records.now in
     let at = c.records.invariant.at in
-    let k = c.records.at - 1 in
-    let next : c.records.at ≡ suc k = omega (arith, at) in
-    let here : is_lt (record_order (get_or rs k c.index-records-at.result)
-    (get_or rs (suc k) c.index-records-at-in-records.result)) ≡ true =
-    ap₂ (λ r s. is_lt (record_order r s)) (sym c.index-records-at.is)
-    (sym (c.index-records-at-in-records.is
-    ∙ ap (λ i. get_or rs i c.index-records-at-in-records.result) next))
-    ∙ sym c.comes_first.ensures ∙ c.if-not-comes_first.false in
     record {
-      rest = c.records.invariant.rest ∙ rise_at rs k _ _ (omega (arith, next, c.records-test.true))
-          ∙ ap (λ b. b && neighbours_rise (drop (suc k) rs)) here
-          ∙ ap (λ i. neighbours_rise (drop i rs)) {x = suc k} {y = c.records.at + 1 - 1}
-          (omega (arith, next));
+      rest = c.records.invariant.rest
+          ∙ rise_on rs c.records.at _ _ at c.records-test.true c.index-records-at.is
+          c.index-records-at-in-records.is
+          ∙ ap (λ b. b && neighbours_rise (drop c.records.at rs))
+          (sym c.comes_first.ensures ∙ c.if-not-comes_first.false)
+          ∙ ap (λ i. neighbours_rise (drop i rs)) {x = c.records.at} {y = c.records.at + 1 - 1}
+          (omega arith);
       at = omega arith;
     }
 
 pub returns-then-not-comes_first : goal.returns-then-not-comes_first
 returns-then-not-comes_first c =
-    let rs = c.args.records.now in
-    let at = c.records.invariant.at in
-    let k = c.records.at - 1 in
-    let next : c.records.at ≡ suc k = omega (arith, at) in
-    let here : is_lt (record_order (get_or rs k c.index-records-at.result)
-    (get_or rs (suc k) c.index-records-at-in-records.result)) ≡ false =
-    ap₂ (λ r s. is_lt (record_order r s)) (sym c.index-records-at.is)
-    (sym (c.index-records-at-in-records.is
-    ∙ ap (λ i. get_or rs i c.index-records-at-in-records.result) next))
-    ∙ sym c.comes_first.ensures ∙ c.if-not-comes_first.true in
-    sym (c.records.invariant.rest ∙ rise_at rs k _ _ (omega (arith, next, c.records-test.true))
-    ∙ ap (λ b. b && neighbours_rise (drop (suc k) rs)) here)
+    sym (c.records.invariant.rest
+    ∙ rise_on c.args.records.now c.records.at _ _ c.records.invariant.at c.records-test.true
+    c.index-records-at.is c.index-records-at-in-records.is
+    ∙ ap (λ b. b && neighbours_rise (drop c.records.at c.args.records.now))
+    (sym c.comes_first.ensures ∙ c.if-not-comes_first.true))
 
 pub returns : goal.returns
 returns c =
