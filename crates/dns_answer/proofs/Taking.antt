@@ -30,6 +30,3 @@ Took-within nodes misses took = record {
 pub HasRoom-after : {s s' : Walk} {n m k r : ℕ} → Took s s' n m → n + m + k ≤ r → HasRoom s r
     → HasRoom s' k
 HasRoom-after took less room = record { visits = omega arith; comparisons = omega arith }
-
-pub HasRoom-within : {s : Walk} {k r : ℕ} → k ≤ r → HasRoom s r → HasRoom s k
-HasRoom-within less room = record { visits = omega arith; comparisons = omega arith }

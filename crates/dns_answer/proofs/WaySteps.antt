@@ -1,26 +1,24 @@
 -- A label more on the way down to a name.
-use Rattle.std.proofs.Common.{◌≡◌, ℕ, suc, Bool, true, false, cond, ◌&&◌, ◌∷◌, map, reverse, length, Option, None, Some, refl, sym, ap, ◌∙◌, subst, ◌+◌, ◌≤◌, arith}
+use Rattle.std.proofs.Common.{◌≡◌, ℕ, suc, Bool, true, false, ◌&&◌, ◌∷◌, map, reverse, length, Option, None, Some, refl, sym, ap, ◌∙◌, subst, ◌+◌, ◌≤◌, arith}
 use Rattle.std.proofs.lemmas.Bool.{false≢true, and_parts, false_from_ne_true}
 use Rattle.std.proofs.lemmas.List.{length-map}
 use Rattle.std.specs.Prelude.{◌==◌, IfSome}
 use Rattle.std.specs.Char.{to_ascii_lowercase}
 use Rattle.std.specs.List.{find}
-use Rattle.std.specs.Option.{is_some, option_map}
+use Rattle.std.specs.Option.{is_some}
 use Rattle.dns_spec.specs.Names.{Octets, DomainName, folded, same, at_or_below, below, suffixes}
 use Rattle.dns_spec.specs.Data.{type_ns, type_cname}
-use Rattle.dns_spec.specs.Records.{ResourceRecord, ZoneContents, at, owns, rrset, with_owner}
+use Rattle.dns_spec.specs.Records.{ResourceRecord, ZoneContents, owns, rrset}
 use Rattle.dns_spec.specs.Sets.{set_of}
-use Rattle.dns_spec.specs.Tree.{exists, is_cut, cut_of, closest_encloser, asterisk, source_of_synthesis, found}
+use Rattle.dns_spec.specs.Tree.{exists, is_cut, cut_of}
 use Rattle.dns_zone.specs.Nodes.{Walk, ZoneNode, IsLead}
-use Rattle.dns_zone.specs.Starts.{IsBelow}
-use Rattle.dns_zone.specs.declared.sought.Sought.{Sought}
 use Rattle.dns_answer.proofs.Taking.{Took-then, Took-within}
 use Rattle.dns_zone.proofs.NameOrder.{same-is, same-from, lower_twice}
 use Rattle.dns_zone.proofs.NameTree.{itself-under, below-cons, same-under}
 use Rattle.dns_zone.proofs.WayLaws.{any_weaker}
 use Rattle.dns_zone.proofs.Existing.{exists-lower}
-use Rattle.dns_answer.specs.Walks.{node_of, node_or, IsThere, IsMissing, IsBelowCut, IsNothing, AreRecords, IsStart, IsUncut, IsLeadTo, IsApex, Took}
-use Rattle.dns_zone.proofs.WayLaws.{under_same, no_cut-at_origin, cut-above, cut-here, cut-none, cut-by_set, exists-folded, exists-up, encloser-here, encloser-above, at-folded}
+use Rattle.dns_answer.specs.Walks.{node_of, node_or, IsThere, IsMissing, IsBelowCut, IsStart, IsUncut, IsLeadTo, IsApex, Took}
+use Rattle.dns_zone.proofs.WayLaws.{under_same, no_cut-at_origin, cut-above, cut-here, cut-none, cut-by_set, exists-folded, exists-up, encloser-here, encloser-above}
 
 -- a name as long as that of the node where its way begins is the node's
 pub there-at_start : (z : ZoneContents) (start : ZoneNode) (ends : Bool) (n : DomainName) → IsStart z start → (ends ≡ true → IsUncut z start.name)
@@ -104,45 +102,6 @@ module _ (z : ZoneContents) (start : ZoneNode) (ends : Bool) (l : Octets) (n : D
     at_name = is;
   }
 
--- what is found for a name that is there
-pub records-there : (z : ZoneContents) (start : ZoneNode) (n : DomainName) (node : Option ZoneNode) → IsThere z start true n node → AreRecords z n (node_or start node)
-records-there z start n node h = record {
-  no_cut = h.no_cut refl;
-  zone = ap (λ (v : ZoneNode). v.zone) h.at_name;
-  records =
-      ap (λ b. cond b (Some (with_owner n (at z n))) (option_map (λ w. with_owner n (at z w)) (source_of_synthesis z n))) h.stands
-      ∙ ap (λ rs. Some (with_owner n rs)) (sym (at-folded z n))
-      ∙ ap (λ (v : ZoneNode). Some (with_owner n (at v.zone v.name))) (sym h.at_name);
-}
-
--- for one that is not
-source_is : (z : ZoneContents) (n e : DomainName) → exists z n ≡ false → closest_encloser z n ≡ Some e
-    → found z n ≡ option_map (λ w. with_owner n (at z w)) (cond (exists z (asterisk ∷ e)) (Some (asterisk ∷ e)) None)
-source_is z n e missing is = rw (missing, is) refl
-
-module _ (z : ZoneContents) (start : ZoneNode) (n : DomainName) (above : Option ZoneNode) (h : IsMissing z start true n above) where
-  abbrev pub encloser : ZoneNode
-  encloser = node_or start above
-
-  by_wildcard : (b : Bool) → exists encloser.zone (asterisk ∷ encloser.name) ≡ b
-      → found z n ≡ option_map (λ w. with_owner n (at z w)) (cond b (Some (asterisk ∷ encloser.name)) None)
-  by_wildcard b e =
-      source_is z n encloser.name h.missing h.encloser
-      ∙ ap (λ b. option_map (λ w. with_owner n (at z w)) (cond b (Some (asterisk ∷ encloser.name)) None)) (ap (λ y. exists y (asterisk ∷ encloser.name)) (sym h.zone) ∙ e)
-
-  pub records-by_wildcard : (node : ZoneNode) → exists encloser.zone (asterisk ∷ encloser.name) ≡ true → node ≡ record { zone = encloser.zone; name = asterisk ∷ encloser.name } → AreRecords z n node
-  records-by_wildcard node there is = record {
-    no_cut = h.no_cut refl;
-    zone = ap (λ (v : ZoneNode). v.zone) is ∙ h.zone;
-    records =
-        by_wildcard true there
-        ∙ ap (λ y. Some (with_owner n (at y (asterisk ∷ encloser.name)))) (sym h.zone)
-        ∙ ap (λ (v : ZoneNode). Some (with_owner n (at v.zone v.name))) (sym is);
-  }
-
-  pub nothing-there : exists encloser.zone (asterisk ∷ encloser.name) ≡ false → IsNothing z n
-  nothing-there absent = record { no_cut = h.no_cut refl; none = by_wildcard false absent }
-
 -- a lead that the zone keeps
 pub lead-to : (z : ZoneContents) (t : ℕ) (ends : Bool) (v : ZoneNode) → v.zone ≡ z
     → IsLead z t v.name → (ends ≡ true → t ≡ type_cname) → IsLeadTo z ends v
@@ -160,12 +119,6 @@ apex-uncut z apex h = record {
       ∙ itself-under z.origin z.origin (same-from z.origin z.origin refl);
   no_cut = ap (λ (v : ZoneNode). cut_of z v.name) h.node ∙ no_cut-at_origin z z.origin (omega arith);
 }
-
--- from a lead it is shorter
-pub lead-nearer : (z : ZoneContents) (ends : Bool) (v : ZoneNode) (s n : Sought) → IsLeadTo z ends v
-    → IsBelow s z.origin → n.name ≡ s.name → IsBelow n v.name → n.depth + 1 ≤ s.depth
-lead-nearer z ends v s n lead below e near =
-    omega (arith, below.labels, near.labels, ap length e, lead.longer)
 
 pub Took-lead : {s s' s'' : Walk} {near depth misses : ℕ}
     → s' ≡ record s { visits = s.visits + 1 } → near + 1 ≤ depth → Took s' s'' near misses

@@ -2,17 +2,15 @@
 use Rattle.std.proofs.Common.{◌≡◌, ℕ, zero, suc, ◌+◌, ◌-◌, ◌<◌, ◌≤◌, Bool, true, false, cond, nat_le, ◌⊎◌, inl, inr, List, [], ◌∷◌, ◌++◌, length, take, drop, replicate, slice_get, Option, None, Some, refl, sym, ap, ap₂, ◌∙◌, subst, arith, append_assoc, append-nil, length-append}
 use Rattle.std.proofs.lemmas.Bool.{and_parts, leb-true}
 use Rattle.std.proofs.lemmas.Option.{none-some, same_Some}
-use Rattle.std.proofs.lemmas.List.{length-take-le, take-append-le}
+use Rattle.std.proofs.lemmas.List.{take-append-le}
 use Rattle.std.proofs.Math.Seq.{take-append-add}
 use Rattle.std.specs.List.{list_all}
 use Rattle.dns_spec.specs.Names.{Octets, DomainName, wire, is_name, is_label}
 use Rattle.dns_spec.specs.Reading.{RunAt}
 use Rattle.dns_spec.specs.Reading.RunAt.{ends, goes_on, jumps}
 use Rattle.dns_spec.specs.Layout.{Placed, has_suffix, suffix_place, place_of, last_place, shared_place, shared_octets}
-use Rattle.dns_spec.specs.LayoutSize.{cost}
 use Rattle.dns_spec.proofs.DomainNames.NameLaws.{is_name-tail}
 use Rattle.dns_spec.proofs.Messages.Places.{Stands}
-use Rattle.dns_spec.proofs.Layouts.LayoutSize.{length-shared_octets}
 use Rattle.dns_spec.proofs.Layouts.SameLayout.{begins_inside}
 use Rattle.dns_spec.proofs.Layouts.SharedNames.{suffix_from, suffix_to, place_again, place_pushed, shared_is, shared_to, shared_none, shared_whole, shared_pointed, shared_root, Known, known_more}
 use Rattle.dns_wire.specs.Kept.{Kept, IsKept}
@@ -20,14 +18,6 @@ use Rattle.dns_wire.specs.Writing.{front_size, pointed_place, end_octets, new_pl
 use Rattle.dns_wire.proofs.Suffixes.{front-none, front-some, front-root, pointed-none, pointed-some, pointed-root, kept-none, kept-more, kept-some, kept-root}
 
 -- a name is laid out as its front and its end
-front_short : (ms : List Placed) (n : DomainName) → front_size ms n < length (wire n)
-front_short ms [] = let z = front-root ms in omega (arith, z)
-front_short ms (l ∷ n) = go (shared_place ms (l ∷ n)) refl (front_short ms n)
-  where
-    go : (x : Option ℕ) → shared_place ms (l ∷ n) ≡ x → front_size ms n < length (wire n) → front_size ms (l ∷ n) < length (wire (l ∷ n))
-    go None e h = let f = front-none ms l n e in omega (arith, f, h, length-append l (wire n))
-    go (Some p) e h = let f = front-some ms l n p e in omega (arith, f)
-
 pub shared_cut : (ms : List Placed) (n : DomainName) → shared_octets ms n ≡ take (front_size ms n) (wire n) ++ end_octets (pointed_place ms n)
 shared_cut ms [] = shared_root ms ∙ ap₂ (λ k o. take k (wire []) ++ end_octets o) (sym (front-root ms)) (sym (pointed-root ms))
 shared_cut ms (l ∷ n) = go (shared_place ms (l ∷ n)) refl (shared_cut ms n)
@@ -45,11 +35,6 @@ shared_cut ms (l ∷ n) = go (shared_place ms (l ∷ n)) refl (shared_cut ms n)
         ∙ ap₂ (λ k x. take k (wire (l ∷ n)) ++ end_octets x) (sym (front-none ms l n e)) (sym (pointed-none ms l n e))
     go (Some p) e h =
         shared_pointed ms l n p e ∙ ap₂ (λ k x. take k (wire (l ∷ n)) ++ end_octets x) (sym (front-some ms l n p e)) (sym (pointed-some ms l n p e))
-
-pub cost_is : (ms : List Placed) (n : DomainName) → cost ms n ≡ front_size ms n + length (end_octets (pointed_place ms n))
-cost_is ms n =
-    sym (length-shared_octets ms n) ∙ ap length (shared_cut ms n) ∙ length-append (take (front_size ms n) (wire n)) (end_octets (pointed_place ms n))
-    ∙ ap (λ k. k + length (end_octets (pointed_place ms n))) (length-take-le (front_size ms n) (wire n) (let s = front_short ms n in omega (arith, s)))
 
 -- what is read stays, whatever comes after
 get_more : (b x : Octets) (i o : ℕ) → slice_get b i ≡ Some o → slice_get (b ++ x) i ≡ Some o

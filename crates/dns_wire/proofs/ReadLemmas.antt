@@ -95,9 +95,6 @@ module _ {b : Octets} {i j : ℕ} {so_far : List MessageQuestion} (read : Questi
   pub questions_end : QuestionsAt b i so_far j
   questions_end = subst (λ ws. QuestionsAt b i ws j) (append-nil so_far) (read.forth [] j refl)
 
-pub records_begin : (b : Octets) (i : ℕ) → i ≤ length b → RecordsRead b i [] i
-records_begin b i within = record { within = within; forth = λ qs e h. h; back = λ ws e h few. (ws, refl, h) }
-
 first_record : (b : Octets) (i : ℕ) (r : MessageRecord) (rs : List MessageRecord) (e : ℕ) → RecordsAt b i (r ∷ rs) e
     → (k : ℕ) × WholeRecordAt b i r k × RecordsAt b k rs e
 first_record b i r rs e h = (h.0 + 10 + h.1, record { after_owner = h.0; data_length = h.1; there = h.2; end = refl }, h.3)
