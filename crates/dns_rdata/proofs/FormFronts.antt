@@ -1,18 +1,14 @@
 -- Words are taken from the left, each by its form: what those of one piece say, and then those of
 -- the pieces after it, is what all say by all forms.
-use Rattle.std.proofs.Common.{◌≡◌, ℕ, suc, ◌+◌, ◌-◌, ◌<◌, ◌≤◌, List, [], ◌∷◌, ◌++◌, length, take, drop, get_or, replicate, refl, sym, ap, ◌∙◌, subst, arith, Option, Some}
+use Rattle.std.proofs.Common.{◌≡◌, ℕ, suc, ◌+◌, ◌-◌, ◌<◌, ◌≤◌, List, [], ◌∷◌, ◌++◌, length, take, drop, get_or, replicate, refl, sym, ap, ◌∙◌, subst, arith}
 use Rattle.std.proofs.lemmas.List.{append_assoc, append-nil, length-append, length-replicate, map-append, nil_from_length, replicate-append-replicate, take-append-drop, take_all, take_more}
 use Rattle.std.proofs.lemmas.Grind.{flat_map-append}
-use Rattle.std.proofs.Math.Seq.{take-append_seam, drop-append_seam}
-use Rattle.std.specs.Prelude.{MatchOption}
-use Rattle.std.specs.Option.{option_map}
 use Rattle.std.specs.List.{flat_map}
 use Rattle.dns_spec.specs.Names.{Octets, DomainName}
-use Rattle.dns_spec.specs.Data.{TypeRow, row_of}
-use Rattle.dns_spec.specs.DataText.{Word, WordForm, SaysWord, SaysForms, SaysTyped, forms_in}
+use Rattle.dns_spec.specs.DataText.{Word, WordForm, SaysWord, SaysForms, forms_in}
 use Rattle.dns_rdata.specs.declared.table.Piece as code
 use Rattle.dns_rdata.specs.TypeRows.{piece_of, pieces_in}
-use Rattle.dns_rdata.specs.WordForms.{AppendsOnly, AppendsFront, SaysNoFront}
+use Rattle.dns_rdata.specs.WordForms.{kept, Appends, SaysKept, KeepsOnly, AppendsFront, SaysNoFront}
 
 -- as many words as forms
 pub as_many_words : (fs : List WordForm) (origin : DomainName) (ws : List Word) (d : Octets) → SaysForms fs origin ws d → length fs ≡ length ws
@@ -21,129 +17,80 @@ as_many_words [] origin (w ∷ ws) d h = absurd h
 as_many_words (f ∷ fs) origin [] d h = absurd h
 as_many_words (f ∷ fs) origin (w ∷ ws) d h = ap suc (as_many_words fs origin ws h.1 h.4)
 
--- words say no data where the type has another number of them
-pub other_count : (t : ℕ) (row : TypeRow) (origin : DomainName) (ws : List Word) (d : Octets) → Some row ≡ row_of t → (length (flat_map (forms_in (length ws)) row.pieces) ≡ length ws → ⊥)
-    → SaysTyped t origin ws d → ⊥
-other_count t row origin ws d is other h =
-    let said = subst (λ (x : Option TypeRow). MatchOption (option_map (λ (r : TypeRow). flat_map (forms_in (length ws)) r.pieces) x) ⊥ (λ fs. SaysForms fs origin ws d)) (sym is) h in
-    other (as_many_words (flat_map (forms_in (length ws)) row.pieces) origin ws d said)
-
--- two ways to cut words, with as many before the cut, are one
-same_cut : (front back taken rest : List Word) → front ++ back ≡ taken ++ rest → length front ≡ length taken → (front ≡ taken) × (back ≡ rest)
-same_cut front back taken rest e k = (
-  sym (take-append_seam front back) ∙ ap (take (length front)) e ∙ ap (λ n. take n (taken ++ rest)) k ∙ take-append_seam taken rest,
-  sym (drop-append_seam front back) ∙ ap (drop (length front)) e ∙ ap (λ n. drop n (taken ++ rest)) k ∙ drop-append_seam taken rest,
-)
-
--- what words say by forms, and other words by others, is what all of them say
-forms-joined : (fs gs : List WordForm) (origin : DomainName) (ws vs : List Word) (d e : Octets) → SaysForms fs origin ws d → SaysForms gs origin vs e → SaysForms (fs ++ gs) origin (ws ++ vs) (d ++ e)
-forms-joined [] gs origin [] vs d e h k = subst (λ x. SaysForms gs origin vs (x ++ e)) (sym h) k
-forms-joined [] gs origin (w ∷ ws) vs d e h k = absurd h
-forms-joined (f ∷ fs) gs origin [] vs d e h k = absurd h
-forms-joined (f ∷ fs) gs origin (w ∷ ws) vs d e h k =
-    (h.0, h.1 ++ e, ap (λ x. x ++ e) h.2 ∙ append_assoc h.0 h.1 e, h.3, forms-joined fs gs origin ws vs h.1 e h.4 k)
-
--- words that say by forms and further forms, cut between them
-record Parted (fs gs : List WordForm) (origin : DomainName) (ws : List Word) (d : Octets) : Type 0 where
-  pub front : List Word
-  pub back : List Word
-  pub before : Octets
-  pub after : Octets
-  pub split : ws ≡ front ++ back
-  pub whole : d ≡ before ++ after
-  pub first : SaysForms fs origin front before
-  pub others : SaysForms gs origin back after
-
-forms-parted : (fs gs : List WordForm) (origin : DomainName) (ws : List Word) (d : Octets) → SaysForms (fs ++ gs) origin ws d → Parted fs gs origin ws d
-forms-parted [] gs origin ws d h = record { front = []; back = ws; before = []; after = d; split = refl; whole = refl; first = refl; others = h }
-forms-parted (f ∷ fs) gs origin [] d h = absurd h
-forms-parted (f ∷ fs) gs origin (w ∷ ws) d h =
-    let p = forms-parted fs gs origin ws h.1 h.4 in
-    record {
-      front = w ∷ p.front;
-      back = p.back;
-      before = h.0 ++ p.before;
-      after = p.after;
-      split = ap (λ x. w ∷ x) p.split;
-      whole = h.2 ∙ ap (λ x. h.0 ++ x) p.whole ∙ sym (append_assoc h.0 p.before p.after);
-      first = (h.0, p.before, refl, h.3, p.first);
-      others = p.others;
-    }
+-- what is kept of what words say, they say
+pub kept_said : (fs : List WordForm) (origin : DomainName) (ws : List Word) (d e : Octets) → SaysKept fs origin ws d e → SaysForms fs origin ws d
+kept_said [] origin [] d e h = h.0
+kept_said [] origin (w ∷ ws) d e h = absurd h
+kept_said (f ∷ fs) origin [] d e h = absurd h
+kept_said (f ∷ fs) origin (w ∷ ws) d e (front, back, low, is, kept_is, said, h) = (front, back, is, said, kept_said fs origin ws back low h)
 
 module _ (origin : DomainName) where
   -- no word was taken yet
   pub front-none : (ws : List Word) (octets : Octets) → AppendsFront [] origin ws ws octets octets
-  front-none ws octets = record { taken = []; split = refl; appends = record { piece = []; grown = sym (append-nil octets); said = refl; only = λ d h. h } }
+  front-none ws octets =
+      record { spelled = []; low = []; grown = sym (append-nil octets); count = omega arith; on = λ gs d e h. h; back = λ gs d h. (d, h, refl) }
 
   -- the first word was taken
-  pub front-word : (f : WordForm) (w : Word) (ws rest : List Word) (octets octets' : Octets) → ws ≡ w ∷ rest → AppendsOnly (SaysWord f origin w) octets octets'
+  pub front-word : (f : WordForm) (w : Word) (ws rest : List Word) (octets octets' : Octets) → ws ≡ w ∷ rest → Appends (kept f) (SaysWord f origin w) octets octets'
       → AppendsFront (f ∷ []) origin ws rest octets octets'
-  front-word f w ws rest octets octets' e a = record {
-    taken = w ∷ [];
-    split = e;
-    appends = record {
-      piece = a.piece;
-      grown = a.grown;
-      said = (a.piece, [], sym (append-nil a.piece), a.said, refl);
-      only = λ d h. h.2 ∙ ap (λ x. h.0 ++ x) h.4 ∙ append-nil h.0 ∙ a.only h.0 h.3;
-    };
-  }
+  front-word f w ws rest octets octets' e a =
+      subst (λ v. AppendsFront (f ∷ []) origin v rest octets octets') (sym e)
+      (record {
+        spelled = a.spelled;
+        low = kept f a.spelled;
+        grown = a.grown;
+        count = omega arith;
+        on = λ gs d low h. (a.spelled, d, low, refl, refl, a.said, h);
+        back = λ gs d h. (h.1, h.4, h.2 ∙ ap (λ x. x ++ h.1) (a.only h.0 h.3));
+      })
 
   -- further words were taken
   pub front-joined : (fs gs : List WordForm) (ws mid rest : List Word) (x y z : Octets) → AppendsFront fs origin ws mid x y → AppendsFront gs origin mid rest y z
       → AppendsFront (fs ++ gs) origin ws rest x z
   front-joined fs gs ws mid rest x y z a b = record {
-    taken = a.taken ++ b.taken;
-    split = a.split ∙ ap (λ v. a.taken ++ v) b.split ∙ sym (append_assoc a.taken b.taken rest);
-    appends = record {
-      piece = a.appends.piece ++ b.appends.piece;
-      grown = b.appends.grown ∙ ap (λ v. v ++ b.appends.piece) a.appends.grown ∙ append_assoc x a.appends.piece b.appends.piece;
-      said = forms-joined fs gs origin a.taken b.taken a.appends.piece b.appends.piece a.appends.said b.appends.said;
-      only = λ d h.
-          let p = forms-parted fs gs origin (a.taken ++ b.taken) d h in
-          let same = same_cut p.front p.back a.taken b.taken (sym p.split) (sym (as_many_words fs origin p.front p.before p.first) ∙ as_many_words fs origin a.taken a.appends.piece a.appends.said) in
-          let one = a.appends.only p.before (subst (λ v. SaysForms fs origin v p.before) same.0 p.first) in
-          let two = b.appends.only p.after (subst (λ v. SaysForms gs origin v p.after) same.1 p.others) in
-          p.whole ∙ ap (λ v. v ++ p.after) one ∙ ap (λ v. a.appends.piece ++ v) two;
-    };
+    spelled = a.spelled ++ b.spelled;
+    low = a.low ++ b.low;
+    grown = b.grown ∙ ap (λ v. v ++ b.low) a.grown ∙ append_assoc x a.low b.low;
+    count = omega (arith, a.count, b.count, length-append fs gs);
+    on = λ hs d e h. simp append_assoc (a.on (gs ++ hs) (b.spelled ++ d) (b.low ++ e) (b.on hs d e h));
+    back = λ hs d h.
+        let r = a.back (gs ++ hs) d (subst (λ v. SaysForms v origin ws d) (append_assoc fs gs hs) h) in
+        let q = b.back hs r.0 r.1 in
+        (q.0, q.1, r.2 ∙ ap (λ x. a.spelled ++ x) q.2 ∙ sym (append_assoc a.spelled b.spelled q.0));
   }
 
   -- the first word is none of its form
   pub no-word : (f : WordForm) (w : Word) (ws rest : List Word) → ws ≡ w ∷ rest → ((d : Octets) → SaysWord f origin w d → ⊥) → SaysNoFront (f ∷ []) origin ws
-  no-word f w ws rest e none [] after split d h = absurd h
-  no-word f w ws rest e none (v ∷ taken) after split d h =
-      let same : v ≡ w = ap (λ xs. get_or xs 0 w) (sym split ∙ e) in
-      none h.0 (subst (λ x. SaysWord f origin x h.0) same h.3)
+  no-word f w ws rest e none gs d h =
+      let said = subst (λ v. SaysForms (f ∷ gs) origin v d) e h in
+      none said.0 said.3
 
   -- the words after those that were taken say nothing
   pub no-rest : (fs gs : List WordForm) (ws mid : List Word) (x y : Octets) → AppendsFront fs origin ws mid x y → SaysNoFront gs origin mid → SaysNoFront (fs ++ gs) origin ws
-  no-rest fs gs ws mid x y a none taken rest e d h =
-      let p = forms-parted fs gs origin taken d h in
-      let cut : p.front ++ (p.back ++ rest) ≡ a.taken ++ mid = sym (append_assoc p.front p.back rest) ∙ ap (λ v. v ++ rest) (sym p.split) ∙ sym e ∙ a.split in
-      let same = same_cut p.front (p.back ++ rest) a.taken mid cut (sym (as_many_words fs origin p.front p.before p.first) ∙ as_many_words fs origin a.taken a.appends.piece a.appends.said) in
-      none p.back rest (sym same.1) p.after p.others
+  no-rest fs gs ws mid x y a none hs d h =
+      let r = a.back (gs ++ hs) d (subst (λ v. SaysForms v origin ws d) (append_assoc fs gs hs) h) in
+      none hs r.0 r.1
 
   -- nor do they with further words
   pub no-more : (fs gs : List WordForm) (ws : List Word) → SaysNoFront fs origin ws → SaysNoFront (fs ++ gs) origin ws
-  no-more fs gs ws none taken rest e d h =
-      let p = forms-parted fs gs origin taken d h in
-      none p.front (p.back ++ rest) (e ∙ ap (λ v. v ++ rest) p.split ∙ append_assoc p.front p.back rest) p.before p.first
+  no-more fs gs ws none hs d h = none (gs ++ hs) d (subst (λ v. SaysForms v origin ws d) (append_assoc fs gs hs) h)
 
   -- so the words, where they are all, say nothing
   pub no-all : (fs : List WordForm) (ws : List Word) → SaysNoFront fs origin ws → (d : Octets) → SaysForms fs origin ws d → ⊥
-  no-all fs ws none d h = none ws [] (sym (append-nil ws)) d h
-
-  -- how many words are left
-  pub rest-length : (fs : List WordForm) (ws rest : List Word) (x y : Octets) → AppendsFront fs origin ws rest x y → length ws ≡ length fs + length rest
-  rest-length fs ws rest x y a =
-      omega (arith, ap length a.split, length-append a.taken rest, as_many_words fs origin a.taken a.appends.piece a.appends.said)
+  no-all fs ws none d h = none [] d (subst (λ v. SaysForms v origin ws d) (sym (append-nil fs)) h)
 
   -- all words were taken
-  pub front-all : (fs : List WordForm) (ws rest : List Word) (x y : Octets) → AppendsFront fs origin ws rest x y → length fs ≡ length ws → AppendsOnly (SaysForms fs origin ws) x y
-  front-all fs ws rest x y a e =
-      let empty : rest ≡ [] = nil_from_length rest (omega (arith, rest-length fs ws rest x y a, e)) in
-      let all : ws ≡ a.taken = a.split ∙ ap (λ v. a.taken ++ v) empty ∙ append-nil a.taken in
-      subst (λ v. AppendsOnly (SaysForms fs origin v) x y) (sym all) a.appends
+  pub front-all : (fs : List WordForm) (ws rest : List Word) (y : Octets) → AppendsFront fs origin ws rest [] y → length fs ≡ length ws → KeepsOnly fs origin ws y
+  front-all fs ws rest y a e =
+      let empty : rest ≡ [] = nil_from_length rest (omega (arith, a.count, e)) in
+      let whole = a.on [] [] [] (subst (λ v. SaysKept [] origin v [] []) (sym empty) (refl, refl)) in
+      record {
+        spelled = a.spelled;
+        said = subst (λ v. SaysKept fs origin ws a.spelled v) (sym a.grown) (simp append-nil at whole);
+        only = λ d h.
+            let r = a.back [] d (subst (λ v. SaysForms v origin ws d) (sym (append-nil fs)) h) in
+            r.2 ∙ ap (λ x. a.spelled ++ x) (subst (λ v. SaysForms [] origin v r.0) empty r.1) ∙ append-nil a.spelled;
+      }
 
 -- so many of a form, and one more
 pub once_more : (f : WordForm) (n : ℕ) → replicate n f ++ f ∷ [] ≡ replicate (n + 1) f
@@ -180,7 +127,7 @@ module _ (k : ℕ) (pieces : List code.Piece) (i : ℕ) (p : code.Piece) (inside
       omega (
         arith,
         e,
-        rest-length origin (forms_for k (take i pieces)) ws rest x y a,
+        a.count,
         ap length forms-whole,
         length-append (forms_for k (take i pieces) ++ replicate n f) (forms_for k (drop (i + 1) pieces)),
         length-append (forms_for k (take i pieces)) (replicate n f),
@@ -202,7 +149,7 @@ module _ (k : ℕ) (pieces : List code.Piece) (i : ℕ) (p : code.Piece) (inside
       (subst (λ fs. SaysNoFront fs origin ws) forms-whole (no-more origin (forms_for k (take i pieces) ++ replicate n f) (forms_for k (drop (i + 1) pieces)) ws so_far))
 
 -- the words of all pieces are taken
-pub pieces-taken : (k : ℕ) (pieces : List code.Piece) (i : ℕ) (origin : DomainName) (ws rest : List Word) (x y : Octets) → length pieces ≤ i → AppendsFront (forms_for k (take i pieces)) origin ws rest x y
-    → length (forms_for k pieces) ≡ length ws → AppendsOnly (SaysForms (forms_for k pieces) origin ws) x y
-pieces-taken k pieces i origin ws rest x y end a e =
-    front-all origin (forms_for k pieces) ws rest x y (subst (λ ps. AppendsFront (forms_for k ps) origin ws rest x y) (take_all i pieces end) a) e
+pub pieces-taken : (k : ℕ) (pieces : List code.Piece) (i : ℕ) (origin : DomainName) (ws rest : List Word) (y : Octets) → length pieces ≤ i → AppendsFront (forms_for k (take i pieces)) origin ws rest [] y
+    → length (forms_for k pieces) ≡ length ws → KeepsOnly (forms_for k pieces) origin ws y
+pieces-taken k pieces i origin ws rest y end a e =
+    front-all origin (forms_for k pieces) ws rest y (subst (λ ps. AppendsFront (forms_for k ps) origin ws rest [] y) (take_all i pieces end) a) e

@@ -1,18 +1,32 @@
 -- What is appended for a word by its form.
-use Rattle.std.proofs.Common.{◌≡◌, ℕ, ◌<◌, ◌^◌, ◌++◌, Option, None, Some, Ok, decimal, arith}
+use Rattle.std.proofs.Common.{◌≡◌, ℕ, ◌<◌, ◌^◌, ◌++◌, Option, None, Some, Ok, decimal, arith, refl, sym, ap, ◌∙◌}
 use Rattle.std.specs.Option.{ok_or}
 use Rattle.std.specs.Int.{bytes_high_first}
-use Rattle.dns_spec.specs.Names.{Octets}
-use Rattle.dns_spec.specs.DataText.{SaysNumber}
-use Rattle.dns_rdata.specs.WordForms.{AppendsOnly}
+use Rattle.dns_spec.specs.Names.{Octets, DomainName, wire, folded}
+use Rattle.dns_spec.specs.DataText.{SaysNumber, SaysName, name_word}
+use Rattle.dns_spec.specs.NameText.{SpellsName}
 use Rattle.dns_spec.proofs.DataWords.OneData.{number_once}
+use Rattle.dns_spec.proofs.NameTexts.OneName.{name_once}
+use Rattle.dns_spec.proofs.DomainNames.NameLaws.{map-lowercase-wire, IsName-is_name}
+use Rattle.dns_rdata.specs.WordForms.{as_it_is, kept, Appends}
 
 pub ok_or-some : {A E : Type 0} (x : Option A) (e : E) (a : A) → ok_or x e ≡ Ok a → x ≡ Some a
 ok_or-some None e a h = cc
 ok_or-some (Some b) e a h = cc
 
 pub number_appended : (n : ℕ) (text before after piece : Octets) → text ≡ decimal n → n < 2 ^ 16 → piece ≡ bytes_high_first 2 n → after ≡ before ++ piece
-    → AppendsOnly (SaysNumber 2 text) before after
+    → Appends as_it_is (SaysNumber 2 text) before after
 number_appended n text before after piece said small is grown =
     let here : SaysNumber 2 text piece = (n, small, said, is) in
-    record { piece = piece; grown = grown; said = here; only = λ d h. number_once 2 text d piece (omega arith) h here }
+    record { spelled = piece; said = here; only = λ d h. number_once 2 text d piece (omega arith) h here; grown = grown }
+
+-- a name is appended in lower case
+pub name_appended : (origin : DomainName) (text before after : Octets) (n : DomainName) → SpellsName origin text n → after ≡ before ++ wire (folded n)
+    → Appends (kept name_word) (SaysName origin text) before after
+name_appended origin text before after n spelled grown =
+    record {
+      spelled = wire n;
+      said = (n, spelled, refl);
+      only = λ d h. h.2 ∙ ap wire (name_once origin text h.0 n h.1 spelled);
+      grown = grown ∙ ap (λ x. before ++ x) (sym (map-lowercase-wire n (IsName-is_name n spelled.is_name).labels));
+    }

@@ -10,12 +10,13 @@ use Rattle.std.specs.Str.Parse.{digits_value}
 use Rattle.std.proofs.lemmas.List.{append_assoc, append-nil, take_all, take_more, length-replicate}
 use Rattle.std.proofs.lemmas.List.Folds.{list_all_more}
 use Rattle.std.proofs.lemmas.List.Splits.{slice_split_first}
-use Rattle.std.proofs.lemmas.Bool.{cases_Bool, and_from, and_left, and_right, true≢false, false≢true, lt-ltb, eq-eqb, le-leb, lt-leb, ne_eqb, ltb-true, ltb-false, le-ltb, leb-false, and_parts}
+use Rattle.std.proofs.lemmas.Bool.{cases_Bool, and_from, and_left, and_right, true≢false, false≢true, lt-ltb, eq-eqb, le-leb, lt-leb, ne_eqb, ltb-true, ltb-false, le-ltb, leb-false, and_parts, eqb-true}
+use Rattle.std.proofs.lemmas.Option.{same_Some, none-some, cond_some, option_and_then_some}
 use Rattle.std.proofs.lemmas.Int.Digits.{digits_value_more}
 use Rattle.std.proofs.Math.Nat.{pow-le-pow_right, pow-suc}
 use Rattle.std.proofs.Math.Numerals.{add-one, suc-eq-add-one}
 use Rattle.dns_spec.specs.Names.{Octets}
-use Rattle.dns_spec.specs.AddressText.{is_group, group_values, groups_said, around_gap, filled_groups, eight_groups, groups_by, ipv6_groups, ipv6_octets}
+use Rattle.dns_spec.specs.AddressText.{is_group, group_values, groups_said, around_gap, filled_groups, eight_groups, groups_by, ipv6_groups, ipv6_octets, SaysIpv6}
 use Rattle.dns_rdata.specs.HexForm.{digit_of}
 use Rattle.dns_rdata.specs.AddressForm.{few_groups}
 
@@ -390,16 +391,44 @@ refused_sum word front back gs hs new gap e f fills = around word front back gs 
     by_cases None h = refl
     by_cases (Some k) h = absurd (false≢true h.0)
 
+eight_filled : (front back : List ℕ) (zeros : ℕ) → zeros ≡ 8 - (length front + length back) → length front + length back < 8 → length ((front ++ replicate zeros 0) ++ back) ≡ 8
+eight_filled front back zeros count room =
+    omega (arith, length-append (front ++ replicate zeros 0) back, length-append front (replicate zeros 0), length-replicate {A = ℕ} zeros 0, count, room)
+
 pub filled_word : (word front back : Octets) (gs hs new : List ℕ) (r : Option Octets) → around_gap word ≡ Some (front, back) → Some gs ≡ option_and_then few_groups (groups_said front) → Some hs ≡ option_and_then few_groups (groups_said back) → Fills gs hs true new → r ≡ octets_of (eight_groups new) → r ≡ ipv6_octets word
 filled_word word front back gs hs new r gap e f fills g =
     g ∙ ap octets_of (by_cases (cases_Bool (nat_lt (length gs + length hs) 8))) ∙ sym (around word front back gs hs gap e f)
   where
-    is_eight : (zeros : ℕ) → zeros ≡ 8 - (length gs + length hs) → length gs + length hs < 8 → length ((gs ++ replicate zeros 0) ++ hs) ≡ 8
-    is_eight zeros count room = omega (arith, length-append (gs ++ replicate zeros 0) hs, length-append gs (replicate zeros 0), length-replicate {A = ℕ} zeros 0, count, room)
-
     by_cases : (nat_lt (length gs + length hs) 8 ≡ true) ⊎ (nat_lt (length gs + length hs) 8 ≡ false) → eight_groups new ≡ filled_groups gs hs
     by_cases (inl room) =
         let h : (true ≡ true) × (new ≡ (gs ++ replicate (8 - (length gs + length hs)) 0) ++ hs) = rw room at fills in
-        let eight_long : (length new == 8) ≡ true = eq-eqb _ _ (ap length h.1 ∙ is_eight _ refl (ltb-true _ _ room)) in
+        let eight_long : (length new == 8) ≡ true = eq-eqb _ _ (ap length h.1 ∙ eight_filled gs hs _ refl (ltb-true _ _ room)) in
         rw (eight_long, room) (ap (λ k. Some k) h.1)
     by_cases (inr none) = let h : true ≡ false = rw none at fills in absurd (true≢false h)
+
+-- what a text says as an address is 16 octets
+pub length-ipv6 : (text d : Octets) → SaysIpv6 text d → length d ≡ 16
+unfolding ipv6_groups
+length-ipv6 text d h =
+    octets_said (groups_by text (around_gap text)) h (λ gs e. groups_eight text (around_gap text) gs e)
+  where
+    octets_said : (o : Option (List ℕ)) → option_map (flat_map (bytes_high_first 2)) o ≡ Some d → ((gs : List ℕ) → o ≡ Some gs → length gs ≡ 8) → length d ≡ 16
+    octets_said None e long = absurd (none-some d e)
+    octets_said (Some gs) e long =
+        ap length (sym (same_Some _ d e)) ∙ ap (λ l. length (flat_map (bytes_high_first 2) l)) (eight gs (long gs refl))
+
+    eight_said : (gs hs : List ℕ) → eight_groups gs ≡ Some hs → length hs ≡ 8
+    eight_said gs hs e =
+        let c = cond_some (length gs == 8) gs hs e in
+        ap length (sym c.1) ∙ eqb-true (length gs) 8 c.0
+
+    filled_said : (front back hs : List ℕ) → filled_groups front back ≡ Some hs → length hs ≡ 8
+    filled_said front back hs e =
+        let c = cond_some (nat_lt (length front + length back) 8) _ hs e in
+        ap length (sym c.1) ∙ eight_filled front back _ refl (ltb-true (length front + length back) 8 c.0)
+
+    groups_eight : (text : Octets) (gap : Option (Octets × Octets)) (hs : List ℕ) → groups_by text gap ≡ Some hs → length hs ≡ 8
+    groups_eight text None hs e = option_and_then_some eight_groups (groups_said text) hs e (λ gs said. eight_said gs hs)
+    groups_eight text (Some r) hs e =
+        option_and_then_some (λ front. option_and_then (filled_groups front) (groups_said r.1)) (groups_said r.0) hs e (λ front said f.
+        option_and_then_some (filled_groups front) (groups_said r.1) hs f (λ back said. filled_said front back hs))

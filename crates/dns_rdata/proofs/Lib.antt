@@ -9,6 +9,7 @@ pub mod Ipv6TextLemmas
 pub mod UnknownLemmas
 pub mod FormWords
 pub mod FormFronts
+pub mod TypedData
 pub mod NameFronts
 pub mod PartLemmas
 pub mod SpacedWords

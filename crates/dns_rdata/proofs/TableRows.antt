@@ -1,7 +1,9 @@
 -- Rows of the code's table, found as rows of the definitions' table are.
 use Rattle.std.proofs.Common.{◌≡◌, Bool, true, false, Option, None, Some, List, [], ◌∷◌, map, cond, refl, sym, ap, ◌∙◌}
 use Rattle.std.specs.Option.{option_map}
-use Rattle.std.specs.List.{find}
+use Rattle.std.specs.List.{find, list_all}
+use Rattle.std.proofs.lemmas.Bool.{and_parts}
+use Rattle.std.proofs.lemmas.Option.{none-some, same_Some}
 
 found_first : {A B : Type 0} (f : A → B) (b : Bool) (x : A) (r : Option A) (s : Option B) → s ≡ option_map f r → cond b (Some (f x)) s ≡ option_map f (cond b (Some x) r)
 found_first f true x r s e = refl
@@ -21,3 +23,14 @@ pub found_row : {R A B : Type 0} (v : R → A) (f : A → B) (test : B → Bool)
     → option_map v r ≡ find (λ x. test (f x)) xs → map f xs ≡ table → option_map (λ x. f (v x)) r ≡ find test table
 found_row v f test xs table r e same =
     option_map-twice v f r ∙ ap (option_map f) e ∙ sym (find-map f test xs) ∙ ap (find test) same
+
+-- what is found passes a test that all pass
+pub found_passes : {A : Type 0} (p q : A → Bool) (xs : List A) (x : A) → list_all q xs ≡ true → find p xs ≡ Some x → q x ≡ true
+found_passes p q [] x all e = absurd (none-some x e)
+found_passes p q (y ∷ ys) x all e =
+    let tests = and_parts (q y) (list_all q ys) all in
+    by_cases (p y) e tests.0 (found_passes p q ys x tests.1)
+  where
+    by_cases : (b : Bool) → cond b (Some y) (find p ys) ≡ Some x → q y ≡ true → (find p ys ≡ Some x → q x ≡ true) → q x ≡ true
+    by_cases true e here there = ap q (sym (same_Some y x e)) ∙ here
+    by_cases false e here there = there e

@@ -1,9 +1,12 @@
 -- What a reader learns here: what the code's forms of words are in the words of the definitions,
 -- and what is appended for a word.
-use Rattle.std.specs.Prelude.{◌≡◌, ◌++◌, List}
+use Rattle.std.specs.Prelude.{◌≡◌, ℕ, ◌+◌, Bool, true, false, List, [], ◌∷◌, ◌++◌, length, map}
+use Rattle.std.specs.Option.{is_some}
+use Rattle.std.specs.Char.{to_ascii_lowercase}
 use Rattle.dns_spec.specs.Names.{Octets, DomainName}
 use Rattle.dns_spec.specs.DataText as text
-use Rattle.dns_spec.specs.DataText.{number_word, ipv4_word, ipv6_word, name_word, string_word, SaysForm, SaysWord, SaysForms}
+use Rattle.dns_spec.specs.DataText.{number_word, ipv4_word, ipv6_word, name_word, string_word, SaysWord, SaysForms, is_unknown_mark, SaysAsSpelled}
+use Rattle.dns_spec.specs.Data.{lower_case, cut, pieces_of}
 use Rattle.dns_rdata.specs.TypeRows.{size_of}
 use Rattle.dns_rdata.specs.declared.typed.WordForm.{WordForm}
 use Rattle.dns_rdata.specs.declared.typed.WordForm.TheVariants.{Number, Ipv4, Ipv6, Domain, String}
@@ -15,21 +18,71 @@ form_of Ipv6 = ipv6_word
 form_of Domain = name_word
 form_of String = string_word
 
--- octets that grew by the only ones that are said
-pub record AppendsOnly (says : Octets → Type 0) (before after : Octets) : Type 0 where
-  pub piece : Octets
-  pub grown : after ≡ before ++ piece
-  pub said : says piece
-  pub only : (d : Octets) → says d → d ≡ piece
+-- what is kept of the octets that a word spells: a name is in lower case
+abbrev pub as_it_is : Octets → Octets
+as_it_is d = d
 
--- the first words were taken, and octets grew by the only ones that they say, each by its form
+abbrev pub kept : text.WordForm → Octets → Octets
+kept (number_word k) = as_it_is
+kept ipv4_word = as_it_is
+kept ipv6_word = as_it_is
+kept name_word = map to_ascii_lowercase
+kept string_word = as_it_is
+
+-- octets that grew by what is kept of those that are said
+pub record Appends (keeps : Octets → Octets) (says : Octets → Type 0) (before after : Octets)
+    : Type 0 where
+  pub spelled : Octets
+  pub said : says spelled
+  pub only : (d : Octets) → says d → d ≡ spelled
+  pub grown : after ≡ before ++ keeps spelled
+
+-- the words spell d one after the other, as many words as forms, and e is what is kept of it
+abbrev pub SaysKept : List text.WordForm → DomainName → List text.Word → Octets → Octets → Type 0
+SaysKept [] origin [] d e = (d ≡ []) × (e ≡ [])
+SaysKept [] origin (w ∷ ws) d e = ⊥
+SaysKept (f ∷ fs) origin [] d e = ⊥
+SaysKept (f ∷ fs) origin (w ∷ ws) d e =
+    (front : Octets) × (back : Octets) × (low : Octets) × (d ≡ front ++ back)
+    × (e ≡ kept f front ++ low) × SaysWord f origin w front × SaysKept fs origin ws back low
+
+-- The words before the rest are those of the forms, and octets grew by what is kept of them: what
+-- the rest says by further forms, all words say by these and those after what those words say, and
+-- nothing else.
 pub record AppendsFront (fs : List text.WordForm) (origin : DomainName) (ws rest : List text.Word)
     (before after : Octets) : Type 0 where
-  pub taken : List text.Word
-  pub split : ws ≡ taken ++ rest
-  pub appends : AppendsOnly (SaysForms fs origin taken) before after
+  pub spelled : Octets
+  pub low : Octets
+  pub grown : after ≡ before ++ low
+  pub count : length ws ≡ length fs + length rest
+  pub on : (gs : List text.WordForm) (d e : Octets) → SaysKept gs origin rest d e
+      → SaysKept (fs ++ gs) origin ws (spelled ++ d) (low ++ e)
+  pub back : (gs : List text.WordForm) (d : Octets) → SaysForms (fs ++ gs) origin ws d
+      → (e : Octets) × SaysForms gs origin rest e × (d ≡ spelled ++ e)
 
--- the first words, whatever stands after them, say nothing by these forms
+-- the first words say nothing by these forms, whatever stands after them
 abbrev pub SaysNoFront : List text.WordForm → DomainName → List text.Word → Type 0
 SaysNoFront fs origin ws =
-    (taken rest : List text.Word) → ws ≡ taken ++ rest → (d : Octets) → SaysForms fs origin taken d → ⊥
+    (gs : List text.WordForm) (d : Octets) → SaysForms (fs ++ gs) origin ws d → ⊥
+
+-- e is what is kept of the only data that the words spell by the forms
+pub record KeepsOnly (fs : List text.WordForm) (origin : DomainName) (ws : List text.Word)
+    (e : Octets) : Type 0 where
+  pub spelled : Octets
+  pub said : SaysKept fs origin ws spelled e
+  pub only : (d : Octets) → SaysForms fs origin ws d → d ≡ spelled
+
+-- whether the first word is the unquoted `\#`
+abbrev pub is_marked : List text.Word → Bool
+is_marked [] = false
+is_marked (w ∷ ws) = is_unknown_mark w
+
+-- e is the only data of the type that the words spell, however long it is, with its names in lower
+-- case
+pub record SaysLowered (t : ℕ) (origin : DomainName) (ws : List text.Word) (e : Octets)
+    : Type 0 where
+  pub spelled : Octets
+  pub said : SaysAsSpelled t origin ws spelled
+  pub only : (d : Octets) → SaysAsSpelled t origin ws d → d ≡ spelled
+  pub is_cut : is_some (cut (pieces_of t) spelled) ≡ true
+  pub lower : lower_case t spelled ≡ e

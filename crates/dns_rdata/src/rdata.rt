@@ -22,7 +22,7 @@ pub(crate) const MAX_OCTETS: usize = 65_535;
 /// It does not keep its type. Whoever keeps both keeps that the data is valid for the type.
 #[derive(Drop)]
 pub struct Rdata {
-    octets: Vec<u8>,
+    pub(crate) octets: Vec<u8>,
 }
 
 impl Model for Rdata {
@@ -90,11 +90,6 @@ impl Rdata {
         } else {
             Err(RdataFault::NotOfType)
         }
-    }
-
-    /// Its octets, in the memory that they have.
-    pub(crate) fn into_octets(self) -> Vec<u8> {
-        self.octets
     }
 
     /// The octets, at most 65,535, without a length before them.

@@ -34,7 +34,7 @@ impl DataRoom {
 
     /// Takes back the memory of data that is no longer wanted.
     pub fn take_back(&mut self, data: Rdata) {
-        self.octets = data.into_octets();
+        self.octets = data.octets;
     }
 
     // Memory for the octets of data, without any, with room for those that most data has.
@@ -92,33 +92,16 @@ impl Rdata {
             → Says rtype.0 (W.to_come words) origin.now d → ⊥) }
     {
         let mut octets = room.cleared()?;
-        spell_octets(rtype, words, origin, &mut room.name, &mut octets)?;
+        if let Some((first, others)) = words.split_first() {
+            if is_unknown_mark(&first) {
+                put_unknown(others, &mut octets)?;
+                return Rdata::from_octets(rtype, octets);
+            }
+        }
+        put_typed(rtype, words, origin, &mut room.name, &mut octets)?;
         if octets.len() > MAX_OCTETS {
             return Err(RdataFault::BadString);
         }
-        Rdata::from_octets(rtype, octets)
+        Ok(Rdata { octets })
     }
-}
-
-// Puts the octets that words spell, names in the case that they have, where none are yet.
-fn spell_octets<'w, W: Words<'w>>(
-    rtype: RType,
-    words: W,
-    origin: &Name,
-    name: &mut Name,
-    octets: &mut Vec<u8>,
-) -> Result<(), RdataFault>
-    requires { octets.old.items ≡ [] }
-    ensures ok { OnOk result (SaysAsSpelled rtype.0 origin.now (W.to_come words) octets.new.items) }
-    ensures only { OnOk result ((d : Octets)
-        → SaysAsSpelled rtype.0 origin.now (W.to_come words) d → d ≡ octets.new.items) }
-    ensures fault { IfErr result (λ fault. fault ≢ RdataFault.NoMemory → (d : Octets)
-        → SaysAsSpelled rtype.0 origin.now (W.to_come words) d → length d ≤ 65535 → ⊥) }
-{
-    if let Some((first, others)) = words.split_first() {
-        if is_unknown_mark(&first) {
-            return put_unknown(others, octets);
-        }
-    }
-    put_typed(rtype, words, origin, name, octets)
 }

@@ -1,11 +1,11 @@
 //! Data in the form of its type: a word for each number, address, name and string (RFC 1035 5.1).
-ghost use Rattle.std.specs.Prelude.{◌≡◌, ◌≢◌, ◌≤◌, ◌==◌, ◌++◌, [], length, replicate, OnOk, IfOk, IfErr};
+ghost use Rattle.std.specs.Prelude.{◌≡◌, ◌≢◌, ◌≤◌, ◌==◌, ◌++◌, false, [], length, replicate, OnOk, IfOk, IfErr};
 ghost use Rattle.std.specs.List.{flat_map};
 ghost use Rattle.dns_spec.specs.Names.{Octets};
-ghost use Rattle.dns_spec.specs.DataText.{SaysNumber, SaysName, SaysString, SaysForm, SaysWord, SaysForms, SaysTyped, forms_in};
+ghost use Rattle.dns_spec.specs.DataText.{name_word, SaysNumber, SaysName, SaysString, SaysForm, SaysWord, SaysForms, SaysAsSpelled, forms_in};
 ghost use Rattle.dns_spec.specs.AddressText.{SaysIpv4, SaysIpv6};
 ghost use Rattle.dns_rdata.specs.TypeRows.{size_of, piece_of, pieces_in};
-ghost use Rattle.dns_rdata.specs.WordForms.{form_of, AppendsOnly, AppendsFront, SaysNoFront};
+ghost use Rattle.dns_rdata.specs.WordForms.{form_of, as_it_is, kept, Appends, KeepsOnly, AppendsFront, SaysNoFront, is_marked, SaysLowered};
 
 use crate::fault::RdataFault;
 use crate::ipv4::read_ipv4;
@@ -38,7 +38,7 @@ struct FormRun {
     times: usize,
 }
 
-/// Puts the octets that words say in the form of the type, where none are yet.
+/// Puts the octets that words say in the form of the type, names in lower case, where none are yet.
 ///
 /// `BadHex` where the type has no such form, `WordCount` where it has another number of words; else
 /// the fault of the first word from the left that is none of its form.
@@ -49,14 +49,15 @@ pub(crate) fn put_typed<'w, W: Words<'w>>(
     name: &mut Name,
     octets: &mut Vec<u8>,
 ) -> Result<(), RdataFault>
-    requires { octets.old.items ≡ [] }
-    ensures ok { OnOk result (SaysTyped rtype.0 origin.now (W.to_come words) octets.new.items) }
-    ensures only { OnOk result ((d : Octets) → SaysTyped rtype.0 origin.now (W.to_come words) d
-        → d ≡ octets.new.items) }
+    requires none { octets.old.items ≡ [] }
+    requires not_unknown { is_marked (W.to_come words) ≡ false }
+    ensures ok { OnOk result (SaysLowered rtype.0 origin.now (W.to_come words) octets.new.items) }
     ensures fault { IfErr result (λ fault. fault ≢ RdataFault.NoMemory → (d : Octets)
-        → SaysTyped rtype.0 origin.now (W.to_come words) d → ⊥) }
+        → SaysAsSpelled rtype.0 origin.now (W.to_come words) d → ⊥) }
 {
-    let row = row_of_type(rtype).ok_or(RdataFault::BadHex)?;
+    let Some(row) = row_of_type(rtype) else {
+        return Err(RdataFault::BadHex);
+    };
     let count = words.count();
     if !is_word_count(row.pieces, count) {
         return Err(RdataFault::WordCount);
@@ -108,10 +109,11 @@ fn append_words<'w, W: Words<'w>>(
     name: &mut Name,
     octets: &mut Vec<u8>,
 ) -> Result<(), RdataFault>
-    requires { length (flat_map (forms_in count) (pieces_in pieces.now))
+    requires none { octets.old.items ≡ [] }
+    requires as_many { length (flat_map (forms_in count) (pieces_in pieces.now))
         ≡ length (W.to_come words) }
-    ensures ok { OnOk result (AppendsOnly (SaysForms (flat_map (forms_in count)
-        (pieces_in pieces.now)) origin.now (W.to_come words)) octets.old.items octets.new.items) }
+    ensures ok { OnOk result (KeepsOnly (flat_map (forms_in count) (pieces_in pieces.now))
+        origin.now (W.to_come words) octets.new.items) }
     ensures fault { IfErr result (λ fault. fault ≢ RdataFault.NoMemory → (d : Octets)
         → SaysForms (flat_map (forms_in count) (pieces_in pieces.now)) origin.now
         (W.to_come words) d → ⊥) }
@@ -156,7 +158,7 @@ fn append_word(
     name: &mut Name,
     octets: &mut Vec<u8>,
 ) -> Result<(), RdataFault>
-    ensures ok { OnOk result (AppendsOnly (SaysWord (form_of form) origin.now word.now)
+    ensures ok { OnOk result (Appends (kept (form_of form)) (SaysWord (form_of form) origin.now word.now)
         octets.old.items octets.new.items) }
     ensures fault { IfErr result (λ fault. fault ≢ RdataFault.NoMemory → (d : Octets)
         → SaysWord (form_of form) origin.now word.now d → ⊥) }
@@ -184,7 +186,7 @@ fn append_form(
     name: &mut Name,
     octets: &mut Vec<u8>,
 ) -> Result<(), RdataFault>
-    ensures ok { OnOk result (AppendsOnly (SaysForm (form_of form) origin.now text.now)
+    ensures ok { OnOk result (Appends (kept (form_of form)) (SaysForm (form_of form) origin.now text.now)
         octets.old.items octets.new.items) }
     ensures fault { IfErr result (λ fault. fault ≢ RdataFault.NoMemory → (d : Octets)
         → SaysForm (form_of form) origin.now text.now d → ⊥) }
@@ -200,7 +202,7 @@ fn append_form(
 
 // A number of 16 or of 32 bits, the most significant octet first (RFC 1035 2.3.2).
 fn append_number(size: NumberSize, text: &[u8], octets: &mut Vec<u8>) -> Result<(), RdataFault>
-    ensures ok { OnOk result (AppendsOnly (SaysNumber (size_of size) text.now)
+    ensures ok { OnOk result (Appends as_it_is (SaysNumber (size_of size) text.now)
         octets.old.items octets.new.items) }
     ensures fault { IfErr result (λ fault. fault ≢ RdataFault.NoMemory → (d : Octets)
         → SaysNumber (size_of size) text.now d → ⊥) }
@@ -212,7 +214,7 @@ fn append_number(size: NumberSize, text: &[u8], octets: &mut Vec<u8>) -> Result<
 }
 
 fn append_u16(text: &[u8], octets: &mut Vec<u8>) -> Result<(), RdataFault>
-    ensures ok { OnOk result (AppendsOnly (SaysNumber 2 text.now)
+    ensures ok { OnOk result (Appends as_it_is (SaysNumber 2 text.now)
         octets.old.items octets.new.items) }
     ensures fault { IfErr result (λ fault. fault ≢ RdataFault.NoMemory → (d : Octets)
         → SaysNumber 2 text.now d → ⊥) }
@@ -222,7 +224,7 @@ fn append_u16(text: &[u8], octets: &mut Vec<u8>) -> Result<(), RdataFault>
 }
 
 fn append_u32(text: &[u8], octets: &mut Vec<u8>) -> Result<(), RdataFault>
-    ensures ok { OnOk result (AppendsOnly (SaysNumber 4 text.now)
+    ensures ok { OnOk result (Appends as_it_is (SaysNumber 4 text.now)
         octets.old.items octets.new.items) }
     ensures fault { IfErr result (λ fault. fault ≢ RdataFault.NoMemory → (d : Octets)
         → SaysNumber 4 text.now d → ⊥) }
@@ -232,7 +234,7 @@ fn append_u32(text: &[u8], octets: &mut Vec<u8>) -> Result<(), RdataFault>
 }
 
 fn append_ipv4(text: &[u8], octets: &mut Vec<u8>) -> Result<(), RdataFault>
-    ensures ok { OnOk result (AppendsOnly (SaysIpv4 text.now) octets.old.items octets.new.items) }
+    ensures ok { OnOk result (Appends as_it_is (SaysIpv4 text.now) octets.old.items octets.new.items) }
     ensures fault { IfErr result (λ fault. fault ≢ RdataFault.NoMemory → (d : Octets)
         → SaysIpv4 text.now d → ⊥) }
 {
@@ -241,7 +243,7 @@ fn append_ipv4(text: &[u8], octets: &mut Vec<u8>) -> Result<(), RdataFault>
 }
 
 fn append_ipv6(text: &[u8], octets: &mut Vec<u8>) -> Result<(), RdataFault>
-    ensures ok { OnOk result (AppendsOnly (SaysIpv6 text.now) octets.old.items octets.new.items) }
+    ensures ok { OnOk result (Appends as_it_is (SaysIpv6 text.now) octets.old.items octets.new.items) }
     ensures fault { IfErr result (λ fault. fault ≢ RdataFault.NoMemory → (d : Octets)
         → SaysIpv6 text.now d → ⊥) }
 {
@@ -249,25 +251,26 @@ fn append_ipv6(text: &[u8], octets: &mut Vec<u8>) -> Result<(), RdataFault>
     append(octets, &address)
 }
 
-// The name is spelled where `name` stands.
+// The name is spelled where `name` stands, and put in lower case there.
 fn append_name(
     text: &[u8],
     origin: &Name,
     name: &mut Name,
     octets: &mut Vec<u8>,
 ) -> Result<(), RdataFault>
-    ensures ok { OnOk result (AppendsOnly (SaysName origin.now text.now)
+    ensures ok { OnOk result (Appends (kept name_word) (SaysName origin.now text.now)
         octets.old.items octets.new.items) }
     ensures fault { IfErr result (λ fault. fault ≢ RdataFault.NoMemory → (d : Octets)
         → SaysName origin.now text.now d → ⊥) }
 {
     name.spell(text, origin)?;
+    name.fold_in_place();
     append(octets, name.octets())
 }
 
 // A string after its length (RFC 1035 3.3).
 fn append_string(text: &[u8], octets: &mut Vec<u8>) -> Result<(), RdataFault>
-    ensures ok { OnOk result (AppendsOnly (SaysString text.now) octets.old.items octets.new.items) }
+    ensures ok { OnOk result (Appends as_it_is (SaysString text.now) octets.old.items octets.new.items) }
     ensures fault { IfErr result (λ fault. fault ≢ RdataFault.NoMemory → (d : Octets)
         → SaysString text.now d → ⊥) }
 {

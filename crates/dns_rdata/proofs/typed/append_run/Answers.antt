@@ -2,14 +2,16 @@ use Rattle.std.proofs.Common.{◌≡◌, ◌+◌, ◌-◌, [], ◌∷◌, ap, ar
 use Rattle.std.proofs.lemmas.List.{length-replicate}
 use Rattle.dns_rdata.specs.WordForms.{form_of, AppendsFront, SaysNoFront}
 use Rattle.dns_name.proofs.Results.{fault_handed_on}
-use Rattle.dns_rdata.proofs.FormFronts.{front-word, front-joined, no-word, no-rest, no-more, rest-length, once_more, one_of}
+use Rattle.dns_rdata.proofs.FormFronts.{front-none, front-word, front-joined, no-word, no-rest, no-more, once_more, one_of}
 use Rattle.dns_rdata.proofs.typed.append_run.Goals as goal
+
+pub run-init : goal.run-init
+run-init g c = front-none _ _ _
 
 pub unreachable-requires : goal.unreachable-requires
 unreachable-requires g c =
     let form = form_of c.args.run.form in
-    let left = rest-length c.args.origin.now (replicate c.run.counter form) (g.W.Words.to_come c.args.words) (g.W.Words.to_come c.run.others) _ _ c.run.invariant in
-    omega (arith, left, ap length c.in_default.ensures, length-replicate c.run.counter form, c.run-test.true, c.requires)
+    omega (arith, c.run.invariant.count, ap length c.in_default.ensures, length-replicate c.run.counter form, c.run-test.true, c.requires)
 
 pub returns-in_err-append_word-clause-fault : goal.returns-in_err-append_word-clause-fault
 returns-in_err-append_word-clause-fault g c =

@@ -8,7 +8,7 @@ pub append_run-requires : goal.append_run-requires
 append_run-requires g c κs = (
   (refl, _),
   run-fits c.args.count c.args.pieces.now c.pieces.piece-index _ c.pieces-test.true (form_of c.run_of.result.form) c.run_of.result.times c.run_of.ensures
-      c.args.origin.now (g.W.Words.to_come c.args.words) (g.W.Words.to_come c.pieces.words) _ _ c.pieces.invariant c.requires,
+      c.args.origin.now (g.W.Words.to_come c.args.words) (g.W.Words.to_come c.pieces.words) _ _ c.pieces.invariant c.requires.as_many,
 )
 
 pub returns-in_err-words-clause-fault : goal.returns-in_err-words-clause-fault
@@ -24,5 +24,5 @@ pieces-preserved g c =
 
 pub returns-clause-ok : goal.returns-clause-ok
 returns-clause-ok g c =
-    pieces-taken c.args.count c.args.pieces.now c.pieces.piece-index c.args.origin.now (g.W.Words.to_come c.args.words) (g.W.Words.to_come c.pieces.words) _ _
-    c.pieces-test.false c.pieces.invariant c.requires
+    pieces-taken c.args.count c.args.pieces.now c.pieces.piece-index c.args.origin.now (g.W.Words.to_come c.args.words) (g.W.Words.to_come c.pieces.words) _
+    c.pieces-test.false (rw c.requires.none at c.pieces.invariant) c.requires.as_many

@@ -1,0 +1,254 @@
+-- What words say by the forms of a type is data of the type, where it is not too long, and what is kept of it is that data
+-- in lower case.
+use Rattle.std.proofs.Common.{◌≡◌, ◌↔◌, ℕ, zero, suc, ◌*◌, ◌≤◌, Bool, true, false, ◌&&◌, nat_le, ◌==◌, List, [], ◌∷◌, ◌++◌, map, max, length, replicate, Option, None, Some, refl, sym, ap, ◌∙◌, subst, arith, append-nil, append_assoc, length-append}
+use Rattle.std.specs.List.{list_all, flat_map}
+use Rattle.std.specs.Option.{is_some, option_map, unwrap_or}
+use Rattle.std.specs.Prelude.{MatchOption}
+use Rattle.std.specs.Bool.{MatchBool}
+use Rattle.std.specs.Char.{to_ascii_lowercase}
+use Rattle.std.proofs.lemmas.Bool.{and_parts, and_from, le-leb, leb-true, ne_eqb, false≢true}
+use Rattle.std.proofs.lemmas.List.{take_at, drop_at}
+use Rattle.std.proofs.lemmas.List.Concat.{flat_map-cons}
+use Rattle.dns_spec.specs.Names.{Octets, DomainName}
+use Rattle.dns_spec.specs.Data.{numbers, ipv4, ipv6, Piece, fixed, domain, string, strings, anything, Part, octets, name, part_octets, part_folded, joined, octets_front, strings_front, piece_front, are_strings, cut, TypeRow, type_table, other_type, row_of, pieces_of, Valid, lower_case}
+use Rattle.dns_spec.specs.DataText.{Word, WordForm, number_word, string_word, SaysForms, SaysTyped, SaysUnknown, SaysAsSpelled, Says, forms_in}
+use Rattle.dns_spec.proofs.DomainNames.NameLaws.{map-lowercase-wire, IsName-is_name}
+use Rattle.dns_spec.proofs.DataWords.MadeData.{cut-domain, cut-step}
+use Rattle.dns_spec.proofs.DataWords.LoweredData.{cut_whole, length-lowered, lowered_data}
+use Rattle.dns_spec.proofs.Messages.Places.{length-bytes_high_first}
+use Rattle.dns_rdata.specs.WordForms.{SaysKept, KeepsOnly, is_marked, SaysLowered}
+use Rattle.dns_rdata.proofs.NameFronts.{strings_after}
+use Rattle.dns_rdata.proofs.TableRows.{found_passes}
+use Rattle.dns_rdata.proofs.Ipv6Lemmas.{length-ipv6}
+use Rattle.dns_rdata.proofs.FormFronts.{as_many_words, kept_said}
+
+-- octets of so many begin with so many
+front_of : (k : ℕ) (x rest : Octets) → length x ≡ k → octets_front k (x ++ rest) ≡ Some (octets x, rest)
+front_of k x rest e = rw (le-leb k (length (x ++ rest)) (omega (arith, length-append x rest)), take_at x rest k e, drop_at x rest k e) refl
+
+-- of words that say a piece and then more: the part that it is, and what says the rest
+record Front (p : Piece) (gs : List WordForm) (origin : DomainName) (d e : Octets) : Type 0 where
+  pub part : Part
+  pub rest : Octets
+  pub low : Octets
+  pub others : List Word
+  pub front : piece_front p d ≡ Some (part, rest)
+  pub lowered : e ≡ part_octets (part_folded part) ++ low
+  pub more : SaysKept gs origin others rest low
+
+-- the same of a run of so many octets
+record Run (n : ℕ) (gs : List WordForm) (origin : DomainName) (d e : Octets) : Type 0 where
+  pub run : Octets
+  pub rest : Octets
+  pub low : Octets
+  pub others : List Word
+  pub long : length run ≡ n
+  pub whole : d ≡ run ++ rest
+  pub kept_whole : e ≡ run ++ low
+  pub more : SaysKept gs origin others rest low
+
+-- the pieces of types with a mnemonic: strings take all words that are left, so no piece stands after them
+stands_before : Piece → List Piece → Bool
+stands_before (fixed f) ps = true
+stands_before domain ps = true
+stands_before string ps = true
+stands_before strings [] = true
+stands_before strings (p ∷ ps) = false
+stands_before anything ps = false
+
+are_in_order : List Piece → Bool
+are_in_order [] = true
+are_in_order (p ∷ ps) = stands_before p ps && are_in_order ps
+
+-- strings one after another
+many_strings : (m : ℕ) (origin : DomainName) (ws : List Word) (d e : Octets) → SaysKept (replicate m string_word) origin ws d e → (are_strings 0 d ≡ true) × (d ≡ e) × (m ≤ length d)
+many_strings zero origin [] d e h = (ap (are_strings 0) h.0, h.0 ∙ sym h.1, omega arith)
+many_strings zero origin (w ∷ ws) d e h = absurd h
+many_strings (suc m) origin [] d e h = absurd h
+many_strings (suc m) origin (w ∷ ws) d e (front, back, low, is, kept_is, word, h) =
+    let said = word.said in
+    let s = said.0 in
+    let r = many_strings m origin ws back low h in
+    let whole = is ∙ ap (λ x. x ++ back) said.3 in (
+      ap (are_strings 0) whole ∙ strings_after (length s) (s ++ back) (omega (arith, length-append s back))
+          ∙ ap (are_strings 0) (drop_at s back (length s) refl) ∙ r.0,
+      is ∙ ap (λ x. front ++ x) r.1 ∙ sym kept_is,
+      omega (arith, ap length whole, length-append s back, r.2),
+    )
+
+all_strings_front : (d : Octets) → are_strings 0 d ≡ true → 1 ≤ length d → strings_front d ≡ Some (octets d, [])
+all_strings_front d ok some = rw (ne_eqb (length d) 0 (λ none. absurd (omega (arith, some, none))), ok) refl
+
+module _ (gs : List WordForm) (origin : DomainName) where
+  numbers_run : (m k : ℕ) (ws : List Word) (d e : Octets) → SaysKept (replicate m (number_word k) ++ gs) origin ws d e → Run (m * k) gs origin d e
+  numbers_run zero k ws d e h = record { run = []; rest = d; low = e; others = ws; long = omega arith; whole = refl; kept_whole = refl; more = h }
+  numbers_run (suc m) k [] d e h = absurd h
+  numbers_run (suc m) k (w ∷ ws) d e (front, back, low, is, kept_is, word, h) =
+      let r = numbers_run m k ws back low h in
+      let said = word.said in
+      let long : length front ≡ k = ap length said.3 ∙ length-bytes_high_first k said.0 in
+      record {
+        run = front ++ r.run;
+        rest = r.rest;
+        low = r.low;
+        others = r.others;
+        long = omega (arith, length-append front r.run, r.long, long);
+        whole = is ∙ ap (λ x. front ++ x) r.whole ∙ sym (append_assoc front r.run r.rest);
+        kept_whole = kept_is ∙ ap (λ x. front ++ x) r.kept_whole ∙ sym (append_assoc front r.run r.low);
+        more = r.more;
+      }
+
+  run_front : (p : Piece) (k : ℕ) (d e : Octets) → ((os : Octets) → piece_front p os ≡ octets_front k os) → Run k gs origin d e → Front p gs origin d e
+  run_front p k d e is r = record {
+    part = octets r.run;
+    rest = r.rest;
+    low = r.low;
+    others = r.others;
+    front = is d ∙ ap (octets_front k) r.whole ∙ front_of k r.run r.rest r.long;
+    lowered = r.kept_whole;
+    more = r.more;
+  }
+
+piece_said : (k : ℕ) (origin : DomainName) (p : Piece) (ps : List Piece) → stands_before p ps ≡ true → (ws : List Word) (d e : Octets)
+    → SaysKept (forms_in k p ++ flat_map (forms_in k) ps) origin ws d e → Front p (flat_map (forms_in k) ps) origin d e
+unfolding stands_before
+piece_said k origin (fixed (numbers m o)) ps ok ws d e h =
+    run_front _ origin (fixed (numbers m o)) (m * o) d e (λ os. refl) (numbers_run _ origin m o ws d e h)
+piece_said k origin (fixed ipv4) ps ok [] d e h = absurd h
+piece_said k origin (fixed ipv4) ps ok (w ∷ ws) d e (front, back, low, is, kept_is, word, h) =
+    run_front _ origin (fixed ipv4) 4 d e (λ os. refl)
+    (record { run = front; rest = back; low = low; others = ws; long = word.said.four; whole = is; kept_whole = kept_is; more = h })
+piece_said k origin (fixed ipv6) ps ok [] d e h = absurd h
+piece_said k origin (fixed ipv6) ps ok (w ∷ ws) d e (front, back, low, is, kept_is, word, h) =
+    run_front _ origin (fixed ipv6) 16 d e (λ os. refl)
+    (record { run = front; rest = back; low = low; others = ws; long = length-ipv6 w.raw front word.said; whole = is; kept_whole = kept_is; more = h })
+piece_said k origin domain ps ok [] d e h = absurd h
+piece_said k origin domain ps ok (w ∷ ws) d e (front, back, low, is, kept_is, word, h) =
+    let (n, spelled, octets_are) = word.said in
+    let lower = ap (map to_ascii_lowercase) octets_are ∙ map-lowercase-wire n (IsName-is_name n spelled.is_name).labels in
+    record {
+      part = name n;
+      rest = back;
+      low = low;
+      others = ws;
+      front = ap (piece_front domain) (is ∙ ap (λ x. x ++ back) octets_are) ∙ cut-domain n back spelled.is_name;
+      lowered = kept_is ∙ ap (λ x. x ++ low) lower;
+      more = h;
+    }
+piece_said k origin string ps ok [] d e h = absurd h
+piece_said k origin string ps ok (w ∷ ws) d e (front, back, low, is, kept_is, word, h) =
+    let s = word.said.0 in
+    let octets_are = word.said.3 in
+    record {
+      part = octets (length s ∷ s);
+      rest = back;
+      low = low;
+      others = ws;
+      front = ap (piece_front string) (is ∙ ap (λ x. x ++ back) octets_are) ∙ front_of (suc (length s)) (length s ∷ s) back refl;
+      lowered = kept_is ∙ ap (λ x. x ++ low) octets_are;
+      more = h;
+    }
+piece_said k origin strings [] ok ws d e h =
+    let r = many_strings (max 1 k) origin ws d e (subst (λ fs. SaysKept fs origin ws d e) (append-nil (replicate (max 1 k) string_word)) h) in
+    record {
+      part = octets d;
+      rest = [];
+      low = [];
+      others = [];
+      front = all_strings_front d r.0 (omega (arith, r.2));
+      lowered = sym r.1 ∙ sym (append-nil d);
+      more = (refl, refl);
+    }
+piece_said k origin strings (p ∷ ps) ok ws d e h = absurd (false≢true ok)
+piece_said k origin anything ps ok ws d e h = absurd (false≢true ok)
+
+-- what pieces are cut into, and that in lower case
+record CutInto (ps : List Piece) (d e : Octets) : Type 0 where
+  pub cut_parts : List Part
+  pub is_cut : cut ps d ≡ Some cut_parts
+  pub lowered : joined (map part_folded cut_parts) ≡ e
+
+pieces_said : (k : ℕ) (origin : DomainName) (ps : List Piece) → are_in_order ps ≡ true → (ws : List Word) (d e : Octets) → SaysKept (flat_map (forms_in k) ps) origin ws d e → CutInto ps d e
+unfolding are_in_order cut
+pieces_said k origin [] ok [] d e h = record { cut_parts = []; is_cut = ap (cut []) h.0; lowered = sym h.1 }
+pieces_said k origin [] ok (w ∷ ws) d e h = absurd h
+pieces_said k origin (p ∷ ps) ok ws d e h =
+    let tests = and_parts (stands_before p ps) (are_in_order ps) ok in
+    let f = piece_said k origin p ps tests.0 ws d e (subst (λ fs. SaysKept fs origin ws d e) (flat_map-cons (forms_in k) p ps) h) in
+    let c = pieces_said k origin ps tests.1 f.others f.rest f.low f.more in
+    record {
+      cut_parts = f.part ∷ c.cut_parts;
+      is_cut = cut-step p ps d f.part f.rest c.cut_parts f.front c.is_cut;
+      lowered =
+          flat_map-cons part_octets (part_folded f.part) (map part_folded c.cut_parts)
+          ∙ ap (λ x. part_octets (part_folded f.part) ++ x) c.lowered ∙ sym f.lowered;
+    }
+
+rows_in_order : list_all (λ (row : TypeRow). are_in_order row.pieces) type_table ≡ true
+unfolding stands_before are_in_order
+rows_in_order = refl
+
+-- what words say by a row of the table
+abbrev TypedBy : Option TypeRow → DomainName → List Word → Octets → Type 0
+TypedBy row origin ws d = MatchOption (option_map (λ (r : TypeRow). flat_map (forms_in (length ws)) r.pieces) row) ⊥ (λ fs. SaysForms fs origin ws d)
+
+-- where the first word is not `\#`, words say what they say in the form of the type
+pub spelled_typed : (t : ℕ) (origin : DomainName) (ws : List Word) (d : Octets) → is_marked ws ≡ false → SaysAsSpelled t origin ws d ↔ SaysTyped t origin ws d
+spelled_typed t origin [] d plain = (λ h. h, λ h. h)
+spelled_typed t origin (w ∷ ws) d plain =
+    let By : Bool → Type 0 = λ b. MatchBool b (SaysUnknown ws d) (SaysTyped t origin (w ∷ ws) d) in
+    (λ h. subst By plain h, λ h. subst By (sym plain) h)
+
+-- what words say by the row of the type
+module _ (t : ℕ) (row : TypeRow) (origin : DomainName) (ws : List Word) (count : ℕ) (plain : is_marked ws ≡ false) (is : Some row ≡ row_of t) (counted : count ≡ length ws) where
+  by_row : (d : Octets) → SaysAsSpelled t origin ws d → SaysForms (flat_map (forms_in count) row.pieces) origin ws d
+  by_row d said =
+      subst (λ k. SaysForms (flat_map (forms_in k) row.pieces) origin ws d) (sym counted)
+      (subst (λ r. TypedBy r origin ws d) (sym is) ((spelled_typed t origin ws d plain).0 said))
+
+  pub typed_said : (e : Octets) → KeepsOnly (flat_map (forms_in count) row.pieces) origin ws e → SaysLowered t origin ws e
+  typed_said e h =
+      let d = h.spelled in
+      let ordered = found_passes (λ (r : TypeRow). r.number == t) (λ (r : TypeRow). are_in_order r.pieces) type_table row rows_in_order (sym is) in
+      let c = pieces_said count origin row.pieces ordered ws d e h.said in
+      let forms = subst (λ k. SaysForms (flat_map (forms_in k) row.pieces) origin ws d) counted (kept_said _ origin ws d e h.said) in
+      let cut_is : cut (pieces_of t) d ≡ Some c.cut_parts = ap (λ r. cut (unwrap_or r other_type).pieces d) (sym is) ∙ c.is_cut in
+      record {
+        spelled = d;
+        said = (spelled_typed t origin ws d plain).1 (subst (λ r. TypedBy r origin ws d) is forms);
+        only = λ x said. h.only x (by_row x said);
+        is_cut = ap is_some cut_is;
+        lower = ap (λ y. joined (map part_folded (unwrap_or y (octets d ∷ [])))) cut_is ∙ c.lowered;
+      }
+
+  pub nothing_typed : ((d : Octets) → SaysForms (flat_map (forms_in count) row.pieces) origin ws d → ⊥) → (d : Octets) → SaysAsSpelled t origin ws d → ⊥
+  nothing_typed none d said = none d (by_row d said)
+
+  pub other_count : (length (flat_map (forms_in count) row.pieces) ≡ count → ⊥) → (d : Octets) → SaysAsSpelled t origin ws d → ⊥
+  other_count other d said = other (as_many_words (flat_map (forms_in count) row.pieces) origin ws d (by_row d said) ∙ sym counted)
+
+-- so it is said, where it is not too long
+module _ (t : ℕ) (origin : DomainName) (ws : List Word) (e : Octets) (h : SaysLowered t origin ws e) where
+  long : length e ≡ length h.spelled
+  long = sym (ap length h.lower) ∙ go (cut (pieces_of t) h.spelled) refl h.is_cut
+    where
+      go : (y : Option (List Part)) → cut (pieces_of t) h.spelled ≡ y → is_some y ≡ true → length (lower_case t h.spelled) ≡ length h.spelled
+      go None f some = absurd (false≢true some)
+      go (Some xs) f some =
+          ap (λ y. length (joined (map part_folded (unwrap_or y (octets h.spelled ∷ []))))) f ∙ length-lowered xs ∙ ap length (cut_whole (pieces_of t) h.spelled xs f)
+
+  judged : length e ≤ 65535 → Valid t h.spelled
+  judged short = and_from (nat_le (length h.spelled) 65535) _ (le-leb (length h.spelled) 65535 (omega (arith, short, long))) h.is_cut
+
+  pub lowered_said : length e ≤ 65535 → Says t ws origin e
+  lowered_said short = record { as_spelled = h.spelled; said = h.said; is_valid = judged short; lower = h.lower }
+
+  pub lowered_only : (d : Octets) → Says t ws origin d → d ≡ e
+  lowered_only d said = sym said.lower ∙ ap (lower_case t) (h.only said.as_spelled said.said) ∙ h.lower
+
+  pub lowered_valid : length e ≤ 65535 → Valid t e
+  lowered_valid short = subst (Valid t) h.lower (lowered_data t h.spelled (judged short)).0
+
+  pub lowered_long : (d : Octets) → Says t ws origin d → length e ≤ 65535
+  lowered_long d said =
+      omega (arith, long, ap length (h.only said.as_spelled said.said), leb-true _ _ (and_parts (nat_le (length said.as_spelled) 65535) _ said.is_valid).0)
