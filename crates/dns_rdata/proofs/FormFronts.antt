@@ -8,7 +8,7 @@ use Rattle.dns_spec.specs.Names.{Octets, DomainName}
 use Rattle.dns_spec.specs.DataText.{Word, WordForm, SaysWord, SaysForms, forms_in}
 use Rattle.dns_rdata.specs.declared.table.Piece as code
 use Rattle.dns_rdata.specs.TypeRows.{piece_of, pieces_in}
-use Rattle.dns_rdata.specs.WordForms.{kept, Appends, SaysKept, KeepsOnly, AppendsFront, SaysNoFront}
+use Rattle.dns_rdata.specs.WordForms.{kept, Appends, SaysKept, AppendsFront, SaysNoFront}
 
 -- as many words as forms
 pub as_many_words : (fs : List WordForm) (origin : DomainName) (ws : List Word) (d : Octets) → SaysForms fs origin ws d → length fs ≡ length ws
@@ -79,19 +79,6 @@ module _ (origin : DomainName) where
   pub no-all : (fs : List WordForm) (ws : List Word) → SaysNoFront fs origin ws → (d : Octets) → SaysForms fs origin ws d → ⊥
   no-all fs ws none d h = none [] d (subst (λ v. SaysForms v origin ws d) (sym (append-nil fs)) h)
 
-  -- all words were taken
-  pub front-all : (fs : List WordForm) (ws rest : List Word) (y : Octets) → AppendsFront fs origin ws rest [] y → length fs ≡ length ws → KeepsOnly fs origin ws y
-  front-all fs ws rest y a e =
-      let empty : rest ≡ [] = nil_from_length rest (omega (arith, a.count, e)) in
-      let whole = a.on [] [] [] (subst (λ v. SaysKept [] origin v [] []) (sym empty) (refl, refl)) in
-      record {
-        spelled = a.spelled;
-        said = subst (λ v. SaysKept fs origin ws a.spelled v) (sym a.grown) (simp append-nil at whole);
-        only = λ d h.
-            let r = a.back [] d (subst (λ v. SaysForms v origin ws d) (sym (append-nil fs)) h) in
-            r.2 ∙ ap (λ x. a.spelled ++ x) (subst (λ v. SaysForms [] origin v r.0) empty r.1) ∙ append-nil a.spelled;
-      }
-
 -- so many of a form, and one more
 pub once_more : (f : WordForm) (n : ℕ) → replicate n f ++ f ∷ [] ≡ replicate (n + 1) f
 once_more f n = replicate-append-replicate n 1 f
@@ -149,7 +136,8 @@ module _ (k : ℕ) (pieces : List code.Piece) (i : ℕ) (p : code.Piece) (inside
       (subst (λ fs. SaysNoFront fs origin ws) forms-whole (no-more origin (forms_for k (take i pieces) ++ replicate n f) (forms_for k (drop (i + 1) pieces)) ws so_far))
 
 -- the words of all pieces are taken
-pub pieces-taken : (k : ℕ) (pieces : List code.Piece) (i : ℕ) (origin : DomainName) (ws rest : List Word) (y : Octets) → length pieces ≤ i → AppendsFront (forms_for k (take i pieces)) origin ws rest [] y
-    → length (forms_for k pieces) ≡ length ws → KeepsOnly (forms_for k pieces) origin ws y
-pieces-taken k pieces i origin ws rest y end a e =
-    front-all origin (forms_for k pieces) ws rest y (subst (λ ps. AppendsFront (forms_for k ps) origin ws rest [] y) (take_all i pieces end) a) e
+pub pieces-taken : (k : ℕ) (pieces : List code.Piece) (i : ℕ) (origin : DomainName) (ws rest : List Word) (x y : Octets) → length pieces ≤ i
+    → AppendsFront (forms_for k (take i pieces)) origin ws rest x y → length (forms_for k pieces) ≡ length ws → AppendsFront (forms_for k pieces) origin ws [] x y
+pieces-taken k pieces i origin ws rest x y end a e =
+    let all = subst (λ ps. AppendsFront (forms_for k ps) origin ws rest x y) (take_all i pieces end) a in
+    subst (λ v. AppendsFront (forms_for k pieces) origin ws v x y) (nil_from_length rest (omega (arith, all.count, e))) all

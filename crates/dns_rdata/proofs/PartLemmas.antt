@@ -1,14 +1,14 @@
 -- Parts of data, one after another.
-use Rattle.std.proofs.Common.{Bool, false, nat_le, cond, ◌==◌, ◌≡◌, ℕ, suc, ◌≤◌, true, Option, None, Some, All, List, [], ◌∷◌, ◌++◌, map, length, get_or, drop, refl, sym, ap, ◌∙◌, subst, arith}
-use Rattle.std.proofs.lemmas.Bool.{and_parts, leb-true, false≢true, false_from_ne_true, eqb-true}
+use Rattle.std.proofs.Common.{Bool, nat_le, ◌==◌, ◌≡◌, ℕ, suc, ◌≤◌, true, Option, None, Some, All, List, [], ◌∷◌, ◌++◌, map, length, get_or, drop, refl, sym, ap, ◌∙◌, subst, arith}
+use Rattle.std.proofs.lemmas.Bool.{leb-true, false≢true, false_from_ne_true, eqb-true}
 use Rattle.std.proofs.lemmas.List.{nil_from_length}
 use Rattle.std.proofs.lemmas.List.Concat.{flat_map-cons}
 use Rattle.std.proofs.lemmas.List.Elements.{All-nil, All-cons}
 use Rattle.std.proofs.lemmas.Option.{none-some, same_Some}
-use Rattle.std.specs.List.{find, list_all, flat_map}
+use Rattle.std.specs.List.{flat_map}
 use Rattle.std.specs.Option.{is_some, unwrap_or, option_map}
 use Rattle.dns_spec.specs.Names.{Octets}
-use Rattle.dns_spec.specs.Data.{width, fixed, domain, string, strings, anything, octets, name, part_octets, part_folded, joined, cut, piece_front, valid, lower_case, pieces_of, type_table, other_type}
+use Rattle.dns_spec.specs.Data.{width, fixed, domain, string, strings, anything, octets, name, part_octets, part_folded, joined, cut, piece_front, valid, lower_case, pieces_of, row_of, type_table, other_type}
 use Rattle.dns_spec.specs.Data as Data
 use Rattle.dns_spec.proofs.DataWords.WrittenData.{cut_into, name_part, octets_part, all_strings}
 use Rattle.dns_spec.proofs.DataWords.LoweredData.{cut_data, lowered_data}
@@ -16,6 +16,7 @@ use Rattle.dns_rdata.specs.declared.table.Piece.{Piece}
 use Rattle.dns_rdata.specs.declared.parts.Part.{Part}
 use Rattle.dns_rdata.specs.declared.parts.Part.TheVariants.{Octets as Run, Name}
 use Rattle.dns_rdata.specs.TypeRows.{piece_of, pieces_in}
+use Rattle.dns_rdata.proofs.TableRows.{found_passes}
 use Rattle.dns_rdata.specs.Parts.{part_for, part_lends, shown_part, with_octets, parts_left, AreCut, IsLent, HasName}
 
 -- what is cut after the first part
@@ -91,20 +92,14 @@ names_left ps os = go (cut (pieces_in ps) os) refl
     go (Some xs) e = cut_names (pieces_in ps) os xs e
 
 -- no type has more than three pieces
-few_found : (found : Bool) (row : Data.TypeRow) (rest : Option Data.TypeRow) → length row.pieces ≤ 3
-    → length (unwrap_or rest other_type).pieces ≤ 3 → length (unwrap_or (cond found (Some row) rest) other_type).pieces ≤ 3
-few_found true row rest h k = h
-few_found false row rest h k = k
-
-few_in : (t : ℕ) (rows : List Data.TypeRow) → list_all (λ (r : Data.TypeRow). nat_le (length r.pieces) 3) rows ≡ true
-    → length (unwrap_or (find (λ (r : Data.TypeRow). r.number == t) rows) other_type).pieces ≤ 3
-few_in t [] h = omega arith
-few_in t (row ∷ rows) h =
-    let tests = and_parts (nat_le (length row.pieces) 3) (list_all (λ (r : Data.TypeRow). nat_le (length r.pieces) 3) rows) h in
-    few_found (row.number == t) row (find (λ (r : Data.TypeRow). r.number == t) rows) (leb-true (length row.pieces) 3 tests.0) (few_in t rows tests.1)
-
 few_pieces : (t : ℕ) → length (pieces_of t) ≤ 3
-few_pieces t = few_in t type_table refl
+few_pieces t = go (row_of t) refl
+  where
+    go : (r : Option Data.TypeRow) → row_of t ≡ r → length (unwrap_or r other_type).pieces ≤ 3
+    go None e = omega arith
+    go (Some row) e =
+        let few : Data.TypeRow → Bool = λ r. nat_le (length r.pieces) 3 in
+        leb-true (length row.pieces) 3 (found_passes (λ r. r.number == t) few type_table row refl e)
 
 cut_length : (ps : List Data.Piece) (os : Octets) (xs : List Data.Part) → cut ps os ≡ Some xs → length xs ≡ length ps
 unfolding cut

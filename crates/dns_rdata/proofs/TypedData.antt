@@ -1,6 +1,6 @@
 -- What words say by the forms of a type is data of the type, where it is not too long, and what is kept of it is that data
 -- in lower case.
-use Rattle.std.proofs.Common.{◌≡◌, ◌↔◌, ℕ, zero, suc, ◌*◌, ◌≤◌, Bool, true, false, ◌&&◌, nat_le, ◌==◌, List, [], ◌∷◌, ◌++◌, map, max, length, replicate, Option, None, Some, refl, sym, ap, ◌∙◌, subst, arith, append-nil, append_assoc, length-append}
+use Rattle.std.proofs.Common.{◌≡◌, ◌↔◌, ℕ, zero, suc, ◌*◌, ◌<◌, ◌≤◌, Bool, true, false, ◌&&◌, nat_le, ◌==◌, List, [], ◌∷◌, ◌++◌, map, max, length, replicate, Option, Some, refl, sym, ap, ◌∙◌, subst, arith, append-nil, append_assoc, length-append}
 use Rattle.std.specs.List.{list_all, flat_map}
 use Rattle.std.specs.Option.{is_some, option_map, unwrap_or}
 use Rattle.std.specs.Prelude.{MatchOption}
@@ -10,13 +10,13 @@ use Rattle.std.proofs.lemmas.Bool.{and_parts, and_from, le-leb, leb-true, ne_eqb
 use Rattle.std.proofs.lemmas.List.{take_at, drop_at}
 use Rattle.std.proofs.lemmas.List.Concat.{flat_map-cons}
 use Rattle.dns_spec.specs.Names.{Octets, DomainName}
-use Rattle.dns_spec.specs.Data.{numbers, ipv4, ipv6, Piece, fixed, domain, string, strings, anything, Part, octets, name, part_octets, part_folded, joined, octets_front, strings_front, piece_front, are_strings, cut, TypeRow, type_table, other_type, row_of, pieces_of, Valid, lower_case}
-use Rattle.dns_spec.specs.DataText.{Word, WordForm, number_word, string_word, SaysForms, SaysTyped, SaysUnknown, SaysAsSpelled, Says, forms_in}
+use Rattle.dns_spec.specs.Data.{Fixed, width, numbers, ipv4, ipv6, Piece, fixed, domain, string, strings, anything, Part, octets, name, part_octets, part_folded, joined, octets_front, strings_front, piece_front, are_strings, cut, TypeRow, type_table, other_type, row_of, pieces_of, Valid}
+use Rattle.dns_spec.specs.DataText.{Word, WordForm, SaysWord, ipv6_word, ipv4_word, number_word, string_word, SaysForms, SaysTyped, SaysUnknown, SaysAsSpelled, Says, forms_in}
 use Rattle.dns_spec.proofs.DomainNames.NameLaws.{map-lowercase-wire, IsName-is_name}
 use Rattle.dns_spec.proofs.DataWords.MadeData.{cut-domain, cut-step}
 use Rattle.dns_spec.proofs.DataWords.LoweredData.{cut_whole, length-lowered, lowered_data}
 use Rattle.dns_spec.proofs.Messages.Places.{length-bytes_high_first}
-use Rattle.dns_rdata.specs.WordForms.{SaysKept, KeepsOnly, is_marked, SaysLowered}
+use Rattle.dns_rdata.specs.WordForms.{kept, SaysKept, AppendsFront, is_marked}
 use Rattle.dns_rdata.proofs.NameFronts.{strings_after}
 use Rattle.dns_rdata.proofs.TableRows.{found_passes}
 use Rattle.dns_rdata.proofs.Ipv6Lemmas.{length-ipv6}
@@ -80,31 +80,30 @@ all_strings_front : (d : Octets) → are_strings 0 d ≡ true → 1 ≤ length d
 all_strings_front d ok some = rw (ne_eqb (length d) 0 (λ none. absurd (omega (arith, some, none))), ok) refl
 
 module _ (gs : List WordForm) (origin : DomainName) where
-  numbers_run : (m k : ℕ) (ws : List Word) (d e : Octets) → SaysKept (replicate m (number_word k) ++ gs) origin ws d e → Run (m * k) gs origin d e
-  numbers_run zero k ws d e h = record { run = []; rest = d; low = e; others = ws; long = omega arith; whole = refl; kept_whole = refl; more = h }
-  numbers_run (suc m) k [] d e h = absurd h
-  numbers_run (suc m) k (w ∷ ws) d e (front, back, low, is, kept_is, word, h) =
-      let r = numbers_run m k ws back low h in
-      let said = word.said in
-      let long : length front ≡ k = ap length said.3 ∙ length-bytes_high_first k said.0 in
+  words_run : (m k : ℕ) (f : WordForm) → ((x : Octets) → kept f x ≡ x) → ((w : Word) (x : Octets) → SaysWord f origin w x → length x ≡ k)
+      → (ws : List Word) (d e : Octets) → SaysKept (replicate m f ++ gs) origin ws d e → Run (m * k) gs origin d e
+  words_run zero k f same sized ws d e h = record { run = []; rest = d; low = e; others = ws; long = omega arith; whole = refl; kept_whole = refl; more = h }
+  words_run (suc m) k f same sized [] d e h = absurd h
+  words_run (suc m) k f same sized (w ∷ ws) d e (front, back, low, is, kept_is, word, h) =
+      let r = words_run m k f same sized ws back low h in
       record {
         run = front ++ r.run;
         rest = r.rest;
         low = r.low;
         others = r.others;
-        long = omega (arith, length-append front r.run, r.long, long);
+        long = omega (arith, length-append front r.run, r.long, sized w front word);
         whole = is ∙ ap (λ x. front ++ x) r.whole ∙ sym (append_assoc front r.run r.rest);
-        kept_whole = kept_is ∙ ap (λ x. front ++ x) r.kept_whole ∙ sym (append_assoc front r.run r.low);
+        kept_whole = kept_is ∙ ap (λ x. x ++ low) (same front) ∙ ap (λ x. front ++ x) r.kept_whole ∙ sym (append_assoc front r.run r.low);
         more = r.more;
       }
 
-  run_front : (p : Piece) (k : ℕ) (d e : Octets) → ((os : Octets) → piece_front p os ≡ octets_front k os) → Run k gs origin d e → Front p gs origin d e
-  run_front p k d e is r = record {
+  run_front : (f : Fixed) (d e : Octets) → Run (width f) gs origin d e → Front (fixed f) gs origin d e
+  run_front f d e r = record {
     part = octets r.run;
     rest = r.rest;
     low = r.low;
     others = r.others;
-    front = is d ∙ ap (octets_front k) r.whole ∙ front_of k r.run r.rest r.long;
+    front = ap (octets_front (width f)) r.whole ∙ front_of (width f) r.run r.rest r.long;
     lowered = r.kept_whole;
     more = r.more;
   }
@@ -113,15 +112,12 @@ piece_said : (k : ℕ) (origin : DomainName) (p : Piece) (ps : List Piece) → s
     → SaysKept (forms_in k p ++ flat_map (forms_in k) ps) origin ws d e → Front p (flat_map (forms_in k) ps) origin d e
 unfolding stands_before
 piece_said k origin (fixed (numbers m o)) ps ok ws d e h =
-    run_front _ origin (fixed (numbers m o)) (m * o) d e (λ os. refl) (numbers_run _ origin m o ws d e h)
-piece_said k origin (fixed ipv4) ps ok [] d e h = absurd h
-piece_said k origin (fixed ipv4) ps ok (w ∷ ws) d e (front, back, low, is, kept_is, word, h) =
-    run_front _ origin (fixed ipv4) 4 d e (λ os. refl)
-    (record { run = front; rest = back; low = low; others = ws; long = word.said.four; whole = is; kept_whole = kept_is; more = h })
-piece_said k origin (fixed ipv6) ps ok [] d e h = absurd h
-piece_said k origin (fixed ipv6) ps ok (w ∷ ws) d e (front, back, low, is, kept_is, word, h) =
-    run_front _ origin (fixed ipv6) 16 d e (λ os. refl)
-    (record { run = front; rest = back; low = low; others = ws; long = length-ipv6 w.raw front word.said; whole = is; kept_whole = kept_is; more = h })
+    run_front _ origin (numbers m o) d e
+    (words_run _ origin m o (number_word o) (λ x. refl) (λ w x word. ap length word.said.3 ∙ length-bytes_high_first o word.said.0) ws d e h)
+piece_said k origin (fixed ipv4) ps ok ws d e h =
+    run_front _ origin ipv4 d e (words_run _ origin 1 4 ipv4_word (λ x. refl) (λ w x word. word.said.four) ws d e h)
+piece_said k origin (fixed ipv6) ps ok ws d e h =
+    run_front _ origin ipv6 d e (words_run _ origin 1 16 ipv6_word (λ x. refl) (λ w x word. length-ipv6 w.raw x word.said) ws d e h)
 piece_said k origin domain ps ok [] d e h = absurd h
 piece_said k origin domain ps ok (w ∷ ws) d e (front, back, low, is, kept_is, word, h) =
     let (n, spelled, octets_are) = word.said in
@@ -199,56 +195,51 @@ spelled_typed t origin (w ∷ ws) d plain =
     let By : Bool → Type 0 = λ b. MatchBool b (SaysUnknown ws d) (SaysTyped t origin (w ∷ ws) d) in
     (λ h. subst By plain h, λ h. subst By (sym plain) h)
 
+-- what words say in lower case is valid too
+pub said_valid : (t : ℕ) (ws : List Word) (origin : DomainName) (d : Octets) → Says t ws origin d → Valid t d
+said_valid t ws origin d said = subst (Valid t) said.lower (lowered_data t said.as_spelled said.is_valid).0
+
 -- what words say by the row of the type
 module _ (t : ℕ) (row : TypeRow) (origin : DomainName) (ws : List Word) (count : ℕ) (plain : is_marked ws ≡ false) (is : Some row ≡ row_of t) (counted : count ≡ length ws) where
-  by_row : (d : Octets) → SaysAsSpelled t origin ws d → SaysForms (flat_map (forms_in count) row.pieces) origin ws d
-  by_row d said =
-      subst (λ k. SaysForms (flat_map (forms_in k) row.pieces) origin ws d) (sym counted)
-      (subst (λ r. TypedBy r origin ws d) (sym is) ((spelled_typed t origin ws d plain).0 said))
+  by_row : (d : Octets) → Says t ws origin d → (e : Octets) × SaysForms (flat_map (forms_in count) row.pieces) origin ws e × (length e ≤ 65535)
+  by_row d said = (
+    said.as_spelled,
+    subst (λ k. SaysForms (flat_map (forms_in k) row.pieces) origin ws said.as_spelled) (sym counted)
+        (subst (λ r. TypedBy r origin ws said.as_spelled) (sym is) ((spelled_typed t origin ws said.as_spelled plain).0 said.said)),
+    leb-true _ _ (and_parts (nat_le (length said.as_spelled) 65535) _ said.is_valid).0,
+  )
 
-  pub typed_said : (e : Octets) → KeepsOnly (flat_map (forms_in count) row.pieces) origin ws e → SaysLowered t origin ws e
-  typed_said e h =
-      let d = h.spelled in
-      let ordered = found_passes (λ (r : TypeRow). r.number == t) (λ (r : TypeRow). are_in_order r.pieces) type_table row rows_in_order (sym is) in
-      let c = pieces_said count origin row.pieces ordered ws d e h.said in
-      let forms = subst (λ k. SaysForms (flat_map (forms_in k) row.pieces) origin ws d) counted (kept_said _ origin ws d e h.said) in
-      let cut_is : cut (pieces_of t) d ≡ Some c.cut_parts = ap (λ r. cut (unwrap_or r other_type).pieces d) (sym is) ∙ c.is_cut in
-      record {
-        spelled = d;
-        said = (spelled_typed t origin ws d plain).1 (subst (λ r. TypedBy r origin ws d) is forms);
-        only = λ x said. h.only x (by_row x said);
-        is_cut = ap is_some cut_is;
-        lower = ap (λ y. joined (map part_folded (unwrap_or y (octets d ∷ [])))) cut_is ∙ c.lowered;
-      }
+  pub nothing_typed : ((d : Octets) → SaysForms (flat_map (forms_in count) row.pieces) origin ws d → ⊥) → (d : Octets) → Says t ws origin d → ⊥
+  nothing_typed none d said = let r = by_row d said in none r.0 r.1
 
-  pub nothing_typed : ((d : Octets) → SaysForms (flat_map (forms_in count) row.pieces) origin ws d → ⊥) → (d : Octets) → SaysAsSpelled t origin ws d → ⊥
-  nothing_typed none d said = none d (by_row d said)
+  pub other_count : (length (flat_map (forms_in count) row.pieces) ≡ count → ⊥) → (d : Octets) → Says t ws origin d → ⊥
+  other_count other = nothing_typed (λ d forms. other (as_many_words (flat_map (forms_in count) row.pieces) origin ws d forms ∙ sym counted))
 
-  pub other_count : (length (flat_map (forms_in count) row.pieces) ≡ count → ⊥) → (d : Octets) → SaysAsSpelled t origin ws d → ⊥
-  other_count other d said = other (as_many_words (flat_map (forms_in count) row.pieces) origin ws d (by_row d said) ∙ sym counted)
+  -- all words were taken
+  module _ (e : Octets) (a : AppendsFront (flat_map (forms_in count) row.pieces) origin ws [] [] e) where
+    cut_of : CutInto row.pieces a.spelled e
+    cut_of =
+        let whole = simp append-nil at (a.on [] [] [] (refl, refl)) in
+        pieces_said count origin row.pieces (found_passes (λ (r : TypeRow). r.number == t) (λ (r : TypeRow). are_in_order r.pieces) type_table row rows_in_order (sym is))
+        ws a.spelled e (subst (λ v. SaysKept (flat_map (forms_in count) row.pieces) origin ws a.spelled v) (sym a.grown) whole)
 
--- so it is said, where it is not too long
-module _ (t : ℕ) (origin : DomainName) (ws : List Word) (e : Octets) (h : SaysLowered t origin ws e) where
-  long : length e ≡ length h.spelled
-  long = sym (ap length h.lower) ∙ go (cut (pieces_of t) h.spelled) refl h.is_cut
-    where
-      go : (y : Option (List Part)) → cut (pieces_of t) h.spelled ≡ y → is_some y ≡ true → length (lower_case t h.spelled) ≡ length h.spelled
-      go None f some = absurd (false≢true some)
-      go (Some xs) f some =
-          ap (λ y. length (joined (map part_folded (unwrap_or y (octets h.spelled ∷ []))))) f ∙ length-lowered xs ∙ ap length (cut_whole (pieces_of t) h.spelled xs f)
+    as_long : length e ≡ length a.spelled
+    as_long = ap length (sym cut_of.lowered) ∙ length-lowered cut_of.cut_parts ∙ ap length (cut_whole row.pieces a.spelled cut_of.cut_parts cut_of.is_cut)
 
-  judged : length e ≤ 65535 → Valid t h.spelled
-  judged short = and_from (nat_le (length h.spelled) 65535) _ (le-leb (length h.spelled) 65535 (omega (arith, short, long))) h.is_cut
+    pub typed_said : length e ≤ 65535 → Says t ws origin e
+    typed_said short =
+        let whole = simp append-nil at (a.on [] [] [] (refl, refl)) in
+        let forms = subst (λ k. SaysForms (flat_map (forms_in k) row.pieces) origin ws a.spelled) counted (kept_said _ origin ws a.spelled a.low whole) in
+        let cut_is : cut (pieces_of t) a.spelled ≡ Some cut_of.cut_parts = ap (λ r. cut (unwrap_or r other_type).pieces a.spelled) (sym is) ∙ cut_of.is_cut in
+        record {
+          as_spelled = a.spelled;
+          said = (spelled_typed t origin ws a.spelled plain).1 (subst (λ r. TypedBy r origin ws a.spelled) is forms);
+          is_valid = and_from (nat_le (length a.spelled) 65535) _ (le-leb (length a.spelled) 65535 (omega (arith, short, as_long))) (ap is_some cut_is);
+          lower = ap (λ y. joined (map part_folded (unwrap_or y (octets a.spelled ∷ [])))) cut_is ∙ cut_of.lowered;
+        }
 
-  pub lowered_said : length e ≤ 65535 → Says t ws origin e
-  lowered_said short = record { as_spelled = h.spelled; said = h.said; is_valid = judged short; lower = h.lower }
-
-  pub lowered_only : (d : Octets) → Says t ws origin d → d ≡ e
-  lowered_only d said = sym said.lower ∙ ap (lower_case t) (h.only said.as_spelled said.said) ∙ h.lower
-
-  pub lowered_valid : length e ≤ 65535 → Valid t e
-  lowered_valid short = subst (Valid t) h.lower (lowered_data t h.spelled (judged short)).0
-
-  pub lowered_long : (d : Octets) → Says t ws origin d → length e ≤ 65535
-  lowered_long d said =
-      omega (arith, long, ap length (h.only said.as_spelled said.said), leb-true _ _ (and_parts (nat_le (length said.as_spelled) 65535) _ said.is_valid).0)
+    pub typed_long : 65535 < length e → (d : Octets) → Says t ws origin d → ⊥
+    typed_long over d said =
+        let r = by_row d said in
+        let b = a.back [] r.0 (subst (λ v. SaysForms v origin ws r.0) (sym (append-nil (flat_map (forms_in count) row.pieces))) r.1) in
+        omega (arith, over, as_long, r.2, ap length b.2, length-append a.spelled b.0)

@@ -1,12 +1,10 @@
 -- What a reader learns here: what the code's forms of words are in the words of the definitions,
 -- and what is appended for a word.
-use Rattle.std.specs.Prelude.{◌≡◌, ℕ, ◌+◌, Bool, true, false, List, [], ◌∷◌, ◌++◌, length, map}
-use Rattle.std.specs.Option.{is_some}
+use Rattle.std.specs.Prelude.{◌≡◌, ◌+◌, Bool, false, List, [], ◌∷◌, ◌++◌, length, map}
 use Rattle.std.specs.Char.{to_ascii_lowercase}
 use Rattle.dns_spec.specs.Names.{Octets, DomainName}
 use Rattle.dns_spec.specs.DataText as text
-use Rattle.dns_spec.specs.DataText.{number_word, ipv4_word, ipv6_word, name_word, string_word, SaysWord, SaysForms, is_unknown_mark, SaysAsSpelled}
-use Rattle.dns_spec.specs.Data.{lower_case, cut, pieces_of}
+use Rattle.dns_spec.specs.DataText.{number_word, ipv4_word, ipv6_word, name_word, string_word, SaysWord, SaysForms, is_unknown_mark}
 use Rattle.dns_rdata.specs.TypeRows.{size_of}
 use Rattle.dns_rdata.specs.declared.typed.WordForm.{WordForm}
 use Rattle.dns_rdata.specs.declared.typed.WordForm.TheVariants.{Number, Ipv4, Ipv6, Domain, String}
@@ -23,11 +21,8 @@ abbrev pub as_it_is : Octets → Octets
 as_it_is d = d
 
 abbrev pub kept : text.WordForm → Octets → Octets
-kept (number_word k) = as_it_is
-kept ipv4_word = as_it_is
-kept ipv6_word = as_it_is
 kept name_word = map to_ascii_lowercase
-kept string_word = as_it_is
+kept _ = as_it_is
 
 -- octets that grew by what is kept of those that are said
 pub record Appends (keeps : Octets → Octets) (says : Octets → Type 0) (before after : Octets)
@@ -65,24 +60,7 @@ abbrev pub SaysNoFront : List text.WordForm → DomainName → List text.Word �
 SaysNoFront fs origin ws =
     (gs : List text.WordForm) (d : Octets) → SaysForms (fs ++ gs) origin ws d → ⊥
 
--- e is what is kept of the only data that the words spell by the forms
-pub record KeepsOnly (fs : List text.WordForm) (origin : DomainName) (ws : List text.Word)
-    (e : Octets) : Type 0 where
-  pub spelled : Octets
-  pub said : SaysKept fs origin ws spelled e
-  pub only : (d : Octets) → SaysForms fs origin ws d → d ≡ spelled
-
 -- whether the first word is the unquoted `\#`
 abbrev pub is_marked : List text.Word → Bool
 is_marked [] = false
 is_marked (w ∷ ws) = is_unknown_mark w
-
--- e is the only data of the type that the words spell, however long it is, with its names in lower
--- case
-pub record SaysLowered (t : ℕ) (origin : DomainName) (ws : List text.Word) (e : Octets)
-    : Type 0 where
-  pub spelled : Octets
-  pub said : SaysAsSpelled t origin ws spelled
-  pub only : (d : Octets) → SaysAsSpelled t origin ws d → d ≡ spelled
-  pub is_cut : is_some (cut (pieces_of t) spelled) ≡ true
-  pub lower : lower_case t spelled ≡ e

@@ -5,7 +5,7 @@ ghost use Rattle.dns_spec.specs.Data.{Valid};
 ghost use Rattle.dns_spec.specs.DataText.{Says, SaysAsSpelled};
 
 use crate::fault::RdataFault;
-use crate::rdata::{MAX_OCTETS, Rdata};
+use crate::rdata::Rdata;
 use crate::rtype::RType;
 use crate::typed::{USUAL_OCTETS, put_typed};
 use crate::unknown::{is_unknown_mark, put_unknown};
@@ -78,6 +78,7 @@ impl Rdata {
 
     /// The data that words say, read in room that is lent: all of what `read_words` says. Its
     /// memory is that of the room, which `take_back` gives back.
+    #[tactic(auto, using(crate::proofs::TypedData::said_valid))]
     pub fn read_words_in<'w, W: Words<'w>>(
         room: &mut DataRoom,
         rtype: RType,
@@ -99,9 +100,6 @@ impl Rdata {
             }
         }
         put_typed(rtype, words, origin, &mut room.name, &mut octets)?;
-        if octets.len() > MAX_OCTETS {
-            return Err(RdataFault::BadString);
-        }
         Ok(Rdata { octets })
     }
 }

@@ -2,15 +2,16 @@
 ghost use Rattle.std.specs.Prelude.{◌≡◌, ◌≢◌, ◌≤◌, ◌==◌, ◌++◌, false, [], length, replicate, OnOk, IfOk, IfErr};
 ghost use Rattle.std.specs.List.{flat_map};
 ghost use Rattle.dns_spec.specs.Names.{Octets};
-ghost use Rattle.dns_spec.specs.DataText.{name_word, SaysNumber, SaysName, SaysString, SaysForm, SaysWord, SaysForms, SaysAsSpelled, forms_in};
+ghost use Rattle.dns_spec.specs.DataText.{name_word, SaysNumber, SaysName, SaysString, SaysForm, SaysWord, SaysForms, Says, forms_in};
 ghost use Rattle.dns_spec.specs.AddressText.{SaysIpv4, SaysIpv6};
 ghost use Rattle.dns_rdata.specs.TypeRows.{size_of, piece_of, pieces_in};
-ghost use Rattle.dns_rdata.specs.WordForms.{form_of, as_it_is, kept, Appends, KeepsOnly, AppendsFront, SaysNoFront, is_marked, SaysLowered};
+ghost use Rattle.dns_rdata.specs.WordForms.{form_of, as_it_is, kept, Appends, AppendsFront, SaysNoFront, is_marked};
 
 use crate::fault::RdataFault;
 use crate::ipv4::read_ipv4;
 use crate::ipv6::read_ipv6;
 use crate::number::read_number;
+use crate::rdata::MAX_OCTETS;
 use crate::rtype::RType;
 use crate::string::read_string;
 use crate::table::{Fixed, NumberSize, Piece, row_of_type};
@@ -38,10 +39,12 @@ struct FormRun {
     times: usize,
 }
 
-/// Puts the octets that words say in the form of the type, names in lower case, where none are yet.
+/// Puts the data that words say in the form of the type, names in lower case, where no octets are
+/// yet.
 ///
 /// `BadHex` where the type has no such form, `WordCount` where it has another number of words; else
-/// the fault of the first word from the left that is none of its form.
+/// the fault of the first word from the left that is none of its form, or `BadString` where the
+/// data is past 65,535 octets.
 pub(crate) fn put_typed<'w, W: Words<'w>>(
     rtype: RType,
     words: W,
@@ -51,9 +54,9 @@ pub(crate) fn put_typed<'w, W: Words<'w>>(
 ) -> Result<(), RdataFault>
     requires none { octets.old.items ≡ [] }
     requires not_unknown { is_marked (W.to_come words) ≡ false }
-    ensures ok { OnOk result (SaysLowered rtype.0 origin.now (W.to_come words) octets.new.items) }
+    ensures ok { OnOk result (Says rtype.0 (W.to_come words) origin.now octets.new.items) }
     ensures fault { IfErr result (λ fault. fault ≢ RdataFault.NoMemory → (d : Octets)
-        → SaysAsSpelled rtype.0 origin.now (W.to_come words) d → ⊥) }
+        → Says rtype.0 (W.to_come words) origin.now d → ⊥) }
 {
     let Some(row) = row_of_type(rtype) else {
         return Err(RdataFault::BadHex);
@@ -62,7 +65,11 @@ pub(crate) fn put_typed<'w, W: Words<'w>>(
     if !is_word_count(row.pieces, count) {
         return Err(RdataFault::WordCount);
     }
-    append_words(row.pieces, count, words, origin, name, octets)
+    append_words(row.pieces, count, words, origin, name, octets)?;
+    if octets.len() > MAX_OCTETS {
+        return Err(RdataFault::BadString);
+    }
+    Ok(())
 }
 
 // Whether pieces have so many words, where the record has so many.
@@ -112,8 +119,8 @@ fn append_words<'w, W: Words<'w>>(
     requires none { octets.old.items ≡ [] }
     requires as_many { length (flat_map (forms_in count) (pieces_in pieces.now))
         ≡ length (W.to_come words) }
-    ensures ok { OnOk result (KeepsOnly (flat_map (forms_in count) (pieces_in pieces.now))
-        origin.now (W.to_come words) octets.new.items) }
+    ensures ok { OnOk result (AppendsFront (flat_map (forms_in count) (pieces_in pieces.now))
+        origin.now (W.to_come words) [] [] octets.new.items) }
     ensures fault { IfErr result (λ fault. fault ≢ RdataFault.NoMemory → (d : Octets)
         → SaysForms (flat_map (forms_in count) (pieces_in pieces.now)) origin.now
         (W.to_come words) d → ⊥) }

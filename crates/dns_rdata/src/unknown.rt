@@ -29,8 +29,6 @@ pub(crate) fn put_unknown<'w, W: Words<'w>>(
 ) -> Result<(), RdataFault>
     requires { octets.old.items ≡ [] }
     ensures ok { OnOk result (SaysUnknown (W.to_come words) octets.new.items) }
-    ensures only { OnOk result ((d : Octets) → SaysUnknown (W.to_come words) d
-        → d ≡ octets.new.items) }
     ensures fault { IfErr result (λ fault. fault ≢ RdataFault.NoMemory → (d : Octets)
         → SaysUnknown (W.to_come words) d → length d ≤ 65535 → ⊥) }
     ensures kind { IfErr result (λ fault. fault ≢ RdataFault.NoMemory → fault ≡ RdataFault.BadHex) }

@@ -24,5 +24,5 @@ pieces-preserved g c =
 
 pub returns-clause-ok : goal.returns-clause-ok
 returns-clause-ok g c =
-    pieces-taken c.args.count c.args.pieces.now c.pieces.piece-index c.args.origin.now (g.W.Words.to_come c.args.words) (g.W.Words.to_come c.pieces.words) _
+    pieces-taken c.args.count c.args.pieces.now c.pieces.piece-index c.args.origin.now (g.W.Words.to_come c.args.words) (g.W.Words.to_come c.pieces.words) _ _
     c.pieces-test.false (rw c.requires.none at c.pieces.invariant) c.requires.as_many

@@ -42,10 +42,3 @@ returns-clause-ok g c =
     (says_unknown c.in-Some.first ws c.in_ok-count.count c.words.octets.items number.0 number.1
     (omega (arith, c.if-len-count-2.false, c.len-2.ensures))
     (subst (λ rest. WordsSoFar ws rest c.words.octets.items) c.in_default-split_first.ensures c.words.invariant))
-
-pub returns-clause-only : goal.returns-clause-only
-returns-clause-only g c = λ d said.
-    let ws = g.W.Words.to_come c.in-Some.others in
-    only_octets c.in-Some.first ws c.words.octets.items d
-    (subst (λ rest. WordsSoFar ws rest c.words.octets.items) c.in_default-split_first.ensures c.words.invariant)
-    (subst (λ all. SaysUnknown all d) c.in-Some.ensures said)
