@@ -18,4 +18,3 @@ pub mod PartsLoop
 pub mod NamedData
 pub mod SoaData
 pub mod WrittenPieces
-pub mod LoweredInPlace

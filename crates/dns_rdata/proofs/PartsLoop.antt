@@ -1,8 +1,9 @@
 -- A walk over the parts of data.
-use Rattle.std.proofs.Common.{◌≡◌, Option, None, All, List, [], ◌∷◌, map, get_or, drop, refl, sym, ap, ◌∙◌, subst}
+use Rattle.std.proofs.Common.{◌≡◌, All, List, [], ◌∷◌, ◌++◌, map, get_or, drop, refl, sym, ap, ◌∙◌, subst, append_assoc, append-nil}
 use Rattle.std.proofs.lemmas.List.Elements.{All-head, All-tail}
-use Rattle.dns_spec.specs.Names.{Octets, DomainName}
-use Rattle.dns_spec.specs.Data.{part_octets, first_name}
+use Rattle.std.proofs.lemmas.List.Concat.{flat_map-cons}
+use Rattle.dns_spec.specs.Names.{Octets}
+use Rattle.dns_spec.specs.Data.{part_octets, part_folded, joined}
 use Rattle.dns_spec.specs.Data as Data
 use Rattle.dns_rdata.specs.declared.parts.Part.{Part}
 use Rattle.dns_rdata.specs.declared.parts.Part.TheVariants.{Octets as Run, Name}
@@ -37,10 +38,21 @@ walked (p ∷ ps) new x names e =
       are = ap (λ y. y ∷ ps) same ∙ ap (λ ys. part_for x ∷ ys) others;
     }
 
--- where no part is left there is no name
-pub none_left : (ps : List Data.Part) → map with_octets ps ≡ [] → ◌≡◌ {A = Option DomainName} None (first_name ps)
+-- no part is left
+pub none_left : (ps : List Data.Part) → map with_octets ps ≡ [] → ps ≡ []
 none_left [] e = refl
 none_left (p ∷ ps) e = absurd (some_shown e)
   where
     some_shown : ◌≡◌ {A = List (Data.Part × Octets)} (with_octets p ∷ map with_octets ps) [] → ⊥
     some_shown g = cc
+
+pub one_lowered : (old new : List Data.Part) (x : Part) (whole before after : Octets) → old ≡ part_for x ∷ new → whole ≡ before ++ joined (map part_folded old)
+    → after ≡ before ++ part_octets (part_folded (part_for x)) → whole ≡ after ++ joined (map part_folded new)
+one_lowered old new x whole before after are e grown =
+    let first = part_octets (part_folded (part_for x)) in
+    let others = joined (map part_folded new) in
+    e ∙ ap (λ ps. before ++ joined (map part_folded ps)) are ∙ ap (λ y. before ++ y) (flat_map-cons part_octets (part_folded (part_for x)) (map part_folded new))
+    ∙ sym (append_assoc before first others) ∙ ap (λ y. y ++ others) (sym grown)
+
+pub all_lowered : (ps : List Data.Part) (whole before : Octets) → map with_octets ps ≡ [] → whole ≡ before ++ joined (map part_folded ps) → before ≡ whole
+all_lowered ps whole before none e = sym (e ∙ ap (λ qs. before ++ joined (map part_folded qs)) (none_left ps none) ∙ append-nil before)

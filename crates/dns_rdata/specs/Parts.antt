@@ -1,5 +1,5 @@
 -- What a reader learns here: how a borrowed part of data stands for a part of the definitions.
-use Rattle.std.specs.Prelude.{◌≡◌, ⊤, ℕ, ◌⊎◌, List, [], ◌∷◌, ◌++◌, length, Option, Some, None, IsTrue}
+use Rattle.std.specs.Prelude.{◌≡◌, ⊤, ℕ, ◌⊎◌, List, [], ◌∷◌, Option, Some, None, IsTrue}
 use Rattle.std.specs.Borrow.{Bor}
 use Rattle.std.specs.Option.{unwrap_or, is_some}
 use Rattle.dns_spec.specs.Names.{Octets, is_name}
@@ -47,13 +47,6 @@ AreCut ps os = IsTrue (is_some (cut (pieces_in ps) os))
 
 abbrev pub PartList : Type 0
 PartList = List Data.Part
-
--- of octets that begin with a part, the part was lowered if it is a name, and n is how many octets
--- it has
-abbrev pub LowersFront : Option (Data.Part × Octets) → Octets → ℕ → Type 0
-LowersFront None after n = ⊥
-LowersFront (Some x) after n =
-    (after ≡ part_octets (part_folded x.0) ++ x.1) × (n ≡ length (part_octets x.0))
 
 -- a part that is a name is one of at most 255 octets
 abbrev pub HasName : Data.Part → Type 0

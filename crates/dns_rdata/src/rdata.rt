@@ -1,15 +1,12 @@
 //! Data of records (RFC 1035 3.2.1): octets without compression, names in lower case.
-ghost use Rattle.std.specs.Prelude.{◌≡◌, ◌≤◌, [], All, None, false, length, map, IfOk, MatchOption, MatchResult, IfSome, if◌then◌else◌};
-ghost use Rattle.std.specs.Bool.{OnTrue};
-ghost use Rattle.std.specs.Option.{is_some};
-ghost use Rattle.dns_spec.specs.Data.{valid, Valid, parts, pieces_of, target, lower_case, part_folded, joined, cut, piece_front};
-ghost use Rattle.dns_rdata.specs.TypeRows.{piece_of, pieces_in};
-ghost use Rattle.dns_rdata.specs.Parts.{HasName, LowersFront, NameStandsAfter, parts_left};
+ghost use Rattle.std.specs.Prelude.{◌≡◌, ◌≤◌, ◌++◌, [], All, length, IfOk, OnOk, MatchResult, IfSome, if◌then◌else◌};
+ghost use Rattle.dns_spec.specs.Data.{valid, Valid, parts, pieces_of, target, lower_case, part_octets, part_folded};
+ghost use Rattle.dns_rdata.specs.Parts.{HasName, IsLent, NameStandsAfter, part_for};
 
 use crate::fault::RdataFault;
-use crate::parts::{Part, Parts, are_cut, first_part};
+use crate::parts::{Part, Parts, are_cut};
 use crate::rtype::RType;
-use crate::table::{Piece, pieces_of_type};
+use crate::table::pieces_of_type;
 use dns_name::{Name, NameRef};
 use std::alloc::{AllocError, Global};
 use std::marker::Model;
@@ -50,10 +47,7 @@ impl Rdata {
             (λ fault. fault ≡
             (if valid rtype.0 octets.now then RdataFault.NoMemory else RdataFault.NotOfType)) }
     {
-        if !is_valid(rtype, octets) {
-            return Err(RdataFault::NotOfType);
-        }
-        Rdata::from_octets(rtype, copied(alloc, octets)?)
+        Rdata::lowered(rtype, octets, Vec::new(alloc))
     }
 
     /// No octets. It takes no memory.
@@ -69,27 +63,30 @@ impl Rdata {
     pub fn copied(&self, alloc: Global) -> Result<Rdata, AllocError>
         ensures { IfOk result (λ copy. copy ≡ self.now) }
     {
-        Ok(Rdata {
-            octets: copied(alloc, self.octets())?,
-        })
+        let mut octets = Vec::with_capacity(alloc, self.octets.len())?;
+        octets.extend_from_slice(self.octets())?;
+        Ok(Rdata { octets })
     }
 
-    /// The data that octets are, in the memory that they have: `NotOfType` where `from_wire` says
-    /// it.
-    pub(crate) fn from_octets(rtype: RType, octets: Vec<u8>) -> Result<Rdata, RdataFault>
+    /// The data that octets are, as `from_wire` gives it, in memory in which no octets are yet.
+    pub(crate) fn lowered(rtype: RType, octets: &[u8], memory: Vec<u8>) -> Result<Rdata, RdataFault>
+        requires { memory.items ≡ [] }
         ensures valid { IfOk result (λ d. Valid rtype.0 d) }
-        ensures value { MatchResult result (λ d. Valid rtype.0 octets.items
-            × (d ≡ lower_case rtype.0 octets.items))
-            (λ fault. (valid rtype.0 octets.items ≡ false) × (fault ≡ RdataFault.NotOfType)) }
+        ensures value { MatchResult result (λ d. Valid rtype.0 octets.now
+            × (d ≡ lower_case rtype.0 octets.now))
+            (λ fault. fault ≡
+            (if valid rtype.0 octets.now then RdataFault.NoMemory else RdataFault.NotOfType)) }
     {
-        let mut octets = octets;
-        if octets.len() <= MAX_OCTETS
-            && cut_in_lower_case(pieces_of_type(rtype), octets.as_mut_slice())
-        {
-            Ok(Rdata { octets })
-        } else {
-            Err(RdataFault::NotOfType)
+        if !is_valid(rtype, octets) {
+            return Err(RdataFault::NotOfType);
         }
+        let mut lowered = memory;
+        lowered.reserve_exact(octets.len())?;
+        let mut parts = Rdata::parts(rtype, octets);
+        'parts: while let Some(part) = parts.next() {
+            append_lowered(part, &mut lowered)?;
+        }
+        Ok(Rdata { octets: lowered })
     }
 
     /// The octets, at most 65,535, without a length before them.
@@ -174,43 +171,17 @@ fn is_valid(rtype: RType, octets: &[u8]) -> bool
     octets.len() <= MAX_OCTETS && are_cut(pieces_of_type(rtype), octets)
 }
 
-// Room is asked for once.
-fn copied(alloc: Global, octets: &[u8]) -> Result<Vec<u8>, AllocError>
-    ensures { IfOk result (λ copy. copy.items ≡ octets.now) }
+// Appends a part of data, a name in lower case.
+fn append_lowered(part: Part<'_>, octets: &mut Vec<u8>) -> Result<(), AllocError>
+    requires { IsLent part }
+    ensures { OnOk result (octets.new.items
+        ≡ octets.old.items ++ part_octets (part_folded (part_for part.entry))) }
 {
-    let mut copy = Vec::with_capacity(alloc, octets.len())?;
-    copy.extend_from_slice(octets)?;
-    Ok(copy)
-}
-
-// Whether octets are cut into these pieces. The names among them are lowered as they are found.
-fn cut_in_lower_case(pieces: &[Piece], octets: &mut [u8]) -> bool
-    ensures cut { result ≡ is_some (cut (pieces_in pieces.now) octets.old) }
-    ensures lower { OnTrue result
-        (octets.new ≡ joined (map part_folded (parts_left pieces.now octets.old))) }
-{
-    let Some((piece, others)) = pieces.split_first() else {
-        return octets.is_empty();
-    };
-    match lower_first(*piece, octets) {
-        Some(end) => cut_in_lower_case(others, octets.split_at_mut(end).1),
-        None => false,
-    }
-}
-
-// Lowers the piece that octets begin with where it is a name, and answers how many octets it has.
-// `None` where they begin with no such piece.
-fn lower_first(piece: Piece, octets: &mut [u8]) -> Option<usize>
-    ensures { MatchOption result (piece_front (piece_of piece) octets.old ≡ None)
-        (λ n. LowersFront (piece_front (piece_of piece) octets.old) octets.new n) }
-{
-    match first_part(piece, octets) {
-        Some((Part::Name(name), _)) => {
-            let end = name.len();
-            octets[..end].make_ascii_lowercase();
-            Some(end)
+    match part {
+        Part::Octets(run) => octets.extend_from_slice(run),
+        Part::Name(name) => {
+            let name = NameRef::new(name).to_name().fold();
+            octets.extend_from_slice(name.octets())
         }
-        Some((Part::Octets(run), _)) => Some(run.len()),
-        None => None,
     }
 }

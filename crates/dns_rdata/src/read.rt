@@ -95,8 +95,9 @@ impl Rdata {
         let mut octets = room.cleared()?;
         if let Some((first, others)) = words.split_first() {
             if is_unknown_mark(&first) {
-                put_unknown(others, &mut octets)?;
-                return Rdata::from_octets(rtype, octets);
+                let mut spelled = Vec::new(room.alloc);
+                put_unknown(others, &mut spelled)?;
+                return Rdata::lowered(rtype, spelled.as_slice(), octets);
             }
         }
         put_typed(rtype, words, origin, &mut room.name, &mut octets)?;

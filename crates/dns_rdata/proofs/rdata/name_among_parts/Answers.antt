@@ -18,4 +18,4 @@ parts-preserved c =
     }
 
 pub returns : goal.returns
-returns c = none_left c.parts.parts c.in_default.ensures.steps.0 ∙ c.parts.invariant.first
+returns c = sym (ap first_name (none_left c.parts.parts c.in_default.ensures.steps.0)) ∙ c.parts.invariant.first

@@ -1,0 +1,14 @@
+use Rattle.std.proofs.Common.{◌≡◌, ◌++◌, All, map, length}
+use Rattle.dns_spec.specs.Data.{part_folded, joined, lower_case}
+use Rattle.dns_rdata.specs.Parts.{HasName}
+use Rattle.dns_rdata.proofs.rdata.Rdata.lowered.Given as goal
+
+-- the parts before those that are still to come are in lower case
+abbrev pub invariant-parts : goal.invariant-parts
+invariant-parts l = record {
+  names : All HasName l.parts;
+  whole : lower_case l.fn.rtype.0 l.octets ≡ l.lowered.items ++ joined (map part_folded l.parts);
+}
+
+abbrev pub decreases-parts : goal.decreases-parts
+decreases-parts l = length l.parts
