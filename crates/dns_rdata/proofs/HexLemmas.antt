@@ -63,13 +63,6 @@ pub record HexSoFar (text old octets rest : Octets) : Type 0 where
   pub appended : octets ≡ old ++ read
   pub whole : hex_octets text ≡ option_map (λ d. read ++ d) (hex_octets rest)
 
-pub HexSoFar-none : (text old : Octets) → HexSoFar text old old text
-HexSoFar-none text old = record { read = []; appended = sym (append-nil old); whole = same (hex_octets text) }
-  where
-    same : (o : Option Octets) → o ≡ option_map (λ d. [] ++ d) o
-    same None = refl
-    same (Some d) = refl
-
 pub HexSoFar-push : (text old octets rest : Octets) (x : ℕ) (others : Octets) → HexSoFar text old octets rest → hex_front rest ≡ Some (x, others) → HexSoFar text old (octets ++ x ∷ []) others
 HexSoFar-push text old octets rest x others so_far e = record {
   read = so_far.read ++ x ∷ [];

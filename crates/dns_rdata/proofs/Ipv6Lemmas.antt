@@ -1,5 +1,5 @@
 -- Groups of an IPv6 address, read from left to right.
-use Rattle.std.proofs.Common.{◌≡◌, ℕ, zero, suc, ◌+◌, ◌-◌, ◌*◌, ◌^◌, ◌<◌, ◌≤◌, inl, inr, ◌⊎◌, Bool, true, false, ◌&&◌, ◌==◌, List, [], ◌∷◌, ◌++◌, length, take, drop, get_or, replicate, nat_lt, nat_le, refl, sym, ◌∙◌, ap, subst, arith, length-append, drop-cons, length-drop}
+use Rattle.std.proofs.Common.{◌≡◌, ℕ, ◌+◌, ◌-◌, ◌*◌, ◌^◌, ◌<◌, ◌≤◌, inl, inr, ◌⊎◌, Bool, true, false, ◌&&◌, ◌==◌, List, [], ◌∷◌, ◌++◌, length, take, drop, get_or, replicate, nat_lt, nat_le, refl, sym, ◌∙◌, ap, subst, arith, length-append, drop-cons, length-drop}
 use Rattle.std.specs.Prelude.{Option, Some, None, if◌then◌else◌, position, MatchOption}
 use Rattle.std.specs.Option.{option_map, option_and_then}
 use Rattle.std.specs.List.{list_all, slice_split, position_or_len, flat_map, onto_first}
@@ -7,10 +7,10 @@ use Rattle.std.specs.Int.{bytes_high_first}
 use Rattle.std.specs.Bool.{OnTrue}
 use Rattle.std.specs.Char.{is_ascii_hexdigit, digit_value}
 use Rattle.std.specs.Str.Parse.{digits_value}
-use Rattle.std.proofs.lemmas.List.{append_assoc, append-nil, take_all, take_more, length-replicate}
+use Rattle.std.proofs.lemmas.List.{append_assoc, take_all, length-replicate}
 use Rattle.std.proofs.lemmas.List.Folds.{list_all_more}
 use Rattle.std.proofs.lemmas.List.Splits.{slice_split_first}
-use Rattle.std.proofs.lemmas.Bool.{cases_Bool, and_from, and_left, and_right, true≢false, false≢true, lt-ltb, eq-eqb, le-leb, lt-leb, ne_eqb, ltb-true, ltb-false, le-ltb, leb-false, and_parts, eqb-true}
+use Rattle.std.proofs.lemmas.Bool.{cases_Bool, and_from, true≢false, false≢true, lt-ltb, eq-eqb, le-leb, lt-leb, ne_eqb, ltb-true, ltb-false, le-ltb, leb-false, and_parts, eqb-true}
 use Rattle.std.proofs.lemmas.Option.{same_Some, none-some, cond_some, option_and_then_some}
 use Rattle.std.proofs.lemmas.Int.Digits.{digits_value_more}
 use Rattle.std.proofs.Math.Nat.{pow-le-pow_right, pow-suc}
@@ -34,21 +34,11 @@ digit_is c v e = by_cases (cases_Bool (is_ascii_hexdigit c))
     by_cases (inl hex) = let f : Some v ≡ Some (digit_value c) = rw hex at e in (hex, some_inner _ _ f)
     by_cases (inr none) = let f : Some v ≡ None = rw none at e in absurd (none_is_some v (sym f))
 
-digit_none : (c : ℕ) → None ≡ digit_of c → is_ascii_hexdigit c ≡ false
-digit_none c e = by_cases (cases_Bool (is_ascii_hexdigit c))
-  where
-    by_cases : (is_ascii_hexdigit c ≡ true) ⊎ (is_ascii_hexdigit c ≡ false) → is_ascii_hexdigit c ≡ false
-    by_cases (inl hex) = let f : None ≡ Some (digit_value c) = rw hex at e in absurd (none_is_some _ f)
-    by_cases (inr none) = none
-
 -- the digits of a group so far
 pub record GroupSoFar (text : Octets) (i value : ℕ) : Type 0 where
   pub hex : list_all is_ascii_hexdigit (take i text) ≡ true
   pub value_is : value ≡ digits_value 16 (take i text)
   pub bound : value < 16 ^ i
-
-pub GroupSoFar-none : (text : Octets) → GroupSoFar text 0 0
-GroupSoFar-none text = record { hex = refl; value_is = refl; bound = omega arith }
 
 pub GroupSoFar-small : (text : Octets) (i value : ℕ) → GroupSoFar text i value → i < length text → length text ≤ 4 → value < 4096
 GroupSoFar-small text i value so_far inside short =
@@ -67,26 +57,6 @@ GroupSoFar-push text i value v so_far inside e small =
 -- a group has at most 4 digits, and one at least
 pub group_of : (text : Octets) → 0 < length text → length text ≤ 4 → list_all is_ascii_hexdigit text ≡ true → is_group text ≡ true
 group_of text some_digit short hex = and_from _ _ (and_from _ _ (lt-ltb _ _ some_digit) (le-leb _ _ short)) hex
-
-pub empty_group : (text : Octets) → length text ≡ 0 → is_group text ≡ false
-empty_group text empty = rw empty refl
-
-pub long_group : (text : Octets) → 4 < length text → is_group text ≡ false
-long_group text long = and_left _ _ (and_right _ _ (lt-leb _ _ long))
-
-pub no_hex_group : (text : Octets) (i : ℕ) → i < length text → None ≡ digit_of (get_or text i 0) → is_group text ≡ false
-no_hex_group text i inside e = and_right _ _ (not_all text i inside (digit_none (get_or text i 0) e))
-  where
-    not_all : (text : Octets) (i : ℕ) → i < length text → is_ascii_hexdigit (get_or text i 0) ≡ false → list_all is_ascii_hexdigit text ≡ false
-    not_all [] i inside h = absurd (omega (arith, inside))
-    not_all (c ∷ text) zero inside h = and_left _ _ h
-    not_all (c ∷ text) (suc i) inside h = and_right _ _ (not_all text i (omega (arith, inside)) h)
-
-pub group_read : (text : Octets) (i value : ℕ) (r : Option ℕ) → GroupSoFar text i value → 0 < length text → length text ≤ 4 → length text ≤ i → r ≡ Some value → r ≡ (if is_group text then Some (digits_value 16 text) else None)
-group_read text i value r so_far some_digit short end e =
-    let whole = take_all i text end in
-    let group = group_of text some_digit short (ap (list_all is_ascii_hexdigit) (sym whole) ∙ so_far.hex) in
-    e ∙ ap (λ v. Some v) (so_far.value_is ∙ ap (digits_value 16) whole) ∙ ap (λ t. if t then Some (digits_value 16 text) else None) (sym group)
 
 -- eight groups one by one
 pub eight : (gs : List ℕ) → length gs ≡ 8 → gs ≡ get_or gs 0 0 ∷ get_or gs 1 0 ∷ get_or gs 2 0 ∷ get_or gs 3 0 ∷ get_or gs 4 0 ∷ get_or gs 5 0 ∷ get_or gs 6 0 ∷ get_or gs 7 0 ∷ []
@@ -121,54 +91,11 @@ pub record GapSoFar (text : Octets) (place : ℕ) : Type 0 where
   pub inside : place ≤ length text
   pub whole : around_gap text ≡ option_map (with_front (take place text)) (around_gap (drop place text))
 
-pub GapSoFar-none : (text : Octets) → GapSoFar text 0
-GapSoFar-none text = record { inside = omega arith; whole = same (around_gap text) }
-  where
-    same : (o : Option (Octets × Octets)) → o ≡ option_map (with_front []) o
-    same None = refl
-    same (Some r) = refl
-
 -- the two octets at a place
 one_at : (text : Octets) (place : ℕ) → place < length text → drop place text ≡ get_or text place 0 ∷ drop (place + 1) text
 one_at text place inside =
     let P : ℕ → Type 0 = λ k. drop place text ≡ get_or text place 0 ∷ drop k text in
     subst P (suc-eq-add-one place) (drop-cons text place 0 inside)
-
-next_at : (text : Octets) (place : ℕ) → place + 1 < length text → drop (place + 1) text ≡ get_or text (place + 1) 0 ∷ drop (place + 2) text
-next_at text place inside =
-    let P : ℕ → Type 0 = λ k. drop (place + 1) text ≡ get_or text (place + 1) 0 ∷ drop k text in
-    let two : (place + 1) + 1 ≡ place + 2 = omega arith in
-    subst P two (one_at text (place + 1) inside)
-
-two_at : (text : Octets) (place : ℕ) → place + 1 < length text → drop place text ≡ get_or text place 0 ∷ get_or text (place + 1) 0 ∷ drop (place + 2) text
-two_at text place inside =
-    one_at text place (omega (arith, inside)) ∙ ap (λ t. get_or text place 0 ∷ t) (next_at text place inside)
-
-pub GapSoFar-push : (text : Octets) (place : ℕ) → GapSoFar text place → place + 1 < length text → ((get_or text place 0 ≡ 58 → ⊥) ⊎ (get_or text (place + 1) 0 ≡ 58 → ⊥)) → GapSoFar text (place + 1)
-GapSoFar-push text place so_far inside other = record {
-  inside = omega (arith, inside);
-  whole = so_far.whole ∙ ap (option_map (with_front (take place text))) (ap around_gap (two_at text place inside) ∙ passed) ∙ joined (around_gap (drop (place + 1) text));
-}
-  where
-    no_gap : ((get_or text place 0 ≡ 58 → ⊥) ⊎ (get_or text (place + 1) 0 ≡ 58 → ⊥)) → (get_or text place 0 == 58 && get_or text (place + 1) 0 == 58) ≡ false
-    no_gap (inl h) = and_left _ _ (ne_eqb _ _ h)
-    no_gap (inr h) = and_right _ _ (ne_eqb _ _ h)
-
-    passed : around_gap (get_or text place 0 ∷ get_or text (place + 1) 0 ∷ drop (place + 2) text) ≡ option_map (with_octet (get_or text place 0)) (around_gap (drop (place + 1) text))
-    passed = rw (no_gap other) (ap (λ t. option_map (with_octet (get_or text place 0)) (around_gap t)) (sym (next_at text place inside)))
-
-    joined : (o : Option (Octets × Octets)) → option_map (with_front (take place text)) (option_map (with_octet (get_or text place 0)) o) ≡ option_map (with_front (take (place + 1) text)) o
-    joined None = refl
-    joined (Some r) =
-        ap (λ f. Some (f, r.1))
-        (sym (append_assoc (take place text) (get_or text place 0 ∷ []) r.0) ∙ ap (λ f. f ++ r.0) (sym (take_more text place 0 (omega (arith, inside)))))
-
-pub GapSoFar-here : (text front back : Octets) (place : ℕ) → GapSoFar text place → place + 1 < length text → get_or text place 0 ≡ 58 → get_or text (place + 1) 0 ≡ 58 → front ≡ take place text → back ≡ drop (place + 2) text → around_gap text ≡ Some (front, back)
-GapSoFar-here text front back place so_far inside first second front_is back_is =
-    so_far.whole
-    ∙ ap (option_map (with_front (take place text))) (ap around_gap (two_at text place inside ∙ ap (λ c. c ∷ get_or text (place + 1) 0 ∷ drop (place + 2) text) first ∙ ap (λ c. 58 ∷ c ∷ drop (place + 2) text) second))
-    ∙ ap (λ f. Some (f, drop (place + 2) text)) (append-nil (take place text) ∙ sym front_is)
-    ∙ ap (λ b. Some (front, b)) (sym back_is)
 
 pub GapSoFar-end : (text : Octets) (place : ℕ) → GapSoFar text place → length text ≤ place + 1 → around_gap text ≡ None
 GapSoFar-end text place so_far end = so_far.whole ∙ ap (option_map (with_front (take place text))) (short (drop place text) (omega (arith, length-drop place text)))
@@ -233,13 +160,6 @@ last_group text e = ap group_values (no_colon text e)
 pub record GroupsSoFar (text : Octets) (groups : List ℕ) (rest : Octets) : Type 0 where
   pub whole : one_or_more text ≡ option_map (λ gs. groups ++ gs) (one_or_more rest)
   pub few : length groups ≤ 8
-
-pub GroupsSoFar-none : (text : Octets) → GroupsSoFar text [] text
-GroupsSoFar-none text = record { whole = same (one_or_more text); few = omega arith }
-  where
-    same : (o : Option (List ℕ)) → o ≡ option_map (λ gs. [] ++ gs) o
-    same None = refl
-    same (Some gs) = refl
 
 abbrev pub Pushes : Octets → List ℕ → List ℕ → Bool → Type 0
 Pushes text old new pushed = (pushed ≡ (is_group text && nat_lt (length old) 8)) × OnTrue pushed (new ≡ old ++ digits_value 16 text ∷ [])

@@ -3,11 +3,11 @@ use Rattle.std.proofs.Common.{◌≡◌, ◌≢◌, ℕ, zero, suc, ◌+◌, ◌
 use Rattle.std.specs.List.{prefix_len, position_or_len}
 use Rattle.std.specs.Char.{digit_char}
 use Rattle.std.specs.Fmt.{digits}
-use Rattle.std.proofs.lemmas.List.{append_assoc, take_more, take_all, drop_all}
+use Rattle.std.proofs.lemmas.List.{append_assoc, take_more, take_all}
 use Rattle.std.proofs.lemmas.Bool.{ne_eqb, eq-eqb, cases_Bool, cases_lt}
 use Rattle.std.proofs.Math.Numerals.{suc-eq-add-one}
 use Rattle.dns_spec.specs.Names.{Octets}
-use Rattle.dns_spec.specs.AddressText.{groups_text, zero_runs, longest_run, longest_place}
+use Rattle.dns_spec.specs.AddressText.{groups_text, zero_runs}
 use Rattle.dns_spec.proofs.DataWords.GroupDigits.{one_digit, two_digits, three_of, four_of}
 use Rattle.dns_spec.proofs.DataWords.ZeroRuns.{is_zero, length-zero_runs, run_at}
 
@@ -54,24 +54,6 @@ one_group_at gs i inside =
 pub record RunSoFar (gs : List ℕ) (i run : ℕ) : Type 0 where
   pub whole : prefix_len is_zero gs ≡ run + prefix_len is_zero (drop i gs)
   pub run_is : run ≡ i
-
-pub RunSoFar-none : (gs : List ℕ) → RunSoFar gs 0 0
-RunSoFar-none gs = record { whole = omega arith; run_is = refl }
-
-pub RunSoFar-push : (gs : List ℕ) (i run : ℕ) → RunSoFar gs i run → i < length gs → get_or gs i 0 ≡ 0 → RunSoFar gs (i + 1) (run + 1)
-RunSoFar-push gs i run so_far inside is_0 =
-    let step : prefix_len is_zero (drop i gs) ≡ 1 + prefix_len is_zero (drop (i + 1) gs) = ap (prefix_len is_zero) (one_group_at gs i inside ∙ ap (λ g. g ∷ drop (i + 1) gs) is_0) in
-    record { whole = omega (arith, so_far.whole, step); run_is = omega (arith, so_far.run_is) }
-
-pub RunSoFar-here : (gs : List ℕ) (i run : ℕ) → RunSoFar gs i run → i < length gs → (get_or gs i 0 ≡ 0 → ⊥) → run ≡ prefix_len is_zero gs
-RunSoFar-here gs i run so_far inside other =
-    let test : is_zero (get_or gs i 0) ≡ false = ne_eqb _ _ other in
-    let none : prefix_len is_zero (get_or gs i 0 ∷ drop (i + 1) gs) ≡ 0 = rw test refl in
-    omega (arith, so_far.whole, ap (prefix_len is_zero) (one_group_at gs i inside) ∙ none)
-
-pub RunSoFar-end : (gs : List ℕ) (i run : ℕ) → RunSoFar gs i run → length gs ≤ i → run ≡ prefix_len is_zero gs
-RunSoFar-end gs i run so_far end =
-    omega (arith, so_far.whole, ap (prefix_len is_zero) (drop_all i gs end))
 
 pub push_one : (old new : Octets) (r n : ℕ) → new ≡ old ++ r ∷ [] → r ≡ digit_char n → n < 16 → new ≡ old ++ digits 16 false n
 push_one old new r n e f small = e ∙ ap (λ d. old ++ d ∷ []) f ∙ ap (λ t. old ++ t) (sym (one_digit n small))
@@ -205,11 +187,3 @@ LongestSoFar-other gs i place longest run so_far inside e shorter =
           ∙ ap (λ m. fold max m (zero_runs (drop (i + 1) gs))) largest;
       inside = so_far.inside;
     }
-
-pub LongestSoFar-run : (gs : List ℕ) (i place longest : ℕ) → LongestSoFar gs i place longest → length gs ≤ i → longest ≡ longest_run gs
-LongestSoFar-run gs i place longest so_far end =
-    sym (so_far.whole ∙ ap (λ t. fold max longest (zero_runs t)) (drop_all i gs end))
-
-pub LongestSoFar-place : (gs : List ℕ) (i place longest : ℕ) → LongestSoFar gs i place longest → length gs ≤ i → place ≡ longest_place gs
-LongestSoFar-place gs i place longest so_far end =
-    sym so_far.place_is ∙ ap (λ v. position_or_len (λ k. k == v) (zero_runs gs)) (LongestSoFar-run gs i place longest so_far end)

@@ -2,11 +2,10 @@
 use Rattle.std.proofs.Common.{◌≡◌, ℕ, zero, suc, ◌-◌, ◌<◌, ◌≤◌, true, false, Option, None, Some, [], ◌∷◌, ◌++◌, length, take, drop, get_or, refl, sym, ap, ◌∙◌, arith, append_assoc, length-append, take-append-drop}
 use Rattle.std.proofs.lemmas.Bool.{and_parts, and_from}
 use Rattle.std.proofs.lemmas.List.{take_at, drop_at, length-take-le}
-use Rattle.std.proofs.lemmas.Option.{none-some, some_pair_parts}
 use Rattle.std.specs.Option.{option_map}
 use Rattle.std.specs.List.{list_all}
 use Rattle.dns_spec.specs.Names.{Octets, DomainName, wire, is_label, is_name, name_of}
-use Rattle.dns_spec.specs.Data.{Part, octets as run, name, domain, piece_front, are_strings}
+use Rattle.dns_spec.specs.Data.{name, domain, piece_front, are_strings}
 use Rattle.dns_spec.proofs.DomainNames.NameLaws.{IsName-is_name, IsLabel-is_label, is_label-IsLabel, is_name-IsName}
 use Rattle.dns_spec.proofs.DomainNames.WireNames.{name_read, name_of-wire, wire_fronts_agree}
 use Rattle.dns_name.specs.WireForm.{labels_of, IsWireForm}
@@ -21,13 +20,6 @@ positive (suc n) some = omega arith
 pub record Alike (octets rest : Octets) : Type 0 where
   pub found : (after : Octets) → StandsAfterLabels rest after → StandsAfterLabels octets after
   pub none : HasNoLabels rest → HasNoLabels octets
-
-pub Alike-whole : (octets : Octets) → Alike octets octets
-Alike-whole octets = record { found = λ after h. h; none = λ h. h }
-
--- the root's length ends the labels
-pub root_found : (rest others : Octets) (k : ℕ) → rest ≡ k ∷ others → k ≡ 0 → StandsAfterLabels rest others
-root_found rest others k e zero_length = record { labels = []; are_labels = refl; whole = e ∙ ap (λ x. x ∷ others) zero_length }
 
 -- what begins with labels begins with the length of a label or of the root
 pub nothing_begins : (rest : Octets) → length rest ≡ 0 → HasNoLabels rest
@@ -124,18 +116,6 @@ short_name octets after front rest k h e g f short =
           ∙ ap (λ x. Some (name (labels_of front), x)) (sym (g ∙ taken.1)),
       IsWireForm-wire front h.labels same ok,
     )
-
--- a part that is cut as a name is the name that the octets begin with
-pub name_cut : (octets : Octets) (n : DomainName) (rest : Octets) → piece_front domain octets ≡ Some (name n, rest) → name_of octets ≡ Some (n, rest)
-name_cut octets n rest e = go (name_of octets) e
-  where
-    names_in : Part → DomainName
-    names_in (name m) = m
-    names_in (run o) = []
-
-    go : (y : Option (DomainName × Octets)) → option_map {T = DomainName × Octets} {U = Part × Octets} (λ r. (name r.0, r.1)) y ≡ Some (name n, rest) → y ≡ Some (n, rest)
-    go None f = absurd (none-some (name n, rest) f)
-    go (Some (m, tail)) f = let p = some_pair_parts (name m) (name n) tail rest f in ap (λ x. Some (names_in x, tail)) p.0 ∙ ap (λ x. Some (n, x)) p.1
 
 -- k octets of a string are passed over
 pub strings_after : (k : ℕ) (os : Octets) → k ≤ length os → are_strings k os ≡ are_strings 0 (drop k os)

@@ -1,6 +1,6 @@
 -- Digits read from left to right say a number, and only a number's own text says it.
 use Rattle.std.proofs.Common.{◌≡◌, ◌↔◌, ℕ, zero, suc, [], ◌∷◌, ◌+◌, ◌-◌, ◌*◌, ◌<◌, ◌≤◌, ◌^◌, ◌/◌, ◌%◌, ◌++◌, length-append, List, length, take, get_or, inl, inr, refl, sym, ◌∙◌, ap, subst, arith, decimal}
-use Rattle.std.proofs.lemmas.List.{take_all, append_assoc, length-take}
+use Rattle.std.proofs.lemmas.List.{take_all, length-take}
 use Rattle.std.specs.Prelude.{Option, Some, None, SomeIff}
 use Rattle.std.proofs.lemmas.Bool.{cases_lt}
 use Rattle.std.specs.Char.{digit_value, IsAsciiDigit, IsNotAsciiDigit}
@@ -10,7 +10,7 @@ use Rattle.std.proofs.lemmas.Int.Digits.{digits_value_more, digits_more}
 use Rattle.std.proofs.lemmas.Str.Parse.{digit_at, digits_value-take-le, numerals_by_value, tells_digits}
 use Rattle.std.specs.Fmt.{digits}
 use Rattle.dns_spec.specs.Names.{Octets}
-use Rattle.std.proofs.lemmas.Fmt.{decimal_is_IsNumeral, decimal-digits_value, first_decimal, decimal_step, decimal_digit, decimal_nonempty, length-decimal-le}
+use Rattle.std.proofs.lemmas.Fmt.{decimal_is_IsNumeral, decimal-digits_value, first_decimal, decimal_step, length-decimal-le}
 
 -- an octet that is no digit
 pub no_digit : (ds : List ℕ) (i : ℕ) → i < length ds → IsNotAsciiDigit (get_or ds i 0) → AllDigits 10 ds → ⊥
@@ -118,9 +118,6 @@ decimal-parts n large small =
     let e = decimal_step n large (omega arith) in
     (e, ap length e ∙ length-append (decimal (n / 10)) ((48 + n % 10) ∷ []))
 
-pub decimal-short : (n : ℕ) → n < 2 ^ 32 → length (decimal n) ≤ 10
-decimal-short n small = length-decimal-le 10 n (omega arith) (omega arith) (omega arith)
-
 pub decimal-octet : (n : ℕ) → n < 256 → length (decimal n) ≤ 3
 decimal-octet n small = length-decimal-le 3 n (omega arith) (omega arith) (omega arith)
 
@@ -128,20 +125,6 @@ decimal-octet n small = length-decimal-le 3 n (omega arith) (omega arith) (omega
 pub room_after : (old new : Octets) (n : ℕ) → 10 ≤ n → n < 2 ^ 32 → length old + length (decimal n) ≤ 10 → new ≡ old ++ decimal (n / 10) → length new < 10
 room_after old new n large small room e =
     omega (arith, (decimal-parts n large small).1, room, ap length e, length-append old (decimal (n / 10)))
-
-pub room_alone : (old : Octets) (n : ℕ) → n < 10 → length old + length (decimal n) ≤ 10 → length old < 10
-room_alone old n small room = omega (arith, decimal_nonempty n (omega arith), room)
-
--- the last digit, after the others and alone
-pub written_after : (old new whole : Octets) (n : ℕ) → 10 ≤ n → n < 2 ^ 32 → new ≡ old ++ decimal (n / 10) → whole ≡ new ++ (48 + n % 10) ∷ [] → whole ≡ old ++ decimal n
-written_after old new whole n large small e f =
-    f ∙ ap (λ t. t ++ (48 + n % 10) ∷ []) e ∙ append_assoc old (decimal (n / 10)) ((48 + n % 10) ∷ [])
-    ∙ ap (λ t. old ++ t) (sym (decimal-parts n large small).0)
-
-pub written_alone : (old whole : Octets) (n : ℕ) → n < 10 → whole ≡ old ++ (48 + n % 10) ∷ [] → whole ≡ old ++ decimal n
-written_alone old whole n small f =
-    let digit : n % 10 ≡ n = omega (arith, small) in
-    f ∙ ap (λ d. old ++ (48 + d) ∷ []) digit ∙ ap (λ t. old ++ t) (sym (decimal_digit n small))
 
 -- the text of an octet has at most three digits
 three_digits : (digits text : Octets) (n k : ℕ) → digits ≡ text → text ≡ decimal k → k ≡ n → n < 256 → length digits ≤ 3

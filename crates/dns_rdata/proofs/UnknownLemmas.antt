@@ -32,13 +32,6 @@ pub record WordsSoFar (ws rest : List Word) (octets : Octets) : Type 0 where
   pub hex : list_all is_hex_word ws ≡ list_all is_hex_word rest
   pub whole : hex_octets (digits_in ws) ≡ option_map (λ d. octets ++ d) (hex_octets (digits_in rest))
 
-pub WordsSoFar-none : (ws : List Word) → WordsSoFar ws ws []
-WordsSoFar-none ws = record { hex = refl; whole = same (hex_octets (digits_in ws)) }
-  where
-    same : (o : Option Octets) → o ≡ option_map (λ d. [] ++ d) o
-    same None = refl
-    same (Some d) = refl
-
 pub WordsSoFar-more : (ws rest : List Word) (w : Word) (old new : Octets) → WordsSoFar ws (w ∷ rest) old → AppendsWord w old new → WordsSoFar ws rest new
 WordsSoFar-more ws rest w old new so_far (d, said, e) = record {
   hex = so_far.hex ∙ and_both _ _ said.0;
