@@ -70,9 +70,9 @@ last_front p xs i parts h =
     let fits = h.fits in
     let both =
     halves p xs (i + 1) (omega (arith, fits)) (
-      λ k d a b. parts k i d (omega arith) (omega (arith, fits)) (h.passes d),
+      λ k d a b. parts k i d (omega arith) fits (h.passes d),
       λ k d a b. false_from_ne_true (p (get_or xs k d)) (λ t.
-          false≢true (sym (h.fails d) ∙ parts (i + 1) k d a b t)),
+          false≢true (sym (h.fails d (omega (arith, a, b))) ∙ parts (i + 1) k d a b t)),
     ) in
     record { bound = omega (arith, fits); passing = both.0; others = both.1 }
 

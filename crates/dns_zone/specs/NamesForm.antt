@@ -49,11 +49,11 @@ is_covered k last key = nat_lt 0 k && starts_with ◌==◌ key (take k last)
 abbrev pub is_upto : Octets → CheckedName → Bool
 is_upto key c = not (is_gt (slice_cmp nat_cmp c.key.now key))
 
--- the element at place i is the last that passes, and another follows
+-- the element at place i is the last that passes
 pub record IsLastAt {X : Type 0} (p : X → Bool) (xs : List X) (i : ℕ) : Type 0 where
-  pub fits : i + 1 < length xs
+  pub fits : i < length xs
   pub passes : (d : X) → p (get_or xs i d) ≡ true
-  pub fails : (d : X) → p (get_or xs (i + 1) d) ≡ false
+  pub fails : (d : X) → i + 1 < length xs → p (get_or xs (i + 1) d) ≡ false
 
 -- what is kept of a name
 pub record IsChecked (z : ZoneContents) (n : DomainName) (c : CheckedName) : Type 0 where

@@ -69,7 +69,7 @@ fn runs(
     'runs: while at < records.len() {
         let end = end_of_run(starts, at);
         runs.push(Run {
-            front: front_of(origin, key_at(keys, starts[at], &records[at])),
+            front: front_after(origin, key_at(keys, starts[at], &records[at])),
             at: at as u32,
             end: end as u32,
         })?;
@@ -122,7 +122,8 @@ fn sort_alike(
         shared = common_front(shared, key_of(keys, records, starts, &runs[at]));
     }
     'fronts: for at in first..end {
-        runs[at].front = front_of(shared, key_of(keys, records, starts, &runs[at]));
+        let key = key_of(keys, records, starts, &runs[at]);
+        runs[at].front = front_of(key.split_at(shared.len().min(key.len())).1);
     }
     let alike = &mut runs[first..end];
     alike.sort_unstable_by(|one, other| run_order(keys, records, starts, one, other));
@@ -154,15 +155,20 @@ fn end_of_run(starts: &[u32], at: usize) -> usize
     end
 }
 
-// The first octets of an owner's key after that of the origin, as numbers. An owner outside the
-// zone has those that stand before or after it.
-fn front_of(origin: &[u8], key: &[u8]) -> [u64; 2] {
-    let Some(inside) = key.strip_prefix(origin) else {
-        return [if key.cmp(origin).is_lt() { 0 } else { u64::MAX }; 2];
-    };
+// The first octets of an owner's key after that of the origin. An owner outside the zone has those
+// that stand before or after it.
+fn front_after(origin: &[u8], key: &[u8]) -> [u64; 2] {
+    match key.strip_prefix(origin) {
+        Some(inside) => front_of(inside),
+        None => [if key.cmp(origin).is_lt() { 0 } else { u64::MAX }; 2],
+    }
+}
+
+// The first octets of a part of a key, as numbers.
+fn front_of(part: &[u8]) -> [u64; 2] {
     let mut front = [0; FRONT_OCTETS];
-    let count = inside.len().min(FRONT_OCTETS);
-    front[..count].copy_from_slice(&inside[..count]);
+    let count = part.len().min(FRONT_OCTETS);
+    front[..count].copy_from_slice(&part[..count]);
     let [a, b, c, d, e, f, g, h, i, j, k, l, m, n, o, p] = front;
     [
         u64::from_be_bytes([a, b, c, d, e, f, g, h]),

@@ -11,6 +11,7 @@ ghost use Rattle.dns_zone.specs.ReportedForm.{failed_from, reported_at};
 
 use crate::entry::Entry;
 use crate::fault::CheckFault;
+use crate::guess::shared_octets;
 use crate::keyed::Keyed;
 use crate::names::{CheckedName, checked_names};
 use crate::owner::Owner;
@@ -39,23 +40,21 @@ pub(crate) fn faults(
 {
     let (key, _) = keyed.keys.as_slice().split_at(origin.octets().len() - 1);
     let names = checked_names(alloc, origin, key, records, keyed)?;
+    let shared = shared_octets(alloc, names.as_slice(), keyed.keys.len())?;
     let survey = Survey::new(origin, key, records, names.as_slice());
     let mut found = Vec::new(alloc);
-    let mut last = LastTarget::new();
-    let mut next = 0_usize;
+    let mut last = LastTarget::new(shared.as_slice());
     'names: for one in names.as_slice() {
-        next = next.saturating_add(1);
-        report(&survey, one, next, &mut last, &mut found)?;
+        report(&survey, one, &mut last, &mut found)?;
     }
     Ok(found)
 }
 
-// Adds the faults of a name that is checked, with the place of the next.
+// Adds the faults of a name that is checked.
 fn report<'a>(
     survey: &'a Survey<'a>,
     one: &'a CheckedName<'a>,
-    next: usize,
-    last: &mut LastTarget,
+    last: &mut LastTarget<'_>,
     found: &mut Vec<CheckFault>,
 ) -> Result<(), AllocError>
     requires { IsChecked survey.now (name_of survey.now one.now) one.now }
@@ -63,7 +62,7 @@ fn report<'a>(
         ++ reported_at survey.now (name_of survey.now one.now)) }
 {
     let name = survey.name(one);
-    let failed = Owner::new(survey, &name, one, next).judged(last);
+    let failed = Owner::new(survey, &name, one).judged(last);
     add_failed(&name, &failed, found)
 }
 

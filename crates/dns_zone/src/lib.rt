@@ -7,6 +7,7 @@ mod arranged;
 mod entry;
 mod fault;
 mod faults;
+mod guess;
 mod kept;
 mod key;
 mod keyed;

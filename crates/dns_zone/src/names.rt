@@ -151,19 +151,14 @@ pub(crate) fn is_covered(cut: usize, last: &[u8], key: &[u8]) -> bool
 
 /// How many of the names are not after the one whose key this is. Whether one at a place that is
 /// `probable` is the last of them is looked at first.
-pub(crate) fn count_upto(names: &[CheckedName<'_>], probable: [usize; 3], key: &[u8]) -> usize
+pub(crate) fn count_upto(names: &[CheckedName<'_>], probable: Option<usize>, key: &[u8]) -> usize
     requires { IsPartitionedBy (is_upto key.now) names.now }
     ensures { IsFront (is_upto key.now) names.now result }
 {
-    let [first, second, third] = probable;
-    if is_last_upto(names, first, key) {
-        return first + 1;
-    }
-    if is_last_upto(names, second, key) {
-        return second + 1;
-    }
-    if is_last_upto(names, third, key) {
-        return third + 1;
+    if let Some(place) = probable
+        && is_last_upto(names, place, key)
+    {
+        return place + 1;
     }
     names.partition_point(|one| is_upto(one, key))
 }
@@ -171,10 +166,11 @@ pub(crate) fn count_upto(names: &[CheckedName<'_>], probable: [usize; 3], key: &
 fn is_last_upto(names: &[CheckedName<'_>], near: usize, key: &[u8]) -> bool
     ensures { OnTrue result (IsLastAt (is_upto key.now) names.now near) }
 {
-    names.len() > 1
-        && near < names.len() - 1
-        && is_upto(&names[near], key)
-        && !is_upto(&names[near + 1], key)
+    let (_, rest) = names.split_at(near.min(names.len()));
+    let Some((one, after)) = rest.split_first() else {
+        return false;
+    };
+    is_upto(one, key) && !after.first().is_some_and(|next| is_upto(next, key))
 }
 
 fn is_upto(one: &CheckedName<'_>, key: &[u8]) -> bool
@@ -198,7 +194,7 @@ fn add_origin<'a>(
     ensures { OnOk result (AreChecked (record { origin = origin.now; records = records.now })
         names.new.items) }
 {
-    let place = count_upto(names.as_slice(), [names.len(); 3], key);
+    let place = count_upto(names.as_slice(), None, key);
     if place > 0 && names[place - 1].key == key {
         return Ok(());
     }

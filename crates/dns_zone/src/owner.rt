@@ -26,8 +26,6 @@ pub(crate) struct Owner<'a> {
     key: &'a [u8],
     own: &'a [Entry],
     is_below_cut: bool,
-    // The place of the next name.
-    next: usize,
     // Whether the name is the zone's origin.
     stands_first: bool,
 }
@@ -49,12 +47,11 @@ impl<'a> Model for Owner<'a> {
 }
 
 impl<'a> Owner<'a> {
-    /// A name of a zone, with the place of the next.
+    /// A name of a zone.
     pub(crate) fn new(
         survey: &'a Survey<'a>,
         name: &'a NameRef<'a>,
         one: &CheckedName<'a>,
-        next: usize,
     ) -> Owner<'a>
         requires { IsChecked survey.now name.now one.now }
         ensures { result ≡ record { zone = survey.now; name = name.now } }
@@ -65,13 +62,12 @@ impl<'a> Owner<'a> {
             key: one.key,
             own: survey.own(one),
             is_below_cut: one.is_below_cut(),
-            next,
-            stands_first: name.same(survey.origin()),
+            stands_first: one.key == survey.key(),
         }
     }
 
     /// Which checks the name fails, by their codes.
-    pub(crate) fn judged(&self, last: &mut LastTarget) -> [bool; 15]
+    pub(crate) fn judged(&self, last: &mut LastTarget<'_>) -> [bool; 15]
         ensures { result ≡ map (λ c. c.1 self.now.zone self.now.name) checks }
     {
         let (is_alias, is_lost, is_exchange_alias) = self.target_faults(last);
@@ -147,7 +143,7 @@ impl<'a> Owner<'a> {
 
     // Whether the target of an NS record is an alias, whether that of one lacks an address, and
     // whether that of an MX or SRV record is an alias. Each is looked up once.
-    fn target_faults(&self, last: &mut LastTarget) -> (bool, bool, bool)
+    fn target_faults(&self, last: &mut LastTarget<'_>) -> (bool, bool, bool)
         ensures alias { result.0 ≡ ns_target_alias self.now.zone self.now.name }
         ensures lost { result.1 ≡ ns_target_lost self.now.zone self.now.name }
         ensures exchange { result.2 ≡ mx_target_alias self.now.zone self.now.name }
@@ -170,7 +166,7 @@ impl<'a> Owner<'a> {
         &self,
         entry: &Entry,
         owner_is_cut: bool,
-        last: &mut LastTarget,
+        last: &mut LastTarget<'_>,
     ) -> (bool, bool, bool)
         requires { owner_is_cut ≡ is_cut self.now.zone self.now.name }
         ensures alias { result.0 ≡ is_server_alias self.now.zone entry.now }
@@ -181,11 +177,9 @@ impl<'a> Owner<'a> {
         if !is_server && entry.rtype != RType::MX && entry.rtype != RType::SRV {
             return (false, false, false);
         }
-        let [place, _] = last.places();
-        let near = if is_server { self.next } else { place };
         let (is_alias, is_lost) = self
             .survey
-            .target_faults(entry, near, self.name, owner_is_cut, last);
+            .target_faults(entry, self.name, owner_is_cut, last);
         if is_server {
             (is_alias, is_lost, false)
         } else {

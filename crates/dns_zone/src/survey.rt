@@ -103,29 +103,28 @@ impl<'a> Survey<'a> {
     }
 
     // The last of the names that is not after a target at or below the origin.
-    fn last_upto(&self, near: usize, target: &mut LastTarget) -> &'a CheckedName<'a>
+    fn last_upto(&self, target: &mut LastTarget<'_>) -> &'a CheckedName<'a>
         requires lower { folded target.old ≡ target.old }
         requires inside { at_or_below target.old self.now.origin ≡ true }
         ensures same { target.new ≡ target.old }
         ensures last { IsLastUpto self.now target.old result.now }
     {
         let names = self.names;
-        let [last, other] = target.places();
-        let place = count_upto(names, [near, last, other], target.key()) - 1;
+        let place = count_upto(names, target.probable_place(names), target.key()) - 1;
         target.keep_place(place);
         &names[place]
     }
 
     // The records at a target at or below the origin, by their types, and whether it is at or below
     // a cut (RFC 1034 4.2).
-    fn at(&self, near: usize, target: &mut LastTarget) -> (&'a [Entry], bool)
+    fn at(&self, target: &mut LastTarget<'_>) -> (&'a [Entry], bool)
         requires lower { folded target.old ≡ target.old }
         requires inside { at_or_below target.old self.now.origin ≡ true }
         ensures own { result.0.now ≡ at self.now target.old }
         ensures by_types { IsNonDecreasingBy (λ (r : ResourceRecord). r.rtype) result.0.now }
         ensures cut { result.1 ≡ at_or_below_cut self.now target.old }
     {
-        let last = self.last_upto(near, target);
+        let last = self.last_upto(target);
         let key = target.key();
         if last.key == key {
             return (self.own(last), last.cut > 0);
@@ -134,15 +133,13 @@ impl<'a> Survey<'a> {
     }
 
     /// Whether the record's target is a name of the zone that owns a CNAME (RFC 2181 10.3), and
-    /// whether it is one that lacks an address there (RFC 1034 4.2.1). It is looked up once, at
-    /// place `near` first.
+    /// whether it is one that lacks an address there (RFC 1034 4.2.1). It is looked up once.
     pub(crate) fn target_faults(
         &self,
         entry: &Entry,
-        near: usize,
         owner: &NameRef<'_>,
         owner_is_cut: bool,
-        last: &mut LastTarget,
+        last: &mut LastTarget<'_>,
     ) -> (bool, bool)
         requires cut { owner_is_cut ≡ is_cut self.now owner.now }
         requires lower { folded owner.now ≡ owner.now }
@@ -154,7 +151,7 @@ impl<'a> Survey<'a> {
             (target entry.now.rtype entry.now.rdata) false }
     {
         match target(entry) {
-            Some(target) => self.name_faults(&target, near, owner, owner_is_cut, last),
+            Some(target) => self.name_faults(&target, owner, owner_is_cut, last),
             None => (false, false),
         }
     }
@@ -162,10 +159,9 @@ impl<'a> Survey<'a> {
     fn name_faults(
         &self,
         target: &NameRef<'_>,
-        near: usize,
         owner: &NameRef<'_>,
         owner_is_cut: bool,
-        last: &mut LastTarget,
+        last: &mut LastTarget<'_>,
     ) -> (bool, bool)
         requires lower { folded target.now ≡ target.now }
         requires cut { owner_is_cut ≡ is_cut self.now owner.now }
@@ -183,7 +179,7 @@ impl<'a> Survey<'a> {
         if !is_under(last.key(), self.key()) {
             return (false, false);
         }
-        let (own, is_under_cut) = self.at(near, last);
+        let (own, is_under_cut) = self.at(last);
         let is_lost = !self.has_address(target, own)
             && (!is_under_cut || owner_is_cut && is_at_or_below(target, owner));
         (has_type(own, RType::CNAME), is_lost)

@@ -5,7 +5,9 @@ ghost use Rattle.dns_spec.specs.Data.{target};
 ghost use Rattle.dns_zone.specs.KeyForm.{name_key};
 
 use crate::entry::Entry;
+use crate::guess::probable_place;
 use crate::key::Key;
+use crate::names::CheckedName;
 use dns_name::{Name, NameRef};
 use dns_rdata::Rdata;
 use std::marker::Model;
@@ -18,16 +20,17 @@ pub(crate) fn target(entry: &Entry) -> Option<NameRef<'_>>
     Rdata::target_lent(entry.rtype, entry.rdata())
 }
 
-/// The target that was looked for last, with its key, where it was found, and where another was
-/// found before it. The next is often the same, a sibling, or the other of two servers in turn.
+/// The target that was looked for last, with its key, and where it was found.
 #[derive(Drop)]
-pub(crate) struct LastTarget {
+pub(crate) struct LastTarget<'a> {
     name: Name,
     key: Key,
-    places: [usize; 2],
+    place: Option<usize>,
+    // What a search for it among the names that are checked has to know of them.
+    shared: &'a [[u8; 2]],
 }
 
-impl Model for LastTarget {
+impl<'a> Model for LastTarget<'a> {
     ghost use Rattle.std.specs.Prelude.{◌≡◌};
     ghost use Rattle.dns_spec.specs.Names.{DomainName};
     ghost use Rattle.dns_zone.specs.KeyForm.{name_key};
@@ -39,15 +42,16 @@ impl Model for LastTarget {
     ghost invariant = { λ l. l.key ≡ name_key l.name };
 }
 
-impl LastTarget {
-    /// The root, before any target is looked for.
-    pub(crate) fn new() -> LastTarget
+impl<'a> LastTarget<'a> {
+    /// The root, before any target is looked for among names that share so much.
+    pub(crate) fn new(shared: &'a [[u8; 2]]) -> LastTarget<'a>
         ensures { result ≡ [] }
     {
         LastTarget {
             name: Name::root(),
             key: Key::new(),
-            places: [0, 0],
+            place: None,
+            shared,
         }
     }
 
@@ -55,8 +59,12 @@ impl LastTarget {
     pub(crate) fn move_to(&mut self, name: &NameRef<'_>)
         ensures { self.new ≡ name.now }
     {
+        if self.name.lent() == *name {
+            return;
+        }
         self.key.move_to(&self.name.lent(), name);
         self.name = name.to_name();
+        self.place = None;
     }
 
     /// Its key.
@@ -66,18 +74,18 @@ impl LastTarget {
         self.key.octets()
     }
 
-    /// Where it was found, and where another was before it.
-    pub(crate) fn places(&self) -> [usize; 2] {
-        self.places
+    /// Where it was found, or probably is, among the names that are checked.
+    pub(crate) fn probable_place(&self, names: &[CheckedName<'_>]) -> Option<usize> {
+        match self.place {
+            Some(place) => Some(place),
+            None => probable_place(names, self.shared, self.key()),
+        }
     }
 
     /// Keeps where it was found.
     pub(crate) fn keep_place(&mut self, place: usize)
         ensures { self.new ≡ self.old }
     {
-        let [last, _] = self.places;
-        if place != last {
-            self.places = [place, last];
-        }
+        self.place = Some(place);
     }
 }

@@ -5,20 +5,12 @@ use Rattle.dns_zone.proofs.CheckedNames.{last_front}
 use Rattle.dns_zone.proofs.Pairs.{halves}
 use Rattle.dns_zone.proofs.names.count_upto.Goals as goal
 
-pub returns-then-is_last_upto : goal.returns-then-is_last_upto
-returns-then-is_last_upto c =
-    last_front (is_upto c.args.key.now) c.args.names.now _ c.requires c.if-is_last_upto.ensures
-
-pub returns-then-is_last_upto-2 : goal.returns-then-is_last_upto-2
-returns-then-is_last_upto-2 c =
-    last_front (is_upto c.args.key.now) c.args.names.now _ c.requires c.if-is_last_upto-2.ensures
-
-pub returns-then-is_last_upto-3 : goal.returns-then-is_last_upto-3
-returns-then-is_last_upto-3 c =
-    last_front (is_upto c.args.key.now) c.args.names.now _ c.requires c.if-is_last_upto-3.ensures
-
 pub returns : goal.returns
 returns c =
+    last_front (is_upto c.args.key.now) c.args.names.now _ c.requires c.if-is_last_upto.ensures
+
+pub returns-2 : goal.returns-2
+returns-2 c =
     let p = is_upto c.args.key.now in
     let names = c.args.names.now in
     let parts =
