@@ -1,5 +1,5 @@
 -- A walk over records of a zone in canonical order, owner by owner.
-use Rattle.std.proofs.Common.{◌≡◌, ℕ, Bool, true, false, not, cond, List, [], ◌∷◌, ◌++◌, ◌<◌, length, take, drop, refl, sym, ap, ap₂, ◌∙◌, arith, subst, filter, is_gt, is_lt, Ordering, Less, Equal, Greater}
+use Rattle.std.proofs.Common.{◌≡◌, ℕ, ◌+◌, Bool, true, false, not, cond, List, [], ◌∷◌, ◌++◌, ◌<◌, length, take, drop, refl, sym, ap, ap₂, ◌∙◌, arith, subst, filter, is_gt, is_lt, Ordering, Less, Equal, Greater}
 use Rattle.std.proofs.lemmas.Bool.{false≢true, true≢false, false_from_ne_true}
 use Rattle.std.proofs.lemmas.List.Filters.{length-filter_both}
 use Rattle.std.proofs.lemmas.List.Elements.{All-head}
@@ -28,6 +28,13 @@ front p xs h =
       λ k d a m. prefix_len_passes p xs k d m,
       λ k d a m. false_from_ne_true _ (λ t. false≢true (sym (prefix_len_stops p xs d (omega arith)) ∙ h (prefix_len p xs) k d a m t)),
     )
+
+-- of records of a name the first one need not be looked at
+pub one_more : (n : DomainName) (r : ResourceRecord) (rs : List ResourceRecord) (k : ℕ)
+    → n ≡ r.owner → k ≡ prefix_len (is_at n) rs → 1 + k ≡ prefix_len (is_at n) (r ∷ rs)
+one_more n r rs k e f =
+    ap (λ j. 1 + j) f
+    ∙ sym (ap (λ b. cond b (1 + prefix_len (is_at n) rs) 0) (same-from r.owner n (ap folded (sym e))))
 
 -- a part of ordered records is ordered
 ordered_filter : (p : ResourceRecord → Bool) (rs : List ResourceRecord) → AreOrdered rs → AreOrdered (filter p rs)

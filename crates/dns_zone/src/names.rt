@@ -95,9 +95,9 @@ fn owners<'a>(
     let mut rest = records;
     let mut last: &[u8] = &[];
     let mut cut = 0;
-    'owners: while let Some((record, _)) = rest.split_first() {
+    'owners: while let Some((record, others)) = rest.split_first() {
         let owner = record.owner();
-        let (own, others) = rest.split_at(count_in_front(rest, &owner));
+        let (own, others) = rest.split_at(1 + count_in_front(others, &owner));
         let next = key_at(keyed.keys.as_slice(), keyed.starts[first], record);
         let end = first + own.len();
         cut = cut_of(key, last, cut, next, own);

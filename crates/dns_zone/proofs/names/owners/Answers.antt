@@ -1,5 +1,6 @@
 use Rattle.std.proofs.Common.{rules, ◌≡◌, ◌+◌, ◌-◌, ◌∷◌, ◌++◌, List, [], length, map, take, drop, sym, ap, ap₂, ◌∙◌, subst, arith, refl}
 use Rattle.std.proofs.lemmas.List.{drop-drop, map_push}
+use Rattle.std.specs.List.{prefix_len}
 use Rattle.dns_spec.specs.Names.{DomainName}
 use Rattle.dns_spec.specs.Records.{ResourceRecord, ZoneContents}
 use Rattle.dns_spec.proofs.Records.SortedOnce.{Each}
@@ -9,9 +10,10 @@ use Rattle.dns_zone.specs.NamesForm.{own_in, first_owner, name_of, IsTopmost, Is
 use Rattle.dns_zone.specs.OwnerForm.{IsOwner}
 use Rattle.dns_zone.specs.ReportedForm.{owners_once}
 use Rattle.dns_zone.specs.declared.names.CheckedName.{CheckedName}
+use Rattle.dns_zone.proofs.AtName.{is_at}
 use Rattle.dns_zone.proofs.GrowingNames.{LastName, root_first, comes_next, added_last, each_added, all_added}
 use Rattle.dns_zone.proofs.KeyedNames.{first_keyed}
-use Rattle.dns_zone.proofs.OwnersWalk.{Step, step, all_owners}
+use Rattle.dns_zone.proofs.OwnersWalk.{Step, step, all_owners, one_more}
 use Rattle.dns_zone.proofs.TopmostCut.{topmost_fits}
 use Rattle.dns_zone.proofs.names.owners.Goals as goal
 use Rattle.dns_zone.proofs.names.owners.Goals.{In_ok-push}
@@ -33,7 +35,7 @@ owners-init c =
 
 pub index-requires : goal.index-requires
 index-requires c =
-    let rest_is : c.owners.rest.now ≡ c.in-Some.record.now ∷ c.in-Some.field-0-1.now =
+    let rest_is : c.owners.rest.now ≡ c.in-Some.record.now ∷ c.in-Some.others.now =
     search rules in
     let count = c.owners.invariant.count in
     let starts = c.requires.keyed.count in
@@ -49,13 +51,14 @@ cut_of-cut-requires-clause-fits c =
 
 pub cut_of-cut-requires-clause-by_types : goal.cut_of-cut-requires-clause-by_types
 cut_of-cut-requires-clause-by_types c =
-    let rest_is : c.owners.rest.now ≡ c.in-Some.record.now ∷ c.in-Some.field-0-1.now =
+    let rest_is : c.owners.rest.now ≡ c.in-Some.record.now ∷ c.in-Some.others.now =
     search rules in
     let name_is : c.owner-owner.result ≡ c.in-Some.record.now.owner = search rules in
-    (step _ _ c.in-Some.record.now c.in-Some.field-0-1.now _ _ _ _ name_is
+    (step _ _ c.in-Some.record.now c.in-Some.others.now _ _ _ _ name_is
     c.owner-owner.ensures.lower rest_is c.owners.invariant.whole
     (record {
-      count = c.count_in_front.ensures.value;
+      count = one_more _ c.in-Some.record.now _ _ name_is c.count_in_front.ensures.value
+          ∙ ap (prefix_len (is_at c.owner-owner.result)) (sym rest_is);
       own_is = c.split_at.ensures.front;
       others_are = c.split_at.ensures.back;
     })).is_owner.by_types
@@ -75,13 +78,14 @@ module _ (c : In_ok-push) where
 
   pub stepped : Step z n c.owners.rest.now own others
   stepped =
-      let rest_is : c.owners.rest.now ≡ c.in-Some.record.now ∷ c.in-Some.field-0-1.now =
+      let rest_is : c.owners.rest.now ≡ c.in-Some.record.now ∷ c.in-Some.others.now =
       search rules in
       let name_is : n ≡ c.in-Some.record.now.owner = search rules in
-      step _ _ c.in-Some.record.now c.in-Some.field-0-1.now _ _ _ _ name_is
+      step _ _ c.in-Some.record.now c.in-Some.others.now _ _ _ _ name_is
       c.owner-owner.ensures.lower rest_is c.owners.invariant.whole
       (record {
-        count = c.count_in_front.ensures.value;
+        count = one_more _ c.in-Some.record.now _ _ name_is c.count_in_front.ensures.value
+            ∙ ap (prefix_len (is_at n)) (sym rest_is);
         own_is = c.split_at.ensures.front;
         others_are = c.split_at.ensures.back;
       })
@@ -99,12 +103,14 @@ module _ (c : In_ok-push) where
       let front = c.split_at.ensures.front_len in
       let back = c.split_at.ensures.back_len in
       let bound = c.count_in_front.ensures.bound in
-      omega (arith, front, back, bound)
+      let rest_is : c.owners.rest.now ≡ c.in-Some.record.now ∷ c.in-Some.others.now =
+      search rules in
+      omega (arith, front, back, bound, ap length rest_is)
 
   own_there : own_in c.args.records.now added ≡ own
   own_there =
       let size : (c.owners.first + length own) - c.owners.first ≡ length own = omega arith in
-      let count : length own ≡ c.count_in_front.result =
+      let count : length own ≡ 1 + c.count_in_front.result =
       c.split_at.ensures.front_len in
       ap₂ (λ k (rs : List ResourceRecord). take k rs) (size ∙ count) (sym c.owners.invariant.part)
       ∙ sym c.split_at.ensures.front
@@ -114,7 +120,7 @@ module _ (c : In_ok-push) where
 
   key : c.key_at-next.result.now ≡ name_key n
   key =
-      let rest_is : c.owners.rest.now ≡ c.in-Some.record.now ∷ c.in-Some.field-0-1.now =
+      let rest_is : c.owners.rest.now ≡ c.in-Some.record.now ∷ c.in-Some.others.now =
       search rules in
       let name_is : c.in-Some.record.now.owner ≡ n = search rules in
       let count = c.owners.invariant.count in
@@ -174,8 +180,8 @@ owners-preserved c =
       each = subst (Each (λ d. IsChecked (z c) (name_of (z c) d) d)) items
           (each_added (z c) old (added c) (n c) c.owners.invariant.each (name_there c) (checked c));
       whole = (stepped c).has_owners;
-      part = c.split_at.ensures.back ∙ ap (drop c.count_in_front.result) c.owners.invariant.part
-          ∙ drop-drop c.count_in_front.result c.owners.first c.args.records.now
+      part = c.split_at.ensures.back ∙ ap (drop (1 + c.count_in_front.result)) c.owners.invariant.part
+          ∙ drop-drop (1 + c.count_in_front.result) c.owners.first c.args.records.now
           ∙ ap (λ k. drop (c.owners.first + k) c.args.records.now)
           (sym c.split_at.ensures.front_len);
       count = omega (arith, count, size);
