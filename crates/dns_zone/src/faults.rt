@@ -45,6 +45,7 @@ pub(crate) fn faults(
     let mut found = Vec::new(alloc);
     let mut last = LastTarget::new(shared.as_slice());
     'names: for one in names.as_slice() {
+        last.pass_name();
         report(&survey, one, &mut last, &mut found)?;
     }
     Ok(found)

@@ -20,12 +20,14 @@ pub(crate) fn target(entry: &Entry) -> Option<NameRef<'_>>
     Rdata::target_lent(entry.rtype, entry.rdata())
 }
 
-/// The target that was looked for last, with its key, and where it was found.
+/// The target that was looked for last, with its key, and where it was found. The glue of a cut
+/// mostly stands right after it, so the place of the name after the one that is judged is kept too.
 #[derive(Drop)]
 pub(crate) struct LastTarget<'a> {
     name: Name,
     key: Key,
     place: Option<usize>,
+    next: usize,
     // What a search for it among the names that are checked has to know of them.
     shared: &'a [[u8; 2]],
 }
@@ -51,6 +53,7 @@ impl<'a> LastTarget<'a> {
             name: Name::root(),
             key: Key::new(),
             place: None,
+            next: 0,
             shared,
         }
     }
@@ -74,11 +77,19 @@ impl<'a> LastTarget<'a> {
         self.key.octets()
     }
 
+    /// Goes on to the targets of the next name that is checked.
+    pub(crate) fn pass_name(&mut self)
+        ensures { self.new ≡ self.old }
+    {
+        self.next = self.next.saturating_add(1);
+    }
+
     /// Where it was found, or probably is, among the names that are checked.
     pub(crate) fn probable_place(&self, names: &[CheckedName<'_>]) -> Option<usize> {
-        match self.place {
-            Some(place) => Some(place),
-            None => probable_place(names, self.shared, self.key()),
+        match (self.place, names.get(self.next)) {
+            (Some(place), _) => Some(place),
+            (None, Some(next)) if next.key == self.key() => Some(self.next),
+            _ => probable_place(names, self.shared, self.key()),
         }
     }
 
