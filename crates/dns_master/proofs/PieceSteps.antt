@@ -1,7 +1,7 @@
 -- What is read of a beginning of a text holds of every text that goes on from it.
 use Rattle.std.proofs.Common.{◌≡◌, ℕ, ◌+◌, ◌-◌, ◌≤◌, ◌<◌, ◌⊎◌, inl, inr, Option, None, Some, Bool, true, false, List, [], ◌++◌, length, length-append, append-nil, append_assoc, refl, sym, ap, ◌∙◌, subst, arith}
 use Rattle.dns_spec.specs.Names.{Octets, DomainName}
-use Rattle.dns_spec.specs.FileFaults.{FileFault, fault_code, too_long}
+use Rattle.dns_spec.specs.FileFaults.{FileFault, too_long}
 use Rattle.std.specs.Option.{unwrap_or}
 use Rattle.std.specs.Bool.{MatchBool}
 use Rattle.std.proofs.lemmas.Bool.{false≢true}
@@ -17,9 +17,6 @@ use Rattle.dns_master.specs.PieceForm.{ReaderMeans, MayFollow, FrontTaken, Front
 use Rattle.dns_master.specs.SourceForm.{AppendsPiece}
 use Rattle.dns_master.specs.declared.state.Reader.{Reader}
 use Rattle.dns_master.proofs.EntriesLoop.{after-nil, after-append}
-use Rattle.dns_master.specs.Codes.{entry_fault_of}
-use Rattle.dns_master.specs.declared.fault.EntryFault.{EntryFault}
-use Rattle.dns_master.specs.declared.fault.EntryFault.TheVariants.{BadOctet, BadEscape, UnendedString, Parenthesis, UnknownDirective, DirectiveWords, BadOwner, NoOwner, BadTtl, OtherClass, BadType, NoTtl, BadData, TooManyRecords, TooLong}
 
 -- the fault of a beginning, other than that of the limit, is that of a text that goes on
 pub decided-means : (o : DomainName) (earlier : List Entry) (text more : Octets) (goes_on : Bool) (fault : FileFault) (line : ℕ)
@@ -34,23 +31,6 @@ decided-means o earlier text more goes_on fault line h other =
       at_end = found.1.at_end;
       meant = subst (λ es. EntriesMean o earlier es (fault_at fault line)) found.1.entries found.2;
     }
-
-pub other_than_long : (fault : EntryFault) → (fault ≡ TooLong → ⊥) → entry_fault_of fault ≡ too_long → ⊥
-other_than_long BadOctet h e = omega (arith, ap fault_code e)
-other_than_long BadEscape h e = omega (arith, ap fault_code e)
-other_than_long UnendedString h e = omega (arith, ap fault_code e)
-other_than_long Parenthesis h e = omega (arith, ap fault_code e)
-other_than_long UnknownDirective h e = omega (arith, ap fault_code e)
-other_than_long DirectiveWords h e = omega (arith, ap fault_code e)
-other_than_long BadOwner h e = omega (arith, ap fault_code e)
-other_than_long NoOwner h e = omega (arith, ap fault_code e)
-other_than_long BadTtl h e = omega (arith, ap fault_code e)
-other_than_long OtherClass h e = omega (arith, ap fault_code e)
-other_than_long BadType h e = omega (arith, ap fault_code e)
-other_than_long NoTtl h e = omega (arith, ap fault_code e)
-other_than_long BadData h e = omega (arith, ap fault_code e)
-other_than_long TooManyRecords h e = omega (arith, ap fault_code e)
-other_than_long TooLong h e = h refl
 
 -- what holds where an answer is true
 pub always : (P Q : Type 0) (b : Bool) → b ≡ true → MatchBool b P Q → P
