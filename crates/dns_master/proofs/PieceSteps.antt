@@ -13,7 +13,7 @@ use Rattle.dns_spec.specs.DataText.{Word}
 use Rattle.dns_master.specs.EntryForm.{TextMeans, EntryRead, IsWhole, Reads, outcome_of, unended}
 use Rattle.dns_master.proofs.EntryCuts.{reads-more}
 use Rattle.dns_master.proofs.TextSteps.{over-at_end, nothing-means, past-means}
-use Rattle.dns_master.specs.PieceForm.{ReaderMeans, MayFollow, FrontTaken, FrontFaulty, FrontGathered, TextGathered, PieceTaken, PieceFaulty}
+use Rattle.dns_master.specs.PieceForm.{ReaderMeans, MayFollow, FrontTaken, FrontFaulty, FrontGathered, TextGathered, PieceTaken}
 use Rattle.dns_master.specs.SourceForm.{AppendsPiece}
 use Rattle.dns_master.specs.declared.state.Reader.{Reader}
 use Rattle.dns_master.proofs.EntriesLoop.{after-nil, after-append}
@@ -131,15 +131,4 @@ piece-taken old new before now held text held' left asked more found found' p mo
       over = p.over;
       some = λ e. let some : 0 < length p.came = p.some e in omega (arith, size, some, p.short, most);
       gathered = subst (λ t. FrontGathered None before t now held' found found') p.grown gathered;
-    }
-
-pub piece-faulty : (old new : Option Octets) (before : Reader) (held text : Octets) (left asked : ℕ) (more : Bool) (fault : FileFault) (line : ℕ)
-    → (p : AppendsPiece old new asked held text more) → asked ≤ left → FrontFaulty None before text fault line
-    → PieceFaulty old new before held left fault line
-piece-faulty old new before held text left asked more fault line p most faulty =
-    record {
-      came = p.came;
-      consumed = p.consumed;
-      few = omega (arith, p.short, most);
-      is_faulty = subst (λ t. FrontFaulty None before t fault line) p.grown faulty;
     }

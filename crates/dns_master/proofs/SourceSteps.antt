@@ -8,10 +8,9 @@ use Rattle.dns_spec.specs.Records.{ResourceRecord}
 use Rattle.dns_spec.specs.FileFaults.{FileFault}
 use Rattle.dns_spec.specs.Meaning.{Meaning, Means, records, fault_at, after}
 use Rattle.dns_master.specs.EntryForm.{TextMeans}
-use Rattle.dns_master.specs.ReaderForm.{Knows}
 use Rattle.dns_master.specs.PieceForm.{ReaderMeans, TextGathered, PieceTaken, PieceFaulty}
 use Rattle.dns_master.specs.declared.state.Reader.{Reader}
-use Rattle.dns_master.proofs.EntriesLoop.{after-nil, after-append, looked-means}
+use Rattle.dns_master.proofs.EntriesLoop.{after-append, looked-means}
 use Rattle.dns_master.specs.SourceForm.{HasMore, GivesMeaning, Decides}
 
 -- a beginning that is not longer than what is looked at is a beginning of that
@@ -41,17 +40,6 @@ pub record GivenSoFar (old new : Option Octets) (o : DomainName) (r : Reader) (h
   pub size : length given + left ≡ 16777216
   pub means : (more : Octets) (goes_on : Bool) (later : Meaning) → ReaderMeans r goes_on (held ++ more) later
       → TextMeans o [] goes_on (given ++ more) (after found later)
-
-pub nothing-given : (known : Option Octets) (o : DomainName) (r : Reader) (held : Octets) (left : ℕ) (found : List ResourceRecord) → Knows o [] r → r.line ≡ 1
-    → held ≡ [] → left ≡ 16777216 → found ≡ [] → GivenSoFar known known o r held left found
-nothing-given known o r held left found knows line none all first = record {
-  given = [];
-  consumed = Consumes-none known;
-  size = omega (arith, all);
-  means = λ more goes_on later h.
-      subst (λ rs. TextMeans o [] goes_on more (after rs later)) (sym first)
-      (subst (TextMeans o [] goes_on more) (sym (after-nil later)) (subst (λ x. TextMeans o [] goes_on (x ++ more) later) none (h o [] knows line)));
-}
 
 module _ (old mid new : Option Octets) (o : DomainName) (r : Reader) (held : Octets) (left : ℕ) (found : List ResourceRecord) (so : GivenSoFar old mid o r held left found) where
   -- another piece

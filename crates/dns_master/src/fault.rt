@@ -94,19 +94,6 @@ impl From<AllocError> for ReadFault {
     }
 }
 
-impl<T: Drop> From<AllocFailed<T>> for ReadFault {
-    ghost use Rattle.dns_master.specs.declared.fault.ReadCode.{ReadCode};
-
-    ghost from_gives = { λ _ f. (f.code ≡ ReadCode.NoMemory) × (f.line ≡ 0) };
-
-    fn from(_refused: AllocFailed<T>) -> ReadFault {
-        ReadFault {
-            code: ReadCode::NoMemory,
-            line: 0,
-        }
-    }
-}
-
 /// The fault of a zone file.
 #[derive(Clone, Copy, Debug, PartialEq, Eq)]
 pub struct ReadFault {

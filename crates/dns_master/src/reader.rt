@@ -23,7 +23,7 @@ use crate::fields::{Fields, is_other_class, stated_ttl, type_and_words};
 use crate::gathers::{Gathers, WholeRecords};
 use crate::pieces::Begun;
 use crate::record::{Record, RecordBody};
-use crate::source::{is_more, new_piece};
+use crate::source::{PIECE, is_more};
 use crate::state::Reader;
 use crate::words::is_word;
 use dns_name::{Name, Tally};
@@ -97,14 +97,14 @@ pub fn read_into<R: Read, G: Gathers>(
         ⊎ (f.code ≡ ReadCode.NoMemory) → f.line ≡ 0) }
     ensures counted { source.new.failures ≡ failures_after_read source.old.failures result }
 {
-    let mut piece = new_piece(alloc)?;
+    let mut piece = [0; PIECE];
     let mut begun = Begun::new(alloc, origin);
     'pieces: while begun.left > 0 {
-        if !begun.take_piece(source, piece.as_mut_slice(), found)? {
+        if !begun.take_piece(source, &mut piece, found)? {
             return begun.finish(false, found);
         }
     }
-    match is_more(alloc, source, piece.as_mut_slice()) {
+    match is_more(alloc, source, &mut piece) {
         Ok(goes_on) => begun.finish(goes_on, found),
         Err(fault) => Err(fault),
     }
@@ -324,7 +324,7 @@ impl Reader {
         let Some((rtype, words)) = type_and_words(fields.others) else {
             return Err(ReadCode::BadType);
         };
-        let Some(ttl) = self.ttl_in_force(stated) else {
+        let Some(ttl) = stated.or(self.default_ttl.or(self.stated_ttl)) else {
             return Err(ReadCode::NoTtl);
         };
         let rdata = self.read_data(rtype, words, room)?;
@@ -332,13 +332,6 @@ impl Reader {
             return Err(ReadCode::TooManyRecords);
         }
         Ok(RecordBody { ttl, rtype, rdata })
-    }
-
-    // The TTL of a record: the stated one, else that of `$TTL`, else the last that was stated.
-    fn ttl_in_force(&self, stated: Option<u32>) -> Option<u32>
-        ensures { result ≡ option_or stated (option_or self.now.default_ttl self.now.stated_ttl) }
-    {
-        stated.or(self.default_ttl.or(self.stated_ttl))
     }
 
     fn read_data(

@@ -15,14 +15,6 @@ pub(crate) const MOST_OCTETS: usize = 16_777_216;
 /// How many octets are asked for at once.
 pub(crate) const PIECE: usize = 4_096;
 
-/// Room for a piece.
-pub(crate) fn new_piece(alloc: Global) -> Result<Vec<u8>, ReadFault>
-    ensures ok { IfOk result (λ piece. length piece.items ≡ PIECE) }
-    ensures err { IfErr result (λ f. (f.code ≡ ReadCode.NoMemory) × (f.line ≡ 0)) }
-{
-    Ok(vec![in alloc; 0; PIECE]?)
-}
-
 /// Reads so many octets at most, once, and appends what came: false at the end of the source.
 pub(crate) fn append_piece<R: Read>(
     source: &mut Tally<R>,
