@@ -201,44 +201,20 @@ impl Reader {
             (directive (text_in_lower_case name.now) (words_left words.entry)))) }
     {
         if is_word(b"$origin", name) {
-            return self.take_origin(words);
+            let Some(origin) = read_origin(words, &self.origin) else {
+                return Err(ReadCode::DirectiveWords);
+            };
+            self.origin = origin;
+            return Ok(());
         }
         if is_word(b"$ttl", name) {
-            return self.take_default_ttl(words);
+            let Some(ttl) = read_default_ttl(words) else {
+                return Err(ReadCode::DirectiveWords);
+            };
+            self.default_ttl = Some(ttl);
+            return Ok(());
         }
         Err(ReadCode::UnknownDirective)
-    }
-
-    // Takes the words of `$ORIGIN`.
-    fn take_origin(&mut self, words: EntryWords<'_, '_>) -> Result<(), ReadCode>
-        ensures ok { OnOk result (TakesEntry self.old
-            (directive (codes "$origin") (words_left words.entry)) [] self.new) }
-        ensures counted { self.new.count ≡ self.old.count }
-        ensures line { self.new.line ≡ self.old.line }
-        ensures err { IfErr result (λ code. ForFault code (RefusesEntry self.old
-            (directive (codes "$origin") (words_left words.entry)))) }
-    {
-        let Some(origin) = read_origin(words, &self.origin) else {
-            return Err(ReadCode::DirectiveWords);
-        };
-        self.origin = origin;
-        Ok(())
-    }
-
-    // Takes the words of `$TTL`.
-    fn take_default_ttl(&mut self, words: EntryWords<'_, '_>) -> Result<(), ReadCode>
-        ensures ok { OnOk result (TakesEntry self.old
-            (directive (codes "$ttl") (words_left words.entry)) [] self.new) }
-        ensures counted { self.new.count ≡ self.old.count }
-        ensures line { self.new.line ≡ self.old.line }
-        ensures err { IfErr result (λ code. ForFault code (RefusesEntry self.old
-            (directive (codes "$ttl") (words_left words.entry)))) }
-    {
-        let Some(ttl) = read_default_ttl(words) else {
-            return Err(ReadCode::DirectiveWords);
-        };
-        self.default_ttl = Some(ttl);
-        Ok(())
     }
 
     // Takes a record that states its owner: that word, and the words after it.
