@@ -11,7 +11,7 @@ use Rattle.dns_master.specs.EntryForm.{TextMeans}
 use Rattle.dns_master.specs.PieceForm.{ReaderMeans, TextGathered, PieceTaken, PieceFaulty}
 use Rattle.dns_master.specs.declared.state.Reader.{Reader}
 use Rattle.dns_master.proofs.EntriesLoop.{after-append, looked-means}
-use Rattle.dns_master.specs.SourceForm.{HasMore, GivesMeaning, Decides}
+use Rattle.dns_master.specs.SourceForm.{AppendsPiece, GivesMeaning, Decides}
 
 -- a beginning that is not longer than what is looked at is a beginning of that
 looked_at : (n : ℕ) (front more : Octets) → length front ≤ n → (rest : Octets) × (take n (front ++ more) ≡ front ++ rest)
@@ -98,7 +98,7 @@ module _ (old mid new : Option Octets) (o : DomainName) (r : Reader) (held : Oct
       }
 
   -- the same, where as many octets came as are looked at, and another one was asked for
-  pub limit-given : (goes_on : Bool) (m : Meaning) → left ≡ 0 → HasMore mid new goes_on → ReaderMeans r goes_on held m → Decides old new o (after found m)
+  pub limit-given : {text text' : Octets} (goes_on : Bool) (m : Meaning) → left ≡ 0 → AppendsPiece mid new 1 text text' goes_on → ReaderMeans r goes_on held m → Decides old new o (after found m)
   limit-given true m full more h =
       let given : Octets = so.given ++ more.came in
       let size : length given ≡ length so.given + length more.came = length-append so.given more.came in
@@ -147,7 +147,7 @@ module _ (old mid new : Option Octets) (o : DomainName) (r : Reader) (held : Oct
       subst (λ rs. Decides old mid o (records rs)) (sym t.grown) (end-given old mid new o r held left found so (records t.came) over t.means)
 
   -- and where as many octets came as are looked at
-  pub limit-records : (goes_on : Bool) (all : List ResourceRecord) → left ≡ 0 → HasMore mid new goes_on → TextGathered r goes_on held found all
+  pub limit-records : {text text' : Octets} (goes_on : Bool) (all : List ResourceRecord) → left ≡ 0 → AppendsPiece mid new 1 text text' goes_on → TextGathered r goes_on held found all
       → Decides old new o (records all)
   limit-records goes_on all full more t =
       subst (λ rs. Decides old new o (records rs)) (sym t.grown) (limit-given old mid new o r held left found so goes_on (records t.came) full more t.means)

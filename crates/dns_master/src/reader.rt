@@ -23,7 +23,7 @@ use crate::fields::{Fields, is_other_class, stated_ttl, type_and_words};
 use crate::gathers::{Gathers, WholeRecords};
 use crate::pieces::Begun;
 use crate::record::{Record, RecordBody};
-use crate::source::{PIECE, is_more};
+use crate::source::{PIECE, append_piece};
 use crate::state::Reader;
 use crate::words::is_word;
 use dns_name::{Name, Tally};
@@ -104,7 +104,8 @@ pub fn read_into<R: Read, G: Gathers>(
             return begun.finish(false, found);
         }
     }
-    match is_more(alloc, source, &mut piece) {
+    let mut past = Vec::new(alloc);
+    match append_piece(source, 1, &mut piece, &mut past) {
         Ok(goes_on) => begun.finish(goes_on, found),
         Err(fault) => Err(fault),
     }

@@ -1,12 +1,11 @@
 //! The text of a source.
 ghost use Rattle.std.specs.Prelude.{◌≡◌, ◌-◌, ◌^◌, ◌<◌, ◌≤◌, ◌⊎◌, length, IfOk, IfErr};
-ghost use Rattle.dns_master.specs.SourceForm.{AppendsPiece, HasMore};
+ghost use Rattle.dns_master.specs.SourceForm.{AppendsPiece};
 ghost use Rattle.dns_master.specs.declared.source.TheConstants.{PIECE};
 ghost use Rattle.dns_master.specs.Codes.{failures_after_read};
 
 use crate::fault::{ReadCode, ReadFault};
 use dns_name::Tally;
-use std::alloc::Global;
 use std::io::Read;
 
 /// A text has at most so many octets.
@@ -42,22 +41,4 @@ pub(crate) fn append_piece<R: Read>(
     let (came, _) = front.split_at(count);
     text.extend_from_slice(came)?;
     Ok(count > 0)
-}
-
-/// Reads one octet more: false at the end of the source.
-pub(crate) fn is_more<R: Read>(
-    alloc: Global,
-    source: &mut Tally<R>,
-    piece: &mut [u8],
-) -> Result<bool, ReadFault>
-    requires count { source.old.failures < 2 ^ 64 - 1 }
-    requires room { 1 ≤ length piece.old }
-    ensures ok { IfOk result (λ more. HasMore (R.remaining source.old.device)
-        (R.remaining source.new.device) more) }
-    ensures err { IfErr result (λ f. ((f.code ≡ ReadCode.SourceFailed)
-        ⊎ (f.code ≡ ReadCode.NoMemory)) × (f.line ≡ 0)) }
-    ensures counted { source.new.failures ≡ failures_after_read source.old.failures result }
-{
-    let mut past = Vec::new(alloc);
-    append_piece(source, 1, piece, &mut past)
 }

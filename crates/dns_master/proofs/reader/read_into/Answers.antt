@@ -64,7 +64,7 @@ pub returns-in-Ok-clause-whole : goal.returns-in-Ok-clause-whole
 returns-in-Ok-clause-whole g c =
     let old = g.R.Read.remaining c.args.source.now.device in
     let mid = g.R.Read.remaining c.pieces.source.device in
-    let new = g.R.Read.remaining c.is_more.new.source.device in
+    let new = g.R.Read.remaining c.append_piece.new.source.device in
     let o = c.args.origin.now in
     let before = g.G.Gathers.gathered c.pieces.found in
     let all = g.G.Gathers.gathered c.finish-in-Ok.new.found in
@@ -78,7 +78,7 @@ pub returns-in-Ok-clause-decided : goal.returns-in-Ok-clause-decided
 returns-in-Ok-clause-decided g c =
     let old = g.R.Read.remaining c.args.source.now.device in
     let mid = g.R.Read.remaining c.pieces.source.device in
-    let new = g.R.Read.remaining c.is_more.new.source.device in
+    let new = g.R.Read.remaining c.append_piece.new.source.device in
     let o = c.args.origin.now in
     let before = g.G.Gathers.gathered c.pieces.found in
     let last = c.pieces.begun in
