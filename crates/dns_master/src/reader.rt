@@ -128,9 +128,9 @@ impl Reader {
     }
 
     /// Takes the entry that a text begins with: gives whether it is a record, which is the last one
-    /// then, and the text after it. `goes_on` is whether the text goes on past its limit. Where that
-    /// is not known, more of it may come: `None` where that would be needed to tell, and then nothing
-    /// was taken.
+    /// then, and the text after it. `goes_on` is whether the text goes on past its limit. Where
+    /// that is not known, more of it may come: `None` where that would be needed to tell, and then
+    /// nothing was taken.
     pub(crate) fn take_entry<'a>(
         &mut self,
         text: &'a [u8],
