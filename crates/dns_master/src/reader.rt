@@ -1,7 +1,5 @@
 //! The reader of zone files (RFC 1035 section 5).
-ghost use Rattle.std.specs.Prelude.{◌≡◌, ◌≢◌, ◌+◌, ◌-◌, ◌^◌, ◌≤◌, ◌<◌, ◌⊎◌, length, List, [], ◌∷◌, ◌++◌, IfOk, IfErr, OnOk, IfSome, IsSome, IsTrue, Some, None, true, codes, if◌then◌else◌};
-ghost use Rattle.std.specs.Option.{option_or};
-ghost use Rattle.dns_spec.specs.Names.{folded};
+ghost use Rattle.std.specs.Prelude.{◌≡◌, ◌≢◌, ◌+◌, ◌-◌, ◌^◌, ◌≤◌, ◌<◌, ◌⊎◌, length, [], ◌∷◌, IfOk, IfErr, OnOk, IfSome, Some, None, true, if◌then◌else◌};
 ghost use Rattle.dns_spec.specs.FileFaults.{bad_data};
 ghost use Rattle.dns_spec.specs.Data.{Valid, lower_case};
 ghost use Rattle.dns_spec.specs.DataText.{Says};

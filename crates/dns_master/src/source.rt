@@ -1,7 +1,6 @@
 //! The text of a source.
 ghost use Rattle.std.specs.Prelude.{◌≡◌, ◌-◌, ◌^◌, ◌<◌, ◌≤◌, ◌⊎◌, length, IfOk, IfErr};
 ghost use Rattle.dns_master.specs.SourceForm.{AppendsPiece};
-ghost use Rattle.dns_master.specs.declared.source.TheConstants.{PIECE};
 ghost use Rattle.dns_master.specs.Codes.{failures_after_read};
 
 use crate::fault::{ReadCode, ReadFault};
