@@ -56,9 +56,6 @@ module _ (text : Octets) where
     pub same_words : words ≡ token_words tokens
     pub counted : lines ≡ line_ends tokens
 
-  pub nothing-read : EntrySoFar false text [] 0
-  nothing-read = record { tokens = []; whole = λ ps outcome h. h; same_words = refl; counted = refl }
-
   -- a token after which the entry goes on
   pub token-read : (is_open now_open : Bool) (rest others : Octets) (p : Token) (words : List Word) (lines lines' : ℕ)
       → EntrySoFar is_open rest words lines → token_front rest ≡ Some (p, others) → step is_open p ≡ onward now_open

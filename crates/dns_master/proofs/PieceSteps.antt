@@ -1,7 +1,7 @@
 -- What is read of a beginning of a text holds of every text that goes on from it.
 use Rattle.std.proofs.Common.{◌≡◌, ℕ, ◌+◌, ◌-◌, ◌≤◌, ◌<◌, ◌⊎◌, inl, inr, Option, None, Some, Bool, true, false, List, [], ◌++◌, length, length-append, append-nil, append_assoc, refl, sym, ap, ◌∙◌, subst, arith}
 use Rattle.dns_spec.specs.Names.{Octets, DomainName}
-use Rattle.dns_spec.specs.FileFaults.{FileFault, fault_code, too_long}
+use Rattle.dns_spec.specs.FileFaults.{FileFault, too_long}
 use Rattle.std.specs.Option.{unwrap_or}
 use Rattle.std.specs.Bool.{MatchBool}
 use Rattle.std.proofs.lemmas.Bool.{false≢true}
@@ -13,13 +13,10 @@ use Rattle.dns_spec.specs.DataText.{Word}
 use Rattle.dns_master.specs.EntryForm.{TextMeans, EntryRead, IsWhole, Reads, outcome_of, unended}
 use Rattle.dns_master.proofs.EntryCuts.{reads-more}
 use Rattle.dns_master.proofs.TextSteps.{over-at_end, nothing-means, past-means}
-use Rattle.dns_master.specs.PieceForm.{ReaderMeans, MayFollow, FrontTaken, FrontFaulty, FrontGathered, TextGathered, PieceTaken, PieceFaulty}
+use Rattle.dns_master.specs.PieceForm.{ReaderMeans, MayFollow, FrontTaken, FrontFaulty, FrontGathered, TextGathered, PieceTaken}
 use Rattle.dns_master.specs.SourceForm.{AppendsPiece}
 use Rattle.dns_master.specs.declared.state.Reader.{Reader}
 use Rattle.dns_master.proofs.EntriesLoop.{after-nil, after-append}
-use Rattle.dns_master.specs.Codes.{entry_fault_of}
-use Rattle.dns_master.specs.declared.fault.EntryFault.{EntryFault}
-use Rattle.dns_master.specs.declared.fault.EntryFault.TheVariants.{BadOctet, BadEscape, UnendedString, Parenthesis, UnknownDirective, DirectiveWords, BadOwner, NoOwner, BadTtl, OtherClass, BadType, NoTtl, BadData, TooManyRecords, TooLong}
 
 -- the fault of a beginning, other than that of the limit, is that of a text that goes on
 pub decided-means : (o : DomainName) (earlier : List Entry) (text more : Octets) (goes_on : Bool) (fault : FileFault) (line : ℕ)
@@ -34,23 +31,6 @@ decided-means o earlier text more goes_on fault line h other =
       at_end = found.1.at_end;
       meant = subst (λ es. EntriesMean o earlier es (fault_at fault line)) found.1.entries found.2;
     }
-
-pub other_than_long : (fault : EntryFault) → (fault ≡ TooLong → ⊥) → entry_fault_of fault ≡ too_long → ⊥
-other_than_long BadOctet h e = omega (arith, ap fault_code e)
-other_than_long BadEscape h e = omega (arith, ap fault_code e)
-other_than_long UnendedString h e = omega (arith, ap fault_code e)
-other_than_long Parenthesis h e = omega (arith, ap fault_code e)
-other_than_long UnknownDirective h e = omega (arith, ap fault_code e)
-other_than_long DirectiveWords h e = omega (arith, ap fault_code e)
-other_than_long BadOwner h e = omega (arith, ap fault_code e)
-other_than_long NoOwner h e = omega (arith, ap fault_code e)
-other_than_long BadTtl h e = omega (arith, ap fault_code e)
-other_than_long OtherClass h e = omega (arith, ap fault_code e)
-other_than_long BadType h e = omega (arith, ap fault_code e)
-other_than_long NoTtl h e = omega (arith, ap fault_code e)
-other_than_long BadData h e = omega (arith, ap fault_code e)
-other_than_long TooManyRecords h e = omega (arith, ap fault_code e)
-other_than_long TooLong h e = h refl
 
 -- what holds where an answer is true
 pub always : (P Q : Type 0) (b : Bool) → b ≡ true → MatchBool b P Q → P
@@ -151,15 +131,4 @@ piece-taken old new before now held text held' left asked more found found' p mo
       over = p.over;
       some = λ e. let some : 0 < length p.came = p.some e in omega (arith, size, some, p.short, most);
       gathered = subst (λ t. FrontGathered None before t now held' found found') p.grown gathered;
-    }
-
-pub piece-faulty : (old new : Option Octets) (before : Reader) (held text : Octets) (left asked : ℕ) (more : Bool) (fault : FileFault) (line : ℕ)
-    → (p : AppendsPiece old new asked held text more) → asked ≤ left → FrontFaulty None before text fault line
-    → PieceFaulty old new before held left fault line
-piece-faulty old new before held text left asked more fault line p most faulty =
-    record {
-      came = p.came;
-      consumed = p.consumed;
-      few = omega (arith, p.short, most);
-      is_faulty = subst (λ t. FrontFaulty None before t fault line) p.grown faulty;
     }

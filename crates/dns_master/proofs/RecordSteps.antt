@@ -10,7 +10,7 @@ use Rattle.dns_spec.specs.Records.{ResourceRecord}
 use Rattle.dns_spec.specs.Data.{lower_case, cut}
 use Rattle.dns_spec.specs.DataText.{Word, Says}
 use Rattle.dns_spec.specs.ZoneText.{Entry}
-use Rattle.dns_spec.specs.FileFaults.{bad_data, bad_ttl, bad_type, no_owner, no_ttl, other_class, too_many_records}
+use Rattle.dns_spec.specs.FileFaults.{bad_data, bad_type, no_owner, no_ttl, other_class, too_many_records}
 use Rattle.dns_spec.specs.Meaning.{Nothing, Lowest, IsRecord, Fields, EntryMeaning, faulty, gives, OriginIs, TtlSays, ttl_in_force, TypeIs, DataIs, IsNoTtl, is_other_class, are_too_many, RecordGives}
 use Rattle.dns_spec.proofs.DataWords.LoweredData.{lowered-twice}
 use Rattle.dns_spec.proofs.DataWords.TypeWords.{one_type}
@@ -51,9 +51,6 @@ module _ (o : DomainName) (earlier : List Entry) (owner : DomainName) (f : Field
 
   named : Nothing (λ (n : DomainName). n ≡ owner) → ⊥
   named none = none owner refl
-
-  pub ttl-fault : IsNoTtl f.ttl → RecordGives o earlier no_owner (λ n. n ≡ owner) f (faulty bad_ttl)
-  ttl-fault h = inr (named, inl (h, refl))
 
   pub class-fault : (stated : Option ℕ) → TtlOf f.ttl stated → is_other_class f.class ≡ true → RecordGives o earlier no_owner (λ n. n ≡ owner) f (faulty other_class)
   class-fault stated a h = inr (named, inr (ttl-stated f.ttl stated a, inl (h, refl)))

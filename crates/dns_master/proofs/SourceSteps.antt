@@ -8,11 +8,10 @@ use Rattle.dns_spec.specs.Records.{ResourceRecord}
 use Rattle.dns_spec.specs.FileFaults.{FileFault}
 use Rattle.dns_spec.specs.Meaning.{Meaning, Means, records, fault_at, after}
 use Rattle.dns_master.specs.EntryForm.{TextMeans}
-use Rattle.dns_master.specs.ReaderForm.{Knows}
 use Rattle.dns_master.specs.PieceForm.{ReaderMeans, TextGathered, PieceTaken, PieceFaulty}
 use Rattle.dns_master.specs.declared.state.Reader.{Reader}
-use Rattle.dns_master.proofs.EntriesLoop.{after-nil, after-append, looked-means}
-use Rattle.dns_master.specs.SourceForm.{HasMore, GivesMeaning, Decides}
+use Rattle.dns_master.proofs.EntriesLoop.{after-append, looked-means}
+use Rattle.dns_master.specs.SourceForm.{AppendsPiece, GivesMeaning, Decides}
 
 -- a beginning that is not longer than what is looked at is a beginning of that
 looked_at : (n : ℕ) (front more : Octets) → length front ≤ n → (rest : Octets) × (take n (front ++ more) ≡ front ++ rest)
@@ -41,17 +40,6 @@ pub record GivenSoFar (old new : Option Octets) (o : DomainName) (r : Reader) (h
   pub size : length given + left ≡ 16777216
   pub means : (more : Octets) (goes_on : Bool) (later : Meaning) → ReaderMeans r goes_on (held ++ more) later
       → TextMeans o [] goes_on (given ++ more) (after found later)
-
-pub nothing-given : (known : Option Octets) (o : DomainName) (r : Reader) (held : Octets) (left : ℕ) (found : List ResourceRecord) → Knows o [] r → r.line ≡ 1
-    → held ≡ [] → left ≡ 16777216 → found ≡ [] → GivenSoFar known known o r held left found
-nothing-given known o r held left found knows line none all first = record {
-  given = [];
-  consumed = Consumes-none known;
-  size = omega (arith, all);
-  means = λ more goes_on later h.
-      subst (λ rs. TextMeans o [] goes_on more (after rs later)) (sym first)
-      (subst (TextMeans o [] goes_on more) (sym (after-nil later)) (subst (λ x. TextMeans o [] goes_on (x ++ more) later) none (h o [] knows line)));
-}
 
 module _ (old mid new : Option Octets) (o : DomainName) (r : Reader) (held : Octets) (left : ℕ) (found : List ResourceRecord) (so : GivenSoFar old mid o r held left found) where
   -- another piece
@@ -110,7 +98,7 @@ module _ (old mid new : Option Octets) (o : DomainName) (r : Reader) (held : Oct
       }
 
   -- the same, where as many octets came as are looked at, and another one was asked for
-  pub limit-given : (goes_on : Bool) (m : Meaning) → left ≡ 0 → HasMore mid new goes_on → ReaderMeans r goes_on held m → Decides old new o (after found m)
+  pub limit-given : {text text' : Octets} (goes_on : Bool) (m : Meaning) → left ≡ 0 → AppendsPiece mid new 1 text text' goes_on → ReaderMeans r goes_on held m → Decides old new o (after found m)
   limit-given true m full more h =
       let given : Octets = so.given ++ more.came in
       let size : length given ≡ length so.given + length more.came = length-append so.given more.came in
@@ -159,7 +147,7 @@ module _ (old mid new : Option Octets) (o : DomainName) (r : Reader) (held : Oct
       subst (λ rs. Decides old mid o (records rs)) (sym t.grown) (end-given old mid new o r held left found so (records t.came) over t.means)
 
   -- and where as many octets came as are looked at
-  pub limit-records : (goes_on : Bool) (all : List ResourceRecord) → left ≡ 0 → HasMore mid new goes_on → TextGathered r goes_on held found all
+  pub limit-records : {text text' : Octets} (goes_on : Bool) (all : List ResourceRecord) → left ≡ 0 → AppendsPiece mid new 1 text text' goes_on → TextGathered r goes_on held found all
       → Decides old new o (records all)
   limit-records goes_on all full more t =
       subst (λ rs. Decides old new o (records rs)) (sym t.grown) (limit-given old mid new o r held left found so goes_on (records t.came) full more t.means)

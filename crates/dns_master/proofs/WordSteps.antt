@@ -73,9 +73,6 @@ module _ (kept : List Word) (later rest : Octets) (count : ℕ) (all : List Word
       ∙ ap (λ ws. kept ++ ws) (take-length (token_words h.passed) (words_in rest))
       ∙ sym h.all_are
 
-pub nothing-counted : (text : Octets) → KeptAndCounted [] text text 0 []
-nothing-counted text = record { passed = []; spelled = refl; counted = refl; all_are = refl }
-
 module _ (p : Token) (others : Octets) (kept : List Word) (later : Octets) (count : ℕ) where
   one-more : (rest : Octets) → token_front rest ≡ Some (p, others) → (ps : List Token) → TokensThen later ps rest → TokensThen later (ps ++ p ∷ []) others
   one-more rest e ps h = tokens-append later rest others ps (p ∷ []) h (others, e, refl)
@@ -106,17 +103,3 @@ module _ (p : Token) (others : Octets) (kept : List Word) (later : Octets) (coun
       length-one : (ws : List Word) → length (ws ++ w ∷ []) ≡ length ws + 1
       length-one [] = refl
       length-one (v ∷ ws) = let more : length (ws ++ w ∷ []) ≡ length ws + 1 = length-one ws in omega (arith, more)
-
-  -- a word that is kept, where none was counted so far
-  pub word-kept : (w : Word) → word_of p ≡ Some w → count ≡ 0 → WordTaken p others kept later count (kept ++ w ∷ []) others 0
-  word-kept w is none rest all e h = record {
-    passed = [];
-    spelled = refl;
-    counted = refl;
-    all_are = ap (λ x. x ++ token_words (p ∷ [])) (h.all_are ∙ ap (λ x. kept ++ x) (no_words (token_words h.passed) (sym h.counted ∙ none)) ∙ append-nil kept)
-        ∙ ap (λ x. kept ++ cons_option x []) is ∙ sym (append-nil (kept ++ w ∷ []));
-  }
-    where
-      no_words : (ws : List Word) → length ws ≡ 0 → ws ≡ []
-      no_words [] e = refl
-      no_words (v ∷ ws) e = absurd (omega (arith, e))

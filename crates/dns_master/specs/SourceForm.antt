@@ -15,14 +15,6 @@ pub record AppendsPiece (old new : Option Octets) (most : ℕ) (before after : O
   pub some : more ≡ true → 0 < length came
   pub over : more ≡ false → (came ≡ []) × IsAtEnd new
 
--- an octet more was asked for, and came, or the source is at its end
-pub record HasMore (old new : Option Octets) (more : Bool) : Type 0 where
-  pub came : Octets
-  pub consumed : Consumes old new came
-  pub short : length came ≤ 1
-  pub some : more ≡ true → 0 < length came
-  pub over : more ≡ false → (came ≡ []) × IsAtEnd new
-
 -- the octets that the source has still to give, to its end, mean this as the file of a zone with
 -- this origin
 abbrev pub GivesMeaning : Option Octets → DomainName → Meaning → Type 0

@@ -1,20 +1,20 @@
 //! The entries of a text: from the beginning of a line to the first line end outside parentheses
 //! (RFC 1035 5.1).
-ghost use Rattle.std.specs.Prelude.{◌≡◌, ◌≢◌, ◌+◌, ◌≤◌, ◌++◌, [], ◌∷◌, ◌⊎◌, true, false, Some, None, length, take, IfOk, IfErr, IfSome, OnOk};
+ghost use Rattle.std.specs.Prelude.{◌≡◌, ◌≢◌, ◌+◌, ◌≤◌, ◌++◌, [], ◌∷◌, true, false, Some, None, length, take, IfOk, IfErr, IfSome};
 ghost use Rattle.std.specs.List.{list_any};
 ghost use Rattle.std.specs.Option.{option_map, unwrap_or};
 ghost use Rattle.std.specs.Bool.{MatchBool};
-ghost use Rattle.dns_spec.specs.FileFaults.{bad_parenthesis};
+ghost use Rattle.dns_spec.specs.FileFaults.{bad_parenthesis, too_long};
 ghost use Rattle.dns_spec.specs.ZoneText.{is_blank, begins_line_end, is_cut_short, extent_by, stop_at, stop_fault, string_fault, token_fault, unless_cut_short};
 ghost use Rattle.dns_master.specs.TokenForm.{shown_token};
 ghost use Rattle.dns_master.specs.EntryForm.{EntryRead, IsWhole, IsWrong, outcome_of, step, line_ends};
 ghost use Rattle.dns_master.specs.WordsForm.{WordTaken, words_in};
 ghost use Rattle.dns_master.specs.WordsLeft.{later_words};
 ghost use Rattle.dns_master.specs.Steps.{shown_step};
-ghost use Rattle.dns_master.specs.Codes.{ForFault, entry_fault_of};
+ghost use Rattle.dns_master.specs.Codes.{ForFault, fault_of};
 
 use crate::entry_words::{LaterWords, word_of};
-use crate::fault::{EntryFault, Refusal};
+use crate::fault::ReadCode;
 use crate::run::{Run, is_blank};
 use crate::token::{Token, first_token};
 use dns_rdata::Word;
@@ -44,7 +44,7 @@ pub(crate) struct EntryEnd<'a> {
 pub(crate) fn read_entry<'a>(
     text: &'a [u8],
     kept: &mut Vec<Word<'a>>,
-) -> Result<EntryEnd<'a>, Refusal>
+) -> Result<EntryEnd<'a>, ReadCode>
     requires { length text.now ≤ 16777217 }
     ensures ok { IfOk result (λ end. EntryRead text.now
         (kept.new.items ++ later_words end.later) end.lines
@@ -53,7 +53,7 @@ pub(crate) fn read_entry<'a>(
         end.later.count ≤ length (words_in end.later.text.now)) }
     ensures few { IfOk result (λ end. end.later.count ≤ length text.now) }
     ensures bound { IfOk result (λ end. end.lines + length end.rest.now ≤ length text.now) }
-    ensures err { IfErr result (λ refusal. ForFault refusal
+    ensures err { IfErr result (λ code. ForFault code
         (λ fault. (fault ≡ bad_parenthesis) × IsWrong text.now)) }
 {
     kept.clear();
@@ -66,7 +66,7 @@ pub(crate) fn read_entry<'a>(
         lines += line_ends(token);
         rest = others;
         match step_after(token, is_open) {
-            Step::Misplaced => return Err(Refusal::Faulty(EntryFault::Parenthesis)),
+            Step::Misplaced => return Err(ReadCode::Parenthesis),
             Step::Over => return Ok(EntryEnd {
                 later,
                 lines,
@@ -92,13 +92,13 @@ fn take_word<'a>(
     later: LaterWords<'a>,
     token: Token<'a>,
     others: &'a [u8],
-) -> Result<LaterWords<'a>, Refusal>
+) -> Result<LaterWords<'a>, ReadCode>
     requires { later.count ≤ 16777217 }
     ensures ok { IfOk result (λ now. WordTaken (shown_token token.entry) others.now
         kept.old.items later.entry.text.now later.entry.count
         kept.new.items now.text.now now.count) }
     ensures bound { IfOk result (λ now. now.count ≤ later.entry.count + 1) }
-    ensures err { IfErr result (λ refusal. refusal ≡ Refusal.NoMemory) }
+    ensures err { IfErr result (λ code. code ≡ ReadCode.NoMemory) }
 {
     let Some(word) = word_of(token) else {
         return Ok(later);
@@ -158,36 +158,37 @@ pub(crate) fn begins_blank(text: &[u8]) -> bool
 /// not go on. `goes_on` is whether the text goes on past its limit, where that is known.
 ///
 /// False where more of the text would be needed to tell; else the entry's fault by its place.
-pub(crate) fn is_whole(end: &EntryEnd<'_>, goes_on: Option<bool>) -> Result<bool, EntryFault>
+#[tactic(auto, using(crate::proofs::Refusals::other_than_long))]
+pub(crate) fn is_whole(end: &EntryEnd<'_>, goes_on: Option<bool>) -> Result<bool, ReadCode>
     ensures ok { IfOk result (λ whole. MatchBool whole
         (IsWhole goes_on end.now.is_ended end.now.is_open end.now.rest.now) (goes_on ≡ None)) }
-    ensures err { IfErr result (λ fault. (end.now.is_ended ≡ false)
+    ensures err { IfErr result (λ code. ForFault code (λ fault. (end.now.is_ended ≡ false)
         × (stop_fault (extent_by (unwrap_or goes_on true)) end.now.is_open
-        (stop_at end.now.rest.now) ≡ Some (entry_fault_of fault))
-        × (goes_on ≡ None → fault ≢ EntryFault.TooLong)) }
+        (stop_at end.now.rest.now) ≡ Some fault) × (goes_on ≡ None → fault ≢ too_long))) }
 {
     if end.is_ended {
         return Ok(true);
     }
     match end_fault(end, goes_on.unwrap_or(true)) {
         None => Ok(true),
-        Some(EntryFault::TooLong) if goes_on.is_none() => Ok(false),
+        Some(ReadCode::TooLong) if goes_on.is_none() => Ok(false),
         Some(fault) => Err(fault),
     }
 }
 
 // The fault of an entry that no line end ends: `goes_on` is whether the text goes on past its
 // limit.
-fn end_fault(end: &EntryEnd<'_>, goes_on: bool) -> Option<EntryFault>
-    ensures value { option_map entry_fault_of result
+fn end_fault(end: &EntryEnd<'_>, goes_on: bool) -> Option<ReadCode>
+    ensures value { option_map fault_of result
         ≡ stop_fault (extent_by goes_on) end.now.is_open (stop_at end.now.rest.now) }
+    ensures source { IfSome result (λ code. code ≢ ReadCode.SourceFailed) }
 {
     let Some((first, others)) = end.rest.split_first() else {
         if goes_on {
-            return Some(EntryFault::TooLong);
+            return Some(ReadCode::TooLong);
         }
         return if end.is_open {
-            Some(EntryFault::Parenthesis)
+            Some(ReadCode::Parenthesis)
         } else {
             None
         };
@@ -201,34 +202,37 @@ fn end_fault(end: &EntryEnd<'_>, goes_on: bool) -> Option<EntryFault>
 
 // A fault at a place where the text can't go on, unless more octets than are looked at would be
 // needed to tell.
-fn unless_cut_short(goes_on: bool, place: &[u8], fault: EntryFault) -> EntryFault
-    ensures value { entry_fault_of result ≡ unless_cut_short (extent_by goes_on) place.now
-        (entry_fault_of fault) }
+fn unless_cut_short(goes_on: bool, place: &[u8], fault: ReadCode) -> ReadCode
+    ensures value { fault_of result ≡ unless_cut_short (extent_by goes_on) place.now
+        (fault_of fault) }
+    ensures source { fault ≢ ReadCode.SourceFailed → result ≢ ReadCode.SourceFailed }
 {
     if goes_on && is_cut_short(place) {
-        return EntryFault::TooLong;
+        return ReadCode::TooLong;
     }
     fault
 }
 
 // The fault of a string that can't go on.
-fn string_fault(place: &[u8]) -> EntryFault
-    ensures value { entry_fault_of result ≡ string_fault place.now }
+fn string_fault(place: &[u8]) -> ReadCode
+    ensures value { fault_of result ≡ string_fault place.now }
+    ensures source { result ≢ ReadCode.SourceFailed }
 {
     if place.is_empty() || begins_line_end(place) {
-        return EntryFault::UnendedString;
+        return ReadCode::UnendedString;
     }
     token_fault(place)
 }
 
 // The fault of a text with which no token begins.
-fn token_fault(place: &[u8]) -> EntryFault
-    ensures value { entry_fault_of result ≡ token_fault place.now }
+fn token_fault(place: &[u8]) -> ReadCode
+    ensures value { fault_of result ≡ token_fault place.now }
+    ensures source { result ≢ ReadCode.SourceFailed }
 {
     if place.first() == Some(&b'\\') {
-        return EntryFault::BadEscape;
+        return ReadCode::BadEscape;
     }
-    EntryFault::BadOctet
+    ReadCode::BadOctet
 }
 
 // Whether more octets might end what the text is: an escape or CR LF.

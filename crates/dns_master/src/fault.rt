@@ -1,6 +1,6 @@
 //! Why a zone file gives no records.
 ghost use Rattle.std.specs.Prelude.{◌≡◌};
-ghost use Rattle.dns_master.specs.Codes.{IsFaultOf, code_number};
+ghost use Rattle.dns_master.specs.Codes.{IsFaultOn, code_number};
 
 use dns_rdata::RdataFault;
 use std::alloc::{AllocError, AllocFailed};
@@ -54,96 +54,29 @@ impl ReadCode {
     }
 }
 
-/// What is wrong with an entry: the codes of a file but for a source that failed and for memory that
-/// was not found.
-#[derive(Clone, Copy, Debug, PartialEq, Eq)]
-pub(crate) enum EntryFault {
-    BadOctet,
-    BadEscape,
-    UnendedString,
-    Parenthesis,
-    UnknownDirective,
-    DirectiveWords,
-    BadOwner,
-    NoOwner,
-    BadTtl,
-    OtherClass,
-    BadType,
-    NoTtl,
-    BadData,
-    TooManyRecords,
-    TooLong,
-}
+impl<T: Drop> From<AllocFailed<T>> for ReadCode {
+    ghost use Rattle.dns_master.specs.declared.fault.ReadCode.{ReadCode};
 
-/// The code of an entry's fault.
-impl From<EntryFault> for ReadCode {
-    ghost use Rattle.dns_master.specs.Codes.{IsCodeOf};
+    ghost from_gives = { λ _ code. code ≡ ReadCode.NoMemory };
 
-    ghost from_gives = { λ fault code. IsCodeOf fault code };
-
-    fn from(fault: EntryFault) -> ReadCode {
-        match fault {
-            EntryFault::BadOctet => ReadCode::BadOctet,
-            EntryFault::BadEscape => ReadCode::BadEscape,
-            EntryFault::UnendedString => ReadCode::UnendedString,
-            EntryFault::Parenthesis => ReadCode::Parenthesis,
-            EntryFault::UnknownDirective => ReadCode::UnknownDirective,
-            EntryFault::DirectiveWords => ReadCode::DirectiveWords,
-            EntryFault::BadOwner => ReadCode::BadOwner,
-            EntryFault::NoOwner => ReadCode::NoOwner,
-            EntryFault::BadTtl => ReadCode::BadTtl,
-            EntryFault::OtherClass => ReadCode::OtherClass,
-            EntryFault::BadType => ReadCode::BadType,
-            EntryFault::NoTtl => ReadCode::NoTtl,
-            EntryFault::BadData => ReadCode::BadData,
-            EntryFault::TooManyRecords => ReadCode::TooManyRecords,
-            EntryFault::TooLong => ReadCode::TooLong,
-        }
-    }
-}
-
-/// Why an entry is not taken: its fault, or no memory.
-#[derive(Clone, Copy, Debug, PartialEq, Eq)]
-pub(crate) enum Refusal {
-    Faulty(EntryFault),
-    NoMemory,
-}
-
-impl From<EntryFault> for Refusal {
-    ghost use Rattle.dns_master.specs.declared.fault.Refusal.{Refusal};
-
-    ghost from_gives = { λ fault refusal. refusal ≡ Refusal.Faulty fault };
-
-    fn from(fault: EntryFault) -> Refusal {
-        Refusal::Faulty(fault)
-    }
-}
-
-impl<T: Drop> From<AllocFailed<T>> for Refusal {
-    ghost use Rattle.dns_master.specs.declared.fault.Refusal.{Refusal};
-
-    ghost from_gives = { λ _ refusal. refusal ≡ Refusal.NoMemory };
-
-    fn from(_refused: AllocFailed<T>) -> Refusal {
-        Refusal::NoMemory
+    fn from(_refused: AllocFailed<T>) -> ReadCode {
+        ReadCode::NoMemory
     }
 }
 
 /// Data that is none is one fault of an entry, whatever is wrong with it.
-impl From<RdataFault> for Refusal {
+impl From<RdataFault> for ReadCode {
     ghost use Rattle.std.specs.Prelude.{◌≢◌, ◌⊎◌};
     ghost use Rattle.dns_rdata.specs.declared.fault.RdataFault.{RdataFault};
-    ghost use Rattle.dns_master.specs.declared.fault.EntryFault.{EntryFault};
-    ghost use Rattle.dns_master.specs.declared.fault.Refusal.{Refusal};
+    ghost use Rattle.dns_master.specs.declared.fault.ReadCode.{ReadCode};
 
-    ghost from_gives = { λ fault refusal.
-        ((fault ≡ RdataFault.NoMemory) × (refusal ≡ Refusal.NoMemory))
-        ⊎ ((fault ≢ RdataFault.NoMemory) × (refusal ≡ Refusal.Faulty EntryFault.BadData)) };
+    ghost from_gives = { λ fault code. ((fault ≡ RdataFault.NoMemory) × (code ≡ ReadCode.NoMemory))
+        ⊎ ((fault ≢ RdataFault.NoMemory) × (code ≡ ReadCode.BadData)) };
 
-    fn from(fault: RdataFault) -> Refusal {
+    fn from(fault: RdataFault) -> ReadCode {
         match fault {
-            RdataFault::NoMemory => Refusal::NoMemory,
-            _ => Refusal::Faulty(EntryFault::BadData),
+            RdataFault::NoMemory => ReadCode::NoMemory,
+            _ => ReadCode::BadData,
         }
     }
 }
@@ -161,19 +94,6 @@ impl From<AllocError> for ReadFault {
     }
 }
 
-impl<T: Drop> From<AllocFailed<T>> for ReadFault {
-    ghost use Rattle.dns_master.specs.declared.fault.ReadCode.{ReadCode};
-
-    ghost from_gives = { λ _ f. (f.code ≡ ReadCode.NoMemory) × (f.line ≡ 0) };
-
-    fn from(_refused: AllocFailed<T>) -> ReadFault {
-        ReadFault {
-            code: ReadCode::NoMemory,
-            line: 0,
-        }
-    }
-}
-
 /// The fault of a zone file.
 #[derive(Clone, Copy, Debug, PartialEq, Eq)]
 pub struct ReadFault {
@@ -184,18 +104,12 @@ pub struct ReadFault {
     pub line: u32,
 }
 
-/// The fault of an entry that begins on this line.
-pub(crate) fn entry_fault(refusal: Refusal, line: u32) -> ReadFault
-    ensures { IsFaultOf refusal line result }
+/// The fault of a file whose entry on this line is refused by this code.
+pub(crate) fn entry_fault(code: ReadCode, line: u32) -> ReadFault
+    ensures { IsFaultOn line code result }
 {
-    match refusal {
-        Refusal::Faulty(fault) => ReadFault {
-            code: fault.into(),
-            line,
-        },
-        Refusal::NoMemory => ReadFault {
-            code: ReadCode::NoMemory,
-            line: 0,
-        },
+    match code {
+        ReadCode::NoMemory => ReadFault { code, line: 0 },
+        _ => ReadFault { code, line },
     }
 }

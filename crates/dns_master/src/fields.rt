@@ -7,7 +7,7 @@ ghost use Rattle.dns_master.specs.RecordForm.{TtlOf, NamedType};
 ghost use Rattle.dns_master.specs.WordsLeft.{words_left};
 
 use crate::entry_words::EntryWords;
-use crate::fault::EntryFault;
+use crate::fault::ReadCode;
 use crate::words::{is_word, read_ttl};
 use dns_rdata::{RType, Word, Words};
 use std::marker::Model;
@@ -118,16 +118,16 @@ fn begins_class(raw: &[u8]) -> bool
 }
 
 /// The TTL that is stated, if one is: `Ttl` where it is none.
-pub(crate) fn stated_ttl(stated: Option<&Word<'_>>) -> Result<Option<u32>, EntryFault>
+pub(crate) fn stated_ttl(stated: Option<&Word<'_>>) -> Result<Option<u32>, ReadCode>
     ensures { MatchResult result (λ ttl. TtlOf (option_copied stated.entry) ttl)
-        (λ fault. (fault ≡ EntryFault.BadTtl) × IsNoTtl (option_copied stated.entry)) }
+        (λ fault. (fault ≡ ReadCode.BadTtl) × IsNoTtl (option_copied stated.entry)) }
 {
     let Some(word) = stated else {
         return Ok(None);
     };
     match read_ttl(word) {
         Some(ttl) => Ok(Some(ttl)),
-        None => Err(EntryFault::BadTtl),
+        None => Err(ReadCode::BadTtl),
     }
 }
 

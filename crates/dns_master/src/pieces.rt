@@ -5,7 +5,7 @@ ghost use Rattle.dns_master.specs.Codes.{OfEntry, fault_of, failures_after_read}
 ghost use Rattle.dns_master.specs.ReaderForm.{Knows, handed};
 ghost use Rattle.dns_master.specs.PieceForm.{TakesFirst, FrontFaulty, FrontGathered, PieceTaken, PieceFaulty, ReaderMeans, TextGathered};
 
-use crate::fault::{EntryFault, ReadCode, ReadFault, Refusal, entry_fault};
+use crate::fault::{ReadCode, ReadFault, entry_fault};
 use crate::gathers::Gathers;
 use crate::source::{MOST_OCTETS, PIECE, append_piece};
 use crate::state::Reader;
@@ -141,7 +141,7 @@ impl Begun {
             found,
         )?;
         if goes_on {
-            return Err(entry_fault(Refusal::Faulty(EntryFault::TooLong), begun.reader.line));
+            return Err(entry_fault(ReadCode::TooLong, begun.reader.line));
         }
         Ok(())
     }
@@ -201,7 +201,7 @@ fn next_entry<'a>(
     let line = reader.line;
     match reader.take_entry(text, goes_on, words, room) {
         Ok(next) => Ok(next),
-        Err(refusal) => Err(entry_fault(refusal, line)),
+        Err(code) => Err(entry_fault(code, line)),
     }
 }
 

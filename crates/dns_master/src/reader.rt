@@ -1,13 +1,11 @@
 //! The reader of zone files (RFC 1035 section 5).
-ghost use Rattle.std.specs.Prelude.{◌≡◌, ◌≢◌, ◌+◌, ◌-◌, ◌^◌, ◌≤◌, ◌<◌, ◌⊎◌, length, List, [], ◌∷◌, ◌++◌, IfOk, IfErr, OnOk, IfSome, IsSome, IsTrue, Some, None, true, codes, if◌then◌else◌};
-ghost use Rattle.std.specs.Option.{option_or};
-ghost use Rattle.dns_spec.specs.Names.{folded};
+ghost use Rattle.std.specs.Prelude.{◌≡◌, ◌≢◌, ◌+◌, ◌-◌, ◌^◌, ◌≤◌, ◌<◌, ◌⊎◌, length, [], ◌∷◌, IfOk, IfErr, OnOk, IfSome, Some, None, true, if◌then◌else◌};
 ghost use Rattle.dns_spec.specs.FileFaults.{bad_data};
 ghost use Rattle.dns_spec.specs.Data.{Valid, lower_case};
 ghost use Rattle.dns_spec.specs.DataText.{Says};
 ghost use Rattle.dns_spec.specs.TypeText.{text_in_lower_case};
 ghost use Rattle.dns_spec.specs.Meaning.{Nothing, TtlSays, gives, faulty, directive, owned, unowned, kind_by_words, fields, records, fault_at, most_records};
-ghost use Rattle.dns_master.specs.Codes.{ForFault, entry_fault_of, fault_of, failures_after_read};
+ghost use Rattle.dns_master.specs.Codes.{ForFault, fault_of, failures_after_read};
 ghost use Rattle.dns_master.specs.SourceForm.{GivesMeaning, Decides};
 ghost use Rattle.dns_master.specs.OwnedBody.{with_owner};
 ghost use Rattle.dns_master.specs.RecordForm.{IsKept};
@@ -18,12 +16,12 @@ ghost use Rattle.dns_master.specs.WordsLeft.{words_left};
 use crate::directive::{is_directive, read_default_ttl, read_origin};
 use crate::entry::{begins_blank, is_whole, read_entry};
 use crate::entry_words::EntryWords;
-use crate::fault::{EntryFault, ReadCode, ReadFault, Refusal};
+use crate::fault::{ReadCode, ReadFault};
 use crate::fields::{Fields, is_other_class, stated_ttl, type_and_words};
 use crate::gathers::{Gathers, WholeRecords};
 use crate::pieces::Begun;
 use crate::record::{Record, RecordBody};
-use crate::source::{is_more, new_piece};
+use crate::source::{PIECE, append_piece};
 use crate::state::Reader;
 use crate::words::is_word;
 use dns_name::{Name, Tally};
@@ -97,14 +95,15 @@ pub fn read_into<R: Read, G: Gathers>(
         ⊎ (f.code ≡ ReadCode.NoMemory) → f.line ≡ 0) }
     ensures counted { source.new.failures ≡ failures_after_read source.old.failures result }
 {
-    let mut piece = new_piece(alloc)?;
+    let mut piece = [0; PIECE];
     let mut begun = Begun::new(alloc, origin);
     'pieces: while begun.left > 0 {
-        if !begun.take_piece(source, piece.as_mut_slice(), found)? {
+        if !begun.take_piece(source, &mut piece, found)? {
             return begun.finish(false, found);
         }
     }
-    match is_more(alloc, source, piece.as_mut_slice()) {
+    let mut past = Vec::new(alloc);
+    match append_piece(source, 1, &mut piece, &mut past) {
         Ok(goes_on) => begun.finish(goes_on, found),
         Err(fault) => Err(fault),
     }
@@ -127,23 +126,23 @@ impl Reader {
     }
 
     /// Takes the entry that a text begins with: gives whether it is a record, which is the last one
-    /// then, and the text after it. `goes_on` is whether the text goes on past its limit. Where that
-    /// is not known, more of it may come: `None` where that would be needed to tell, and then nothing
-    /// was taken.
+    /// then, and the text after it. `goes_on` is whether the text goes on past its limit. Where
+    /// that is not known, more of it may come: `None` where that would be needed to tell, and then
+    /// nothing was taken.
     pub(crate) fn take_entry<'a>(
         &mut self,
         text: &'a [u8],
         goes_on: Option<bool>,
         words: &mut Vec<Word<'a>>,
         room: &mut DataRoom,
-    ) -> Result<Option<(bool, &'a [u8])>, Refusal>
+    ) -> Result<Option<(bool, &'a [u8])>, ReadCode>
         requires some { text.now ≢ [] }
         requires fits { self.old.line + length text.now ≤ 16777217 }
         ensures ok { IfOk result (λ found. IfSome found (λ x. TakesFirst goes_on self.old text.now
             (handed x.0 self.new.last) self.new x.1.now)) }
         ensures none { IfOk result (λ found. found ≡ None
             → (self.new ≡ self.old) × (goes_on ≡ None)) }
-        ensures err { IfErr result (λ refusal. ForFault refusal
+        ensures err { IfErr result (λ code. ForFault code
             (λ fault. FrontFaulty goes_on self.old text.now fault self.old.line)) }
     {
         let end = read_entry(text, words)?;
@@ -166,14 +165,14 @@ impl Reader {
         is_blank_led: bool,
         words: EntryWords<'_, '_>,
         room: &mut DataRoom,
-    ) -> Result<bool, Refusal>
+    ) -> Result<bool, ReadCode>
         ensures ok { IfOk result (λ taken. TakesEntry self.old
             (kind_by_words is_blank_led (words_left words.entry))
             (handed taken self.new.last) self.new) }
         ensures counted { IfOk result (λ taken.
             self.new.count ≡ self.old.count + length (handed taken self.new.last)) }
         ensures line { self.new.line ≡ self.old.line }
-        ensures err { IfErr result (λ refusal. ForFault refusal
+        ensures err { IfErr result (λ code. ForFault code
             (RefusesEntry self.old (kind_by_words is_blank_led (words_left words.entry)))) }
     {
         let Some((first, others)) = words.split_first() else {
@@ -192,54 +191,29 @@ impl Reader {
     }
 
     // Takes a directive: its name, and the words after it.
-    fn take_directive(&mut self, name: &[u8], words: EntryWords<'_, '_>) -> Result<(), EntryFault>
+    fn take_directive(&mut self, name: &[u8], words: EntryWords<'_, '_>) -> Result<(), ReadCode>
         ensures ok { OnOk result (TakesEntry self.old
             (directive (text_in_lower_case name.now) (words_left words.entry)) [] self.new) }
         ensures counted { self.new.count ≡ self.old.count }
         ensures line { self.new.line ≡ self.old.line }
-        ensures err { IfErr result (λ fault. RefusesEntry self.old
-            (directive (text_in_lower_case name.now) (words_left words.entry))
-            (entry_fault_of fault)) }
+        ensures err { IfErr result (λ code. ForFault code (RefusesEntry self.old
+            (directive (text_in_lower_case name.now) (words_left words.entry)))) }
     {
         if is_word(b"$origin", name) {
-            return self.take_origin(words);
+            let Some(origin) = read_origin(words, &self.origin) else {
+                return Err(ReadCode::DirectiveWords);
+            };
+            self.origin = origin;
+            return Ok(());
         }
         if is_word(b"$ttl", name) {
-            return self.take_default_ttl(words);
+            let Some(ttl) = read_default_ttl(words) else {
+                return Err(ReadCode::DirectiveWords);
+            };
+            self.default_ttl = Some(ttl);
+            return Ok(());
         }
-        Err(EntryFault::UnknownDirective)
-    }
-
-    // Takes the words of `$ORIGIN`.
-    fn take_origin(&mut self, words: EntryWords<'_, '_>) -> Result<(), EntryFault>
-        ensures ok { OnOk result (TakesEntry self.old
-            (directive (codes "$origin") (words_left words.entry)) [] self.new) }
-        ensures counted { self.new.count ≡ self.old.count }
-        ensures line { self.new.line ≡ self.old.line }
-        ensures err { IfErr result (λ fault. RefusesEntry self.old
-            (directive (codes "$origin") (words_left words.entry)) (entry_fault_of fault)) }
-    {
-        let Some(origin) = read_origin(words, &self.origin) else {
-            return Err(EntryFault::DirectiveWords);
-        };
-        self.origin = origin;
-        Ok(())
-    }
-
-    // Takes the words of `$TTL`.
-    fn take_default_ttl(&mut self, words: EntryWords<'_, '_>) -> Result<(), EntryFault>
-        ensures ok { OnOk result (TakesEntry self.old
-            (directive (codes "$ttl") (words_left words.entry)) [] self.new) }
-        ensures counted { self.new.count ≡ self.old.count }
-        ensures line { self.new.line ≡ self.old.line }
-        ensures err { IfErr result (λ fault. RefusesEntry self.old
-            (directive (codes "$ttl") (words_left words.entry)) (entry_fault_of fault)) }
-    {
-        let Some(ttl) = read_default_ttl(words) else {
-            return Err(EntryFault::DirectiveWords);
-        };
-        self.default_ttl = Some(ttl);
-        Ok(())
+        Err(ReadCode::UnknownDirective)
     }
 
     // Takes a record that states its owner: that word, and the words after it.
@@ -248,16 +222,16 @@ impl Reader {
         owner: &Word<'_>,
         words: EntryWords<'_, '_>,
         room: &mut DataRoom,
-    ) -> Result<(), Refusal>
+    ) -> Result<(), ReadCode>
         ensures ok { OnOk result (TakesEntry self.old (owned owner.now (words_left words.entry))
             (self.new.last ∷ []) self.new) }
         ensures counted { OnOk result (self.new.count ≡ self.old.count + 1) }
         ensures line { self.new.line ≡ self.old.line }
-        ensures err { IfErr result (λ refusal. ForFault refusal
+        ensures err { IfErr result (λ code. ForFault code
             (RefusesEntry self.old (owned owner.now (words_left words.entry)))) }
     {
         if !self.last.spell_owner(owner, &self.origin) {
-            return Err(Refusal::Faulty(EntryFault::BadOwner));
+            return Err(ReadCode::BadOwner);
         }
         self.take_record(words, room)?;
         Ok(())
@@ -268,27 +242,31 @@ impl Reader {
         &mut self,
         words: EntryWords<'_, '_>,
         room: &mut DataRoom,
-    ) -> Result<(), Refusal>
+    ) -> Result<(), ReadCode>
         ensures ok { OnOk result (TakesEntry self.old (unowned (words_left words.entry))
             (self.new.last ∷ []) self.new) }
         ensures counted { OnOk result (self.new.count ≡ self.old.count + 1) }
         ensures line { self.new.line ≡ self.old.line }
-        ensures err { IfErr result (λ refusal. ForFault refusal
+        ensures err { IfErr result (λ code. ForFault code
             (RefusesEntry self.old (unowned (words_left words.entry)))) }
     {
         if self.count == 0 {
-            return Err(Refusal::Faulty(EntryFault::NoOwner));
+            return Err(ReadCode::NoOwner);
         }
         self.take_record(words, room)?;
         Ok(())
     }
 
     // Takes the record of the last owner, and of the words after it.
-    fn take_record(&mut self, words: EntryWords<'_, '_>, room: &mut DataRoom) -> Result<(), Refusal>
+    fn take_record(
+        &mut self,
+        words: EntryWords<'_, '_>,
+        room: &mut DataRoom,
+    ) -> Result<(), ReadCode>
         ensures ok { OnOk result (TakesRecord self.old (fields (words_left words.entry)) self.new) }
         ensures counted { OnOk result (self.new.count ≡ self.old.count + 1) }
         ensures line { self.new.line ≡ self.old.line }
-        ensures err { IfErr result (λ refusal. ForFault refusal
+        ensures err { IfErr result (λ code. ForFault code
             (λ fault. RecordMeans self.old (fields (words_left words.entry)) (faulty fault))) }
     {
         let fields = Fields::of(words);
@@ -300,38 +278,35 @@ impl Reader {
     }
 
     // What the fields after the last owner say.
-    fn read_body(&self, fields: &Fields<'_, '_>, room: &mut DataRoom) -> Result<RecordBody, Refusal>
+    fn read_body(
+        &self,
+        fields: &Fields<'_, '_>,
+        room: &mut DataRoom,
+    ) -> Result<RecordBody, ReadCode>
         ensures ok { IfOk result (λ body. RecordMeans self.now fields.now
             (gives (with_owner self.now.last.owner body ∷ []))) }
         ensures kept { IfOk result (λ body.
             IsKept self.now.last.owner body.ttl body.rtype.0 body.rdata) }
         ensures few { IfOk result (λ body. self.now.count < most_records) }
         ensures ttl { IfOk result (λ body. IfSome fields.now.ttl (λ w. TtlSays w body.ttl)) }
-        ensures err { IfErr result (λ refusal. ForFault refusal
+        ensures err { IfErr result (λ code. ForFault code
             (λ fault. RecordMeans self.now fields.now (faulty fault))) }
     {
         let stated = stated_ttl(fields.ttl.as_ref())?;
         if is_other_class(fields.class.as_ref()) {
-            return Err(Refusal::Faulty(EntryFault::OtherClass));
+            return Err(ReadCode::OtherClass);
         }
         let Some((rtype, words)) = type_and_words(fields.others) else {
-            return Err(Refusal::Faulty(EntryFault::BadType));
+            return Err(ReadCode::BadType);
         };
-        let Some(ttl) = self.ttl_in_force(stated) else {
-            return Err(Refusal::Faulty(EntryFault::NoTtl));
+        let Some(ttl) = stated.or(self.default_ttl.or(self.stated_ttl)) else {
+            return Err(ReadCode::NoTtl);
         };
         let rdata = self.read_data(rtype, words, room)?;
         if self.count >= MOST_RECORDS {
-            return Err(Refusal::Faulty(EntryFault::TooManyRecords));
+            return Err(ReadCode::TooManyRecords);
         }
         Ok(RecordBody { ttl, rtype, rdata })
-    }
-
-    // The TTL of a record: the stated one, else that of `$TTL`, else the last that was stated.
-    fn ttl_in_force(&self, stated: Option<u32>) -> Option<u32>
-        ensures { result ≡ option_or stated (option_or self.now.default_ttl self.now.stated_ttl) }
-    {
-        stated.or(self.default_ttl.or(self.stated_ttl))
     }
 
     fn read_data(
@@ -339,11 +314,11 @@ impl Reader {
         rtype: RType,
         words: EntryWords<'_, '_>,
         room: &mut DataRoom,
-    ) -> Result<Rdata, Refusal>
+    ) -> Result<Rdata, ReadCode>
         ensures valid { IfOk result (λ d. Valid rtype.0 d) }
         ensures lowered { IfOk result (λ d. lower_case rtype.0 d ≡ d) }
         ensures ok { IfOk result (λ d. Says rtype.0 (words_left words.entry) self.now.origin d) }
-        ensures err { IfErr result (λ refusal. ForFault refusal (λ fault.
+        ensures err { IfErr result (λ code. ForFault code (λ fault.
             (fault ≡ bad_data) × Nothing (Says rtype.0 (words_left words.entry) self.now.origin))) }
     {
         Ok(Rdata::read_words_in(room, rtype, words, &self.origin)?)

@@ -1,12 +1,10 @@
 //! The text of a source.
 ghost use Rattle.std.specs.Prelude.{◌≡◌, ◌-◌, ◌^◌, ◌<◌, ◌≤◌, ◌⊎◌, length, IfOk, IfErr};
-ghost use Rattle.dns_master.specs.SourceForm.{AppendsPiece, HasMore};
-ghost use Rattle.dns_master.specs.declared.source.TheConstants.{PIECE};
+ghost use Rattle.dns_master.specs.SourceForm.{AppendsPiece};
 ghost use Rattle.dns_master.specs.Codes.{failures_after_read};
 
 use crate::fault::{ReadCode, ReadFault};
 use dns_name::Tally;
-use std::alloc::Global;
 use std::io::Read;
 
 /// A text has at most so many octets.
@@ -14,14 +12,6 @@ pub(crate) const MOST_OCTETS: usize = 16_777_216;
 
 /// How many octets are asked for at once.
 pub(crate) const PIECE: usize = 4_096;
-
-/// Room for a piece.
-pub(crate) fn new_piece(alloc: Global) -> Result<Vec<u8>, ReadFault>
-    ensures ok { IfOk result (λ piece. length piece.items ≡ PIECE) }
-    ensures err { IfErr result (λ f. (f.code ≡ ReadCode.NoMemory) × (f.line ≡ 0)) }
-{
-    Ok(vec![in alloc; 0; PIECE]?)
-}
 
 /// Reads so many octets at most, once, and appends what came: false at the end of the source.
 pub(crate) fn append_piece<R: Read>(
@@ -50,22 +40,4 @@ pub(crate) fn append_piece<R: Read>(
     let (came, _) = front.split_at(count);
     text.extend_from_slice(came)?;
     Ok(count > 0)
-}
-
-/// Reads one octet more: false at the end of the source.
-pub(crate) fn is_more<R: Read>(
-    alloc: Global,
-    source: &mut Tally<R>,
-    piece: &mut [u8],
-) -> Result<bool, ReadFault>
-    requires count { source.old.failures < 2 ^ 64 - 1 }
-    requires room { 1 ≤ length piece.old }
-    ensures ok { IfOk result (λ more. HasMore (R.remaining source.old.device)
-        (R.remaining source.new.device) more) }
-    ensures err { IfErr result (λ f. ((f.code ≡ ReadCode.SourceFailed)
-        ⊎ (f.code ≡ ReadCode.NoMemory)) × (f.line ≡ 0)) }
-    ensures counted { source.new.failures ≡ failures_after_read source.old.failures result }
-{
-    let mut past = Vec::new(alloc);
-    append_piece(source, 1, piece, &mut past)
 }

@@ -2,6 +2,8 @@ use Rattle.std.proofs.Common.{rules, ◌≡◌, ◌+◌, ◌≤◌, [], ◌∷�
 use Rattle.dns_spec.proofs.ZoneTexts.TextTokens.{front-shorter}
 use Rattle.dns_master.specs.TokenForm.{shown_token}
 use Rattle.dns_master.specs.EntryForm.{misplaced, over, onward, step, line_ends, token_words}
+use Rattle.dns_master.specs.declared.fault.ReadCode.TheVariants.{Parenthesis}
+use Rattle.dns_master.proofs.Refusals.{refused}
 use Rattle.dns_master.proofs.EntryLoop.{token-read, entry-ended, entry-unended, entry-wrong, lines-shorter}
 use Rattle.dns_master.proofs.WordSteps.{counted-enough, counted-words}
 use Rattle.dns_master.proofs.entry.read_entry.Goals as goal
@@ -9,6 +11,7 @@ use Rattle.dns_master.proofs.entry.read_entry.Goals as goal
 pub returns-in-Misplaced-clause-err : goal.returns-in-Misplaced-clause-err
 returns-in-Misplaced-clause-err c =
     let is_wrong : step c.tokens.is_open (shown_token c.in-Some.token) ≡ misplaced = search rules in
+    refused Parenthesis _ (omega arith)
     (refl, entry-wrong _ c.tokens.is_open c.tokens.rest.now c.in-Some.others.now (shown_token c.in-Some.token) _ _ c.tokens.invariant.so_far c.in-Some.ensures is_wrong)
 
 pub returns-in-Over-clause-ok : goal.returns-in-Over-clause-ok

@@ -1,5 +1,4 @@
-use Rattle.std.proofs.Common.{rules, ◌≡◌, ◌≢◌, ℕ, Option, Result, IfErr, List, ◌++◌, length, length-append, take, false, arith, ◌∙◌}
-use Rattle.std.proofs.lemmas.List.{length-take-le}
+use Rattle.std.proofs.Common.{rules, ◌≡◌, ◌≢◌, Option, Result, IfErr, false, ◌∙◌}
 use Rattle.dns_spec.specs.Names.{Octets, DomainName}
 use Rattle.dns_spec.specs.Meaning.{records, fault_at}
 use Rattle.dns_master.specs.Codes.{OfEntry, fault_of}
@@ -13,7 +12,7 @@ use Rattle.dns_master.proofs.reader.read_into.Goals as goal
 
 pub returns-in_err-take_piece-clause-decided : goal.returns-in_err-take_piece-clause-decided
 returns-in_err-take_piece-clause-decided g c =
-    fault_handed_on c.from_residual-in_err-take_piece.result c.in_err-take_piece.field-0.0 _ c.from_residual-in_err-take_piece.ensures.1 (λ source memory.
+    fault_handed_on c.from_residual.result c.in_err-take_piece.field-0.0 _ c.from_residual.ensures.1 (λ source memory.
     fault-given _ _ _ c.args.origin.now c.pieces.begun.reader c.pieces.begun.held.items c.pieces.begun.left _ c.pieces.invariant.so_far
     (fault_of c.in_err-take_piece.field-0.0.code) c.in_err-take_piece.field-0.0.line (c.in_err-take_piece.ensures.err source memory))
 
@@ -52,9 +51,6 @@ returns-then-not-branch-clause-decided g c =
     end-given old new new o last.reader last.held.items last.left before so (fault_at (fault_of f.code) f.line) (piece.over none).1 (h.told memory) in
     IfErr-map c.finish.result done c.finish.ensures.err
 
-written-back : (n m : ℕ) (xs ys : List ℕ) → n ≡ m → length xs ≡ m → length (take n (xs ++ ys)) ≡ m
-written-back n m xs ys e size = length-take-le n (xs ++ ys) (omega (arith, e, size, length-append xs ys)) ∙ e
-
 pub pieces-preserved : goal.pieces-preserved
 pieces-preserved g c = record {
   so_far = piece-given _ _ _ c.args.origin.now c.pieces.begun.reader c.pieces.begun.held.items c.pieces.begun.left (g.G.Gathers.gathered c.pieces.found) c.pieces.invariant.so_far
@@ -62,14 +58,13 @@ pieces-preserved g c = record {
   count = c.in_ok-take_piece.ensures.count;
   fits = c.in_ok-take_piece.ensures.fits;
   counted = c.in_ok-take_piece.ensures.counted ∙ c.pieces.invariant.counted;
-  room = written-back c.pieces.piece.len 4096 c.take_piece.new.piece _ (search rules) (search rules);
 }
 
 pub returns-in-Ok-clause-whole : goal.returns-in-Ok-clause-whole
 returns-in-Ok-clause-whole g c =
     let old = g.R.Read.remaining c.args.source.now.device in
     let mid = g.R.Read.remaining c.pieces.source.device in
-    let new = g.R.Read.remaining c.is_more.new.source.device in
+    let new = g.R.Read.remaining c.append_piece.new.source.device in
     let o = c.args.origin.now in
     let before = g.G.Gathers.gathered c.pieces.found in
     let all = g.G.Gathers.gathered c.finish-in-Ok.new.found in
@@ -83,7 +78,7 @@ pub returns-in-Ok-clause-decided : goal.returns-in-Ok-clause-decided
 returns-in-Ok-clause-decided g c =
     let old = g.R.Read.remaining c.args.source.now.device in
     let mid = g.R.Read.remaining c.pieces.source.device in
-    let new = g.R.Read.remaining c.is_more.new.source.device in
+    let new = g.R.Read.remaining c.append_piece.new.source.device in
     let o = c.args.origin.now in
     let before = g.G.Gathers.gathered c.pieces.found in
     let last = c.pieces.begun in
@@ -103,7 +98,7 @@ faults_given old new o result = IfErr-map result (λ f h source memory. decided-
 
 pub returns-in_err-take_piece-clause-fault : goal.returns-in_err-take_piece-clause-fault
 returns-in_err-take_piece-clause-fault g c =
-    faults_given (g.R.Read.remaining c.args.source.now.device) _ c.args.origin.now c.from_residual-in_err-take_piece.result (returns-in_err-take_piece-clause-decided g c)
+    faults_given (g.R.Read.remaining c.args.source.now.device) _ c.args.origin.now c.from_residual.result (returns-in_err-take_piece-clause-decided g c)
 
 pub returns-then-not-branch-clause-ok : goal.returns-then-not-branch-clause-ok
 returns-then-not-branch-clause-ok g c =

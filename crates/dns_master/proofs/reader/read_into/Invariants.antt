@@ -10,7 +10,6 @@ invariant-pieces g l = record {
   count : length (g.G.Gathers.gathered l.found) ≡ l.begun.reader.count;
   fits : l.begun.reader.line + length l.begun.held.items + l.begun.left ≤ 16777217;
   counted : l.source.failures ≡ l.initial.source.failures;
-  room : length l.piece.items ≡ 4096;
 }
 
 abbrev pub decreases-pieces : goal.decreases-pieces

@@ -1,12 +1,11 @@
-use Rattle.std.proofs.Common.{sym, subst}
+use Rattle.std.proofs.Common.{sym, subst, arith}
 use Rattle.std.proofs.lemmas.Option.{none-some}
 use Rattle.dns_spec.specs.Names.{Octets}
 use Rattle.dns_spec.specs.Meaning.{fault_at}
 use Rattle.dns_master.specs.PieceForm.{ReaderMeans}
-use Rattle.dns_master.specs.declared.fault.Refusal.TheVariants.{Faulty}
-use Rattle.dns_master.specs.declared.fault.EntryFault.TheVariants.{TooLong}
+use Rattle.dns_master.specs.declared.fault.ReadCode.TheVariants.{TooLong}
 use Rattle.dns_master.proofs.PieceSteps.{all-faulty, all-gathered, all-too_long}
-use Rattle.dns_master.proofs.Refusals.{entry-told, OfEntry-map}
+use Rattle.dns_master.proofs.Refusals.{refused, entry-told, OfEntry-map}
 use Rattle.dns_name.proofs.Results.{fault_handed_on}
 use Rattle.dns_master.proofs.pieces.Begun.finish.Goals as goal
 
@@ -18,9 +17,9 @@ returns-in_err-take_entries-clause-err g c =
 
 pub returns-then-goes_on-clause-err : goal.returns-then-goes_on-clause-err
 returns-then-goes_on-clause-err g c =
-    entry-told (Faulty TooLong) c.take_entries.new.reader.line c.entry_fault.result _ c.entry_fault.ensures
-    (all-too_long c.args.goes_on c.args.self.reader c.take_entries.new.reader c.args.self.held.items _ _ _ _ c.as_slice.ensures.value (c.in_ok-take_entries.ensures.all (λ e. none-some _ (sym e)))
-    c.in_ok-take_entries.ensures.ok c.if-goes_on.true)
+    entry-told TooLong c.take_entries.new.reader.line c.entry_fault.result _ c.entry_fault.ensures
+    (refused TooLong _ (omega arith) (all-too_long c.args.goes_on c.args.self.reader c.take_entries.new.reader c.args.self.held.items _ _ _ _ c.as_slice.ensures.value (c.in_ok-take_entries.ensures.all (λ e. none-some _ (sym e)))
+    c.in_ok-take_entries.ensures.ok c.if-goes_on.true))
 
 pub returns-clause-ok : goal.returns-clause-ok
 returns-clause-ok g c =

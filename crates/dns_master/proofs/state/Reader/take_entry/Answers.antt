@@ -3,13 +3,11 @@ use Rattle.std.specs.Option.{unwrap_or}
 use Rattle.dns_spec.specs.FileFaults.{bad_parenthesis, fault_code}
 use Rattle.dns_spec.specs.ZoneText.{ended}
 use Rattle.dns_spec.specs.Meaning.{EntryKind, KindGives, faulty, line_after}
-use Rattle.dns_master.specs.Codes.{entry_fault_of}
 use Rattle.dns_master.specs.EntryForm.{IsWhole}
 use Rattle.dns_name.proofs.Results.{fault_handed_on}
 use Rattle.dns_master.proofs.TextSteps.{wrong-faulty, same_sort, entry-means, entry-faulty, entry-ends_faulty, entry-line, entry-shorter}
-use Rattle.dns_master.proofs.PieceSteps.{always, end-faulty, entry-on, other_than_long}
+use Rattle.dns_master.proofs.PieceSteps.{always, end-faulty, entry-on}
 use Rattle.dns_master.specs.WordsLeft.{later_words}
-use Rattle.dns_master.specs.declared.fault.Refusal.TheVariants.{Faulty}
 use Rattle.dns_master.proofs.Refusals.{ForFault-map}
 use Rattle.dns_master.proofs.state.Reader.take_entry.Goals as goal
 
@@ -21,12 +19,11 @@ returns-in_err-end-clause-err c =
 
 pub returns-in_err-is_whole-clause-err : goal.returns-in_err-is_whole-clause-err
 returns-in_err-is_whole-clause-err c =
-    fault_handed_on c.from_residual-in_err-is_whole.result (Faulty c.in_err-is_whole.field-0.0) _ c.from_residual-in_err-is_whole.ensures.1 (λ more past may o earlier known line.
-    let reported = c.in_err-is_whole.ensures.err in
-    rw line (end-faulty c.args.goes_on o earlier c.args.text.now more past (entry_fault_of c.in_err-is_whole.field-0.0) (line_after earlier) may
+    fault_handed_on c.from_residual-in_err-is_whole.result c.in_err-is_whole.field-0.0 _ c.from_residual-in_err-is_whole.ensures.1
+    (ForFault-map c.in_err-is_whole.field-0.0 (λ fault reported more past may o earlier known line.
+    rw line (end-faulty c.args.goes_on o earlier c.args.text.now more past fault (line_after earlier) may
     (entry-ends_faulty o earlier (unwrap_or c.args.goes_on true) c.args.text.now c.in_ok-end.end.rest.now _ _ c.in_ok-end.end.is_ended c.in_ok-end.end.is_open c.in_ok-end.ensures.ok
-    reported.0 (entry_fault_of c.in_err-is_whole.field-0.0) reported.1)
-    (λ unknown. other_than_long c.in_err-is_whole.field-0.0 (reported.2 unknown))))
+    reported.0 fault reported.1) reported.2)) c.in_err-is_whole.ensures.err)
 
 pub returns-in_err-taken-clause-err : goal.returns-in_err-taken-clause-err
 returns-in_err-taken-clause-err c =
