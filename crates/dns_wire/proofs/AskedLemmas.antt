@@ -11,7 +11,7 @@ use Rattle.dns_name.proofs.WireLemmas.{labels_of_spelled, IsWireForm-wire}
 use Rattle.dns_name.specs.WireForm.{labels_of, IsWireForm}
 use Rattle.dns_wire.specs.Kept.{Kept, IsKept, SpellsName, IsSharedAt, NoneSpelled}
 use Rattle.dns_wire.specs.Writing.{AfterLabel, name_before, IsAsked, asked_places, NotAsked, IsLastOf, new_places}
-use Rattle.dns_wire.proofs.Suffixes.{one_run, next_label, kept-root}
+use Rattle.dns_wire.proofs.SuffixLemmas.{one_run, next_label, kept-root}
 use Rattle.dns_wire.proofs.NameWritten.{kept_left, kept_right, kept_split, kept_sound, kept_complete, NewSuffix, is_name-suffix}
 
 -- what stands before the end of the name decides it

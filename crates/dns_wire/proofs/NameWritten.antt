@@ -15,7 +15,7 @@ use Rattle.dns_spec.proofs.Layouts.SameLayout.{begins_inside}
 use Rattle.dns_spec.proofs.Layouts.SharedNames.{suffix_from, suffix_to, place_again, place_pushed, shared_is, shared_to, shared_none, shared_whole, shared_pointed, shared_root, Known, known_more}
 use Rattle.dns_wire.specs.Kept.{Kept, IsKept}
 use Rattle.dns_wire.specs.Writing.{front_size, pointed_place, end_octets, new_places, Answers, Holds}
-use Rattle.dns_wire.proofs.Suffixes.{front-none, front-some, front-root, pointed-none, pointed-some, pointed-root, kept-none, kept-more, kept-some, kept-root}
+use Rattle.dns_wire.proofs.SuffixLemmas.{front-none, front-some, front-root, pointed-none, pointed-some, pointed-root, kept-none, kept-more, kept-some, kept-root}
 
 -- a name is laid out as its front and its end
 pub shared_cut : (ms : List Placed) (n : DomainName) → shared_octets ms n ≡ take (front_size ms n) (wire n) ++ end_octets (pointed_place ms n)

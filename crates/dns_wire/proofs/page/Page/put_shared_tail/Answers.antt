@@ -1,0 +1,102 @@
+use Rattle.std.proofs.Common.{true, ℕ, ◌≡◌, ◌+◌, ◌-◌, ◌≤◌, ◌∙◌, refl, sym, ap, ap₂, subst, subst₂, arith, length, take, drop, ◌++◌, [], append-nil, length-append}
+use borrow.Rule.Slice.PartMut.{put_mid}
+use Rattle.std.specs.List.{refill}
+use Rattle.std.proofs.lemmas.List.{length-take, length-drop}
+use Rattle.dns_spec.specs.Names.{Octets}
+use Rattle.dns_spec.specs.Layout.{octets16}
+use Rattle.dns_spec.proofs.Layouts.LayoutSize.{length-record_tail}
+use Rattle.dns_wire.specs.Draft.{Draft, with_octets, Writes}
+use Rattle.dns_wire.specs.Writing.{octets_laid, both_laid, parts_laid, tail_laid, shown}
+use Rattle.dns_wire.proofs.AskedLemmas.{is_asked_same, take_patched}
+use Rattle.dns_wire.proofs.DataWritten.{put_over, tail_written}
+use Rattle.dns_wire.proofs.Steps.{kept_with, writes_both, writes_past}
+use Rattle.dns_wire.proofs.page.Page.put_shared_tail.Goals as goal
+use Rattle.dns_wire.proofs.page.Page.put_shared_tail.Given as given
+
+pub returns-then-not-append-clause-writes : goal.returns-then-not-append-clause-writes
+returns-then-not-append-clause-writes g c =
+    let t = c.args.rtype.0 in
+    let o = c.args.rdata.now in
+    let z = c.record_numbers.result ++ [] in
+    writes_past (octets_laid z) (tail_laid t c.args.ttl o) c.if-not-append.true refl
+    (λ ms p. omega (arith, ap length (append-nil c.record_numbers.result), ap length c.record_numbers.ensures, length-record_tail (shown [] t c.args.ttl o) (parts_laid t o ms (p + 10)).written))
+    (c.append.ensures.writes (g.H.SuffixHash.numbers c.args.hash.now))
+
+pub returns-then-not-put_data-clause-writes : goal.returns-then-not-put_data-clause-writes
+returns-then-not-put_data-clause-writes g c =
+    let t = c.args.rtype.0 in
+    let o = c.args.rdata.now in
+    let z = c.record_numbers.result ++ [] in
+    let ten : length z ≡ 10 = ap length (append-nil c.record_numbers.result) ∙ ap length c.record_numbers.ensures in
+    writes_past (both_laid (octets_laid z) (parts_laid t o)) (tail_laid t c.args.ttl o) c.if-not-put_data.true refl
+    (λ ms p.
+    let d = parts_laid t o ms (p + 10) in
+    let same = ap₂ (λ m k. length (parts_laid t o m (p + k)).written) (append-nil ms) ten in
+    omega (arith, same, ten, length-append z (parts_laid t o (ms ++ []) (p + length z)).written, length-record_tail (shown [] t c.args.ttl o) d.written))
+    (writes_both (octets_laid z) (parts_laid t o) c.if-not-append.false (c.append.ensures.writes (g.H.SuffixHash.numbers c.args.hash.now)) c.put_data.ensures)
+
+module _ (g : given.Over) (c : goal.After-self-1 g) where
+  abbrev before : Octets
+  before = c.self-2.inside.octets.items
+
+  abbrev after : Octets
+  after = refill (length before) before (put_mid (c.len-at.result + 8) (length c.as_mut_slice.result.now - (c.len-at.result + 8)) c.as_mut_slice.result.now c.write_u16.new.buf)
+
+  abbrev patch : ℕ → Octets → Octets
+  patch k b = octets16 (length b - k - 10) ++ drop (k + 10) b
+
+  -- the octets that are written over are two of those after the owner
+  inside : (c.len-at.result + 10 ≤ length before) × (c.self-2.inside.asked_end ≤ c.len-at.result)
+  inside =
+      let s = c.self.invariant.asked.inside in
+      let nums = c.record_numbers.result in
+      let more = c.put_data.ensures.grows in
+      let now = c.if-not-append.ensures.put in
+      let at = c.len-at.ensures.value in
+      let long = ap (λ (d : Draft). length d.octets) now ∙ length-append c.args.self.now.octets (nums ++ []) in
+      let end = ap (λ (d : Draft). d.asked_end) c.self-2.view_is ∙ more.asked ∙ ap (λ (d : Draft). d.asked_end) (now ∙ ap (λ (d : Draft). with_octets d (nums ++ [])) (sym c.self.view_is)) in (
+        omega (arith, at, ap (λ (d : Draft). length d.octets) c.self-2.view_is, ap (λ (d : Draft). length d.octets) c.self.view_is, ap length more.octets.whole, length-append c.append.new.self.octets more.octets.more, long, ap length (append-nil nums), ap length c.record_numbers.ensures),
+        omega (arith, at, s, end),
+      )
+
+  set : after ≡ take (c.len-at.result + 8) before ++ patch c.len-at.result before
+  set =
+      let a = c.len-at.result in
+      let end : a + 8 + 2 ≡ a + 10 = omega arith in
+      put_over before c.as_mut_slice.result.now c.write_u16.new.buf (octets16 (c.len.result - a - 10)) (a + 8) c.as_mut_slice.ensures.value refl (omega (arith, (inside).0)) c.write_u16.ensures
+      ∙ ap (λ e. take (a + 8) before ++ (octets16 (c.len.result - a - 10) ++ drop e before)) end
+      ∙ ap (λ k. take (a + 8) before ++ (octets16 (k - a - 10) ++ drop (a + 10) before)) c.len.ensures.value
+
+pub invariant_of-self : goal.invariant_of-self
+invariant_of-self g c =
+    let a = c.len-at.result in
+    let b = before g c in
+    let s = c.self-2.invariant in
+    let within = s.within in
+    let few = s.few in
+    let header = s.header in
+    let listed = s.listed in
+    let end = s.asked.inside in
+    let in_it = inside g c in
+    let there = in_it.0 in
+    let low = in_it.1 in
+    let long : length (after g c) ≡ length b =
+    omega (arith, ap length (set g c), length-append (take (a + 8) b) (patch g c a b), length-take (a + 8) b, length-append (octets16 (length b - a - 10)) (drop (a + 10) b), length-drop (a + 10) b, there) in
+    kept_with s (omega (arith, within, long)) (omega (arith, few, long))
+    (is_asked_same s.asked (take_patched c.self-2.inside.asked_end (a + 8) b (patch g c a b) _ (set g c) (omega (arith, low)) (omega (arith, there))) refl (omega (arith, end, long)))
+    (omega (arith, header, long)) (omega (arith, listed, long))
+
+pub returns-clause-writes : goal.returns-clause-writes
+returns-clause-writes g c =
+    let numbers = g.H.SuffixHash.numbers in
+    let head = numbers c.args.hash.now in
+    let now = c.args.self.now in
+    let t = c.args.rtype.0 in
+    let o = c.args.rdata.now in
+    let first = subst₂ (λ x u. Writes head head now c.append.new.self (octets_laid x) u) (append-nil c.record_numbers.result ∙ c.record_numbers.ensures) c.if-not-append.false (c.append.ensures.writes head) in
+    let next = subst (λ u. Writes head (numbers c.put_data.new.hash) c.append.new.self c.put_data.new.self (parts_laid t o) u) c.if-not-put_data.false c.put_data.ensures in
+    let place = c.len-at.ensures.value ∙ ap (λ (d : Draft). length d.octets) c.self.view_is in
+    let laid = subst₂ (λ k (d : Draft). after g c ≡ take (k + 8) d.octets ++ patch g c k d.octets) place c.self-2.view_is (set g c) in
+    let s = c.self.invariant.asked.inside in
+    subst (λ (d : Draft). Writes head (numbers c.put_data.new.hash) now (record d { octets = after g c }) (tail_laid t c.args.ttl o) true) (sym c.self-2.view_is)
+    (tail_written t c.args.ttl o (after g c) (omega (arith, s, ap (λ (d : Draft). d.asked_end) c.self.view_is, ap (λ (d : Draft). length d.octets) c.self.view_is)) first next laid)
