@@ -1,5 +1,5 @@
-//! How a name is laid out after others: the longest of its suffixes that a pointer may stand for, and
-//! the places that are kept of the others (RFC 1035 4.1.4).
+//! How a name is laid out after others: the longest of its suffixes that a pointer may stand for,
+//! and the places that are kept of the rest (RFC 1035 4.1.4).
 ghost use Rattle.std.specs.Prelude.{◌≡◌, List, ◌+◌, ◌-◌, ◌*◌, ◌≤◌, ◌<◌, ◌^◌, [], ◌∷◌, ◌++◌, length, drop, min, IsTrue, IfSome, IsNone, ℕ, false};
 ghost use Rattle.dns_spec.specs.Names.{Octets, DomainName, wire, is_name};
 ghost use Rattle.dns_spec.specs.Layout.{Placed};
@@ -116,8 +116,8 @@ fn name_before(message: &[u8], end: usize) -> Option<&[u8]>
 }
 
 // Whether a name ends with these octets, which begin with one of its labels: the octets of a suffix
-// may stand inside a label as well. In line, it saves 10 to 46 instructions of a short reply, and 560
-// of one with 64 addresses.
+// may stand inside a label as well. In line, it saves 10 to 46 instructions of a short reply, and
+// 560 of one with 64 addresses.
 #[inline(always)]
 fn has_last_labels(name: &[u8], suffix: &[u8]) -> bool
     ensures yes { IsTrue result

@@ -48,7 +48,8 @@ impl<'h, H: SuffixHash> Writer<'h, H> {
     pub fn put_set<S: SetView>(&mut self, section: Section, owner: &Name, ttl: u32, set: &S) -> bool
         ensures fits { (q : Option MessageQuestion) (items : List Item)
             → IsDraft (H.numbers self.old.hash.now) q items self.old.page → IsTrue result
-            ↔ (size q (with_set items section owner.now ttl (S.set set.now)) ≤ self.old.page.limit) }
+            ↔ (size q (with_set items section owner.now ttl (S.set set.now))
+            ≤ self.old.page.limit) }
         ensures put { (q : Option MessageQuestion) (items : List Item)
             → IsDraft (H.numbers self.old.hash.now) q items self.old.page
             → OnTrue result (IsDraft (H.numbers self.new.hash.now) q
