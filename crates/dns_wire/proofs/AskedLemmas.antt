@@ -1,8 +1,7 @@
 -- The name of the question has the places of its suffixes, whatever comes after it; each of them stands so far before its end.
-use Rattle.std.proofs.Common.{◌≡◌, ℕ, zero, suc, ◌+◌, ◌-◌, ◌<◌, ◌≤◌, Bool, true, false, ◌⊎◌, inl, inr, List, [], ◌∷◌, ◌++◌, length, take, drop, refl, sym, ap, ◌∙◌, subst, arith, append_assoc, length-append, take-append-drop, take_at, replicate, ap₂, Option, None, Some, IfSome}
+use Rattle.std.proofs.Common.{◌≡◌, ℕ, zero, suc, ◌+◌, ◌-◌, ◌<◌, ◌≤◌, true, ◌⊎◌, inl, inr, List, [], ◌∷◌, ◌++◌, length, take, drop, refl, sym, ap, ◌∙◌, subst, arith, append_assoc, length-append, take-append-drop, take_at, replicate, ap₂, Option, None, Some, IfSome}
 use Rattle.std.proofs.lemmas.Bool.{and_parts}
 use Rattle.std.proofs.lemmas.List.{drop-drop, drop-take, take-append-le, length-take, length-drop}
-use Rattle.std.specs.Bool.{OnTrue, OnFalse}
 use Rattle.std.specs.List.{list_all}
 use Rattle.dns_spec.specs.Names.{Octets, DomainName, wire, is_name, is_label}
 use Rattle.dns_spec.proofs.Messages.Places.{Stands, run_written}
@@ -49,11 +48,6 @@ kept_same head b b' a a' ks ks' e same places =
 pub kept_more : (head : Octets → ℕ) (b b' : Octets) (a a' : ℕ) (ks ks' : List Kept) (o : Octets) → IsAsked b a → b' ≡ b ++ o → a' ≡ a → ks' ≡ ks
     → asked_places head b' a' ++ ks' ≡ asked_places head b a ++ ks
 kept_more head b b' a a' ks ks' o asked e same places = kept_same head b b' a a' ks ks' (ap (take a) e ∙ take-append-le a b o asked.inside) same places
-
-pub kept_stays : (head : Octets → ℕ) (b b' : Octets) (a a' : ℕ) (ks ks' : List Kept) (o : Octets) (fits : Bool) → IsAsked b a → OnTrue fits (b' ≡ b ++ o) → OnFalse fits (b' ≡ b) → a' ≡ a → ks' ≡ ks
-    → asked_places head b' a' ++ ks' ≡ asked_places head b a ++ ks
-kept_stays head b b' a a' ks ks' o true asked e f same places = kept_more head b b' a a' ks ks' o asked e same places
-kept_stays head b b' a a' ks ks' o false asked e f same places = kept_same head b b' a a' ks ks' (ap (take a) f) same places
 
 -- before the question there is none
 no_labels : labels_of [] ≡ []

@@ -9,6 +9,7 @@ use Rattle.dns_spec.specs.Reading.{pointer_place, RunAt}
 use Rattle.dns_spec.specs.Reading.RunAt.{ends, goes_on, jumps}
 use Rattle.dns_wire.specs.Labels.{LabelAt, PointerAt, NoRunAt}
 use Rattle.dns_wire.specs.Kept.{SpelledAt, HasAt, IsCommon}
+use Rattle.dns_wire.proofs.Runs.{label_there}
 
 -- the octets of labels, without the root's
 abbrev pub label_octets : DomainName → Octets
@@ -83,24 +84,14 @@ run_ends {b} (ends i at) = whole (
 )
 run_ends {b} {s} (goes_on i k l n e at some short within is rest) = go (run_ends rest)
   where
-    long : length l ≡ k
-    long = ap length is
-        ∙ length-take-le k (drop (i + 1) b) (omega (arith, within, length-drop (i + 1) b))
-
-    there : LabelAt b i l
-    there = record {
-      length_there = at ∙ ap Some (sym long);
-      some = subst (λ j. 0 < j) (sym long) some;
-      short = subst (λ j. j < 64) (sym long) short;
-      within = subst (λ j. i + 1 + j ≤ length b) (sym long) within;
-      label = is ∙ ap (λ j. take j (drop (i + 1) b)) (sym long);
-    }
+    there : (length l ≡ k) × LabelAt b i l
+    there = label_there at some short within is
 
     go : RunEnds b s (i + 1 + k) n → RunEnds b s i (l ∷ n)
-    go (whole has) = whole (has_label l there (subst (λ j. HasAt b (i + 1 + j) (wire n)) (sym long) has))
+    go (whole has) = whole (has_label l there.1 (subst (λ j. HasAt b (i + 1 + j) (wire n)) (sym there.0) has))
     go (pointed f t p d shape has pointer run) =
-        let next : i + 1 + k + length (label_octets f) ≡ i + length (label_octets (l ∷ f)) = omega (arith, long, length-append l (label_octets f)) in
-        pointed (l ∷ f) t p d (ap (λ x. l ∷ x) shape) (has_label l there (subst (λ j. HasAt b (i + 1 + j) (label_octets f)) (sym long) has)) (subst (λ j. PointerAt b s j p) next pointer) run
+        let next : i + 1 + k + length (label_octets f) ≡ i + length (label_octets (l ∷ f)) = omega (arith, there.0, length-append l (label_octets f)) in
+        pointed (l ∷ f) t p d (ap (λ x. l ∷ x) shape) (has_label l there.1 (subst (λ j. HasAt b (i + 1 + j) (label_octets f)) (sym there.0) has)) (subst (λ j. PointerAt b s j p) next pointer) run
 run_ends {b} {s} (jumps i o o' p n e at high at' is from before rest) =
     let here : i ≡ i + length (label_octets []) = omega arith in
     let pointer : PointerAt b s i p = record { first = o; second = o'; first_there = at; high = high; second_there = at'; place = is; after_header = from; before_run = before } in
