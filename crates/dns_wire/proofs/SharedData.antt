@@ -54,35 +54,42 @@ pub one_name_laid : (t : ℕ) (d : Octets) → pieces_of t ≡ domain ∷ [] →
 one_name_laid t d pieces shared ok = one_name d (laid_parts t d) (ap (λ ps. cut ps d) (sym pieces) ∙ parts_cut t d shared ok)
 
 -- the parts of the data of an MX: a number of two octets and a name
-pub exchange_laid : (d : Octets) → valid type_mx d ≡ true
-    → (n : DomainName) × (is_name n ≡ true) × (2 ≤ length d) × (drop 2 d ≡ wire n) × (laid_parts type_mx d ≡ octets (take 2 d) ∷ name n ∷ [])
-exchange_laid d ok =
-    let (others, two, parts, more) = first_run (numbers 1 2) (domain ∷ []) d (laid_parts type_mx d) (parts_cut type_mx d refl ok) in
+pub exchange_laid : (t : ℕ) (d : Octets) → t ≡ type_mx → valid t d ≡ true
+    → (n : DomainName) × (is_name n ≡ true) × (2 ≤ length d) × (drop 2 d ≡ wire n) × (laid_parts t d ≡ octets (take 2 d) ∷ name n ∷ [])
+exchange_laid t d mx ok =
+    let pieces : pieces_of t ≡ fixed (numbers 1 2) ∷ domain ∷ [] = ap pieces_of mx in
+    let (others, two, parts, more) = first_run (numbers 1 2) (domain ∷ []) d (laid_parts t d) (ap (λ ps. cut ps d) (sym pieces) ∙ parts_cut t d (ap compresses mx) ok) in
     let (n, is_name, whole, one) = one_name (drop 2 d) others more in
     (n, is_name, omega (arith, two, length-take 2 d), whole, parts ∙ ap (λ ys. octets (take 2 d) ∷ ys) one)
 
+authority_cut : (t : ℕ) (d : Octets) → t ≡ type_soa → valid t d ≡ true → cut (domain ∷ domain ∷ fixed (numbers 5 4) ∷ []) d ≡ Some (laid_parts t d)
+authority_cut t d soa ok =
+    let pieces : pieces_of t ≡ domain ∷ domain ∷ fixed (numbers 5 4) ∷ [] = ap pieces_of soa in
+    ap (λ ps. cut ps d) (sym pieces) ∙ parts_cut t d (ap compresses soa) ok
+
 -- data of an SOA begins with a name
-pub server_some : (d : Octets) → valid type_soa d ≡ true → piece_front domain d ≡ None → ⊥
-server_some d ok e = let c = cut_into domain _ d (laid_parts type_soa d) (parts_cut type_soa d refl ok) in none-some _ (sym e ∙ c.front)
+pub server_some : (t : ℕ) (d : Octets) → t ≡ type_soa → valid t d ≡ true → piece_front domain d ≡ None → ⊥
+server_some t d soa ok e = let c = cut_into domain _ d (laid_parts t d) (authority_cut t d soa ok) in none-some _ (sym e ∙ c.front)
 
 -- the parts of the data of an SOA, of which the first name was lent, and what follows it
-pub record AuthorityLaid (server rest d : Octets) : Type 0 where
+pub record AuthorityLaid (server rest : Octets) (ps : List Part) : Type 0 where
   pub lent : IsWireForm server
   pub mailbox : DomainName
   pub is_name : is_name mailbox ≡ true
   pub inside : 20 ≤ length rest
   pub whole : take (length rest - 20) rest ≡ wire mailbox
-  pub parts : laid_parts type_soa d ≡ name (labels_of server) ∷ name mailbox ∷ octets (drop (length rest - 20) rest) ∷ []
+  pub parts : ps ≡ name (labels_of server) ∷ name mailbox ∷ octets (drop (length rest - 20) rest) ∷ []
 
-pub authority_laid : (d : Octets) (r : Option (Lent.Part × Bor Octets)) (part : Lent.Part) (rest server : Bor Octets) → valid type_soa d ≡ true → r ≡ Some (part, rest) → part ≡ Name server
-    → Cuts r (piece_front domain d) → AuthorityLaid server.now rest.now d
-authority_laid d r part rest server ok some named cuts =
+pub authority_laid : {r : Option (Lent.Part × Bor Octets)} {part : Lent.Part} {rest server : Bor Octets} (t : ℕ) (d : Octets) → t ≡ type_soa → valid t d ≡ true → r ≡ Some (part, rest)
+    → part ≡ Name server → Cuts r (piece_front domain d) → AuthorityLaid server.now rest.now (laid_parts t d)
+authority_laid {r} {part} {rest} {server} t d soa ok some named cuts =
+    let five = fixed (numbers 5 4) ∷ [] in
     let lent = subst (λ x. Cuts x (piece_front domain d)) some cuts in
-    let c = cut_into domain (domain ∷ fixed (numbers 5 4) ∷ []) d (laid_parts type_soa d) (parts_cut type_soa d refl ok) in
+    let c = cut_into domain (domain ∷ five) d (laid_parts t d) (authority_cut t d soa ok) in
     let same = same_Some _ _ (sym c.front ∙ subst (λ x. piece_front domain d ≡ Some (part_for x, rest.now)) named lent.0) in
     let after : c.rest ≡ rest.now = ap (λ (x : Part × Octets). x.1) same in
-    let (m, tail, others, ok_m, whole, parts, more) = first_name (fixed (numbers 5 4) ∷ []) rest.now c.others (ap (cut (domain ∷ fixed (numbers 5 4) ∷ [])) (sym after) ∙ c.more) in
-    let (none, twenty, five, last) = first_run (numbers 5 4) [] tail others more in
+    let (m, tail, others, ok_m, whole, parts, more) = first_name five rest.now c.others (ap (cut (domain ∷ five)) (sym after) ∙ c.more) in
+    let (none, twenty, ends, last) = first_run (numbers 5 4) [] tail others more in
     let end = cut_end (drop 20 tail) none last in
     let long : length tail ≡ 20 = omega (arith, twenty, length-take 20 tail, length-drop 20 tail, ap length end.0) in
     let place : length rest.now - 20 ≡ length (wire m) = omega (arith, ap length whole, length-append (wire m) tail, long) in
@@ -93,7 +100,7 @@ authority_laid d r part rest server ok some named cuts =
       is_name = ok_m;
       inside = omega (arith, ap length whole, length-append (wire m) tail, long);
       whole = ap₂ take place whole ∙ take_at (wire m) tail (length (wire m)) refl;
-      parts = sym c.whole ∙ ap₂ (λ x ys. x ∷ ys) (ap (λ (x : Part × Octets). x.0) same) (parts ∙ ap (λ ys. name m ∷ ys) (five ∙ ap₂ (λ o ys. octets o ∷ ys) (take_all 20 tail (omega (arith, long)) ∙ sym back) end.1));
+      parts = sym c.whole ∙ ap₂ (λ x ys. x ∷ ys) (ap (λ (x : Part × Octets). x.0) same) (parts ∙ ap (λ ys. name m ∷ ys) (ends ∙ ap₂ (λ o ys. octets o ∷ ys) (take_all 20 tail (omega (arith, long)) ∙ sym back) end.1));
     }
 
 -- Of the types whose names take part in compression only MX and SOA have more than one name as data.

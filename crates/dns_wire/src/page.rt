@@ -4,7 +4,7 @@ ghost use Rattle.std.specs.Prelude.{◌≡◌, ◌↔◌, ◌+◌, ◌<◌, ◌�
 ghost use Rattle.std.specs.Bool.{OnTrue, OnFalse};
 ghost use Rattle.std.specs.Option.{option_copied};
 ghost use Rattle.dns_spec.specs.Names.{Octets, DomainName, wire, is_name};
-ghost use Rattle.dns_spec.specs.Data.{Valid, class_in, compresses, type_soa};
+ghost use Rattle.dns_spec.specs.Data.{Valid, class_in, compresses};
 ghost use Rattle.dns_spec.specs.Reading.{MessageQuestion, Spells};
 ghost use Rattle.dns_spec.specs.Layout.{Item, layout, header_octets, message_of, octets16, octets32, pointer, record_laid, records_of};
 ghost use Rattle.dns_spec.specs.LayoutSize.{size};
@@ -241,45 +241,32 @@ impl<const N: usize, const SIZE: usize> Page<N, SIZE> {
     }
 
     // Writes data whose names may be shared as it is laid out, all of it or, where it does not fit,
-    // a part of it: of MX a preference and the name of an exchange (RFC 1035 3.3.9), of others but
-    // SOA one name.
+    // a part of it: of MX a preference and the name of an exchange (RFC 1035 3.3.9), of SOA the
+    // names of a server and of a mailbox and five numbers of 32 bits (3.3.13), of others one name.
     fn put_data<H: SuffixHash>(&mut self, hash: &mut H, rtype: RType, rdata: &[u8]) -> bool
         requires valid { Valid rtype.0 rdata.now }
         requires shared { IsTrue (compresses rtype.0) }
         ensures { Writes (H.numbers hash.old) (H.numbers hash.new) self.old self.new
             (parts_laid rtype.0 rdata.now) result }
     {
-        if rtype == RType::SOA {
-            return self.put_authority(hash, rdata);
-        }
         if rtype == RType::MX {
             let (preference, exchange) = rdata.split_at(2);
             return self.append(preference, &[]) && self.put_name(hash, exchange);
         }
+        if rtype == RType::SOA {
+            let Some((part, rest)) = first_part(Piece::Domain, rdata) else {
+                unreachable!();
+            };
+            let Part::Name(server) = part else {
+                unreachable!();
+            };
+            let (mailbox, numbers) = rest.split_at(rest.len() - 20);
+            if !self.put_name(hash, server) {
+                return false;
+            }
+            return self.put_name(hash, mailbox) && self.append(numbers, &[]);
+        }
         self.put_name(hash, rdata)
-    }
-
-    // Writes data of type SOA: the names of a server and of a mailbox, and five numbers of 32 bits
-    // (RFC 1035 3.3.13).
-    fn put_authority<H: SuffixHash>(&mut self, hash: &mut H, rdata: &[u8]) -> bool
-        requires { Valid type_soa rdata.now }
-        ensures { Writes (H.numbers hash.old) (H.numbers hash.new) self.old self.new
-            (parts_laid type_soa rdata.now) result }
-    {
-        let Some((part, rest)) = first_part(Piece::Domain, rdata) else {
-            unreachable!();
-        };
-        let Part::Name(server) = part else {
-            unreachable!();
-        };
-        let (mailbox, numbers) = rest.split_at(rest.len() - 20);
-        if !self.put_name(hash, server) {
-            return false;
-        }
-        if !self.put_name(hash, mailbox) {
-            return false;
-        }
-        self.append(numbers, &[])
     }
 
     // Writes a name, given in its wire form: its labels before the longest suffix that is shared,

@@ -78,7 +78,7 @@ fn find_suffix<H: SuffixHash, const N: usize>(
     if let Some(place) = place_before(message, asked_end, suffix) {
         return Some(place);
     }
-    if places.is_empty() {
+    if places.len() == 0 {
         return None;
     }
     let number = number_of(hash, suffix);

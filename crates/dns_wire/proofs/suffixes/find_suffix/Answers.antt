@@ -11,13 +11,13 @@ returns-in-Some-clause-found g c =
     let head = suffix_number (g.H.SuffixHash.numbers c.args.hash.now) in
     shared_asked (asked_places head c.args.message.now c.args.asked_end) c.args.places.now (c.in-Some.ensures.found head)
 
-pub returns-then-is_empty-clause-none : goal.returns-then-is_empty-clause-none
-returns-then-is_empty-clause-none g c = λ _.
+pub returns-then-len-eq0-clause-none : goal.returns-then-len-eq0-clause-none
+returns-then-len-eq0-clause-none g c = λ _.
     let head = suffix_number (g.H.SuffixHash.numbers c.args.hash.now) in
     none_of_both head c.args.message.now c.args.asked_end _ c.args.places.now c.args.suffix.now (c.in_default.ensures.none refl) (λ p kept there.
     let inside = slice_get_within c.args.places.now kept.0 _ kept.1 in
-    let nothing = c.is_empty.ensures c.if-is_empty.true in
-    absurd (omega (arith, inside, nothing)))
+    let nothing = c.if-len-eq0.true in
+    absurd (omega (arith, inside, nothing, c.len.ensures.value)))
 
 pub returns-clause-found : goal.returns-clause-found
 returns-clause-found g c =

@@ -1,4 +1,4 @@
-use Rattle.std.proofs.Common.{◌≡◌, ◌+◌, ◌∙◌, refl, sym, ap, subst, arith, length, drop, ◌++◌}
+use Rattle.std.proofs.Common.{◌≡◌, ◌+◌, ◌∙◌, refl, sym, ap, ap₂, subst, arith, length, drop, ◌++◌}
 use Rattle.std.proofs.lemmas.List.{length-drop}
 use Rattle.dns_spec.specs.Reading.{Spells}
 use Rattle.dns_spec.specs.Layout.{message_of}
@@ -16,11 +16,9 @@ returns-clause-layout g c = λ h q items draft.
     let body = c.split_at.result.1.now in
     let cut : body ≡ drop 12 d.octets = c.split_at.ensures.back ∙ ap (drop 12) octets in
     let some = draft.holds.after_header in
-    let front = header_of c.args.head d.counts in
     let long : length c.as_slice-octets.result.now ≡ 12 + length body = omega (arith, ap length octets, ap length cut, length-drop 12 d.octets, some) in
-    finished front (drop 12 c.put_body.new.out) c.put_header.new.out body (length c.as_slice-octets.result.now)
-    (c.put_header.ensures.octets ∙ ap (λ (d : Draft). header_of c.args.head d.counts ++ drop 12 c.put_body.new.out) c.self.view_is) refl long c.put_body.ensures.body
-    ∙ ap (λ z. front ++ z) cut ∙ draft_laid c.args.head q items d draft
+    finished (header_of c.args.head c.self.inside.counts) _ c.put_header.new.out body _ c.put_header.ensures.octets refl long c.put_body.ensures.body
+    ∙ ap₂ (λ (d : Draft) z. header_of c.args.head d.counts ++ z) c.self.view_is cut ∙ draft_laid c.args.head q items d draft
 
 pub returns-clause-spelled : goal.returns-clause-spelled
 returns-clause-spelled g c = λ h q items draft order writable.
