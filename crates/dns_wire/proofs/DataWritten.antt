@@ -1,9 +1,6 @@
 -- Data and records are written part by part.
 use Rattle.std.proofs.Common.{◌≡◌, ◌+◌, ◌-◌, ◌≤◌, ◌∙◌, ℕ, Bool, true, false, List, [], ◌∷◌, ◌++◌, length, take, drop, refl, sym, ap, ap₂, subst, subst₂, arith, append_assoc, append-nil, length-append}
-use borrow.Rule.Slice.PartMut.{put_mid}
-use Rattle.std.specs.List.{between, refill}
-use Rattle.std.proofs.lemmas.List.{take_at, drop_at, drop-drop, drop_all, length-take, length-drop}
-use Rattle.std.proofs.lemmas.Slice.{between_to_end}
+use Rattle.std.proofs.lemmas.List.{take_at, drop_at}
 use Rattle.std.proofs.Math.Seq.{take-append-add}
 use Rattle.dns_spec.specs.Names.{Octets}
 use Rattle.dns_spec.specs.Data.{class_in, Part, octets, name, laid_parts}
@@ -48,20 +45,6 @@ pub plain_laid : (t ttl : ℕ) (o x : Octets) → x ≡ numbers_of t ttl (length
 plain_laid t ttl o x own whole ms p =
     ap (λ z. octets_laid (z ++ o) ms p) own
     ∙ ap (λ (l : Laid). record { written = numbers_of t ttl (length l.written) ++ l.written; names = l.names }) (data_last (octets o) ms (p + 10) ∙ ap (data_laid ms (p + 10)) (sym whole))
-
--- two octets of a list, written through a part of it that goes to its end
-pub put_over : (xs r ys o : Octets) (a : ℕ) → r ≡ xs → length o ≡ 2 → a + 2 ≤ length xs → ys ≡ o ++ drop 2 (between a (length r) r)
-    → refill (length xs) xs (put_mid a (length r - a) r ys) ≡ take a xs ++ (o ++ drop (a + 2) xs)
-put_over xs r ys o a whole two inside is =
-    let part : between a (length r) r ≡ drop a xs = ap (λ z. between a (length z) z) whole ∙ between_to_end xs a (length xs) (omega arith) in
-    let own : ys ≡ o ++ drop (a + 2) xs = is ∙ ap (λ z. o ++ drop 2 z) part ∙ ap (λ z. o ++ z) (drop-drop 2 a xs) in
-    let none : drop (length xs - a) (drop a xs) ≡ [] = drop_all (length xs - a) (drop a xs) (omega (arith, length-drop a xs)) in
-    let list = take a xs ++ (o ++ drop (a + 2) xs) in
-    let now : put_mid a (length r - a) r ys ≡ list =
-    ap (λ z. put_mid a (length z - a) z ys) whole ∙ ap (λ z. take a xs ++ (ys ++ z)) none ∙ ap (λ z. take a xs ++ z) (append-nil ys) ∙ ap (λ z. take a xs ++ z) own in
-    let long : length list ≡ length xs =
-    omega (arith, inside, two, length-append (take a xs) (o ++ drop (a + 2) xs), length-append o (drop (a + 2) xs), length-take a xs, length-drop (a + 2) xs) in
-    ap (refill (length xs) xs) now ∙ take_at list (drop (length list) xs) (length xs) long
 
 -- the eighth and ninth of ten octets are written over, and those after them stay
 patched : (b y z w after now : Octets) → length y ≡ 8 → length z ≡ 2 → after ≡ (b ++ (y ++ z)) ++ w

@@ -15,6 +15,7 @@ use Rattle.dns_spec.proofs.Layouts.SameLayout.{begins_inside}
 use Rattle.dns_spec.proofs.Layouts.SharedNames.{suffix_from, suffix_to, place_again, place_pushed, shared_is, shared_to, shared_none, shared_whole, shared_pointed, shared_root, Known, known_more}
 use Rattle.dns_wire.specs.Kept.{Kept, IsKept}
 use Rattle.dns_wire.specs.Writing.{front_size, pointed_place, end_octets, new_places, Answers, Holds}
+use Rattle.dns_wire.proofs.Runs.{get_more}
 use Rattle.dns_wire.proofs.SuffixLemmas.{front-none, front-some, front-root, pointed-none, pointed-some, pointed-root, kept-none, kept-more, kept-some, kept-root}
 
 -- a name is laid out as its front and its end
@@ -37,11 +38,6 @@ shared_cut ms (l ∷ n) = go (shared_place ms (l ∷ n)) refl (shared_cut ms n)
         shared_pointed ms l n p e ∙ ap₂ (λ k x. take k (wire (l ∷ n)) ++ end_octets x) (sym (front-some ms l n p e)) (sym (pointed-some ms l n p e))
 
 -- what is read stays, whatever comes after
-get_more : (b x : Octets) (i o : ℕ) → slice_get b i ≡ Some o → slice_get (b ++ x) i ≡ Some o
-get_more [] x i o at = absurd (none-some o at)
-get_more (y ∷ b) x zero o at = at
-get_more (y ∷ b) x (suc i) o at = get_more b x i o at
-
 take_more : (b x : Octets) (i k : ℕ) → i + k ≤ length b → take k (drop i (b ++ x)) ≡ take k (drop i b)
 take_more b x zero k h = take-append-le k b x (omega (arith, h))
 take_more [] x (suc i) k h = absurd (omega arith)
@@ -56,12 +52,7 @@ run_more {b} x (jumps i o o' p n e at high at' is from before rest) =
 
 -- places kept among more
 pub kept_left : (ks more : List Kept) (p h : ℕ) → IsKept ks p h → IsKept (ks ++ more) p h
-kept_left ks more p h kept = (kept.0, go ks kept.0 kept.1)
-  where
-    go : (ks : List Kept) (k : ℕ) → slice_get ks k ≡ Some (record { place = p; number = h }) → slice_get (ks ++ more) k ≡ Some (record { place = p; number = h })
-    go [] k at = absurd (none-some _ at)
-    go (y ∷ ks) zero at = at
-    go (y ∷ ks) (suc k) at = go ks k at
+kept_left ks more p h kept = (kept.0, get_more ks more kept.0 _ kept.1)
 
 pub kept_right : (ks more : List Kept) (p h : ℕ) → IsKept more p h → IsKept (ks ++ more) p h
 kept_right [] more p h kept = kept

@@ -1,12 +1,18 @@
 -- What a run of labels has at a place decides how it goes on.
-use Rattle.std.proofs.Common.{◌≡◌, ℕ, ◌+◌, ◌<◌, ◌≤◌, true, IfSome, [], ◌∷◌, ◌++◌, length, take, drop, get_or, slice_get, Option, None, Some, refl, sym, ap, ap₂, ◌∙◌, subst, arith, append_assoc, append-nil, length-append}
-use Rattle.std.proofs.lemmas.Option.{same_Some, slice_get_within, slice_get-get_or}
+use Rattle.std.proofs.Common.{◌≡◌, ℕ, zero, suc, List, ◌+◌, ◌<◌, ◌≤◌, true, IfSome, [], ◌∷◌, ◌++◌, length, take, drop, get_or, slice_get, Option, None, Some, refl, sym, ap, ap₂, ◌∙◌, subst, arith, append_assoc, append-nil, length-append}
+use Rattle.std.proofs.lemmas.Option.{none-some, same_Some, slice_get_within, slice_get-get_or}
 use Rattle.std.proofs.lemmas.List.{length-take-le, length-drop}
 use Rattle.dns_spec.specs.Names.{Octets, DomainName, wire, is_name}
 use Rattle.dns_spec.specs.Reading.{pointer_place, RunAt, NameAt}
 use Rattle.dns_spec.specs.Reading.RunAt.{ends, goes_on, jumps}
 use Rattle.dns_spec.proofs.DomainNames.NameLaws.{IsName-is_name}
 use Rattle.dns_wire.specs.Labels.{LabelAt, PointerAt, NoRunAt, NoNameAt, IsReading, end_or}
+
+-- what is read stays, whatever comes after
+pub get_more : {A : Type 0} (xs ys : List A) (i : ℕ) (x : A) → slice_get xs i ≡ Some x → slice_get (xs ++ ys) i ≡ Some x
+get_more [] ys i x at = absurd (none-some x at)
+get_more (y ∷ xs) ys zero x at = at
+get_more (y ∷ xs) ys (suc i) x at = get_more xs ys i x at
 
 -- how a run goes on from place i: it ends, has a label, or a pointer
 pub data GoesOn (b : Octets) (s i : ℕ) (n : DomainName) (e : ℕ) : Type 0 where

@@ -236,7 +236,8 @@ impl<const N: usize, const SIZE: usize> Page<N, SIZE> {
             return false;
         }
         let length = (self.octets.len() - at - 10) as u16;
-        BigEndian::write_u16(&mut self.octets.as_mut_slice()[at + 8..], length);
+        let (_, end) = self.octets.as_mut_slice().split_at_mut(at + 8);
+        BigEndian::write_u16(end, length);
         true
     }
 

@@ -1,14 +1,13 @@
 use Rattle.std.proofs.Common.{true, ℕ, ◌≡◌, ◌+◌, ◌-◌, ◌≤◌, ◌∙◌, refl, sym, ap, ap₂, subst, subst₂, arith, length, take, drop, ◌++◌, [], append-nil, length-append}
-use borrow.Rule.Slice.PartMut.{put_mid}
 use Rattle.std.specs.List.{refill}
-use Rattle.std.proofs.lemmas.List.{length-take, length-drop}
+use Rattle.std.proofs.lemmas.List.{take_at, drop-drop, length-take, length-drop}
 use Rattle.dns_spec.specs.Names.{Octets}
 use Rattle.dns_spec.specs.Layout.{octets16}
 use Rattle.dns_spec.proofs.Layouts.LayoutSize.{length-record_tail}
 use Rattle.dns_wire.specs.Draft.{Draft, with_octets, Writes}
 use Rattle.dns_wire.specs.Writing.{octets_laid, both_laid, parts_laid, tail_laid, shown}
 use Rattle.dns_wire.proofs.AskedLemmas.{is_asked_same, take_patched}
-use Rattle.dns_wire.proofs.DataWritten.{put_over, tail_written}
+use Rattle.dns_wire.proofs.DataWritten.{tail_written}
 use Rattle.dns_wire.proofs.Steps.{kept_with, writes_both, writes_past}
 use Rattle.dns_wire.proofs.page.Page.put_shared_tail.Goals as goal
 use Rattle.dns_wire.proofs.page.Page.put_shared_tail.Given as given
@@ -35,12 +34,12 @@ returns-then-not-put_data-clause-writes g c =
     omega (arith, same, ten, length-append z (parts_laid t o (ms ++ []) (p + length z)).written, length-record_tail (shown [] t c.args.ttl o) d.written))
     (writes_both (octets_laid z) (parts_laid t o) c.if-not-append.false (c.append.ensures.writes (g.H.SuffixHash.numbers c.args.hash.now)) c.put_data.ensures)
 
-module _ (g : given.Over) (c : goal.After-self-1 g) where
+module _ (g : given.Over) (c : goal.After-self-3-1 g) where
   abbrev before : Octets
   before = c.self-2.inside.octets.items
 
   abbrev after : Octets
-  after = refill (length before) before (put_mid (c.len-at.result + 8) (length c.as_mut_slice.result.now - (c.len-at.result + 8)) c.as_mut_slice.result.now c.write_u16.new.buf)
+  after = refill (length before) before (c.split_at_mut-end.result.0.now ++ c.write_u16.new.buf)
 
   abbrev patch : ℕ → Octets → Octets
   patch k b = octets16 (length b - k - 10) ++ drop (k + 10) b
@@ -59,13 +58,22 @@ module _ (g : given.Over) (c : goal.After-self-1 g) where
         omega (arith, at, s, end),
       )
 
+  long : length (take (c.len-at.result + 8) before ++ patch c.len-at.result before) ≡ length before
+  long =
+      let a = c.len-at.result in
+      let there = inside.0 in
+      omega (arith, there, length-append (take (a + 8) before) (patch a before), length-take (a + 8) before, length-append (octets16 (length before - a - 10)) (drop (a + 10) before), length-drop (a + 10) before)
+
   set : after ≡ take (c.len-at.result + 8) before ++ patch c.len-at.result before
   set =
       let a = c.len-at.result in
-      let end : a + 8 + 2 ≡ a + 10 = omega arith in
-      put_over before c.as_mut_slice.result.now c.write_u16.new.buf (octets16 (c.len.result - a - 10)) (a + 8) c.as_mut_slice.ensures.value refl (omega (arith, (inside).0)) c.write_u16.ensures
-      ∙ ap (λ e. take (a + 8) before ++ (octets16 (c.len.result - a - 10) ++ drop e before)) end
-      ∙ ap (λ k. take (a + 8) before ++ (octets16 (k - a - 10) ++ drop (a + 10) before)) c.len.ensures.value
+      let list = c.split_at_mut-end.result.0.now ++ c.write_u16.new.buf in
+      let whole = c.as_mut_slice.ensures.value in
+      let ten : a + 8 + 2 ≡ a + 10 = omega arith in
+      let rest = c.split_at_mut-end.ensures.back ∙ ap (drop (a + 8)) whole in
+      let end = c.write_u16.ensures ∙ ap₂ (λ n z. octets16 (n - a - 10) ++ drop 2 z) c.len.ensures.value rest ∙ ap (λ z. octets16 (length before - a - 10) ++ z) (drop-drop 2 (a + 8) before ∙ ap (λ k. drop k before) ten) in
+      let same = ap₂ (λ x y. x ++ y) (c.split_at_mut-end.ensures.front ∙ ap (take (a + 8)) whole) end in
+      take_at list (drop (length list) before) (length before) (ap length same ∙ long) ∙ same
 
 pub invariant_of-self : goal.invariant_of-self
 invariant_of-self g c =
@@ -80,8 +88,7 @@ invariant_of-self g c =
     let in_it = inside g c in
     let there = in_it.0 in
     let low = in_it.1 in
-    let long : length (after g c) ≡ length b =
-    omega (arith, ap length (set g c), length-append (take (a + 8) b) (patch g c a b), length-take (a + 8) b, length-append (octets16 (length b - a - 10)) (drop (a + 10) b), length-drop (a + 10) b, there) in
+    let long = ap length (set g c) ∙ long g c in
     kept_with s (omega (arith, within, long)) (omega (arith, few, long))
     (is_asked_same s.asked (take_patched c.self-2.inside.asked_end (a + 8) b (patch g c a b) _ (set g c) (omega (arith, low)) (omega (arith, there))) refl (omega (arith, end, long)))
     (omega (arith, header, long)) (omega (arith, listed, long))
