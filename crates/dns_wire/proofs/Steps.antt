@@ -72,9 +72,6 @@ octets_written {d} head o asked fits is = subst (λ d'. Writes head head d d' (o
 pub none_written : (head : Octets → ℕ) (d : Draft) → IsAsked d.octets d.asked_end → length d.octets ≤ d.limit → Writes head head d d (octets_laid []) true
 none_written head d asked within = octets_written head [] asked (omega (arith, within)) (ap (λ o. record d { octets = o }) (sym (append-nil d.octets)))
 
-pub front_alone : {head head' : Octets → ℕ} {d d' : Draft} {fits : Bool} (o : Octets) → Writes head head' d d' (octets_laid (o ++ [])) fits → Writes head head' d d' (octets_laid o) fits
-front_alone {head} {head'} {d} {d'} {fits} o w = subst (λ x. Writes head head' d d' (octets_laid x) fits) (append-nil o) w
-
 pub writes_as : {head head' : Octets → ℕ} {d d' : Draft} {fits : Bool} (f g : Layout) → ((ms : List Placed) (p : ℕ) → f ms p ≡ g ms p) → Writes head head' d d' f fits
     → Writes head head' d d' g fits
 writes_as {head} {d = d} {d'} {fits} f g same w = record {

@@ -229,7 +229,7 @@ impl<const N: usize, const SIZE: usize> Page<N, SIZE> {
             (length self.old.octets + 10 ≤ length self.new.octets) }
     {
         let at = self.octets.len();
-        if !self.append(&record_numbers(rtype, ttl, 0), &[]) {
+        if !self.append(&[], &record_numbers(rtype, ttl, 0)) {
             return false;
         }
         if !self.put_data(hash, rtype, rdata) {
@@ -252,7 +252,7 @@ impl<const N: usize, const SIZE: usize> Page<N, SIZE> {
     {
         if rtype == RType::MX {
             let (preference, exchange) = rdata.split_at(2);
-            return self.append(preference, &[]) && self.put_name(hash, exchange);
+            return self.append(&[], preference) && self.put_name(hash, exchange);
         }
         if rtype == RType::SOA {
             let Some((part, rest)) = first_part(Piece::Domain, rdata) else {
@@ -265,7 +265,7 @@ impl<const N: usize, const SIZE: usize> Page<N, SIZE> {
             if !self.put_name(hash, server) {
                 return false;
             }
-            return self.put_name(hash, mailbox) && self.append(numbers, &[]);
+            return self.put_name(hash, mailbox) && self.append(&[], numbers);
         }
         self.put_name(hash, rdata)
     }

@@ -5,7 +5,6 @@ use Rattle.dns_name.specs.WireForm.{labels_of}
 use Rattle.dns_wire.specs.Draft.{Writes}
 use Rattle.dns_wire.proofs.SharedData.{one_name_laid, one_left, exchange_laid, server_some, authority_laid}
 use Rattle.dns_wire.proofs.DataWritten.{all_laid, writes_more, writes_last, writes_short}
-use Rattle.dns_wire.proofs.Steps.{front_alone}
 use Rattle.dns_wire.proofs.page.Page.put_data.Goals as goal
 
 pub split_at-requires : goal.split_at-requires
@@ -19,7 +18,7 @@ returns-then-append g c =
     let o = c.split_at.result.0.now in
     subst (λ ps. Writes head (numbers c.put_name.new.hash) c.args.self.now c.put_name.new.self (all_laid ps) c.put_name.result)
     (sym (parts ∙ ap (λ x. octets x ∷ name n ∷ []) (sym c.split_at.ensures.front)))
-    (writes_more (octets o) (name n ∷ []) c.if-append.true (front_alone o (c.append.ensures.writes head))
+    (writes_more (octets o) (name n ∷ []) c.if-append.true (c.append.ensures.writes head)
     (writes_last (name n) (c.put_name.ensures n (c.split_at.ensures.back ∙ whole) is_name)))
 
 pub returns-else-append : goal.returns-else-append
@@ -29,7 +28,7 @@ returns-else-append g c =
     let o = c.split_at.result.0.now in
     subst (λ ps. Writes head head c.args.self.now c.append.new.self (all_laid ps) c.append.result)
     (sym (parts ∙ ap (λ x. octets x ∷ name n ∷ []) (sym c.split_at.ensures.front)))
-    (writes_short (octets o) (name n ∷ []) c.if-append.false c.if-append.false (front_alone o (c.append.ensures.writes head)))
+    (writes_short (octets o) (name n ∷ []) c.if-append.false c.if-append.false (c.append.ensures.writes head))
 
 pub unreachable-requires : goal.unreachable-requires
 unreachable-requires g c = server_some c.args.rtype.0 c.args.rdata.now (eqb-true _ _ (sym c.if-eq-2.ensures)) c.requires.valid c.in_default.ensures
@@ -57,7 +56,7 @@ returns-then-put_name g c =
     (sym (s.parts ∙ ap (λ x. name n ∷ name m ∷ octets x ∷ []) (sym c.split_at-then-eq-2.ensures.back)))
     (writes_more (name n) _ c.if-not-put_name.false (c.put_name-then-eq-2.ensures n (sym s.lent.wire_is) s.lent.is_name)
     (writes_more (name m) _ c.if-put_name.true (c.put_name-then-eq-2-2.ensures m (c.split_at-then-eq-2.ensures.front ∙ s.whole) s.is_name)
-    (writes_last (octets x) (front_alone x (c.append-then-put_name.ensures.writes (numbers c.put_name-then-eq-2-2.new.hash))))))
+    (writes_last (octets x) (c.append-then-put_name.ensures.writes (numbers c.put_name-then-eq-2-2.new.hash)))))
 
 pub returns-else-put_name : goal.returns-else-put_name
 returns-else-put_name g c =

@@ -16,17 +16,16 @@ pub returns-then-not-append-clause-writes : goal.returns-then-not-append-clause-
 returns-then-not-append-clause-writes g c =
     let t = c.args.rtype.0 in
     let o = c.args.rdata.now in
-    let z = c.record_numbers.result ++ [] in
-    writes_past (octets_laid z) (tail_laid t c.args.ttl o) c.if-not-append.true refl
-    (λ ms p. omega (arith, ap length (append-nil c.record_numbers.result), ap length c.record_numbers.ensures, length-record_tail (shown [] t c.args.ttl o) (parts_laid t o ms (p + 10)).written))
+    writes_past (octets_laid c.record_numbers.result) (tail_laid t c.args.ttl o) c.if-not-append.true refl
+    (λ ms p. omega (arith, ap length c.record_numbers.ensures, length-record_tail (shown [] t c.args.ttl o) (parts_laid t o ms (p + 10)).written))
     (c.append.ensures.writes (g.H.SuffixHash.numbers c.args.hash.now))
 
 pub returns-then-not-put_data-clause-writes : goal.returns-then-not-put_data-clause-writes
 returns-then-not-put_data-clause-writes g c =
     let t = c.args.rtype.0 in
     let o = c.args.rdata.now in
-    let z = c.record_numbers.result ++ [] in
-    let ten : length z ≡ 10 = ap length (append-nil c.record_numbers.result) ∙ ap length c.record_numbers.ensures in
+    let z = c.record_numbers.result in
+    let ten : length z ≡ 10 = ap length c.record_numbers.ensures in
     writes_past (both_laid (octets_laid z) (parts_laid t o)) (tail_laid t c.args.ttl o) c.if-not-put_data.true refl
     (λ ms p.
     let d = parts_laid t o ms (p + 10) in
@@ -52,9 +51,9 @@ module _ (g : given.Over) (c : goal.After-self-3-1 g) where
       let more = c.put_data.ensures.grows in
       let now = c.if-not-append.ensures.put in
       let at = c.len-at.ensures.value in
-      let long = ap (λ (d : Draft). length d.octets) now ∙ length-append c.args.self.now.octets (nums ++ []) in
-      let end = ap (λ (d : Draft). d.asked_end) c.self-2.view_is ∙ more.asked ∙ ap (λ (d : Draft). d.asked_end) (now ∙ ap (λ (d : Draft). with_octets d (nums ++ [])) (sym c.self.view_is)) in (
-        omega (arith, at, ap (λ (d : Draft). length d.octets) c.self-2.view_is, ap (λ (d : Draft). length d.octets) c.self.view_is, ap length more.octets.whole, length-append c.append.new.self.octets more.octets.more, long, ap length (append-nil nums), ap length c.record_numbers.ensures),
+      let long = ap (λ (d : Draft). length d.octets) now ∙ length-append c.args.self.now.octets nums in
+      let end = ap (λ (d : Draft). d.asked_end) c.self-2.view_is ∙ more.asked ∙ ap (λ (d : Draft). d.asked_end) (now ∙ ap (λ (d : Draft). with_octets d nums) (sym c.self.view_is)) in (
+        omega (arith, at, ap (λ (d : Draft). length d.octets) c.self-2.view_is, ap (λ (d : Draft). length d.octets) c.self.view_is, ap length more.octets.whole, length-append c.append.new.self.octets more.octets.more, long, ap length c.record_numbers.ensures),
         omega (arith, at, s, end),
       )
 
@@ -100,7 +99,7 @@ returns-clause-writes g c =
     let now = c.args.self.now in
     let t = c.args.rtype.0 in
     let o = c.args.rdata.now in
-    let first = subst₂ (λ x u. Writes head head now c.append.new.self (octets_laid x) u) (append-nil c.record_numbers.result ∙ c.record_numbers.ensures) c.if-not-append.false (c.append.ensures.writes head) in
+    let first = subst₂ (λ x u. Writes head head now c.append.new.self (octets_laid x) u) c.record_numbers.ensures c.if-not-append.false (c.append.ensures.writes head) in
     let next = subst (λ u. Writes head (numbers c.put_data.new.hash) c.append.new.self c.put_data.new.self (parts_laid t o) u) c.if-not-put_data.false c.put_data.ensures in
     let place = c.len-at.ensures.value ∙ ap (λ (d : Draft). length d.octets) c.self.view_is in
     let laid = subst₂ (λ k (d : Draft). after g c ≡ take (k + 8) d.octets ++ patch g c k d.octets) place c.self-2.view_is (set g c) in
