@@ -152,9 +152,6 @@ is_name-suffix [] s h = h
 is_name-suffix (k ∷ front) s h = is_name-suffix front s (is_name-tail k (front ++ s) h)
 
 module _ (head : Octets → ℕ) (ms : List Placed) (b : Octets) (ks : List Kept) (holds : Holds head ms b ks) (n : DomainName) (ok : is_name n ≡ true) where
-  later : List Placed
-  later = ms ++ (n, length b) ∷ []
-
   answers_more : Answers head (ms ++ (n, length b) ∷ []) (ks ++ new_places head ms n (length b))
   answers_more = record { complete = complete; sound = sound }
     where
