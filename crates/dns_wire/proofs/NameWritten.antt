@@ -16,7 +16,7 @@ use Rattle.dns_spec.proofs.Layouts.SharedNames.{suffix_from, suffix_to, place_ag
 use Rattle.dns_wire.specs.Kept.{Kept, IsKept}
 use Rattle.dns_wire.specs.Writing.{front_size, pointed_place, end_octets, new_places, Answers, Holds}
 use Rattle.dns_wire.proofs.Runs.{get_more}
-use Rattle.dns_wire.proofs.SuffixLemmas.{front-none, front-some, front-root, pointed-none, pointed-some, pointed-root, kept-none, kept-more, kept-some, kept-root}
+use Rattle.dns_wire.proofs.SuffixLemmas.{front-as, front-root, pointed-as, pointed-root, kept-as, kept-more, kept-root}
 
 -- a name is laid out as its front and its end
 pub shared_cut : (ms : List Placed) (n : DomainName) → shared_octets ms n ≡ take (front_size ms n) (wire n) ++ end_octets (pointed_place ms n)
@@ -33,9 +33,9 @@ shared_cut ms (l ∷ n) = go (shared_place ms (l ∷ n)) refl (shared_cut ms n)
         ∙ ap (λ z. length l ∷ z) (take-append-add l (wire n) f) in
         shared_whole ms l n e ∙ ap (λ z. length l ∷ (l ++ z)) h ∙ ap (λ z. length l ∷ z) (sym (append_assoc l (take f (wire n)) o))
         ∙ ap (λ z. z ++ o) (sym more)
-        ∙ ap₂ (λ k x. take k (wire (l ∷ n)) ++ end_octets x) (sym (front-none ms l n e)) (sym (pointed-none ms l n e))
+        ∙ ap₂ (λ k x. take k (wire (l ∷ n)) ++ end_octets x) (sym (front-as ms l n e)) (sym (pointed-as ms l n e))
     go (Some p) e h =
-        shared_pointed ms l n p e ∙ ap₂ (λ k x. take k (wire (l ∷ n)) ++ end_octets x) (sym (front-some ms l n p e)) (sym (pointed-some ms l n p e))
+        shared_pointed ms l n p e ∙ ap₂ (λ k x. take k (wire (l ∷ n)) ++ end_octets x) (sym (front-as ms l n e)) (sym (pointed-as ms l n e))
 
 -- what is read stays, whatever comes after
 take_more : (b x : Octets) (i k : ℕ) → i + k ≤ length b → take k (drop i (b ++ x)) ≡ take k (drop i b)
@@ -102,9 +102,9 @@ kept_sound head ms (l ∷ n) i p h (k, at) = go (shared_place ms (l ∷ n)) refl
   where
     go : (x : Option ℕ) → shared_place ms (l ∷ n) ≡ x → (t : Bool) → nat_le i last_place ≡ t → (k : ℕ) → slice_get (new_places head ms (l ∷ n) i) k ≡ Some (record { place = p; number = h })
         → ((j : ℕ) → IsKept (new_places head ms n j) p h → NewSuffix ms n j p) → NewSuffix ms (l ∷ n) i p
-    go (Some q) e t r k at again = absurd (none-some _ (ap (λ x. slice_get x k) (sym (kept-some head ms l n i q e)) ∙ at))
+    go (Some q) e t r k at again = absurd (none-some _ (ap (λ x. slice_get x k) (sym (kept-as head ms l n i e)) ∙ at))
     go None e false r k at again =
-        absurd (none-some _ (ap (λ x. slice_get x k) (sym (kept-none head ms l n i e
+        absurd (none-some _ (ap (λ x. slice_get x k) (sym (kept-as head ms l n i e
         ∙ ap (λ t. cond t (record { place = i; number = head (wire (l ∷ n)) } ∷ new_places head ms n (i + 1 + length l)) []) r)) ∙ at))
     go None e true r zero at again =
         let low = leb-true i last_place r in

@@ -14,23 +14,15 @@ use Rattle.dns_wire.proofs.Runs.{GoesOn, at_end, at_label, at_pointer, goes_on_a
 use Rattle.dns_wire.specs.Kept.{Kept, HasPlace, SpelledAt, SpellsName, NoneSpelled}
 use Rattle.dns_wire.specs.Writing.{AfterLabel, front_size, pointed_place, new_places, Holds, Follows}
 
--- how a name is laid out, by whether its first suffix is shared
-module _ (ms : List Placed) (l : Octets) (n : DomainName) where
-  pub front-none : shared_place ms (l ∷ n) ≡ None → front_size ms (l ∷ n) ≡ 1 + length l + front_size ms n
+-- how a name is laid out, by the place at which its first suffix is shared, if any
+module _ (ms : List Placed) (l : Octets) (n : DomainName) {x : Option ℕ} (is : shared_place ms (l ∷ n) ≡ x) where
+  pub front-as : front_size ms (l ∷ n) ≡ elim x as (λ _. ℕ) [ None ↦ 1 + length l + front_size ms n | Some p ↦ 0 ]
   unfolding front_size
-  front-none e = ap (λ (x : Option ℕ). elim x as (λ _. ℕ) [ None ↦ 1 + length l + front_size ms n | Some p ↦ 0 ]) e
+  front-as = ap (λ (y : Option ℕ). elim y as (λ _. ℕ) [ None ↦ 1 + length l + front_size ms n | Some p ↦ 0 ]) is
 
-  pub front-some : (p : ℕ) → shared_place ms (l ∷ n) ≡ Some p → front_size ms (l ∷ n) ≡ 0
-  unfolding front_size
-  front-some p e = ap (λ (x : Option ℕ). elim x as (λ _. ℕ) [ None ↦ 1 + length l + front_size ms n | Some q ↦ 0 ]) e
-
-  pub pointed-none : shared_place ms (l ∷ n) ≡ None → pointed_place ms (l ∷ n) ≡ pointed_place ms n
+  pub pointed-as : pointed_place ms (l ∷ n) ≡ elim x as (λ _. Option ℕ) [ None ↦ pointed_place ms n | Some p ↦ Some p ]
   unfolding pointed_place
-  pointed-none e = ap (λ (x : Option ℕ). elim x as (λ _. Option ℕ) [ None ↦ pointed_place ms n | Some p ↦ Some p ]) e
-
-  pub pointed-some : (p : ℕ) → shared_place ms (l ∷ n) ≡ Some p → pointed_place ms (l ∷ n) ≡ Some p
-  unfolding pointed_place
-  pointed-some p e = ap (λ (x : Option ℕ). elim x as (λ _. Option ℕ) [ None ↦ pointed_place ms n | Some q ↦ Some q ]) e
+  pointed-as = ap (λ (y : Option ℕ). elim y as (λ _. Option ℕ) [ None ↦ pointed_place ms n | Some p ↦ Some p ]) is
 
 pub front-root : (ms : List Placed) → front_size ms [] ≡ 0
 unfolding front_size
@@ -141,8 +133,8 @@ left_label {head} {b} {ks} {name} {rest} {after} k left a none = record {
         left = f.labels;
         spelled = f.spelled;
         is_name = f.is_name;
-        front = omega (arith, front, ap (front_size ms) f.whole, front-none ms f.label f.labels out, ap length f.before, ap length f.spelled, length-append f.label (wire f.labels));
-        place = x.place ∙ ap (pointed_place ms) f.whole ∙ pointed-none ms f.label f.labels out;
+        front = omega (arith, front, ap (front_size ms) f.whole, front-as ms f.label f.labels out, ap length f.before, ap length f.spelled, length-append f.label (wire f.labels));
+        place = x.place ∙ ap (pointed_place ms) f.whole ∙ pointed-as ms f.label f.labels out;
       };
 }
 
@@ -163,27 +155,20 @@ left_found {b = b} {name = name} {rest} p ms n left kept there holds e ok =
     let a = left.all ms n holds e ok in
     let f = found a.left holds a.is_name kept (subst (SpelledAt b p) a.spelled (there a.left a.spelled a.is_name)) in
     let front = a.front in
-    (omega (arith, front, ap (front_size ms) f.whole, front-some ms f.label f.labels p f.shared), a.place ∙ ap (pointed_place ms) f.whole ∙ pointed-some ms f.label f.labels p f.shared)
+    (omega (arith, front, ap (front_size ms) f.whole, front-as ms f.label f.labels f.shared), a.place ∙ ap (pointed_place ms) f.whole ∙ pointed-as ms f.label f.labels f.shared)
 
--- which places are kept of a name, by whether its first suffix is shared
+-- which places are kept of a name, by that place
 module _ (head : Octets → ℕ) (ms : List Placed) (l : Octets) (n : DomainName) (p : ℕ) where
-  pub kept-none : shared_place ms (l ∷ n) ≡ None
-      → new_places head ms (l ∷ n) p ≡ cond (nat_le p last_place) (record { place = p; number = head (wire (l ∷ n)) } ∷ new_places head ms n (p + 1 + length l)) []
-  unfolding new_places
-  kept-none e = ap (λ (x : Option ℕ). elim x as (λ _. List Kept) [
-    | None ↦ cond (nat_le p last_place) (record { place = p; number = head (wire (l ∷ n)) } ∷ new_places head ms n (p + 1 + length l)) []
-    | Some q ↦ []
-  ]) e
+  abbrev kept_by : Option ℕ → List Kept
+  kept_by None = cond (nat_le p last_place) (record { place = p; number = head (wire (l ∷ n)) } ∷ new_places head ms n (p + 1 + length l)) []
+  kept_by (Some q) = []
 
-  pub kept-some : (q : ℕ) → shared_place ms (l ∷ n) ≡ Some q → new_places head ms (l ∷ n) p ≡ []
+  pub kept-as : {x : Option ℕ} → shared_place ms (l ∷ n) ≡ x → new_places head ms (l ∷ n) p ≡ kept_by x
   unfolding new_places
-  kept-some q e = ap (λ (x : Option ℕ). elim x as (λ _. List Kept) [
-    | None ↦ cond (nat_le p last_place) (record { place = p; number = head (wire (l ∷ n)) } ∷ new_places head ms n (p + 1 + length l)) []
-    | Some r ↦ []
-  ]) e
+  kept-as e = ap kept_by e
 
   pub kept-more : shared_place ms (l ∷ n) ≡ None → p ≤ last_place → new_places head ms (l ∷ n) p ≡ record { place = p; number = head (wire (l ∷ n)) } ∷ new_places head ms n (p + 1 + length l)
-  kept-more e low = kept-none e ∙ ap (λ t. cond t (record { place = p; number = head (wire (l ∷ n)) } ∷ new_places head ms n (p + 1 + length l)) []) (le-leb p last_place low)
+  kept-more e low = kept-as e ∙ ap (λ t. cond t (record { place = p; number = head (wire (l ∷ n)) } ∷ new_places head ms n (p + 1 + length l)) []) (le-leb p last_place low)
 
   -- nothing is kept past the reach of a pointer, or of a shared suffix
   kept-high : last_place < p → new_places head ms (l ∷ n) p ≡ []
@@ -191,15 +176,15 @@ module _ (head : Octets → ℕ) (ms : List Placed) (l : Octets) (n : DomainName
     where
       go : (x : Option ℕ) → shared_place ms (l ∷ n) ≡ x → (t : Bool) → nat_le p last_place ≡ t → new_places head ms (l ∷ n) p ≡ []
       go None e true q = absurd (let low = leb-true p last_place q in omega (arith, low, high))
-      go None e false q = kept-none e ∙ ap (λ t. cond t (record { place = p; number = head (wire (l ∷ n)) } ∷ new_places head ms n (p + 1 + length l)) []) q
-      go (Some r) e t q = kept-some r e
+      go None e false q = kept-as e ∙ ap (λ t. cond t (record { place = p; number = head (wire (l ∷ n)) } ∷ new_places head ms n (p + 1 + length l)) []) q
+      go (Some r) e t q = kept-as e
 
   kept-shared : front_size ms (l ∷ n) < 1 + length l → new_places head ms (l ∷ n) p ≡ []
   kept-shared short = go (shared_place ms (l ∷ n)) refl
     where
       go : (x : Option ℕ) → shared_place ms (l ∷ n) ≡ x → new_places head ms (l ∷ n) p ≡ []
-      go None e = absurd (omega (arith, short, front-none ms l n e))
-      go (Some r) e = kept-some r e
+      go None e = absurd (omega (arith, short, front-as ms l n e))
+      go (Some r) e = kept-as e
 
 pub kept-root : (head : Octets → ℕ) (ms : List Placed) (p : ℕ) → new_places head ms [] p ≡ []
 unfolding new_places
@@ -242,7 +227,7 @@ keep_label {head} {old} {ks} {name} {rest} {after} {front} {at} {place} k h keep
 
     go : (ms : List Placed) (n : DomainName) (x : KeepOf head ms old ks rest front at place n) (g : NextLabel x.left rest after k) → (s : Option ℕ) → shared_place ms (g.label ∷ g.labels) ≡ s
         → KeepOf head ms old (ks ++ one ∷ []) after front at (place + 1 + k) n
-    go ms n x g (Some r) q = absurd (let fit = x.fits in omega (arith, fit, room, ap (front_size ms) g.whole, front-some ms g.label g.labels r q))
+    go ms n x g (Some r) q = absurd (let fit = x.fits in omega (arith, fit, room, ap (front_size ms) g.whole, front-as ms g.label g.labels q))
     go ms n x g None q =
         let named : record { place = place; number = head (wire (g.label ∷ g.labels)) } ≡ one = ap (λ j. record { place = place; number = j }) (ap head (sym g.before) ∙ sym number) in
         let next : place + 1 + length g.label ≡ place + 1 + k = ap (λ j. place + 1 + j) (sym g.long) in
@@ -253,7 +238,7 @@ keep_label {head} {old} {ks} {name} {rest} {after} {front} {at} {place} k h keep
           spelled = g.spelled;
           is_name = g.is_name;
           kept = x.kept ∙ ap (λ y. ks ++ new_places head ms y place) g.whole ∙ ap (λ y. ks ++ y) more ∙ sym (append_assoc ks (one ∷ []) (new_places head ms g.labels (place + 1 + k)));
-          fits = omega (arith, fit, ap (front_size ms) g.whole, front-none ms g.label g.labels q, g.long);
+          fits = omega (arith, fit, ap (front_size ms) g.whole, front-as ms g.label g.labels q, g.long);
         }
 
 -- where the loop ends nothing is left to keep
