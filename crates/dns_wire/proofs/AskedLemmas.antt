@@ -13,6 +13,12 @@ use Rattle.dns_wire.specs.Writing.{AfterLabel, name_before, IsAsked, asked_place
 use Rattle.dns_wire.proofs.SuffixLemmas.{one_run, next_label, kept-root}
 use Rattle.dns_wire.proofs.NameWritten.{kept_left, kept_right, kept_split, kept_sound, kept_complete, NewSuffix, is_name-suffix}
 
+-- what stands between the header and its end
+pub before_is : (b : Octets) (a : ℕ) {front name : Octets} → front ≡ take a b → 12 ≤ length front → name ≡ drop 12 front → name ≡ name_before b a
+before_is b a front some name =
+    let whole : a ≡ 12 + (a - 12) = omega (arith, some, ap length front, length-take a b) in
+    name ∙ ap (drop 12) front ∙ ap (λ k. drop 12 (take k b)) whole ∙ drop-take 12 (a - 12) b
+
 -- what stands before the end of the name decides it
 pub name_same : (b b' : Octets) (a : ℕ) → take a b' ≡ take a b → name_before b' a ≡ name_before b a
 name_same b b' a e = go (a - 12) refl

@@ -1,6 +1,6 @@
 //! A message that is being written: a question, and sets in their sections, within a limit (RFC
 //! 1035 4.1).
-ghost use Rattle.std.specs.Prelude.{◌≡◌, ◌↔◌, ◌+◌, ◌<◌, ◌≤◌, ◌^◌, List, [], ◌++◌, ℕ, ◌*◌, length, take, drop, replicate, min, IsTrue, IsFalse, IfSome, Option, All};
+ghost use Rattle.std.specs.Prelude.{◌≡◌, ◌↔◌, ◌+◌, ◌<◌, ◌≤◌, ◌^◌, List, [], ◌++◌, ℕ, ◌*◌, length, take, drop, min, IsTrue, IsFalse, IfSome, Option, All};
 ghost use Rattle.std.specs.Bool.{OnTrue, OnFalse};
 ghost use Rattle.std.specs.Option.{option_copied};
 ghost use Rattle.dns_spec.specs.Names.{Octets, DomainName, wire, is_name};

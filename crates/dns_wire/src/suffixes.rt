@@ -3,7 +3,7 @@
 ghost use Rattle.std.specs.Prelude.{◌≡◌, List, ◌+◌, ◌-◌, ◌*◌, ◌≤◌, ◌<◌, ◌^◌, [], ◌∷◌, ◌++◌, length, drop, min, IsTrue, IfSome, IsNone, ℕ, false};
 ghost use Rattle.dns_spec.specs.Names.{Octets, DomainName, wire, is_name};
 ghost use Rattle.dns_spec.specs.Layout.{Placed};
-ghost use Rattle.dns_wire.specs.Writing.{name_before, IsAsked, asked_places, NotAsked, IsLastOf, front_size, pointed_place, new_places, Follows, AfterLabel, Holds};
+ghost use Rattle.dns_wire.specs.Writing.{IsAsked, asked_places, NotAsked, IsLastOf, front_size, pointed_place, new_places, Follows, AfterLabel, Holds};
 ghost use Rattle.dns_wire.specs.Kept.{IsSharedAt, NoneSpelled};
 ghost use Rattle.dns_wire.specs.SuffixNumbers.{suffix_number};
 
@@ -98,21 +98,12 @@ fn place_before(message: &[u8], end: usize, suffix: &[u8]) -> Option<u16>
     if suffix.len() < 2 {
         return None;
     }
-    let name = name_before(message, end)?;
+    let (front, _) = message.split_at_checked(end)?;
+    let (_, name) = front.split_at_checked(HEADER_OCTETS)?;
     if !has_last_labels(name, suffix) {
         return None;
     }
     Some((end - suffix.len()) as u16)
-}
-
-// The octets between the header and a place.
-fn name_before(message: &[u8], end: usize) -> Option<&[u8]>
-    ensures some { IfSome result (λ name. name.now ≡ name_before message.now end) }
-    ensures none { IsNone result → end ≤ length message.now → name_before message.now end ≡ [] }
-{
-    let (front, _) = message.split_at_checked(end)?;
-    let (_, name) = front.split_at_checked(HEADER_OCTETS)?;
-    Some(name)
 }
 
 // Whether a name ends with these octets, which begin with one of its labels: the octets of a suffix
