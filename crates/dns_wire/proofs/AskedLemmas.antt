@@ -1,8 +1,7 @@
 -- The name of the question has the places of its suffixes, whatever comes after it; each of them stands so far before its end.
-use Rattle.std.proofs.Common.{◌≡◌, ℕ, zero, suc, ◌+◌, ◌-◌, ◌<◌, ◌≤◌, Bool, true, false, ◌⊎◌, inl, inr, List, [], ◌∷◌, ◌++◌, length, take, drop, refl, sym, ap, ◌∙◌, subst, arith, append_assoc, length-append, take-append-drop, take_at, replicate, ap₂, Option, None, Some, IfSome}
+use Rattle.std.proofs.Common.{◌≡◌, ℕ, zero, suc, ◌+◌, ◌-◌, ◌<◌, ◌≤◌, true, ◌⊎◌, inl, inr, List, [], ◌∷◌, ◌++◌, length, take, drop, refl, sym, ap, ◌∙◌, subst, arith, append_assoc, length-append, take-append-drop, take_at, replicate, ap₂, Option, None, Some, IfSome}
 use Rattle.std.proofs.lemmas.Bool.{and_parts}
 use Rattle.std.proofs.lemmas.List.{drop-drop, drop-take, take-append-le, length-take, length-drop}
-use Rattle.std.specs.Bool.{OnTrue, OnFalse}
 use Rattle.std.specs.List.{list_all}
 use Rattle.dns_spec.specs.Names.{Octets, DomainName, wire, is_name, is_label}
 use Rattle.dns_spec.proofs.Messages.Places.{Stands, run_written}
@@ -11,8 +10,14 @@ use Rattle.dns_name.proofs.WireLemmas.{labels_of_spelled, IsWireForm-wire}
 use Rattle.dns_name.specs.WireForm.{labels_of, IsWireForm}
 use Rattle.dns_wire.specs.Kept.{Kept, IsKept, SpellsName, IsSharedAt, NoneSpelled}
 use Rattle.dns_wire.specs.Writing.{AfterLabel, name_before, IsAsked, asked_places, NotAsked, IsLastOf, new_places}
-use Rattle.dns_wire.proofs.Suffixes.{one_run, next_label, kept-root}
+use Rattle.dns_wire.proofs.SuffixLemmas.{one_run, next_label, kept-root}
 use Rattle.dns_wire.proofs.NameWritten.{kept_left, kept_right, kept_split, kept_sound, kept_complete, NewSuffix, is_name-suffix}
+
+-- what stands between the header and its end
+pub before_is : (b : Octets) (a : ℕ) {front name : Octets} → front ≡ take a b → 12 ≤ length front → name ≡ drop 12 front → name ≡ name_before b a
+before_is b a front some name =
+    let whole : a ≡ 12 + (a - 12) = omega (arith, some, ap length front, length-take a b) in
+    name ∙ ap (drop 12) front ∙ ap (λ k. drop 12 (take k b)) whole ∙ drop-take 12 (a - 12) b
 
 -- what stands before the end of the name decides it
 pub name_same : (b b' : Octets) (a : ℕ) → take a b' ≡ take a b → name_before b' a ≡ name_before b a
@@ -49,11 +54,6 @@ kept_same head b b' a a' ks ks' e same places =
 pub kept_more : (head : Octets → ℕ) (b b' : Octets) (a a' : ℕ) (ks ks' : List Kept) (o : Octets) → IsAsked b a → b' ≡ b ++ o → a' ≡ a → ks' ≡ ks
     → asked_places head b' a' ++ ks' ≡ asked_places head b a ++ ks
 kept_more head b b' a a' ks ks' o asked e same places = kept_same head b b' a a' ks ks' (ap (take a) e ∙ take-append-le a b o asked.inside) same places
-
-pub kept_stays : (head : Octets → ℕ) (b b' : Octets) (a a' : ℕ) (ks ks' : List Kept) (o : Octets) (fits : Bool) → IsAsked b a → OnTrue fits (b' ≡ b ++ o) → OnFalse fits (b' ≡ b) → a' ≡ a → ks' ≡ ks
-    → asked_places head b' a' ++ ks' ≡ asked_places head b a ++ ks
-kept_stays head b b' a a' ks ks' o true asked e f same places = kept_more head b b' a a' ks ks' o asked e same places
-kept_stays head b b' a a' ks ks' o false asked e f same places = kept_same head b b' a a' ks ks' (ap (take a) f) same places
 
 -- before the question there is none
 no_labels : labels_of [] ≡ []

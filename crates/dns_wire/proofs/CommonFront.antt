@@ -1,14 +1,15 @@
 -- Octets that a message spells at a place stand there, but for a pointer where the two differ.
 use Rattle.std.proofs.Common.{◌≡◌, ℕ, zero, suc, ◌+◌, ◌<◌, ◌≤◌, Bool, true, false, nat_lt, [], ◌∷◌, ◌++◌, length, take, drop, slice_get, Some, refl, sym, ap, ap₂, ◌∙◌, subst, arith, append_assoc, length-append, drop_at, get_or}
 use Rattle.std.proofs.lemmas.Bool.{ltb-true, ltb-false}
-use Rattle.std.proofs.lemmas.List.{length-take-le, length-drop, drop-drop}
-use Rattle.std.proofs.lemmas.Option.{none-some, same_Some, slice_get_within, get_or_from_slice_get}
+use Rattle.std.proofs.lemmas.List.{take_all, length-take-le, length-drop, drop-drop}
+use Rattle.std.proofs.lemmas.Option.{none-some, same_Some, slice_get_within, get_or_from_slice_get, slice_get-get_or}
 use Rattle.std.proofs.Math.Seq.{take-add}
 use Rattle.dns_spec.specs.Names.{Octets, DomainName, wire}
 use Rattle.dns_spec.specs.Reading.{pointer_place, RunAt}
 use Rattle.dns_spec.specs.Reading.RunAt.{ends, goes_on, jumps}
 use Rattle.dns_wire.specs.Labels.{LabelAt, PointerAt, NoRunAt}
 use Rattle.dns_wire.specs.Kept.{SpelledAt, HasAt, IsCommon}
+use Rattle.dns_wire.proofs.Runs.{get_more, label_there}
 
 -- the octets of labels, without the root's
 abbrev pub label_octets : DomainName → Octets
@@ -34,9 +35,7 @@ get_dropped (suc s) k (x ∷ b) = get_dropped s k b
     ∙ ap (slice_get (x ∷ b)) {x = suc (s + k)} {y = suc s + k} (omega arith)
 
 get_front : (x y : Octets) (k : ℕ) → k < length x → slice_get (x ++ y) k ≡ slice_get x k
-get_front [] y k h = absurd (omega arith)
-get_front (o ∷ x) y zero h = refl
-get_front (o ∷ x) y (suc k) h = get_front x y k (omega arith)
+get_front x y k h = let at = slice_get-get_or x k 0 h in get_more x y k _ at ∙ sym at
 
 get_seam : (x y : Octets) → slice_get (x ++ y) (length x) ≡ slice_get y 0
 get_seam [] y = refl
@@ -55,8 +54,7 @@ get_alike b o s m k alike h = sym (get_dropped s k b) ∙ sym (get_taken m k (dr
     ∙ ap (λ z. slice_get z k) alike ∙ get_taken m k o h
 
 get_at : (b x : Octets) (s k : ℕ) → HasAt b s x → k < length x → slice_get b (s + k) ≡ slice_get x k
-get_at b x s k has h = sym (get_dropped s k b) ∙ sym (get_taken (length x) k (drop s b) h)
-    ∙ ap (λ z. slice_get z k) has.1
+get_at b x s k has h = get_alike b x s (length x) k (has.1 ∙ sym (take_all (length x) x (omega arith))) h
 
 -- a label before other octets
 has_label : {b y : Octets} {i : ℕ} (l : Octets) → LabelAt b i l → HasAt b (i + 1 + length l) y
@@ -83,24 +81,14 @@ run_ends {b} (ends i at) = whole (
 )
 run_ends {b} {s} (goes_on i k l n e at some short within is rest) = go (run_ends rest)
   where
-    long : length l ≡ k
-    long = ap length is
-        ∙ length-take-le k (drop (i + 1) b) (omega (arith, within, length-drop (i + 1) b))
-
-    there : LabelAt b i l
-    there = record {
-      length_there = at ∙ ap Some (sym long);
-      some = subst (λ j. 0 < j) (sym long) some;
-      short = subst (λ j. j < 64) (sym long) short;
-      within = subst (λ j. i + 1 + j ≤ length b) (sym long) within;
-      label = is ∙ ap (λ j. take j (drop (i + 1) b)) (sym long);
-    }
+    there : (length l ≡ k) × LabelAt b i l
+    there = label_there at some short within is
 
     go : RunEnds b s (i + 1 + k) n → RunEnds b s i (l ∷ n)
-    go (whole has) = whole (has_label l there (subst (λ j. HasAt b (i + 1 + j) (wire n)) (sym long) has))
+    go (whole has) = whole (has_label l there.1 (subst (λ j. HasAt b (i + 1 + j) (wire n)) (sym there.0) has))
     go (pointed f t p d shape has pointer run) =
-        let next : i + 1 + k + length (label_octets f) ≡ i + length (label_octets (l ∷ f)) = omega (arith, long, length-append l (label_octets f)) in
-        pointed (l ∷ f) t p d (ap (λ x. l ∷ x) shape) (has_label l there (subst (λ j. HasAt b (i + 1 + j) (label_octets f)) (sym long) has)) (subst (λ j. PointerAt b s j p) next pointer) run
+        let next : i + 1 + k + length (label_octets f) ≡ i + length (label_octets (l ∷ f)) = omega (arith, there.0, length-append l (label_octets f)) in
+        pointed (l ∷ f) t p d (ap (λ x. l ∷ x) shape) (has_label l there.1 (subst (λ j. HasAt b (i + 1 + j) (label_octets f)) (sym there.0) has)) (subst (λ j. PointerAt b s j p) next pointer) run
 run_ends {b} {s} (jumps i o o' p n e at high at' is from before rest) =
     let here : i ≡ i + length (label_octets []) = omega arith in
     let pointer : PointerAt b s i p = record { first = o; second = o'; first_there = at; high = high; second_there = at'; place = is; after_header = from; before_run = before } in

@@ -1,21 +1,16 @@
 -- Data and records are written part by part.
 use Rattle.std.proofs.Common.{◌≡◌, ◌+◌, ◌-◌, ◌≤◌, ◌∙◌, ℕ, Bool, true, false, List, [], ◌∷◌, ◌++◌, length, take, drop, refl, sym, ap, ap₂, subst, subst₂, arith, append_assoc, append-nil, length-append}
-use borrow.Rule.Slice.PartMut.{put_mid}
-use Rattle.std.specs.List.{between, refill}
-use Rattle.std.proofs.lemmas.List.{take_at, drop_at, drop-drop, drop_all, length-take, length-drop}
-use Rattle.std.proofs.lemmas.Slice.{between_to_end}
+use Rattle.std.proofs.lemmas.List.{take_at, drop_at}
 use Rattle.std.proofs.Math.Seq.{take-append-add}
 use Rattle.dns_spec.specs.Names.{Octets}
 use Rattle.dns_spec.specs.Data.{class_in, Part, octets, name, laid_parts}
 use Rattle.dns_spec.specs.Layout.{Placed, Laid, laid_front, octets16, octets32, data_laid}
-use Rattle.dns_wire.specs.declared.room.Room.{Room}
 use Rattle.dns_wire.specs.Kept.{Kept}
 use Rattle.dns_wire.specs.SuffixNumbers.{suffix_number}
 use Rattle.dns_wire.specs.Writing.{Follows, Holds, Layout, octets_laid, name_laid, both_laid, parts_laid, tail_laid}
-use Rattle.dns_wire.specs.Rooms.{IsSoundRoom, known_in, Writes}
+use Rattle.dns_wire.specs.Draft.{Draft, known_places, Writes}
 use Rattle.dns_wire.proofs.AskedLemmas.{kept_same, take_patched}
 use Rattle.dns_wire.proofs.NameWritten.{holds_octets}
-use Rattle.dns_wire.proofs.Suffixes.{follows_again}
 use Rattle.dns_wire.proofs.Steps.{grows_again, writes_as, writes_both, writes_past}
 
 abbrev pub part_laid : Part → Layout
@@ -51,20 +46,6 @@ plain_laid t ttl o x own whole ms p =
     ap (λ z. octets_laid (z ++ o) ms p) own
     ∙ ap (λ (l : Laid). record { written = numbers_of t ttl (length l.written) ++ l.written; names = l.names }) (data_last (octets o) ms (p + 10) ∙ ap (data_laid ms (p + 10)) (sym whole))
 
--- two octets of a list, written through a part of it that goes to its end
-pub put_over : (xs r ys o : Octets) (a : ℕ) → r ≡ xs → length o ≡ 2 → a + 2 ≤ length xs → ys ≡ o ++ drop 2 (between a (length r) r)
-    → refill (length xs) xs (put_mid a (length r - a) r ys) ≡ take a xs ++ (o ++ drop (a + 2) xs)
-put_over xs r ys o a whole two inside is =
-    let part : between a (length r) r ≡ drop a xs = ap (λ z. between a (length z) z) whole ∙ between_to_end xs a (length xs) (omega arith) in
-    let own : ys ≡ o ++ drop (a + 2) xs = is ∙ ap (λ z. o ++ drop 2 z) part ∙ ap (λ z. o ++ z) (drop-drop 2 a xs) in
-    let none : drop (length xs - a) (drop a xs) ≡ [] = drop_all (length xs - a) (drop a xs) (omega (arith, length-drop a xs)) in
-    let list = take a xs ++ (o ++ drop (a + 2) xs) in
-    let now : put_mid a (length r - a) r ys ≡ list =
-    ap (λ z. put_mid a (length z - a) z ys) whole ∙ ap (λ z. take a xs ++ (ys ++ z)) none ∙ ap (λ z. take a xs ++ z) (append-nil ys) ∙ ap (λ z. take a xs ++ z) own in
-    let long : length list ≡ length xs =
-    omega (arith, inside, two, length-append (take a xs) (o ++ drop (a + 2) xs), length-append o (drop (a + 2) xs), length-take a xs, length-drop (a + 2) xs) in
-    ap (refill (length xs) xs) now ∙ take_at list (drop (length list) xs) (length xs) long
-
 -- the eighth and ninth of ten octets are written over, and those after them stay
 patched : (b y z w after now : Octets) → length y ≡ 8 → length z ≡ 2 → after ≡ (b ++ (y ++ z)) ++ w
     → now ≡ take (length b + 8) after ++ (octets16 (length after - length b - 10) ++ drop (length b + 10) after)
@@ -92,68 +73,65 @@ patched_follows {b} {after} x f set = record {
 holds_again : {head : Octets → ℕ} {ms : List Placed} {b b' : Octets} {ks ks' : List Kept} → Holds head ms b ks → Holds head ms b' ks' → Holds head ms b' ks
 holds_again here there = record { spelled = there.spelled; before = there.before; after_header = there.after_header; answers = here.answers }
 
-module _ {N size : ℕ} where
-  -- parts after one that was written, and the last part
-  pub writes_more : {head head' head'' : Octets → ℕ} {r r' r'' : Room N size} {t fits : Bool} (x : Part) (ps : List Part) → t ≡ true → Writes head head' r r' (part_laid x) t
-      → Writes head' head'' r' r'' (all_laid ps) fits → Writes head head'' r r'' (all_laid (x ∷ ps)) fits
-  writes_more x ps is first next =
-      writes_as (both_laid (part_laid x) (all_laid ps)) (all_laid (x ∷ ps)) (data_more x ps) (writes_both (part_laid x) (all_laid ps) is first next)
+-- parts after one that was written, and the last part
+pub writes_more : {head head' head'' : Octets → ℕ} {d d' d'' : Draft} {t fits : Bool} (x : Part) (ps : List Part) → t ≡ true → Writes head head' d d' (part_laid x) t
+    → Writes head' head'' d' d'' (all_laid ps) fits → Writes head head'' d d'' (all_laid (x ∷ ps)) fits
+writes_more x ps is first next =
+    writes_as (both_laid (part_laid x) (all_laid ps)) (all_laid (x ∷ ps)) (data_more x ps) (writes_both (part_laid x) (all_laid ps) is first next)
 
-  pub writes_last : {head head' : Octets → ℕ} {r r' : Room N size} {fits : Bool} (x : Part) → Writes head head' r r' (part_laid x) fits → Writes head head' r r' (all_laid (x ∷ [])) fits
-  writes_last x w = writes_as (part_laid x) (all_laid (x ∷ [])) (data_last x) w
+pub writes_last : {head head' : Octets → ℕ} {d d' : Draft} {fits : Bool} (x : Part) → Writes head head' d d' (part_laid x) fits → Writes head head' d d' (all_laid (x ∷ [])) fits
+writes_last x w = writes_as (part_laid x) (all_laid (x ∷ [])) (data_last x) w
 
-  -- where a part does not fit
-  pub writes_short : {head head' : Octets → ℕ} {r r' : Room N size} {t fits : Bool} (x : Part) (ps : List Part) → t ≡ false → fits ≡ false → Writes head head' r r' (part_laid x) t
-      → Writes head head' r r' (all_laid (x ∷ ps)) fits
-  writes_short x ps is is_too w = writes_past (part_laid x) (all_laid (x ∷ ps)) is is_too w.grows
-      (λ ms p. let l = part_laid x ms p in omega (arith, ap (λ (z : Laid). length z.written) (data_more x ps ms p), length-append l.written (data_laid (ms ++ l.names) (p + length l.written) ps).written)) w
+-- where a part does not fit
+pub writes_short : {head head' : Octets → ℕ} {d d' : Draft} {t fits : Bool} (x : Part) (ps : List Part) → t ≡ false → fits ≡ false → Writes head head' d d' (part_laid x) t
+    → Writes head head' d d' (all_laid (x ∷ ps)) fits
+writes_short x ps is is_too w = writes_past (part_laid x) (all_laid (x ∷ ps)) is is_too
+    (λ ms p. let l = part_laid x ms p in omega (arith, ap (λ (z : Laid). length z.written) (data_more x ps ms p), length-append l.written (data_laid (ms ++ l.names) (p + length l.written) ps).written)) w
 
-  -- The length of data is written after the data, into octets that no name passes over.
-  pub tail_written : {head head' : Octets → ℕ} {r r' r'' r''' : Room N size} (t ttl : ℕ) (o : Octets) → IsSoundRoom r → Writes head head r r' (octets_laid (numbers_of t ttl 0)) true
-      → Writes head head' r' r'' (parts_laid t o) true
-      → r'''.octets.items ≡ take (length r.octets.items + 8) r''.octets.items
-      ++ (octets16 (length r''.octets.items - length r.octets.items - 10) ++ drop (length r.octets.items + 10) r''.octets.items)
-      → r'''.places ≡ r''.places → r'''.asked_end ≡ r''.asked_end → r'''.limit ≡ r''.limit → IsSoundRoom r''' → Writes head head' r r''' (tail_laid t ttl o) true
-  tail_written {head} {head'} {r} {r'} {r''} {r'''} t ttl o sound first next set places asked limit sound' =
-      let number = suffix_number head in
-      let b = r.octets.items in
-      let b'' = r''.octets.items in
-      let rest = octets16 (length b'' - length b - 10) ++ drop (length b + 10) b'' in
-      let grown = grows_again first.grows next.grows in
-      record {
-        grows = record { octets = patched_follows rest grown.octets set; places = follows_again grown.places (record { more = []; whole = places ∙ sym (append-nil r''.places) }); asked = asked ∙ grown.asked; limit = limit ∙ grown.limit; sound = sound' };
-        same = next.same;
-        written = λ ms holds.
-            let one = first.written ms holds in
-            let b' = r'.octets.items in
-            let ks' = known_in number r' in
-            let there : Holds number ms b' ks' = subst₂ (λ m x. Holds number m x ks') (append-nil ms) (sym one.written) (one.stands b refl holds) in
-            let two = next.written ms there in
-            let place : length b' ≡ length b + 10 = ap length one.written ∙ length-append b (numbers_of t ttl 0) in
-            let d = parts_laid t o ms (length b + 10) in
-            let same : parts_laid t o ms (length b') ≡ d = ap (parts_laid t o ms) place in
-            let w = d.written in
-            let numbers = numbers_of t ttl (length w) in
-            let after : b'' ≡ b' ++ w = two.written ∙ ap (λ (l : Laid). b' ++ l.written) same in
-            let laid : r'''.octets.items ≡ b ++ (numbers ++ w) =
-            patched b (octets16 t ++ octets16 class_in ++ octets32 ttl) (octets16 0) w b'' r'''.octets.items refl refl (after ∙ ap (λ x. x ++ w) one.written) set in
-            let fits = two.exactly.0 refl in
-            let long = ap length after ∙ length-append b' w in
-            let inside = sound.asked.inside in
-            let same_limit = first.grows.limit in
-            let front : take r''.asked_end r'''.octets.items ≡ take r''.asked_end b'' =
-            take_patched r''.asked_end (length b + 8) b'' rest _ set (omega (arith, inside, grown.asked)) (omega (arith, long, place)) in
-            let kept = kept_same number _ _ _ _ _ _ front asked places in
-            record {
-              exactly = (
-                λ yes. omega (arith, fits, place, same_limit, ap (λ (l : Laid). length (b' ++ l.written)) same, length-append b' w, length-append b (numbers ++ w), length-append numbers w),
-                λ h. refl,
-              );
-              written = laid;
-              stands = λ x long_x known.
-                  let here : Holds number ms (x ++ numbers) ks' = holds_again there (holds_octets numbers known) in
-                  let all = two.stands (x ++ numbers) (omega (arith, long_x, place, length-append x numbers)) here in
-                  subst₂ (λ z k. Holds number (ms ++ d.names) z k) (append_assoc x numbers w) (sym kept)
-                  (subst (λ (l : Laid). Holds number (ms ++ l.names) ((x ++ numbers) ++ l.written) (known_in number r'')) same all);
-            };
-      }
+-- The length of data is written after the data, into octets that no name passes over.
+pub tail_written : {head head' : Octets → ℕ} {d d' d'' : Draft} (t ttl : ℕ) (o b : Octets) → d.asked_end ≤ length d.octets → Writes head head d d' (octets_laid (numbers_of t ttl 0)) true
+    → Writes head head' d' d'' (parts_laid t o) true
+    → b ≡ take (length d.octets + 8) d''.octets ++ (octets16 (length d''.octets - length d.octets - 10) ++ drop (length d.octets + 10) d''.octets)
+    → Writes head head' d (record d'' { octets = b }) (tail_laid t ttl o) true
+tail_written {head} {head'} {d} {d'} {d''} t ttl o now inside first next set =
+    let number = suffix_number head in
+    let b = d.octets in
+    let b'' = d''.octets in
+    let rest = octets16 (length b'' - length b - 10) ++ drop (length b + 10) b'' in
+    let grown = grows_again first.grows next.grows in
+    record {
+      grows = record { octets = patched_follows rest grown.octets set; kept = grown.kept; asked = grown.asked; limit = grown.limit; counts = grown.counts };
+      same = next.same;
+      written = λ ms holds.
+          let one = first.written ms holds in
+          let b' = d'.octets in
+          let ks' = known_places number d' in
+          let there : Holds number ms b' ks' = subst₂ (λ m x. Holds number m x ks') (append-nil ms) (sym one.written) (one.stands b refl holds) in
+          let two = next.written ms there in
+          let place : length b' ≡ length b + 10 = ap length one.written ∙ length-append b (numbers_of t ttl 0) in
+          let l = parts_laid t o ms (length b + 10) in
+          let same : parts_laid t o ms (length b') ≡ l = ap (parts_laid t o ms) place in
+          let w = l.written in
+          let numbers = numbers_of t ttl (length w) in
+          let after : b'' ≡ b' ++ w = two.written ∙ ap (λ (l : Laid). b' ++ l.written) same in
+          let laid : now ≡ b ++ (numbers ++ w) =
+          patched b (octets16 t ++ octets16 class_in ++ octets32 ttl) (octets16 0) w b'' now refl refl (after ∙ ap (λ x. x ++ w) one.written) set in
+          let fits = two.exactly.0 refl in
+          let long = ap length after ∙ length-append b' w in
+          let same_limit = first.grows.limit in
+          let front : take d''.asked_end now ≡ take d''.asked_end b'' =
+          take_patched d''.asked_end (length b + 8) b'' rest _ set (omega (arith, inside, grown.asked)) (omega (arith, long, place)) in
+          let kept : known_places number (record d'' { octets = now }) ≡ known_places number d'' = kept_same number _ _ _ _ _ _ front refl refl in
+          record {
+            exactly = (
+              λ yes. omega (arith, fits, place, same_limit, ap (λ (l : Laid). length (b' ++ l.written)) same, length-append b' w, length-append b (numbers ++ w), length-append numbers w),
+              λ h. refl,
+            );
+            written = laid;
+            stands = λ x long_x known.
+                let here : Holds number ms (x ++ numbers) ks' = holds_again there (holds_octets numbers known) in
+                let all = two.stands (x ++ numbers) (omega (arith, long_x, place, length-append x numbers)) here in
+                subst₂ (λ z k. Holds number (ms ++ l.names) z k) (append_assoc x numbers w) (sym kept)
+                (subst (λ (l : Laid). Holds number (ms ++ l.names) ((x ++ numbers) ++ l.written) (known_places number d'')) same all);
+          };
+    }

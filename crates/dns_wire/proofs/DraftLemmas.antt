@@ -1,26 +1,28 @@
 -- A set more in a draft: its size is that of the layout, and it has one set more.
-use Rattle.std.proofs.Common.{◌≡◌, ◌↔◌, ℕ, ◌+◌, ◌≤◌, ◌^◌, Bool, true, false, cond, List, [], ◌∷◌, ◌++◌, length, take, drop, replicate, filter, Option, refl, sym, ap, ap₂, ◌∙◌, subst, subst₂, arith, All, IfSome, append_assoc, append-nil, length-append, ◌<◌, lt_of_not-le}
+use Rattle.std.proofs.Common.{◌≡◌, ◌↔◌, ℕ, ◌+◌, ◌≤◌, ◌^◌, Bool, true, false, cond, List, [], ◌∷◌, ◌++◌, length, take, drop, replicate, filter, Option, refl, sym, ap, ap₂, ◌∙◌, subst, subst₂, arith, All, IfSome, Some, append_assoc, append-nil, length-append, ◌<◌, lt_of_not-le}
 use Rattle.std.proofs.lemmas.Bool.{false≢true}
 use Rattle.std.proofs.lemmas.List.{length-map, length-drop}
 use Rattle.std.proofs.lemmas.List.Concat.{flat_map-append}
 use Rattle.std.proofs.Math.Seq.{take-append-add}
-use Rattle.dns_spec.specs.Names.{Octets, DomainName}
+use Rattle.dns_spec.specs.Names.{Octets, DomainName, wire}
 use Rattle.dns_spec.specs.Sets.{RecordSet, records_at}
 use Rattle.dns_spec.specs.Reading.{Header, MessageQuestion, Spells}
 use Rattle.dns_spec.specs.Layout as Layout
-use Rattle.dns_spec.specs.Layout.{Item, Placed, Laid, laid_front, record_laid, records_octets, records_of, in_section, is_section, asked_octets, asked_placed, answer, authority, additional, layout, header_octets, reply_header, message_of}
+use Rattle.dns_spec.specs.Layout.{Item, Placed, Laid, laid_front, record_laid, records_octets, records_of, in_section, is_section, asked_octets, asked_placed, octets16, question_octets, answer, authority, additional, layout, header_octets, reply_header, message_of}
 use Rattle.dns_spec.specs.LayoutSize.{size}
 use Rattle.dns_spec.specs.Sharing.{Sharing}
 use Rattle.dns_spec.specs.Laws.{IsWritable, IsAskable, sections_in_order}
+use Rattle.dns_spec.proofs.Layouts.SharedNames.{shared_alone}
 use Rattle.dns_spec.proofs.Layouts.SharedLayout.{layout_spells}
 use Rattle.dns_spec.proofs.Layouts.LeastSize.{past_limit}
 use Rattle.dns_spec.proofs.Layouts.LayoutSize.{length-records_octets, length-layout}
 use Rattle.dns_wire.specs.declared.page.Section.{Section}
-use Rattle.dns_wire.specs.Kept.{Kept}
-use Rattle.dns_wire.specs.Writing.{Holds, IsWritten, records_laid, shown}
+use Rattle.dns_wire.specs.Writing.{asked_places, new_places, Holds, records_laid, shown}
 use Rattle.dns_wire.specs.SuffixNumbers.{suffix_number}
-use Rattle.dns_wire.specs.Draft.{Draft, known_places, IsDraft, section_of, counted, with_counted, counts_of, item_of, names_so_far}
+use Rattle.dns_wire.specs.Draft.{Draft, draft_of, known_places, HasNames, IsDraft, Writes, section_of, counted, with_counted, counts_of, item_of, names_so_far}
 use Rattle.dns_wire.specs.declared.message.Counts.{Counts}
+use Rattle.dns_wire.proofs.AskedLemmas.{asked_whole}
+use Rattle.dns_wire.proofs.NameWritten.{holds_nothing, holds_octets, holds_name}
 use Rattle.dns_wire.proofs.RecordsWritten.{octets_of_records, records_none, records_split}
 
 records_pushed : (items : List Item) (i : Item) → records_of (items ++ i ∷ []) ≡ records_of items ++ i.records
@@ -73,18 +75,12 @@ module _ (head : Octets → ℕ) (q : Option MessageQuestion) (items : List Item
       omega (arith, written, next_place, length-append l more, length-append d.octets more)
 
 -- A set was put exactly where the layout with it is within the limit.
-pub put_fits : {head : Octets → ℕ} {t u : Bool} {b : Octets} {ks : List Kept} {d now : Draft} (q : Option MessageQuestion) (items : List Item) (section : Section)
-    (owner : DomainName) (ttl : ℕ) (set : RecordSet) → d ≡ now → IsDraft head q items now
-    → ((ms : List Placed) → Holds (suffix_number head) ms d.octets (known_places (suffix_number head) d) → IsWritten (suffix_number head) d.limit ms d.octets (known_places (suffix_number head) d) (records_laid (records_at owner ttl set) ms (length d.octets)) t b ks)
-    → t ≡ u → (u ≡ true) ↔ (size q (items ++ item_of section owner ttl set ∷ []) ≤ now.limit)
-put_fits {head} {t} {u} {b} {ks} {d} {now} q items section owner ttl set view draft written is =
-    let here = subst (IsDraft head q items) (sym view) draft in
-    let done = written (names_so_far q items) here.holds in
-    let size_is = draft_size head q items d here (item_of section owner ttl set) in
-    let limit = ap (λ (x : Draft). x.limit) view in (
-      λ so. let room = done.exactly.0 (is ∙ so) in omega (arith, room, size_is, limit),
-      λ fits. sym is ∙ done.exactly.1 (omega (arith, fits, size_is, limit)),
-    )
+pub put_fits : {head head' : Octets → ℕ} {t : Bool} {d d' : Draft} (q : Option MessageQuestion) (items : List Item) (section : Section) (owner : DomainName) (ttl : ℕ) (set : RecordSet)
+    → Writes head head' d d' (records_laid (records_at owner ttl set)) t → IsDraft head q items d → (t ≡ true) ↔ (size q (items ++ item_of section owner ttl set ∷ []) ≤ d.limit)
+put_fits {head} {d = d} q items section owner ttl set w draft =
+    let exactly = (w.written (names_so_far q items) draft.holds).exactly in
+    let size_is = draft_size head q items d draft (item_of section owner ttl set) in
+    (λ so. let room = exactly.0 so in omega (arith, room, size_is), λ fits. exactly.1 (omega (arith, fits, size_is)))
 
 counts_pushed : (q : Option MessageQuestion) (items : List Item) (section : Section) (owner : DomainName) (ttl : ℕ) (set : RecordSet)
     → with_counted (counts_of q items) section (length set.rdata) ≡ counts_of q (items ++ item_of section owner ttl set ∷ [])
@@ -92,41 +88,55 @@ counts_pushed q items section owner ttl set =
     rw (section_counted answer items section owner ttl set, section_counted authority items section owner ttl set, section_counted additional items section owner ttl set) refl
 
 -- a set that was put
-pub put_in : {head : Octets → ℕ} {limit : ℕ} {t : Bool} {d now d' : Draft} (q : Option MessageQuestion) (items : List Item) (section : Section)
-    (owner : DomainName) (ttl : ℕ) (set : RecordSet) → d ≡ now → IsDraft head q items now
-    → ((ms : List Placed) → Holds (suffix_number head) ms d.octets (known_places (suffix_number head) d) → IsWritten (suffix_number head) limit ms d.octets (known_places (suffix_number head) d) (records_laid (records_at owner ttl set) ms (length d.octets)) t d'.octets (known_places (suffix_number head) d'))
-    → t ≡ true → d'.counts ≡ with_counted d.counts section (length set.rdata) → IsDraft head q (items ++ item_of section owner ttl set ∷ []) d'
-put_in {head} {limit} {t} {d} {now} {d'} q items section owner ttl set view draft written put counts =
-    let here = subst (IsDraft head q items) (sym view) draft in
+pub put_in : {head head' : Octets → ℕ} {d d' : Draft} {n : Counts} (q : Option MessageQuestion) (items : List Item) (section : Section) (owner : DomainName) (ttl : ℕ) (set : RecordSet)
+    → Writes head head' d d' (records_laid (records_at owner ttl set)) true → n ≡ with_counted d'.counts section (length set.rdata) → IsDraft head q items d
+    → IsDraft head q (items ++ item_of section owner ttl set ∷ []) (record d' { counts = n })
+put_in {head} {d = d} {d'} q items section owner ttl set w counts draft =
     let before = names_so_far q items in
-    let known = known_places (suffix_number head) d in
-    let known' = known_places (suffix_number head) d' in
     let more = records_laid (records_at owner ttl set) before (length d.octets) in
-    let done = subst (λ u. IsWritten (suffix_number head) limit before d.octets known more u d'.octets known') put (written before here.holds) in
+    let done = w.written before draft.holds in
     let l = records_laid (records_of items) (asked_placed q) (12 + length (asked_octets q)) in
-    let all = whole head q items d here (item_of section owner ttl set) in
+    let all = whole head q items d draft (item_of section owner ttl set) in
     let front = replicate 12 0 ++ asked_octets q in
     record {
-      written = done.written ∙ ap (λ z. z ++ more.written) here.written ∙ append_assoc front l.written more.written ∙ ap (λ (x : Laid). front ++ x.written) (sym all);
+      written = done.written ∙ ap (λ z. z ++ more.written) draft.written ∙ append_assoc front l.written more.written ∙ ap (λ (x : Laid). front ++ x.written) (sym all);
       holds =
-          subst₂ (λ x b. Holds (suffix_number head) x b known') (append_assoc (asked_placed q) l.names more.names ∙ ap (λ (x : Laid). asked_placed q ++ x.names) (sym all)) (sym done.written)
-          (done.stands d.octets refl here.holds);
-      counts = counts ∙ ap (λ n. with_counted n section (length set.rdata)) here.counts ∙ counts_pushed q items section owner ttl set;
-      askable = here.askable;
+          subst₂ (λ x b. Holds (suffix_number head) x b (known_places (suffix_number head) d')) (append_assoc (asked_placed q) l.names more.names ∙ ap (λ (x : Laid). asked_placed q ++ x.names) (sym all)) (sym done.written)
+          (done.stands d.octets refl draft.holds);
+      counts = counts ∙ ap (λ n. with_counted n section (length set.rdata)) (w.grows.counts ∙ draft.counts) ∙ counts_pushed q items section owner ttl set;
+      askable = draft.askable;
     }
 
 -- a draft without sets
-pub draft_begins : (head : Octets → ℕ) (q : Option MessageQuestion) (d : Draft) → d.octets ≡ replicate 12 0 ++ asked_octets q → Holds (suffix_number head) (asked_placed q) d.octets (known_places (suffix_number head) d)
+pub draft_begins : (head : Octets → ℕ) (q : Option MessageQuestion) (d : Draft) → d.octets ≡ replicate 12 0 ++ asked_octets q → HasNames d head (asked_placed q)
     → d.counts ≡ counts_of q [] → IfSome q IsAskable → IsDraft head q [] d
 draft_begins head q d octets holds counts askable =
     let none = records_none (asked_placed q) (12 + length (asked_octets q)) in
     let front = replicate 12 0 ++ asked_octets q in
     record {
       written = octets ∙ sym (append-nil front) ∙ ap (λ (l : Laid). front ++ l.written) (sym none);
-      holds = subst (λ ms. Holds (suffix_number head) ms d.octets (known_places (suffix_number head) d)) (sym (append-nil (asked_placed q)) ∙ ap (λ (l : Laid). asked_placed q ++ l.names) (sym none)) holds;
+      holds = subst (HasNames d head) (sym (append-nil (asked_placed q)) ∙ ap (λ (l : Laid). asked_placed q ++ l.names) (sym none)) holds;
       counts = counts;
       askable = askable;
     }
+
+-- a draft of a question alone
+abbrev pub asked_draft : ℕ → MessageQuestion → Draft
+asked_draft limit q = draft_of limit (replicate 12 0 ++ question_octets q) (12 + length (wire q.qname)) [] (record { questions = 1; answers = 0; authorities = 0; additionals = 0 })
+
+pub question_whole : (q : MessageQuestion) → replicate 12 0 ++ question_octets q ≡ (replicate 12 0 ++ wire q.qname) ++ (octets16 q.qtype ++ octets16 q.qclass)
+question_whole q =
+    ap (λ z. replicate 12 0 ++ z) (append_assoc (wire q.qname) (octets16 q.qtype) (octets16 q.qclass)) ∙ sym (append_assoc (replicate 12 0) (wire q.qname) (octets16 q.qtype ++ octets16 q.qclass))
+
+pub asked_begins : (head : Octets → ℕ) (limit : ℕ) (q : MessageQuestion) → IsAskable q → IsDraft head (Some q) [] (asked_draft limit q)
+asked_begins head limit q askable =
+    let number = suffix_number head in
+    let n = q.qname in
+    let o = octets16 q.qtype ++ octets16 q.qclass in
+    let new = new_places number [] n 12 in
+    let places : known_places number (asked_draft limit q) ≡ new = append-nil (asked_places number (replicate 12 0 ++ question_octets q) (12 + length (wire n))) ∙ asked_whole number n o (question_whole q) askable.qname refl in
+    let alone = subst (λ x. Holds number ((n, 12) ∷ []) (replicate 12 0 ++ x) new) (shared_alone n) (holds_name number [] (replicate 12 0) [] (holds_nothing number) n askable.qname) in
+    draft_begins head (Some q) (asked_draft limit q) refl (subst₂ (Holds number ((n, 12) ∷ [])) (sym (question_whole q)) (sym places) (holds_octets o alone)) refl askable
 
 abbrev pub header_of : Header → Counts → Octets
 header_of h n = header_octets h n.questions n.answers n.authorities n.additionals

@@ -8,7 +8,7 @@ mod QueryName
 mod ChainLemmas
 mod SpelledLemmas
 mod CommonFront
-mod Suffixes
+mod SuffixLemmas
 mod NameWritten
 mod AskedLemmas
 mod Steps

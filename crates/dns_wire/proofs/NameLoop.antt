@@ -1,6 +1,6 @@
 -- A name is read label by label from place 12 on: the labels read so far, and what the octets from the next place on
 -- spell, are the name.
-use Rattle.std.proofs.Common.{Bool, true, false, ◌≡◌, ℕ, ◌+◌, ◌<◌, ◌≤◌, [], ◌∷◌, ◌++◌, length, take, drop, get_or, refl, sym, ◌∙◌, ap, arith, Option, None, Some, length-append}
+use Rattle.std.proofs.Common.{Bool, true, false, ◌≡◌, ℕ, ◌+◌, ◌<◌, ◌≤◌, [], ◌∷◌, ◌++◌, length, take, drop, get_or, refl, sym, ◌∙◌, ap, arith, Option, None, Some}
 use Rattle.std.proofs.lemmas.List.{append_assoc, append-nil}
 use Rattle.std.proofs.lemmas.Option.{slice_get-get_or, slice_get_past}
 use Rattle.std.specs.Prelude.{slice_get, ◌⊎◌}
@@ -9,6 +9,7 @@ use Rattle.std.specs.Option.{option_map, option_and_then}
 use Rattle.dns_spec.specs.Names.{Octets, DomainName, wire, is_name, with_label}
 use Rattle.dns_spec.specs.ComputedReading.{name_at, name_if_short}
 use Rattle.dns_spec.proofs.DomainNames.NameLaws.{IsName-is_name}
+use Rattle.dns_wire.proofs.Runs.{length-wire-front}
 use Rattle.dns_spec.proofs.Messages.NameReading.{run12, run12_missing, run12_root, run12_label, run12_label_past, run12_high, name_at_12}
 
 -- labels in front of what was read
@@ -69,14 +70,6 @@ read_on-past d n i k h z pos past =
 pub read_on-high : (d : Octets) (n : DomainName) (i k : ℕ) → i < length d → get_or d i 0 ≡ k → 64 ≤ k → read_on d n i ≡ None
 read_on-high d n i k h z high =
     read_on-none d n i (run12_high d i k (slice_get-get_or d i 0 h ∙ ap (λ o. Some o) z) high)
-
--- a beginning of a name is no longer than the name
-pub length-wire-front : (n m : DomainName) → length (wire n) ≤ length (wire (n ++ m))
-length-wire-front [] [] = omega arith
-length-wire-front [] (l ∷ m) = omega arith
-length-wire-front (l ∷ n) m =
-    let shorter = length-wire-front n m in
-    omega (arith, length-append l (wire n), length-append l (wire (n ++ m)))
 
 no_name : (n m : DomainName) (e : ℕ) → 255 < length (wire n) → (b : Bool) → is_name (n ++ m) ≡ b → name_if_short (n ++ m, e) ≡ None
 no_name n m e long true ok = let name = IsName-is_name (n ++ m) ok in absurd (omega (arith, length-wire-front n m, name.fits))

@@ -15,7 +15,8 @@ use Rattle.dns_spec.proofs.Layouts.SameLayout.{begins_inside}
 use Rattle.dns_spec.proofs.Layouts.SharedNames.{suffix_from, suffix_to, place_again, place_pushed, shared_is, shared_to, shared_none, shared_whole, shared_pointed, shared_root, Known, known_more}
 use Rattle.dns_wire.specs.Kept.{Kept, IsKept}
 use Rattle.dns_wire.specs.Writing.{front_size, pointed_place, end_octets, new_places, Answers, Holds}
-use Rattle.dns_wire.proofs.Suffixes.{front-none, front-some, front-root, pointed-none, pointed-some, pointed-root, kept-none, kept-more, kept-some, kept-root}
+use Rattle.dns_wire.proofs.Runs.{get_more}
+use Rattle.dns_wire.proofs.SuffixLemmas.{front-as, front-root, pointed-as, pointed-root, kept-as, kept-more, kept-root}
 
 -- a name is laid out as its front and its end
 pub shared_cut : (ms : List Placed) (n : DomainName) → shared_octets ms n ≡ take (front_size ms n) (wire n) ++ end_octets (pointed_place ms n)
@@ -32,16 +33,11 @@ shared_cut ms (l ∷ n) = go (shared_place ms (l ∷ n)) refl (shared_cut ms n)
         ∙ ap (λ z. length l ∷ z) (take-append-add l (wire n) f) in
         shared_whole ms l n e ∙ ap (λ z. length l ∷ (l ++ z)) h ∙ ap (λ z. length l ∷ z) (sym (append_assoc l (take f (wire n)) o))
         ∙ ap (λ z. z ++ o) (sym more)
-        ∙ ap₂ (λ k x. take k (wire (l ∷ n)) ++ end_octets x) (sym (front-none ms l n e)) (sym (pointed-none ms l n e))
+        ∙ ap₂ (λ k x. take k (wire (l ∷ n)) ++ end_octets x) (sym (front-as ms l n e)) (sym (pointed-as ms l n e))
     go (Some p) e h =
-        shared_pointed ms l n p e ∙ ap₂ (λ k x. take k (wire (l ∷ n)) ++ end_octets x) (sym (front-some ms l n p e)) (sym (pointed-some ms l n p e))
+        shared_pointed ms l n p e ∙ ap₂ (λ k x. take k (wire (l ∷ n)) ++ end_octets x) (sym (front-as ms l n e)) (sym (pointed-as ms l n e))
 
 -- what is read stays, whatever comes after
-get_more : (b x : Octets) (i o : ℕ) → slice_get b i ≡ Some o → slice_get (b ++ x) i ≡ Some o
-get_more [] x i o at = absurd (none-some o at)
-get_more (y ∷ b) x zero o at = at
-get_more (y ∷ b) x (suc i) o at = get_more b x i o at
-
 take_more : (b x : Octets) (i k : ℕ) → i + k ≤ length b → take k (drop i (b ++ x)) ≡ take k (drop i b)
 take_more b x zero k h = take-append-le k b x (omega (arith, h))
 take_more [] x (suc i) k h = absurd (omega arith)
@@ -56,12 +52,7 @@ run_more {b} x (jumps i o o' p n e at high at' is from before rest) =
 
 -- places kept among more
 pub kept_left : (ks more : List Kept) (p h : ℕ) → IsKept ks p h → IsKept (ks ++ more) p h
-kept_left ks more p h kept = (kept.0, go ks kept.0 kept.1)
-  where
-    go : (ks : List Kept) (k : ℕ) → slice_get ks k ≡ Some (record { place = p; number = h }) → slice_get (ks ++ more) k ≡ Some (record { place = p; number = h })
-    go [] k at = absurd (none-some _ at)
-    go (y ∷ ks) zero at = at
-    go (y ∷ ks) (suc k) at = go ks k at
+kept_left ks more p h kept = (kept.0, get_more ks more kept.0 _ kept.1)
 
 pub kept_right : (ks more : List Kept) (p h : ℕ) → IsKept more p h → IsKept (ks ++ more) p h
 kept_right [] more p h kept = kept
@@ -111,9 +102,9 @@ kept_sound head ms (l ∷ n) i p h (k, at) = go (shared_place ms (l ∷ n)) refl
   where
     go : (x : Option ℕ) → shared_place ms (l ∷ n) ≡ x → (t : Bool) → nat_le i last_place ≡ t → (k : ℕ) → slice_get (new_places head ms (l ∷ n) i) k ≡ Some (record { place = p; number = h })
         → ((j : ℕ) → IsKept (new_places head ms n j) p h → NewSuffix ms n j p) → NewSuffix ms (l ∷ n) i p
-    go (Some q) e t r k at again = absurd (none-some _ (ap (λ x. slice_get x k) (sym (kept-some head ms l n i q e)) ∙ at))
+    go (Some q) e t r k at again = absurd (none-some _ (ap (λ x. slice_get x k) (sym (kept-as head ms l n i e)) ∙ at))
     go None e false r k at again =
-        absurd (none-some _ (ap (λ x. slice_get x k) (sym (kept-none head ms l n i e
+        absurd (none-some _ (ap (λ x. slice_get x k) (sym (kept-as head ms l n i e
         ∙ ap (λ t. cond t (record { place = i; number = head (wire (l ∷ n)) } ∷ new_places head ms n (i + 1 + length l)) []) r)) ∙ at))
     go None e true r zero at again =
         let low = leb-true i last_place r in
@@ -161,9 +152,6 @@ is_name-suffix [] s h = h
 is_name-suffix (k ∷ front) s h = is_name-suffix front s (is_name-tail k (front ++ s) h)
 
 module _ (head : Octets → ℕ) (ms : List Placed) (b : Octets) (ks : List Kept) (holds : Holds head ms b ks) (n : DomainName) (ok : is_name n ≡ true) where
-  later : List Placed
-  later = ms ++ (n, length b) ∷ []
-
   answers_more : Answers head (ms ++ (n, length b) ∷ []) (ks ++ new_places head ms n (length b))
   answers_more = record { complete = complete; sound = sound }
     where

@@ -1,6 +1,6 @@
 -- A piece of data stands at a place, at most one, and what it is decides of the data.
 use Rattle.std.proofs.Common.{◌≡◌, ◌≢◌, ℕ, zero, suc, ◌+◌, ◌-◌, ◌<◌, ◌≤◌, true, ◌&&◌, not, nat_le, ◌==◌, List, [], ◌∷◌, ◌++◌, length, take, drop, get_or, slice_get, Some, refl, sym, ap, ◌∙◌, subst, arith, append_assoc, append-nil, add-zero}
-use Rattle.std.proofs.lemmas.Bool.{and_parts, and_from, leb-true, le-leb, ne_eqb, false≢true}
+use Rattle.std.proofs.lemmas.Bool.{and_parts, leb-true, false≢true}
 use Rattle.std.proofs.lemmas.Option.{none-some, same_Some, cond_some, slice_get-get_or}
 use Rattle.std.proofs.lemmas.List.{length-take-le, length-drop, take-take, get_or-take, get_or-drop}
 use Rattle.dns_spec.specs.Names.{Octets, DomainName, wire}
@@ -180,31 +180,6 @@ module _ (b : Octets) (i e : ℕ) (ordered : i ≤ e) (within : e ≤ length b) 
       let none : length rest ≡ 0 = ap (λ x. length x.1) (sym c) in
       let end : e - length rest ≡ e = omega arith in
       (own, ap (λ x. x.0) (sym c), (subst (λ j. OctetsAt b i j own) (sym end) all_there, end), omega arith)
-
-  -- where the piece stands, the octets begin with it
-  abbrev Begins : Piece → Type 0
-  Begins p = (x : Part × Octets) × (piece_front p own ≡ Some x)
-
-  front_begins : (k : ℕ) → i + k ≤ e → octets_front k own ≡ Some (octets (take k own), drop k own)
-  front_begins k fits = rw (le-leb k (length own) (omega (arith, length-own))) refl
-
-  begins : (p : Piece) (j : ℕ) (o : Octets) → p ≢ domain → PieceAt b p i e j o → j ≤ e → Begins p
-  begins (fixed f) j o other h inside = (_, front_begins (width f) (omega (arith, h.1)))
-  begins domain j o other h inside = absurd (other refl)
-  begins string j o other h inside = go own refl
-    where
-      go : (xs : Octets) → own ≡ xs → (x : Part × Octets) × (string_front xs ≡ Some x)
-      go [] is = absurd (omega (arith, length-own, ap length is, h.3))
-      go (k ∷ os) is =
-          let same : k ≡ h.0 = same_Some k h.0 (sym (first_octet k os is) ∙ h.1) in
-          (_, ap (octets_front (suc k)) (sym is) ∙ front_begins (suc k) (omega (arith, h.3)))
-  begins strings j o other h inside =
-      let same : o ≡ own = sym h.0.are ∙ ap (λ k. take (k - i) (drop i b)) h.3 in
-      let some : 0 < length own = subst (λ x. 0 < length x) same h.1 in
-      let tests : (not (length own == 0) && are_strings 0 own) ≡ true =
-      and_from _ _ (ap not (ne_eqb (length own) 0 (λ z. omega arith))) (subst (λ x. are_strings 0 x ≡ true) same h.2) in
-      ((octets own, []), rw tests refl)
-  begins anything j o other h inside = ((octets own, []), refl)
 
 -- a name that ends past the data
 pub long_name_none : (b : Octets) (i e j : ℕ) (n : DomainName) → NameAt b i n j → e < j → NoPieceAt b domain i e

@@ -5,7 +5,7 @@ use Rattle.dns_spec.specs.Reading.{Header, MessageQuestion, MessageRecord, DnsMe
 use Rattle.dns_spec.proofs.Messages.OneMessage.{one_number, same_names, same_record, same_questions, same_records}
 use Rattle.dns_wire.specs.Pieces.{NoDataAt}
 use Rattle.dns_wire.specs.declared.message.Counts.{Counts}
-use Rattle.dns_wire.specs.Read.{HeaderAt, AreQuestions, AreRecords, NoMessage, QuestionAt, WholeRecordAt, NoQuestion, NoRecord, NoQuestions, NoRecords, QuestionsRead, RecordsRead}
+use Rattle.dns_wire.specs.Read.{HeaderAt, AreQuestions, AreRecords, NoMessage, QuestionAt, WholeRecordAt, NoQuestion, NoRecord, NoRecords, AreRead}
 
 -- numbers that are missing
 pub no_qtype : (b : Octets) (i j : ℕ) (n : DomainName) → NameAt b i n j → length b < j + 2 → NoQuestion b i
@@ -58,79 +58,57 @@ one_record b i q r e f g h =
     let s = same_record b q r i i g.after_owner h.after_owner g.data_length h.data_length refl g.there h.there in
     (s.0, g.end ∙ ap₂ (λ y z. y + 10 + z) s.1 s.2 ∙ sym h.end)
 
-first_question : (b : Octets) (i : ℕ) (q : MessageQuestion) (qs : List MessageQuestion) (e : ℕ) → QuestionsAt b i (q ∷ qs) e
-    → (k : ℕ) × QuestionAt b i q k × QuestionsAt b k qs e
-first_question b i q qs e h = (h.0 + 4, record { after_name = h.0; name = h.1; qtype = h.2; qclass = h.3; end = refl }, h.4)
+-- Things stand one after another, each with one end.
+pub record InTurn {A : Type 0} (At : ℕ → List A → ℕ → Type 0) (One : ℕ → A → ℕ → Type 0) : Type 0 where
+  ends : (i : ℕ) → At i [] i
+  first : (i : ℕ) (x : A) (xs : List A) (e : ℕ) → At i (x ∷ xs) e → (k : ℕ) × One i x k × At k xs e
+  from : (i k : ℕ) (x : A) (xs : List A) (e : ℕ) → One i x k → At k xs e → At i (x ∷ xs) e
+  one : (i : ℕ) (x y : A) (e f : ℕ) → One i x e → One i y f → (x ≡ y) × (e ≡ f)
 
-from_question : (b : Octets) (i k : ℕ) (q : MessageQuestion) (qs : List MessageQuestion) (e : ℕ) → QuestionAt b i q k → QuestionsAt b k qs e → QuestionsAt b i (q ∷ qs) e
-from_question b i k q qs e at more = (at.after_name, at.name, at.qtype, at.qclass, subst (λ z. QuestionsAt b z qs e) at.end more)
+pub questions_in : (b : Octets) → InTurn (QuestionsAt b) (QuestionAt b)
+questions_in b = record {
+  ends = λ i. refl;
+  first = λ i q qs e h. (h.0 + 4, record { after_name = h.0; name = h.1; qtype = h.2; qclass = h.3; end = refl }, h.4);
+  from = λ i k q qs e at more. (at.after_name, at.name, at.qtype, at.qclass, subst (λ z. QuestionsAt b z qs e) at.end more);
+  one = one_question b;
+}
 
-module _ {b : Octets} {i j : ℕ} {so_far : List MessageQuestion} (read : QuestionsRead b i so_far j) where
-  pub question_more : (q : MessageQuestion) (k : ℕ) → QuestionAt b j q k → k ≤ length b → QuestionsRead b i (so_far ++ q ∷ []) k
-  question_more q k at within = record {
+pub records_in : (b : Octets) → InTurn (RecordsAt b) (WholeRecordAt b)
+records_in b = record {
+  ends = λ i. refl;
+  first = λ i r rs e h. (h.0 + 10 + h.1, record { after_owner = h.0; data_length = h.1; there = h.2; end = refl }, h.3);
+  from = λ i k r rs e at more. (at.after_owner, at.data_length, at.there, subst (λ z. RecordsAt b z rs e) at.end more);
+  one = one_record b;
+}
+
+module _ {A : Type 0} {At : ℕ → List A → ℕ → Type 0} {One : ℕ → A → ℕ → Type 0} (turn : InTurn At One) {last i j : ℕ} {so_far : List A} (read : AreRead At last i so_far j) where
+  pub read_more : (x : A) (k : ℕ) → One j x k → k ≤ last → AreRead At last i (so_far ++ x ∷ []) k
+  read_more x k at within = record {
     within = within;
-    forth = λ qs e h. subst (λ ws. QuestionsAt b i ws e) (sym (append_assoc so_far (q ∷ []) qs)) (read.forth (q ∷ qs) e (from_question b j k q qs e at h));
+    forth = λ xs e h. subst (λ ws. At i ws e) (sym (append_assoc so_far (x ∷ []) xs)) (read.forth (x ∷ xs) e (turn.from j k x xs e at h));
     back = λ ws e h few.
-        let r = read.back ws e h (omega (arith, length-append so_far (q ∷ []))) in
-        go ws e r.0 r.1 r.2 (omega (arith, length-append so_far (q ∷ []), length-append so_far r.0, ap length r.1));
+        let r = read.back ws e h (omega (arith, length-append so_far (x ∷ []))) in
+        go ws e r.0 r.1 r.2 (omega (arith, length-append so_far (x ∷ []), length-append so_far r.0, ap length r.1));
   }
     where
-      go : (ws : List MessageQuestion) (e : ℕ) (rest : List MessageQuestion) → ws ≡ so_far ++ rest → QuestionsAt b j rest e → 0 < length rest
-          → (qs : List MessageQuestion) × (ws ≡ (so_far ++ q ∷ []) ++ qs) × QuestionsAt b k qs e
+      go : (ws : List A) (e : ℕ) (rest : List A) → ws ≡ so_far ++ rest → At j rest e → 0 < length rest → (xs : List A) × (ws ≡ (so_far ++ x ∷ []) ++ xs) × At k xs e
       go ws e [] p h some = absurd (omega arith)
-      go ws e (r ∷ rest) p h some =
-          let c = first_question b j r rest e h in
-          let same = one_question b j r q c.0 k c.1 at in
-          (rest, p ∙ ap (λ x. so_far ++ x ∷ rest) same.0 ∙ sym (append_assoc so_far (q ∷ []) rest), subst (λ z. QuestionsAt b z rest e) same.1 c.2)
+      go ws e (y ∷ rest) p h some =
+          let c = turn.first j y rest e h in
+          let same = turn.one j y x c.0 k c.1 at in
+          (rest, p ∙ ap (λ z. so_far ++ z ∷ rest) same.0 ∙ sym (append_assoc so_far (x ∷ []) rest), subst (λ z. At z rest e) same.1 c.2)
 
-  pub question_none : (count : ℕ) → length so_far < count → NoQuestion b j → NoQuestions b i count
-  question_none count more none ws e h long =
+  pub read_none : (count : ℕ) → length so_far < count → ((x : A) (e : ℕ) → One j x e → ⊥) → (ws : List A) (e : ℕ) → At i ws e → length ws ≡ count → ⊥
+  read_none count more none ws e h long =
       let r = read.back ws e h (omega arith) in
       go r.0 r.2 (omega (arith, length-append so_far r.0, ap length r.1))
     where
-      go : (rest : List MessageQuestion) → QuestionsAt b j rest e → 0 < length rest → ⊥
+      go : (rest : List A) → At j rest e → 0 < length rest → ⊥
       go [] h some = omega arith
-      go (q ∷ rest) h some = let c = first_question b j q rest e h in none q c.0 c.1
+      go (x ∷ rest) h some = let c = turn.first j x rest e h in none x c.0 c.1
 
-  pub questions_end : QuestionsAt b i so_far j
-  questions_end = subst (λ ws. QuestionsAt b i ws j) (append-nil so_far) (read.forth [] j refl)
-
-first_record : (b : Octets) (i : ℕ) (r : MessageRecord) (rs : List MessageRecord) (e : ℕ) → RecordsAt b i (r ∷ rs) e
-    → (k : ℕ) × WholeRecordAt b i r k × RecordsAt b k rs e
-first_record b i r rs e h = (h.0 + 10 + h.1, record { after_owner = h.0; data_length = h.1; there = h.2; end = refl }, h.3)
-
-from_record : (b : Octets) (i k : ℕ) (r : MessageRecord) (rs : List MessageRecord) (e : ℕ) → WholeRecordAt b i r k → RecordsAt b k rs e → RecordsAt b i (r ∷ rs) e
-from_record b i k r rs e at more = (at.after_owner, at.data_length, at.there, subst (λ z. RecordsAt b z rs e) at.end more)
-
-module _ {b : Octets} {i j : ℕ} {so_far : List MessageRecord} (read : RecordsRead b i so_far j) where
-  pub record_more : (r : MessageRecord) (k : ℕ) → WholeRecordAt b j r k → k ≤ length b → RecordsRead b i (so_far ++ r ∷ []) k
-  record_more r k at within = record {
-    within = within;
-    forth = λ rs e h. subst (λ ws. RecordsAt b i ws e) (sym (append_assoc so_far (r ∷ []) rs)) (read.forth (r ∷ rs) e (from_record b j k r rs e at h));
-    back = λ ws e h few.
-        let x = read.back ws e h (omega (arith, length-append so_far (r ∷ []))) in
-        go ws e x.0 x.1 x.2 (omega (arith, length-append so_far (r ∷ []), length-append so_far x.0, ap length x.1));
-  }
-    where
-      go : (ws : List MessageRecord) (e : ℕ) (rest : List MessageRecord) → ws ≡ so_far ++ rest → RecordsAt b j rest e → 0 < length rest
-          → (rs : List MessageRecord) × (ws ≡ (so_far ++ r ∷ []) ++ rs) × RecordsAt b k rs e
-      go ws e [] p h some = absurd (omega arith)
-      go ws e (s ∷ rest) p h some =
-          let c = first_record b j s rest e h in
-          let same = one_record b j s r c.0 k c.1 at in
-          (rest, p ∙ ap (λ x. so_far ++ x ∷ rest) same.0 ∙ sym (append_assoc so_far (r ∷ []) rest), subst (λ z. RecordsAt b z rest e) same.1 c.2)
-
-  pub record_none : (count : ℕ) → length so_far < count → NoRecord b j → NoRecords b i count
-  record_none count more none ws e h long =
-      let r = read.back ws e h (omega arith) in
-      go r.0 r.2 (omega (arith, length-append so_far r.0, ap length r.1))
-    where
-      go : (rest : List MessageRecord) → RecordsAt b j rest e → 0 < length rest → ⊥
-      go [] h some = omega arith
-      go (q ∷ rest) h some = let c = first_record b j q rest e h in none q c.0 c.1
-
-  pub records_end : RecordsAt b i so_far j
-  records_end = subst (λ ws. RecordsAt b i ws j) (append-nil so_far) (read.forth [] j refl)
+  pub read_end : At i so_far j
+  read_end = subst (λ ws. At i ws j) (append-nil so_far) (read.forth [] j (turn.ends j))
 
 -- What a message has in its sections follows from its header, section by section.
 module _ (b : Octets) (head : Header) (counts : Counts) (there : HeaderAt b head counts) where

@@ -7,9 +7,8 @@ use Rattle.dns_spec.specs.Sets.{RecordSet, records_at}
 use Rattle.dns_spec.specs.Data.{laid_parts}
 use Rattle.dns_spec.specs.Layout.{Placed, Laid, laid_front, shared_octets, data_laid, record_laid, record_tail, records_octets}
 use Rattle.dns_spec.proofs.Layouts.LayoutSize.{length-record_tail}
-use Rattle.dns_wire.specs.declared.room.Room.{Room}
 use Rattle.dns_wire.specs.Writing.{both_laid, shown, records_laid}
-use Rattle.dns_wire.specs.Rooms.{Grows, Writes}
+use Rattle.dns_wire.specs.Draft.{Draft, Writes}
 use Rattle.dns_wire.proofs.Steps.{writes_as, writes_both, writes_past}
 
 pub records_more : (ms : List Placed) (p : ℕ) (r : ResourceRecord) (rs : List ResourceRecord)
@@ -90,24 +89,23 @@ all_taken owner ttl set i over =
     let count = length-map set.rdata (λ (d : Octets). shown owner set.rtype ttl d) in
     take_all i (records_at owner ttl set) (omega (arith, over, count))
 
-module _ {N size : ℕ} where
-  -- a record more of a set
-  pub record_more : {head head' head'' : Octets → ℕ} {r r' r'' : Room N size} {fits : Bool} (owner : DomainName) (ttl : ℕ) (set : RecordSet) (i : ℕ) (given : ResourceRecord) → i < length set.rdata
-      → given ≡ shown owner set.rtype ttl (get_or set.rdata i []) → Writes head head' r r' (records_laid (take i (records_at owner ttl set))) true
-      → Writes head' head'' r' r'' (λ ms p. record_laid ms p given) fits → Writes head head'' r r'' (records_laid (take (i + 1) (records_at owner ttl set))) fits
-  record_more {head} {head'} {head''} {r} {r'} {r''} {fits} owner ttl set i given inside is so_far next =
-      let front = take i (records_at owner ttl set) in
-      subst (λ rs. Writes head head'' r r'' (records_laid rs) fits) (ap (λ x. front ++ x ∷ []) is ∙ record_taken owner ttl set i inside)
-      (writes_as (both_laid (records_laid front) (records_laid (given ∷ []))) (records_laid (front ++ given ∷ [])) (records_split front (given ∷ []))
-      (writes_both (records_laid front) (records_laid (given ∷ [])) refl so_far (writes_as (λ ms p. record_laid ms p given) (records_laid (given ∷ [])) (record_alone given) next)))
+-- a record more of a set
+pub record_more : {head head' head'' : Octets → ℕ} {d d' d'' : Draft} {fits : Bool} (owner : DomainName) (ttl : ℕ) (set : RecordSet) (i : ℕ) (given : ResourceRecord) → i < length set.rdata
+    → given ≡ shown owner set.rtype ttl (get_or set.rdata i []) → Writes head head' d d' (records_laid (take i (records_at owner ttl set))) true
+    → Writes head' head'' d' d'' (λ ms p. record_laid ms p given) fits → Writes head head'' d d'' (records_laid (take (i + 1) (records_at owner ttl set))) fits
+record_more {head} {head'} {head''} {d} {d'} {d''} {fits} owner ttl set i given inside is so_far next =
+    let front = take i (records_at owner ttl set) in
+    subst (λ rs. Writes head head'' d d'' (records_laid rs) fits) (ap (λ x. front ++ x ∷ []) is ∙ record_taken owner ttl set i inside)
+    (writes_as (both_laid (records_laid front) (records_laid (given ∷ []))) (records_laid (front ++ given ∷ [])) (records_split front (given ∷ []))
+    (writes_both (records_laid front) (records_laid (given ∷ [])) refl so_far (writes_as (λ ms p. record_laid ms p given) (records_laid (given ∷ [])) (record_alone given) next)))
 
-  -- where some of the records do not fit
-  pub records_past : {head head' : Octets → ℕ} {r r' r'' : Room N size} {t : Bool} (rs : List ResourceRecord) (i : ℕ) → t ≡ false → Grows r r'' → Writes head head' r r' (records_laid (take i rs)) t
-      → Writes head head' r r'' (records_laid rs) false
-  records_past rs i is grows w = writes_past (records_laid (take i rs)) (records_laid rs) is refl grows
-      (λ ms p.
-      let l = records_laid (take i rs) ms p in
-      let rest = records_laid (drop i rs) (ms ++ l.names) (p + length l.written) in
-      let whole : length (l.written ++ rest.written) ≡ length (records_laid rs ms p).written =
-      ap (λ (z : Laid). length z.written) (records_split (take i rs) (drop i rs) ms p ∙ ap (λ xs. records_laid xs ms p) (take-append-drop i rs)) in
-      omega (arith, whole, length-append l.written rest.written)) w
+-- where some of the records do not fit
+pub records_past : {head head' : Octets → ℕ} {d d' : Draft} {t : Bool} (rs : List ResourceRecord) (i : ℕ) → t ≡ false → Writes head head' d d' (records_laid (take i rs)) t
+    → Writes head head' d d' (records_laid rs) false
+records_past rs i is w = writes_past (records_laid (take i rs)) (records_laid rs) is refl
+    (λ ms p.
+    let l = records_laid (take i rs) ms p in
+    let rest = records_laid (drop i rs) (ms ++ l.names) (p + length l.written) in
+    let whole : length (l.written ++ rest.written) ≡ length (records_laid rs ms p).written =
+    ap (λ (z : Laid). length z.written) (records_split (take i rs) (drop i rs) ms p ∙ ap (λ xs. records_laid xs ms p) (take-append-drop i rs)) in
+    omega (arith, whole, length-append l.written rest.written)) w

@@ -1,6 +1,6 @@
 -- What a run of labels has at a place decides how it goes on.
-use Rattle.std.proofs.Common.{◌≡◌, ℕ, ◌+◌, ◌<◌, ◌≤◌, true, IfSome, [], ◌∷◌, ◌++◌, length, take, drop, get_or, slice_get, Option, None, Some, refl, sym, ap, ap₂, ◌∙◌, subst, arith, append_assoc, append-nil, length-append}
-use Rattle.std.proofs.lemmas.Option.{same_Some, slice_get_within, slice_get-get_or}
+use Rattle.std.proofs.Common.{◌≡◌, ℕ, zero, suc, List, ◌+◌, ◌<◌, ◌≤◌, true, IfSome, [], ◌∷◌, ◌++◌, length, take, drop, get_or, slice_get, Option, None, Some, refl, sym, ap, ap₂, ◌∙◌, subst, arith, append_assoc, append-nil, length-append}
+use Rattle.std.proofs.lemmas.Option.{none-some, same_Some, slice_get_within, slice_get-get_or}
 use Rattle.std.proofs.lemmas.List.{length-take-le, length-drop}
 use Rattle.dns_spec.specs.Names.{Octets, DomainName, wire, is_name}
 use Rattle.dns_spec.specs.Reading.{pointer_place, RunAt, NameAt}
@@ -8,27 +8,30 @@ use Rattle.dns_spec.specs.Reading.RunAt.{ends, goes_on, jumps}
 use Rattle.dns_spec.proofs.DomainNames.NameLaws.{IsName-is_name}
 use Rattle.dns_wire.specs.Labels.{LabelAt, PointerAt, NoRunAt, NoNameAt, IsReading, end_or}
 
+-- what is read stays, whatever comes after
+pub get_more : {A : Type 0} (xs ys : List A) (i : ℕ) (x : A) → slice_get xs i ≡ Some x → slice_get (xs ++ ys) i ≡ Some x
+get_more [] ys i x at = absurd (none-some x at)
+get_more (y ∷ xs) ys zero x at = at
+get_more (y ∷ xs) ys (suc i) x at = get_more xs ys i x at
+
 -- how a run goes on from place i: it ends, has a label, or a pointer
 pub data GoesOn (b : Octets) (s i : ℕ) (n : DomainName) (e : ℕ) : Type 0 where
   at_end : slice_get b i ≡ Some 0 → n ≡ [] → e ≡ i + 1 → GoesOn b s i n e
   at_label : (l : Octets) (m : DomainName) → LabelAt b i l → n ≡ l ∷ m → RunAt b s (i + 1 + length l) m e → GoesOn b s i n e
   at_pointer : (p d : ℕ) → PointerAt b s i p → e ≡ i + 2 → RunAt b p p n d → GoesOn b s i n e
 
+pub label_there : {b l : Octets} {i k : ℕ} → slice_get b i ≡ Some k → 0 < k → k < 64 → i + 1 + k ≤ length b → l ≡ take k (drop (i + 1) b) → (length l ≡ k) × LabelAt b i l
+label_there {b} {l} {i} {k} at some short within is =
+    let long : length l ≡ k = ap length is ∙ length-take-le k (drop (i + 1) b) (omega (arith, within, length-drop (i + 1) b)) in (
+      long,
+      record { length_there = at ∙ ap Some (sym long); some = omega (arith, some, long); short = omega (arith, short, long); within = omega (arith, within, long); label = is ∙ ap (λ j. take j (drop (i + 1) b)) (sym long) },
+    )
+
 pub goes_on_at : {b : Octets} {s i e : ℕ} {n : DomainName} → RunAt b s i n e → GoesOn b s i n e
 goes_on_at (ends i at) = at_end at refl refl
-goes_on_at {b} {s} (goes_on i k l n e at some short within is rest) = at_label l n there refl (subst (λ j. RunAt b s (i + 1 + j) n e) (sym long) rest)
-  where
-    long : length l ≡ k
-    long = ap length is ∙ length-take-le k (drop (i + 1) b) (omega (arith, length-drop (i + 1) b))
-
-    there : LabelAt b i l
-    there = record {
-      length_there = at ∙ ap Some (sym long);
-      some = subst (λ j. 0 < j) (sym long) some;
-      short = subst (λ j. j < 64) (sym long) short;
-      within = subst (λ j. i + 1 + j ≤ length b) (sym long) within;
-      label = is ∙ ap (λ j. take j (drop (i + 1) b)) (sym long);
-    }
+goes_on_at {b} {s} (goes_on i k l n e at some short within is rest) =
+    let there = label_there at some short within is in
+    at_label l n there.1 refl (subst (λ j. RunAt b s (i + 1 + j) n e) (sym there.0) rest)
 goes_on_at (jumps i o o' p n e at high at' is from before rest) =
     at_pointer p e (record { first = o; second = o'; first_there = at; high = high; second_there = at'; place = is; after_header = from; before_run = before }) refl rest
 
@@ -38,15 +41,7 @@ there_is b i k inside e = slice_get-get_or b i 0 inside ∙ ap Some e
 -- a label stands after its length
 pub label_stands : (b l : Octets) (i k : ℕ) → i < length b → get_or b i 0 ≡ k → 0 < k → k < 64 → k ≤ length (drop (i + 1) b)
     → l ≡ take k (drop (i + 1) b) → LabelAt b i l
-label_stands b l i k inside e some short within is =
-    let long : length l ≡ k = ap length is ∙ length-take-le k (drop (i + 1) b) within in
-    record {
-      length_there = there_is b i k inside e ∙ ap Some (sym long);
-      some = omega arith;
-      short = omega arith;
-      within = omega (arith, length-drop (i + 1) b);
-      label = is ∙ ap (λ j. take j (drop (i + 1) b)) (sym long);
-    }
+label_stands b l i k inside e some short within is = (label_there (there_is b i k inside e) some short (omega (arith, inside, within, length-drop (i + 1) b)) is).1
 
 -- what the octet at a place says of how a run goes on
 module _ (b : Octets) (s i k : ℕ) (inside : i < length b) (is : get_or b i 0 ≡ k) where
@@ -62,7 +57,7 @@ module _ (b : Octets) (s i k : ℕ) (inside : i < length b) (is : get_or b i 0 �
       go (at_pointer p d there end rest) = absurd (omega (arith, first_is there.first there.first_there, there.high))
 
 -- a beginning of a name is no longer than the name
-length-wire-front : (n m : DomainName) → length (wire n) ≤ length (wire (n ++ m))
+pub length-wire-front : (n m : DomainName) → length (wire n) ≤ length (wire (n ++ m))
 length-wire-front [] [] = omega arith
 length-wire-front [] (l ∷ m) = omega arith
 length-wire-front (l ∷ n) m =

@@ -1,199 +1,109 @@
 -- What data is cut into whose names take part in compression: one name, a number and a name, or two names and five numbers.
-use Rattle.std.proofs.Common.{◌≡◌, ℕ, ◌+◌, ◌-◌, ◌≤◌, Bool, true, false, cond, nat_le, List, [], ◌∷◌, ◌++◌, length, take, drop, Option, None, Some, option_map, is_some, unwrap_or, refl, sym, ap, ◌∙◌, subst, arith, append-nil, length-append, take_at, drop_at, ◌==◌}
-use Rattle.std.proofs.lemmas.Bool.{false≢true, and_parts, leb-true, eqb-true}
-use Rattle.std.proofs.lemmas.List.{length-drop, take_all}
-use Rattle.std.specs.List.{find}
+use Rattle.std.proofs.Common.{rules, ◌≡◌, ℕ, ◌-◌, ◌≤◌, true, cond, nat_le, List, [], ◌∷◌, ◌++◌, length, take, drop, Option, None, Some, is_some, unwrap_or, refl, sym, ap, ap₂, ◌∙◌, subst, arith, append-nil, length-append, take_at, drop_at}
+use Rattle.std.proofs.lemmas.Bool.{false≢true, and_parts}
+use Rattle.std.proofs.lemmas.Option.{none-some, same_Some}
+use Rattle.std.proofs.lemmas.List.{length-take, length-drop, take_all}
 use Rattle.std.specs.Borrow.{Bor}
-use Rattle.dns_spec.specs.Names.{Octets, DomainName, wire, is_name, name_of}
-use Rattle.dns_spec.specs.Data.{Fixed, width, Piece, domain, fixed, numbers, type_mx, type_soa, Part, octets, name, piece_front, cut, pieces_of, parts, laid_parts, compresses, valid, TypeRow, type_table, other_type}
-use Rattle.dns_spec.proofs.DomainNames.WireNames.{name_read}
+use Rattle.dns_spec.specs.Names.{Octets, DomainName, wire, is_name}
+use Rattle.dns_spec.specs.Data.{Fixed, width, Piece, domain, fixed, numbers, type_mx, type_soa, Part, octets, name, piece_front, cut, pieces_of, parts, laid_parts, compresses, valid, type_table}
+use Rattle.dns_spec.proofs.DataWords.WrittenData.{cut_into, name_part, octets_part, front_taken}
 use Rattle.dns_name.specs.WireForm.{labels_of, IsWireForm}
 use Rattle.dns_rdata.specs.Parts.{Cuts, IsLent, part_for}
 use Rattle.dns_rdata.specs.declared.parts.Part as Lent
 use Rattle.dns_rdata.specs.declared.parts.Part.TheVariants.{Name}
-use Rattle.dns_rdata.proofs.PartLemmas.{cut_more, cut_none, more_are_cut}
+use Rattle.dns_wire.proofs.ValidData.{by_row}
 
--- a name, and what follows it
-record FirstName (ps : List Piece) (d : Octets) : Type 0 where
-  own : DomainName
-  rest : Octets
-  is_name : is_name own ≡ true
-  whole : d ≡ wire own ++ rest
-  more : is_some (cut ps rest) ≡ true
-  parts : cut (domain ∷ ps) d ≡ option_map (λ xs. name own ∷ xs) (cut ps rest)
-
-first_name : (ps : List Piece) (d : Octets) → is_some (cut (domain ∷ ps) d) ≡ true → FirstName ps d
-first_name ps d h = go (name_of d) refl
-  where
-    go : (y : Option (DomainName × Octets)) → name_of d ≡ y → FirstName ps d
-    go None e = absurd (false≢true (sym (ap is_some (cut_none domain ps d (ap (option_map (λ (r : DomainName × Octets). (name r.0, r.1))) e))) ∙ h))
-    go (Some (n, rest)) e =
-        let read = name_read d n rest e in
-        let front = ap (option_map (λ (r : DomainName × Octets). (name r.0, r.1))) e in
-        record { own = n; rest = rest; is_name = read.0; whole = read.1; more = sym (more_are_cut domain ps d (name n) rest front) ∙ h; parts = cut_more domain ps d (name n) rest front }
-
--- so many octets, and what follows them
-record FirstRun (k : ℕ) (ps : List Piece) (d : Octets) (x : Option (List Part)) : Type 0 where
-  inside : k ≤ length d
-  more : is_some (cut ps (drop k d)) ≡ true
-  parts : x ≡ option_map (λ xs. octets (take k d) ∷ xs) (cut ps (drop k d))
-
-first_run : (f : Fixed) (ps : List Piece) (d : Octets) → is_some (cut (fixed f ∷ ps) d) ≡ true → FirstRun (width f) ps d (cut (fixed f ∷ ps) d)
-first_run f ps d h = go (nat_le (width f) (length d)) refl
-  where
-    go : (t : Bool) → nat_le (width f) (length d) ≡ t → FirstRun (width f) ps d (cut (fixed f ∷ ps) d)
-    go false e = absurd (false≢true (sym (ap is_some (cut_none (fixed f) ps d (ap (λ t. cond t (Some (octets (take (width f) d), drop (width f) d)) None) e))) ∙ h))
-    go true e =
-        let front = ap (λ t. cond t (Some (octets (take (width f) d), drop (width f) d)) None) e in
-        record { inside = leb-true (width f) (length d) e; more = sym (more_are_cut (fixed f) ps d _ _ front) ∙ h; parts = cut_more (fixed f) ps d _ _ front }
-
-cut_end : (d : Octets) → is_some (cut [] d) ≡ true → (d ≡ []) × (cut [] d ≡ Some [])
+cut_end : (d : Octets) (xs : List Part) → cut [] d ≡ Some xs → (d ≡ []) × (xs ≡ [])
 unfolding cut
-cut_end [] h = (refl, refl)
-cut_end (o ∷ d) h = absurd (false≢true h)
+cut_end [] xs h = (refl, sym (same_Some [] xs h))
+cut_end (o ∷ d) xs h = absurd (none-some xs h)
 
--- octets that are cut into one name are its wire form
-record OneName (d : Octets) (ps : Option (List Part)) : Type 0 where
-  own : DomainName
-  is_name : is_name own ≡ true
-  whole : d ≡ wire own
-  parts : ps ≡ Some (name own ∷ [])
+-- a name first, and what follows it
+first_name : (ps : List Piece) (d : Octets) (xs : List Part) → cut (domain ∷ ps) d ≡ Some xs
+    → (n : DomainName) × (rest : Octets) × (others : List Part) × (is_name n ≡ true) × (d ≡ wire n ++ rest) × (xs ≡ name n ∷ others) × (cut ps rest ≡ Some others)
+first_name ps d xs h =
+    let c = cut_into domain ps d xs h in
+    let n = name_part d c.rest c.part c.front in
+    (n.0, c.rest, c.others, n.2, n.3, sym c.whole ∙ ap (λ p. p ∷ c.others) (sym n.1), c.more)
 
-one_name : (d : Octets) → is_some (cut (domain ∷ []) d) ≡ true → OneName d (cut (domain ∷ []) d)
-one_name d h =
-    let f = first_name [] d h in
-    let e = cut_end f.rest f.more in
-    record { own = f.own; is_name = f.is_name; whole = f.whole ∙ ap (λ z. wire f.own ++ z) e.0 ∙ append-nil (wire f.own); parts = f.parts ∙ ap (option_map (λ xs. name f.own ∷ xs)) e.1 }
+-- so many octets first
+first_run : (f : Fixed) (ps : List Piece) (d : Octets) (xs : List Part) → cut (fixed f ∷ ps) d ≡ Some xs
+    → (others : List Part) × (length (take (width f) d) ≡ width f) × (xs ≡ octets (take (width f) d) ∷ others) × (cut ps (drop (width f) d) ≡ Some others)
+first_run f ps d xs h =
+    let c = cut_into (fixed f) ps d xs h in
+    let t = front_taken (width f) d c.part c.rest c.front in
+    let rest : drop (width f) d ≡ c.rest = ap (drop (width f)) t.0 ∙ drop_at (take (width f) d) c.rest (width f) t.1 in
+    (c.others, t.1, sym c.whole ∙ ap (λ p. p ∷ c.others) (sym (octets_part (width f) d c.rest c.part c.front)), ap (cut ps) rest ∙ c.more)
 
-are_cut : (t : ℕ) (d : Octets) → valid t d ≡ true → is_some (cut (pieces_of t) d) ≡ true
-are_cut t d ok = (and_parts (nat_le (length d) 65535) (is_some (cut (pieces_of t) d)) ok).1
+one_name : (d : Octets) (xs : List Part) → cut (domain ∷ []) d ≡ Some xs → (n : DomainName) × (is_name n ≡ true) × (d ≡ wire n) × (xs ≡ name n ∷ [])
+one_name d xs h =
+    let (n, rest, others, ok, whole, parts, more) = first_name [] d xs h in
+    let e = cut_end rest others more in
+    (n, ok, whole ∙ ap (λ z. wire n ++ z) e.0 ∙ append-nil (wire n), parts ∙ ap (λ ys. name n ∷ ys) e.1)
 
--- the parts of such data of a type whose names take part in compression
-pub record OneNameLaid (d : Octets) (ps : List Part) : Type 0 where
-  pub own : DomainName
-  pub is_name : is_name own ≡ true
-  pub whole : d ≡ wire own
-  pub parts : ps ≡ name own ∷ []
+-- the parts of valid data of a type whose names take part in compression
+parts_cut : (t : ℕ) (d : Octets) → compresses t ≡ true → valid t d ≡ true → cut (pieces_of t) d ≡ Some (laid_parts t d)
+parts_cut t d shared ok = go (cut (pieces_of t) d) refl (and_parts (nat_le (length d) 65535) (is_some (cut (pieces_of t) d)) ok).1
+  where
+    go : (y : Option (List Part)) → cut (pieces_of t) d ≡ y → is_some y ≡ true → cut (pieces_of t) d ≡ Some (laid_parts t d)
+    go None e h = absurd (false≢true h)
+    go (Some xs) e h = e ∙ ap Some (sym (ap (λ b. cond b (parts t d) (octets d ∷ [])) shared ∙ ap (λ o. unwrap_or o (octets d ∷ [])) e))
 
-pub one_name_laid : (t : ℕ) (d : Octets) → pieces_of t ≡ domain ∷ [] → compresses t ≡ true → valid t d ≡ true → OneNameLaid d (laid_parts t d)
-one_name_laid t d pieces shared ok =
-    let one = one_name d (subst (λ ps. is_some (cut ps d) ≡ true) pieces (are_cut t d ok)) in
-    record {
-      own = one.own;
-      is_name = one.is_name;
-      whole = one.whole;
-      parts = ap (λ b. cond b (parts t d) (octets d ∷ [])) shared ∙ ap (λ ps. unwrap_or (cut ps d) (octets d ∷ [])) pieces ∙ ap (λ o. unwrap_or o (octets d ∷ [])) one.parts;
-    }
+pub one_name_laid : (t : ℕ) (d : Octets) → pieces_of t ≡ domain ∷ [] → compresses t ≡ true → valid t d ≡ true
+    → (n : DomainName) × (is_name n ≡ true) × (d ≡ wire n) × (laid_parts t d ≡ name n ∷ [])
+one_name_laid t d pieces shared ok = one_name d (laid_parts t d) (ap (λ ps. cut ps d) (sym pieces) ∙ parts_cut t d shared ok)
 
 -- the parts of the data of an MX: a number of two octets and a name
-pub record NumberAndName (d : Octets) (ps : List Part) : Type 0 where
-  pub own : DomainName
-  pub is_name : is_name own ≡ true
-  pub inside : 2 ≤ length d
-  pub whole : drop 2 d ≡ wire own
-  pub parts : ps ≡ octets (take 2 d) ∷ name own ∷ []
+pub exchange_laid : (t : ℕ) (d : Octets) → t ≡ type_mx → valid t d ≡ true
+    → (n : DomainName) × (is_name n ≡ true) × (2 ≤ length d) × (drop 2 d ≡ wire n) × (laid_parts t d ≡ octets (take 2 d) ∷ name n ∷ [])
+exchange_laid t d mx ok =
+    let pieces : pieces_of t ≡ fixed (numbers 1 2) ∷ domain ∷ [] = ap pieces_of mx in
+    let (others, two, parts, more) = first_run (numbers 1 2) (domain ∷ []) d (laid_parts t d) (ap (λ ps. cut ps d) (sym pieces) ∙ parts_cut t d (ap compresses mx) ok) in
+    let (n, is_name, whole, one) = one_name (drop 2 d) others more in
+    (n, is_name, omega (arith, two, length-take 2 d), whole, parts ∙ ap (λ ys. octets (take 2 d) ∷ ys) one)
 
-pub exchange_laid : (d : Octets) → valid type_mx d ≡ true → NumberAndName d (laid_parts type_mx d)
-exchange_laid d ok =
-    let two = first_run (numbers 1 2) (domain ∷ []) d (are_cut type_mx d ok) in
-    let one = one_name (drop 2 d) two.more in
-    record {
-      own = one.own;
-      is_name = one.is_name;
-      inside = two.inside;
-      whole = one.whole;
-      parts = ap (λ o. unwrap_or o (octets d ∷ [])) (two.parts ∙ ap (option_map (λ xs. octets (take 2 d) ∷ xs)) one.parts);
-    }
+authority_cut : (t : ℕ) (d : Octets) → t ≡ type_soa → valid t d ≡ true → cut (domain ∷ domain ∷ fixed (numbers 5 4) ∷ []) d ≡ Some (laid_parts t d)
+authority_cut t d soa ok =
+    let pieces : pieces_of t ≡ domain ∷ domain ∷ fixed (numbers 5 4) ∷ [] = ap pieces_of soa in
+    ap (λ ps. cut ps d) (sym pieces) ∙ parts_cut t d (ap compresses soa) ok
 
 -- data of an SOA begins with a name
-pub server_some : (d : Octets) → valid type_soa d ≡ true → piece_front domain d ≡ None → ⊥
-server_some d ok e = false≢true (sym (ap is_some (cut_none domain (domain ∷ fixed (numbers 5 4) ∷ []) d e)) ∙ are_cut type_soa d ok)
+pub server_some : (t : ℕ) (d : Octets) → t ≡ type_soa → valid t d ≡ true → piece_front domain d ≡ None → ⊥
+server_some t d soa ok e = let c = cut_into domain _ d (laid_parts t d) (authority_cut t d soa ok) in none-some _ (sym e ∙ c.front)
 
--- the parts of the data of an SOA, of which the first name n is known, and what follows it
-pub record AuthorityLaid (n : DomainName) (rest : Octets) (ps : List Part) : Type 0 where
+-- the parts of the data of an SOA, of which the first name was lent, and what follows it
+pub record AuthorityLaid (server rest : Octets) (ps : List Part) : Type 0 where
+  pub lent : IsWireForm server
   pub mailbox : DomainName
   pub is_name : is_name mailbox ≡ true
   pub inside : 20 ≤ length rest
   pub whole : take (length rest - 20) rest ≡ wire mailbox
-  pub parts : ps ≡ name n ∷ name mailbox ∷ octets (drop (length rest - 20) rest) ∷ []
+  pub parts : ps ≡ name (labels_of server) ∷ name mailbox ∷ octets (drop (length rest - 20) rest) ∷ []
 
-authority_laid : (d rest : Octets) (n : DomainName) → valid type_soa d ≡ true → piece_front domain d ≡ Some (name n, rest) → AuthorityLaid n rest (laid_parts type_soa d)
-authority_laid d rest n ok front =
-    let more = domain ∷ fixed (numbers 5 4) ∷ [] in
-    let m = first_name (fixed (numbers 5 4) ∷ []) rest (sym (more_are_cut domain more d (name n) rest front) ∙ are_cut type_soa d ok) in
-    let five = first_run (numbers 5 4) [] m.rest m.more in
-    let end = cut_end (drop 20 m.rest) five.more in
-    let inside = five.inside in
-    let twenty : length m.rest ≡ 20 = omega (arith, inside, length-drop 20 m.rest, ap length end.0) in
-    let long : length rest ≡ length (wire m.own) + 20 = ap length m.whole ∙ length-append (wire m.own) m.rest ∙ ap (λ k. length (wire m.own) + k) twenty in
-    let place : length rest - 20 ≡ length (wire m.own) = omega (arith, long) in
-    let back : drop (length rest - 20) rest ≡ m.rest = ap (λ k. drop k rest) place ∙ ap (drop (length (wire m.own))) m.whole ∙ drop_at (wire m.own) m.rest (length (wire m.own)) refl in
+pub authority_laid : {r : Option (Lent.Part × Bor Octets)} {part : Lent.Part} {rest server : Bor Octets} (t : ℕ) (d : Octets) → t ≡ type_soa → valid t d ≡ true → r ≡ Some (part, rest)
+    → part ≡ Name server → Cuts r (piece_front domain d) → AuthorityLaid server.now rest.now (laid_parts t d)
+authority_laid {r} {part} {rest} {server} t d soa ok some named cuts =
+    let five = fixed (numbers 5 4) ∷ [] in
+    let lent = subst (λ x. Cuts x (piece_front domain d)) some cuts in
+    let c = cut_into domain (domain ∷ five) d (laid_parts t d) (authority_cut t d soa ok) in
+    let same = same_Some _ _ (sym c.front ∙ subst (λ x. piece_front domain d ≡ Some (part_for x, rest.now)) named lent.0) in
+    let after : c.rest ≡ rest.now = ap (λ (x : Part × Octets). x.1) same in
+    let (m, tail, others, ok_m, whole, parts, more) = first_name five rest.now c.others (ap (cut (domain ∷ five)) (sym after) ∙ c.more) in
+    let (none, twenty, ends, last) = first_run (numbers 5 4) [] tail others more in
+    let end = cut_end (drop 20 tail) none last in
+    let long : length tail ≡ 20 = omega (arith, twenty, length-take 20 tail, length-drop 20 tail, ap length end.0) in
+    let place : length rest.now - 20 ≡ length (wire m) = omega (arith, ap length whole, length-append (wire m) tail, long) in
+    let back : drop (length rest.now - 20) rest.now ≡ tail = ap₂ drop place whole ∙ drop_at (wire m) tail (length (wire m)) refl in
     record {
-      mailbox = m.own;
-      is_name = m.is_name;
-      inside = omega (arith, long);
-      whole = ap (λ k. take k rest) place ∙ ap (take (length (wire m.own))) m.whole ∙ take_at (wire m.own) m.rest (length (wire m.own)) refl;
-      parts = ap (λ o. unwrap_or o (octets d ∷ []))
-          (cut_more domain more d (name n) rest front
-          ∙ ap (option_map (λ xs. name n ∷ xs)) (m.parts ∙ ap (option_map (λ xs. name m.own ∷ xs)) (five.parts ∙ ap (option_map (λ xs. octets (take 20 m.rest) ∷ xs)) end.1)))
-          ∙ ap (λ z. name n ∷ name m.own ∷ octets z ∷ []) (take_all 20 m.rest (omega (arith, twenty)) ∙ sym back);
+      lent = subst IsLent named lent.1;
+      mailbox = m;
+      is_name = ok_m;
+      inside = omega (arith, ap length whole, length-append (wire m) tail, long);
+      whole = ap₂ take place whole ∙ take_at (wire m) tail (length (wire m)) refl;
+      parts = sym c.whole ∙ ap₂ (λ x ys. x ∷ ys) (ap (λ (x : Part × Octets). x.0) same) (parts ∙ ap (λ ys. name m ∷ ys) (ends ∙ ap₂ (λ o ys. octets o ∷ ys) (take_all 20 tail (omega (arith, long)) ∙ sym back) end.1));
     }
 
--- the first name is lent
-pub record ServerLent (server rest d : Octets) : Type 0 where
-  pub lent : IsWireForm server
-  pub laid : AuthorityLaid (labels_of server) rest (laid_parts type_soa d)
-
-pub server_lent : (d : Octets) (r : Option (Lent.Part × Bor Octets)) (part : Lent.Part) (rest server : Bor Octets) → valid type_soa d ≡ true → r ≡ Some (part, rest) → part ≡ Name server
-    → Cuts r (piece_front domain d) → ServerLent server.now rest.now d
-server_lent d r part rest server ok some named cuts =
-    let cut = subst (λ x. Cuts x (piece_front domain d)) some cuts in
-    let front = subst (λ x. piece_front domain d ≡ Some (part_for x, rest.now)) named cut.0 in
-    record { lent = subst IsLent named cut.1; laid = authority_laid d rest.now (labels_of server.now) ok front }
-
 -- Of the types whose names take part in compression only MX and SOA have more than one name as data.
-IsOne : ℕ → TypeRow → Type 0
-IsOne t row = row.compresses ≡ true → (t ≡ type_mx → ⊥) → (t ≡ type_soa → ⊥) → row.pieces ≡ domain ∷ []
-
-EachOne : ℕ → List TypeRow → Type 0
-EachOne t [] = Unit {0}
-EachOne t (row ∷ rows) = (row.number ≡ t → IsOne t row) × EachOne t rows
-
-table_one : (t : ℕ) → EachOne t type_table
-unfolding EachOne IsOne
-table_one t = (
-  λ e c x s. absurd (false≢true c),
-  (
-    λ e c x s. refl,
-    (
-      λ e c x s. refl,
-      (
-        λ e c x s. absurd (s (sym e)),
-        (
-          λ e c x s. refl,
-          (
-            λ e c x s. absurd (false≢true c),
-            (
-              λ e c x s. absurd (x (sym e)),
-              (λ e c x s. absurd (false≢true c), (λ e c x s. absurd (false≢true c), (λ e c x s. absurd (false≢true c), tt))),
-            ),
-          ),
-        ),
-      ),
-    ),
-  ),
-)
-
-row_one : (t : ℕ) (rows : List TypeRow) → EachOne t rows → IsOne t (unwrap_or (find (λ (row : TypeRow). row.number == t) rows) other_type)
-unfolding EachOne IsOne
-row_one t [] each = λ c x s. absurd (false≢true c)
-row_one t (row ∷ others) each = go (row.number == t) refl (row_one t others each.1)
-  where
-    go : (x : Bool) → (row.number == t) ≡ x → IsOne t (unwrap_or (find (λ (r : TypeRow). r.number == t) others) other_type)
-        → IsOne t (unwrap_or (cond x (Some row) (find (λ (r : TypeRow). r.number == t) others)) other_type)
-    go true e f = each.0 (eqb-true row.number t e)
-    go false e f = f
-
 pub one_left : (t : ℕ) → compresses t ≡ true → (t ≡ type_mx → ⊥) → (t ≡ type_soa → ⊥) → pieces_of t ≡ domain ∷ []
-unfolding IsOne
-one_left t = row_one t type_table (table_one t)
+one_left t =
+    by_row t (λ row. row.compresses ≡ true → (t ≡ type_mx → ⊥) → (t ≡ type_soa → ⊥) → row.pieces ≡ domain ∷ []) type_table (λ c x s. absurd (false≢true c)) (search (rules, false≢true, sym))

@@ -11,7 +11,7 @@ use Rattle.dns_spec.proofs.Messages.Places.{Stands, run_written}
 use Rattle.dns_wire.specs.Labels.{LabelAt, PointerAt}
 use Rattle.dns_wire.specs.Kept.{SpelledFrom, SpellsName, HasAt}
 use Rattle.dns_wire.proofs.Runs.{GoesOn, at_end, at_label, at_pointer, goes_on_at}
-use Rattle.dns_wire.proofs.Suffixes.{next_label}
+use Rattle.dns_wire.proofs.SuffixLemmas.{next_label}
 
 -- the root's length ends a name
 pub spelled_end : {b : Octets} {s i : ℕ} {o : Octets} → slice_get b i ≡ Some 0 → (o ≡ 0 ∷ [] → SpelledFrom b s i o) × (SpelledFrom b s i o → o ≡ 0 ∷ [])

@@ -1,6 +1,6 @@
 -- Data that is read is data of its type, of at most 65,535 octets.
-use Rattle.std.proofs.Common.{◌≡◌, ℕ, suc, ◌+◌, ◌-◌, ◌<◌, ◌≤◌, Bool, true, false, ◌&&◌, ◌||◌, not, nat_le, ◌==◌, List, [], ◌∷◌, ◌++◌, length, drop, slice_get, get_or, Option, None, Some, option_map, is_some, unwrap_or, refl, sym, ap, ◌∙◌, subst, arith, append-nil, add-zero, length-append, if◌then◌else◌}
-use Rattle.std.proofs.lemmas.Bool.{and_from, le-leb, leb-true, ne_eqb, eqb-true, false≢true}
+use Rattle.std.proofs.Common.{rules, ◌≡◌, ℕ, suc, ◌+◌, ◌-◌, ◌<◌, ◌≤◌, Bool, true, false, ◌&&◌, ◌||◌, not, nat_le, ◌==◌, List, [], ◌∷◌, ◌++◌, length, drop, slice_get, get_or, Some, option_map, is_some, unwrap_or, refl, sym, ap, ◌∙◌, subst, arith, append-nil, add-zero, length-append, if◌then◌else◌}
+use Rattle.std.proofs.lemmas.Bool.{and_from, le-leb, leb-true, ne_eqb, eqb-true}
 use Rattle.std.proofs.lemmas.Option.{same_Some, slice_get_within, slice_get-get_or}
 use Rattle.std.proofs.lemmas.List.{length-take-le, length-drop, take_at, drop_at, nil_from_length, get_or-take, get_or-drop}
 use Rattle.std.specs.List.{find}
@@ -9,6 +9,7 @@ use Rattle.dns_spec.specs.Data.{class_in, width, Piece, fixed, domain, string, s
 use Rattle.dns_spec.specs.Reading.{OctetsAt, PiecesAt, DataAt}
 use Rattle.dns_spec.proofs.DomainNames.NameLaws.{IsName-is_name}
 use Rattle.dns_spec.proofs.DomainNames.WireNames.{name_of-wire}
+use Rattle.dns_rdata.proofs.PartLemmas.{more_are_cut}
 use Rattle.dns_wire.proofs.PieceLemmas.{all_forward, run_past}
 
 -- the octets between two places are as many as there are places
@@ -66,23 +67,23 @@ named_length b (anything ∷ ps) i e d fits h = absurd (omega arith)
 bounded : List Piece → Bool
 bounded ps = (names_among ps == 0) || nat_le (most ps) 65535
 
-EachBounded : List TypeRow → Type 0
-EachBounded [] = Unit {0}
-EachBounded (row ∷ rows) = (bounded row.pieces ≡ true) × EachBounded rows
+-- what holds of each row of the table with a number holds of the row of that type
+abbrev Each : ℕ → (TypeRow → Type 0) → List TypeRow → Type 0
+Each t P [] = Unit {0}
+Each t P (row ∷ rows) = (row.number ≡ t → P row) × Each t P rows
 
-table_bounded : EachBounded type_table
-unfolding EachBounded bounded names_among most
-table_bounded = (refl, (refl, (refl, (refl, (refl, (refl, (refl, (refl, (refl, (refl, tt))))))))))
-
-row_bounded : (t : ℕ) (rows : List TypeRow) → EachBounded rows → bounded (unwrap_or (find (λ (row : TypeRow). row.number == t) rows) other_type).pieces ≡ true
-unfolding EachBounded bounded names_among
-row_bounded t [] bounds = refl
-row_bounded t (row ∷ others) bounds = go (row.number == t) (row_bounded t others bounds.1)
+pub by_row : (t : ℕ) (P : TypeRow → Type 0) (rows : List TypeRow) → P other_type → Each t P rows → P (unwrap_or (find (λ (row : TypeRow). row.number == t) rows) other_type)
+by_row t P [] other each = other
+by_row t P (row ∷ others) other each = go (row.number == t) refl (by_row t P others other each.1)
   where
-    go : (x : Bool) → bounded (unwrap_or (find (λ (r : TypeRow). r.number == t) others) other_type).pieces ≡ true
-        → bounded (unwrap_or (if x then Some row else find (λ (r : TypeRow). r.number == t) others) other_type).pieces ≡ true
-    go true f = bounds.0
-    go false f = f
+    go : (x : Bool) → (row.number == t) ≡ x → P (unwrap_or (find (λ (r : TypeRow). r.number == t) others) other_type)
+        → P (unwrap_or (if x then Some row else find (λ (r : TypeRow). r.number == t) others) other_type)
+    go true e f = each.0 (eqb-true row.number t e)
+    go false e f = f
+
+row_bounded : (t : ℕ) → bounded (pieces_of t) ≡ true
+unfolding bounded names_among most
+row_bounded t = by_row t (λ row. bounded row.pieces ≡ true) type_table refl (search rules)
 
 short_data : (b : Octets) (ps : List Piece) (i e : ℕ) (d : Octets) → bounded ps ≡ true → e - i ≤ 65535 → PiecesAt b ps i e d → length d ≤ 65535
 unfolding bounded
@@ -127,14 +128,7 @@ abbrev IsCut : List Piece → Octets → Type 0
 IsCut ps d = is_some (cut ps d) ≡ true
 
 cut_more : (p : Piece) (ps : List Piece) (d rest : Octets) (part : Part) → piece_front p d ≡ Some (part, rest) → IsCut ps rest → IsCut (p ∷ ps) d
-unfolding cut
-cut_more p ps d rest part front more =
-    ap (λ (x : Option (Part × Octets)). is_some (elim x [ None ↦ None | Some r ↦ option_map (λ xs. r.0 ∷ xs) (cut ps r.1) ])) front
-    ∙ mapped (cut ps rest) more
-  where
-    mapped : (x : Option (List Part)) → is_some x ≡ true → is_some (option_map (λ (xs : List Part). part ∷ xs) x) ≡ true
-    mapped None h = absurd (false≢true h)
-    mapped (Some xs) h = refl
+cut_more p ps d rest part front more = more_are_cut p ps d part rest front ∙ more
 
 front_cut : (k : ℕ) (o rest : Octets) → length o ≡ k → octets_front k (o ++ rest) ≡ Some (octets o, rest)
 front_cut k o rest long =
@@ -183,6 +177,6 @@ data_valid b t c i e d h fits = go (c == class_in) h.2
   where
     go : (x : Bool) → PiecesAt b (if x then pieces_of t else anything ∷ []) i e d → valid (if x then t else 0) d ≡ true
     go true g =
-        and_from _ _ (le-leb (length d) 65535 (short_data b (pieces_of t) i e d (row_bounded t type_table table_bounded) fits g)) (pieces_cut b (pieces_of t) i e d g)
+        and_from _ _ (le-leb (length d) 65535 (short_data b (pieces_of t) i e d (row_bounded t) fits g)) (pieces_cut b (pieces_of t) i e d g)
     go false g =
         and_from _ _ (le-leb (length d) 65535 (omega (arith, unnamed_length b (anything ∷ []) i e d alone g))) (pieces_cut b (anything ∷ []) i e d g)

@@ -1,26 +1,27 @@
 -- What a reader learns here: what a writer has written of a message so far.
-use Rattle.std.specs.Prelude.{◌≡◌, ℕ, ◌+◌, ◌≤◌, List, [], ◌∷◌, ◌++◌, length, replicate, if◌then◌else◌, Option, IfSome}
+use Rattle.std.specs.Prelude.{◌≡◌, ◌↔◌, ℕ, ◌+◌, ◌*◌, ◌<◌, ◌≤◌, ◌^◌, Bool, List, [], ◌∷◌, ◌++◌, length, min, replicate, if◌then◌else◌, Option, IfSome, IsTrue}
+use Rattle.std.specs.Bool.{OnTrue}
 use Rattle.std.specs.Option.{option_to_list}
 use Rattle.dns_spec.specs.Names.{Octets, DomainName}
 use Rattle.dns_spec.specs.Sets.{RecordSet, records_at}
 use Rattle.dns_spec.specs.Reading.{MessageQuestion}
-use Rattle.dns_spec.specs.Layout as Layout
-use Rattle.dns_spec.specs.Layout.{Item, Placed, records_of, in_section, is_section, asked_octets, asked_placed, answer, authority, additional}
+use Rattle.dns_spec.specs.Layout as Messages
+use Rattle.dns_spec.specs.Layout.{Item, Placed, Laid, records_of, in_section, is_section, asked_octets, asked_placed, answer, authority, additional}
 use Rattle.dns_spec.specs.Laws.{IsAskable}
 use Rattle.dns_wire.specs.Kept.{Kept}
 use Rattle.dns_wire.specs.SuffixNumbers.{suffix_number}
-use Rattle.dns_wire.specs.Writing.{asked_places, Holds, IsSound, records_laid}
+use Rattle.dns_wire.specs.Writing.{IsAsked, asked_places, Holds, StandsIn, Follows, Layout, records_laid}
 use Rattle.dns_wire.specs.declared.message.Counts.{Counts}
 use Rattle.dns_wire.specs.declared.page.Section.{Section}
 use Rattle.dns_wire.specs.declared.page.Section.TheVariants.{Answer, Authority, Additional}
 
-abbrev pub section_of : Section → Layout.Section
+abbrev pub section_of : Section → Messages.Section
 section_of Answer = answer
 section_of Authority = authority
 section_of Additional = additional
 
 -- how many of so many records of a section come in a section
-abbrev pub counted : Layout.Section → Section → ℕ → ℕ
+abbrev pub counted : Messages.Section → Section → ℕ → ℕ
 counted s section k = if is_section s (section_of section) then k else 0
 
 -- the counts with so many records more in a section
@@ -59,6 +60,10 @@ pub record Draft : Type 0 where
   pub kept : List Kept
   pub counts : Counts
 
+abbrev pub draft_of : ℕ → Octets → ℕ → List Kept → Counts → Draft
+draft_of limit octets asked_end kept counts =
+    record { limit = limit; octets = octets; asked_end = asked_end; kept = kept; counts = counts }
+
 -- nothing but room for a header
 abbrev pub no_draft : ℕ → Draft
 no_draft limit = record {
@@ -73,6 +78,42 @@ no_draft limit = record {
 abbrev pub known_places : (Octets → ℕ) → Draft → List Kept
 known_places number d = asked_places number d.octets d.asked_end ++ d.kept
 
+-- the draft with octets after those that it has
+abbrev pub with_octets : Draft → Octets → Draft
+with_octets d o = record d { octets = d.octets ++ o }
+
+-- these are its earlier names, where suffixes have their numbers by this hash
+abbrev pub HasNames : Draft → (Octets → ℕ) → List Placed → Type 0
+HasNames d head ms = Holds (suffix_number head) ms d.octets (known_places (suffix_number head) d)
+
+-- What a step of writing keeps: octets and places came after those that were there, and all else is
+-- as it was.
+pub record Grows (old new : Draft) : Type 0 where
+  pub octets : Follows old.octets new.octets
+  pub kept : Follows old.kept new.kept
+  pub asked : new.asked_end ≡ old.asked_end
+  pub limit : new.limit ≡ old.limit
+  pub counts : new.counts ≡ old.counts
+
+-- What was laid out after these names is written exactly where it fits the limit. Its names are
+-- earlier names then, in whatever octets of that length the earlier ones are.
+pub record IsWritten (number : Octets → ℕ) (ms : List Placed) (old new : Draft) (laid : Laid)
+    (fits : Bool) : Type 0 where
+  pub exactly : IsTrue fits ↔ (length (old.octets ++ laid.written) ≤ old.limit)
+  pub written : OnTrue fits (new.octets ≡ old.octets ++ laid.written)
+  pub stands : OnTrue fits ((x : Octets) → length x ≡ length old.octets
+      → Holds number ms x (known_places number old)
+      → StandsIn number ms x laid (known_places number new))
+
+-- A step that writes what is laid out. The hash that is lent has the same numbers before it and
+-- after it.
+pub record Writes (head head' : Octets → ℕ) (old new : Draft) (layout : Layout) (fits : Bool)
+    : Type 0 where
+  pub grows : Grows old new
+  pub same : head' ≡ head
+  pub written : (ms : List Placed) → HasNames old head ms
+      → IsWritten (suffix_number head) ms old new (layout ms (length old.octets)) fits
+
 -- the names of the records so far, with their places
 abbrev pub names_so_far : Option MessageQuestion → List Item → List Placed
 names_so_far q items =
@@ -85,13 +126,19 @@ pub record IsDraft (head : Octets → ℕ) (q : Option MessageQuestion) (items :
   pub written : d.octets
       ≡ replicate 12 0 ++ asked_octets q
       ++ (records_laid (records_of items) (asked_placed q) (12 + length (asked_octets q))).written
-  pub holds : Holds (suffix_number head) (names_so_far q items) d.octets
-      (known_places (suffix_number head) d)
+  pub holds : HasNames d head (names_so_far q items)
   pub counts : d.counts ≡ counts_of q items
   pub askable : IfSome q IsAskable
 
--- there are no more records than octets
+-- A page with N places and so many octets, of which a limit may be used. There are no more records
+-- than octets.
 pub record IsWellKept (N size : ℕ) (d : Draft) : Type 0 where
-  pub sound : IsSound N size d.limit d.octets d.asked_end d.kept
+  pub within : length d.octets ≤ d.limit
+  pub fits : d.limit ≤ size
+  pub short : d.limit < 2 ^ 16
+  pub few : 2 * length d.kept ≤ length d.octets
+  pub enough : min size 16384 ≤ 2 * N
+  pub most : N ≤ 8192
+  pub asked : IsAsked d.octets d.asked_end
   pub header : 12 ≤ length d.octets
-  pub few : d.counts.answers + d.counts.authorities + d.counts.additionals ≤ length d.octets
+  pub listed : d.counts.answers + d.counts.authorities + d.counts.additionals ≤ length d.octets

@@ -6,7 +6,6 @@ pub mod QueryForm
 pub mod Kept
 pub mod Chains
 pub mod Writing
-pub mod Rooms
 pub mod Draft
 pub mod QuickNumbers
 pub mod SuffixNumbers

@@ -66,18 +66,17 @@ NoRecords b i count = (rs : List MessageRecord) (e : ℕ) → RecordsAt b i rs e
 abbrev pub NoMessage : Octets → Type 0
 NoMessage b = (m : DnsMessage) → Spells b m → ⊥
 
--- What reading one after another keeps: those so far stand from place i to place j, and what
--- follows them, all of them are.
-pub record QuestionsRead (b : Octets) (i : ℕ) (so_far : List MessageQuestion) (j : ℕ) : Type 0 where
-  pub within : j ≤ length b
-  pub forth : (qs : List MessageQuestion) (e : ℕ) → QuestionsAt b j qs e
-      → QuestionsAt b i (so_far ++ qs) e
-  pub back : (ws : List MessageQuestion) (e : ℕ) → QuestionsAt b i ws e → length so_far ≤ length ws
-      → (qs : List MessageQuestion) × (ws ≡ so_far ++ qs) × QuestionsAt b j qs e
+-- What reading one after another keeps, as far as a last place: those so far stand from place i to
+-- place j, and what follows them, all of them are.
+pub record AreRead {A : Type 0} (At : ℕ → List A → ℕ → Type 0) (last i : ℕ) (so_far : List A)
+    (j : ℕ) : Type 0 where
+  pub within : j ≤ last
+  pub forth : (xs : List A) (e : ℕ) → At j xs e → At i (so_far ++ xs) e
+  pub back : (ws : List A) (e : ℕ) → At i ws e → length so_far ≤ length ws
+      → (xs : List A) × (ws ≡ so_far ++ xs) × At j xs e
 
-pub record RecordsRead (b : Octets) (i : ℕ) (so_far : List MessageRecord) (j : ℕ) : Type 0 where
-  pub within : j ≤ length b
-  pub forth : (rs : List MessageRecord) (e : ℕ) → RecordsAt b j rs e
-      → RecordsAt b i (so_far ++ rs) e
-  pub back : (ws : List MessageRecord) (e : ℕ) → RecordsAt b i ws e → length so_far ≤ length ws
-      → (rs : List MessageRecord) × (ws ≡ so_far ++ rs) × RecordsAt b j rs e
+abbrev pub QuestionsRead : Octets → ℕ → List MessageQuestion → ℕ → Type 0
+QuestionsRead b = AreRead (QuestionsAt b) (length b)
+
+abbrev pub RecordsRead : Octets → ℕ → List MessageRecord → ℕ → Type 0
+RecordsRead b = AreRead (RecordsAt b) (length b)

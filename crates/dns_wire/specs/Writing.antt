@@ -1,9 +1,8 @@
 -- What a reader learns here: how a writer lays a name out, which places it keeps for later names,
 -- and what must hold of the places kept, and of the octets written so far, that later names share
 -- rightly.
-use Rattle.std.specs.Prelude.{◌≡◌, ◌↔◌, ℕ, ◌+◌, ◌*◌, ◌<◌, ◌≤◌, ◌^◌, Bool, List, [], ◌∷◌, ◌++◌, ◌-◌, length, take, drop, min, nat_le, IsTrue, if◌then◌else◌}
+use Rattle.std.specs.Prelude.{◌≡◌, ℕ, ◌+◌, ◌<◌, ◌≤◌, List, [], ◌∷◌, ◌++◌, ◌-◌, length, take, drop, nat_le, IsTrue, if◌then◌else◌}
 use Rattle.std.specs.Prelude.{Option, None, Some}
-use Rattle.std.specs.Bool.{OnTrue}
 use Rattle.dns_spec.specs.Names.{Octets, DomainName, wire, is_name}
 use Rattle.dns_spec.specs.Data.{laid_parts}
 use Rattle.dns_spec.specs.Records.{ResourceRecord}
@@ -94,30 +93,10 @@ pub record Holds (number : Octets → ℕ) (ms : List Placed) (b : Octets) (ks :
 abbrev pub StandsIn : (Octets → ℕ) → List Placed → Octets → Laid → List Kept → Type 0
 StandsIn number ms b laid ks = Holds number (ms ++ laid.names) (b ++ laid.written) ks
 
--- A writer's room: N places and so many octets, of which a limit may be used. The name of the
--- question ends at place a.
-pub record IsSound (N size limit : ℕ) (b : Octets) (a : ℕ) (ks : List Kept) : Type 0 where
-  pub within : length b ≤ limit
-  pub fits : limit ≤ size
-  pub short : limit < 2 ^ 16
-  pub few : 2 * length ks ≤ length b
-  pub enough : min size 16384 ≤ 2 * N
-  pub most : N ≤ 8192
-  pub asked : IsAsked b a
-
 -- elements come after those that were there
 pub record Follows {A : Type 0} (xs ys : List A) : Type 0 where
   pub more : List A
   pub whole : ys ≡ xs ++ more
-
--- What was laid out after these octets is written exactly where it fits the limit. Its names are
--- earlier names then, in whatever octets of that length the earlier ones are.
-pub record IsWritten (number : Octets → ℕ) (limit : ℕ) (ms : List Placed) (b : Octets)
-    (ks : List Kept) (laid : Laid) (fits : Bool) (b' : Octets) (ks' : List Kept) : Type 0 where
-  pub exactly : IsTrue fits ↔ (length (b ++ laid.written) ≤ limit)
-  pub written : OnTrue fits (b' ≡ b ++ laid.written)
-  pub stands : OnTrue fits ((x : Octets) → length x ≡ length b → Holds number ms x ks
-      → StandsIn number ms x laid ks')
 
 -- what is laid out from a place on after earlier names
 abbrev pub Layout : Type 0

@@ -11,9 +11,9 @@ mod places;
 mod query;
 mod quick_hash;
 mod reader;
-mod room;
 mod spelled;
 mod suffix_number;
+mod suffixes;
 mod writer;
 
 pub use fault::WireFault;

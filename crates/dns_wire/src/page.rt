@@ -1,24 +1,25 @@
 //! A message that is being written: a question, and sets in their sections, within a limit (RFC
 //! 1035 4.1).
-ghost use Rattle.std.specs.Prelude.{◌≡◌, ◌↔◌, ◌+◌, ◌<◌, ◌≤◌, ◌^◌, List, [], ◌∷◌, ◌++◌, ℕ, ◌*◌, length, take, drop, min, IsTrue, IsFalse, Option, Some, All};
-ghost use Rattle.std.specs.Option.{option_copied};
-ghost use Rattle.dns_spec.specs.Names.{Octets};
+ghost use Rattle.std.specs.Prelude.{◌≡◌, ◌↔◌, ◌+◌, ◌<◌, ◌≤◌, ◌^◌, List, [], ◌++◌, ℕ, ◌*◌, length, take, drop, min, IsTrue, IsFalse, IfSome, Option, All};
 ghost use Rattle.std.specs.Bool.{OnTrue, OnFalse};
+ghost use Rattle.std.specs.Option.{option_copied};
+ghost use Rattle.dns_spec.specs.Names.{Octets, DomainName, wire, is_name};
+ghost use Rattle.dns_spec.specs.Data.{Valid, class_in, compresses};
 ghost use Rattle.dns_spec.specs.Reading.{MessageQuestion, Spells};
-ghost use Rattle.dns_spec.specs.Layout.{Item, answer, authority, additional, layout, header_octets, message_of, records_of};
+ghost use Rattle.dns_spec.specs.Layout.{Item, layout, header_octets, message_of, octets16, octets32, pointer, record_laid, records_of};
 ghost use Rattle.dns_spec.specs.LayoutSize.{size};
 ghost use Rattle.dns_spec.specs.Laws.{sections_in_order, IsWritable};
 ghost use Rattle.dns_spec.specs.Sharing.{Sharing};
-ghost use Rattle.dns_wire.specs.Writing.{IsSound};
-ghost use Rattle.dns_wire.specs.Draft.{with_counted};
+ghost use Rattle.dns_wire.specs.Writing.{end_octets, shown, octets_laid, name_laid, parts_laid, tail_laid};
+ghost use Rattle.dns_wire.specs.Draft.{with_counted, with_octets, Writes};
 
-use crate::message::{Counts, HEADER_OCTETS, Head, QuestionRef};
+use crate::message::{CLASS_IN, Counts, HEADER_OCTETS, Head, QuestionRef};
 use crate::places::{Places, SuffixHash};
-use crate::room::Room;
+use crate::suffixes::{keep_suffixes, shared_suffix};
 use arrayvec::ArrayVec;
 use byteorder::{BigEndian, ByteOrder};
 use dns_name::NameRef;
-use dns_rdata::SetView;
+use dns_rdata::{Part, Piece, RType, SetView, first_part};
 use std::marker::Model;
 
 /// The sections of a message after its question (RFC 1035 4.1).
@@ -35,30 +36,25 @@ pub enum Section {
 /// A message that is being written, in room for so many places and octets.
 #[derive(Drop)]
 pub struct Page<const N: usize, const SIZE: usize> {
-    room: Room<N, SIZE>,
+    octets: ArrayVec<u8, SIZE>,
+    // Those of names after the question's that later names may point to.
+    places: Places<N>,
+    limit: usize,
+    // Where the name of the question ends; 0 before it is written. No places of its suffixes are
+    // kept, since this tells where each of them may stand.
+    asked_end: usize,
     counts: Counts,
 }
 
 impl<const N: usize, const SIZE: usize> Model for Page<N, SIZE> {
-    ghost use Rattle.dns_wire.specs.Draft.{Draft, IsWellKept};
+    ghost use Rattle.dns_wire.specs.Draft.{Draft, draft_of, IsWellKept};
 
     ghost Value = { Draft };
 
-    ghost view = { λ p. record {
-      limit = p.room.limit;
-      octets = p.room.octets.items;
-      asked_end = p.room.asked_end;
-      kept = p.room.places;
-      counts = p.counts;
-    } };
+    ghost view = { λ p. draft_of p.limit p.octets.items p.asked_end p.places p.counts };
 
-    ghost invariant = { λ p. IsWellKept N SIZE (record {
-      limit = p.room.limit;
-      octets = p.room.octets.items;
-      asked_end = p.room.asked_end;
-      kept = p.room.places;
-      counts = p.counts;
-    }) };
+    ghost invariant = { λ p. IsWellKept N SIZE
+        (draft_of p.limit p.octets.items p.asked_end p.places p.counts) };
 }
 
 impl<const N: usize, const SIZE: usize> Page<N, SIZE> {
@@ -78,16 +74,12 @@ impl<const N: usize, const SIZE: usize> Page<N, SIZE> {
         ensures { result ≡ no_draft limit }
     {
         let mut octets = ArrayVec::new();
-        if octets.try_extend_from_slice(&[0; HEADER_OCTETS]).is_err() {
-            unreachable!();
-        }
+        extend(&mut octets, &[0; HEADER_OCTETS]);
         Page {
-            room: Room {
-                octets,
-                places: Places::new(),
-                limit,
-                asked_end: 0,
-            },
+            octets,
+            places: Places::new(),
+            limit,
+            asked_end: 0,
             counts: Counts::default(),
         }
     }
@@ -103,18 +95,11 @@ impl<const N: usize, const SIZE: usize> Page<N, SIZE> {
         requires octets { limit ≤ SIZE }
         ensures { self.new ≡ no_draft limit }
     {
-        self.room.octets.clear();
-        if self
-            .room
-            .octets
-            .try_extend_from_slice(&[0; HEADER_OCTETS])
-            .is_err()
-        {
-            unreachable!();
-        }
-        self.room.places.clear();
-        self.room.limit = limit;
-        self.room.asked_end = 0;
+        self.octets.clear();
+        extend(&mut self.octets, &[0; HEADER_OCTETS]);
+        self.places.clear();
+        self.limit = limit;
+        self.asked_end = 0;
         self.counts = Counts::default();
     }
 
@@ -129,7 +114,10 @@ impl<const N: usize, const SIZE: usize> Page<N, SIZE> {
         ensures same { H.numbers hash.new ≡ H.numbers hash.old }
     {
         if let Some(question) = question {
-            self.room.put_question(question);
+            extend(&mut self.octets, question.name.octets());
+            self.asked_end = self.octets.len();
+            extend(&mut self.octets, &number_octets(question.qtype));
+            extend(&mut self.octets, &number_octets(question.qclass));
             self.counts.questions = 1;
         }
     }
@@ -145,8 +133,7 @@ impl<const N: usize, const SIZE: usize> Page<N, SIZE> {
         set: &S,
     ) -> bool
         ensures fits { (q : Option MessageQuestion) (items : List Item)
-            → IsDraft (H.numbers hash.old) q items self.old
-            → IsTrue result
+            → IsDraft (H.numbers hash.old) q items self.old → IsTrue result
             ↔ (size q (with_set items section owner.now ttl (S.set set.now)) ≤ self.old.limit) }
         ensures put { (q : Option MessageQuestion) (items : List Item)
             → IsDraft (H.numbers hash.old) q items self.old
@@ -154,15 +141,24 @@ impl<const N: usize, const SIZE: usize> Page<N, SIZE> {
             (with_set items section owner.now ttl (S.set set.now)) self.new) }
         ensures least { (q : Option MessageQuestion) (items : List Item)
             → IsDraft (H.numbers hash.old) q items self.old → self.old.limit ≤ 16384
-            → IsFalse result ↔ ((z : ℕ)
-            → Sharing q (with_set items section owner.now ttl (S.set set.now)) z
-            → self.old.limit < z) }
+            → IsFalse result ↔ ((z : ℕ) → Sharing q
+            (with_set items section owner.now ttl (S.set set.now)) z → self.old.limit < z) }
         ensures unchanged { OnFalse result (self.new ≡ self.old) }
         ensures limit { self.new.limit ≡ self.old.limit }
         ensures same { H.numbers hash.new ≡ H.numbers hash.old }
     {
-        if !self.room.put_set(hash, owner, ttl, set) {
+        let octets = self.octets.len();
+        let places = self.places.len();
+        // However short they are, each has 10 octets after its owner.
+        if (self.limit - octets) / 10 < set.len() {
             return false;
+        }
+        'records: for i in 0..set.len() {
+            if !self.put_record(hash, owner, set.rtype(), ttl, set.rdata(i)) {
+                self.octets.truncate(octets);
+                self.places.take_back(places);
+                return false;
+            }
         }
         self.counts = with_records(self.counts, section, set.len() as u16);
         true
@@ -183,12 +179,159 @@ impl<const N: usize, const SIZE: usize> Page<N, SIZE> {
             → IsTrue (sections_in_order items) → All IsWritable (records_of items)
             → Spells (take result out.new) (message_of head q items) }
     {
-        let octets = self.room.octets.as_slice();
+        let octets = self.octets.as_slice();
         let length = octets.len();
         let (_, body) = octets.split_at(HEADER_OCTETS);
         put_body(out, body);
         put_header(out, &head, &self.counts);
         length
+    }
+
+    // Writes a record of class IN. False where it does not fit; then a part of it may be written.
+    fn put_record<H: SuffixHash>(
+        &mut self,
+        hash: &mut H,
+        owner: &NameRef<'_>,
+        rtype: RType,
+        ttl: u32,
+        rdata: &[u8],
+    ) -> bool
+        requires { Valid rtype.0 rdata.now }
+        ensures writes { Writes (H.numbers hash.old) (H.numbers hash.new) self.old self.new
+            (λ ms p. record_laid ms p (shown owner.now rtype.0 ttl rdata.now)) result }
+        ensures longer { OnTrue result
+            (length self.old.octets + 10 ≤ length self.new.octets) }
+    {
+        if !self.put_name(hash, owner.octets()) {
+            return false;
+        }
+        if rtype.compresses() {
+            self.put_shared_tail(hash, rtype, ttl, rdata)
+        } else {
+            self.append(&record_numbers(rtype, ttl, rdata.len() as u16), rdata)
+        }
+    }
+
+    // Writes what follows the owner of a record in whose data names may be shared. The length of
+    // the data, which ends the message, is written into the last two of the 10 octets before it.
+    fn put_shared_tail<H: SuffixHash>(
+        &mut self,
+        hash: &mut H,
+        rtype: RType,
+        ttl: u32,
+        rdata: &[u8],
+    ) -> bool
+        requires valid { Valid rtype.0 rdata.now }
+        requires shared { IsTrue (compresses rtype.0) }
+        ensures writes { Writes (H.numbers hash.old) (H.numbers hash.new) self.old self.new
+            (tail_laid rtype.0 ttl rdata.now) result }
+        ensures longer { OnTrue result
+            (length self.old.octets + 10 ≤ length self.new.octets) }
+    {
+        let at = self.octets.len();
+        if !self.append(&[], &record_numbers(rtype, ttl, 0)) {
+            return false;
+        }
+        if !self.put_data(hash, rtype, rdata) {
+            return false;
+        }
+        let length = (self.octets.len() - at - 10) as u16;
+        let (_, end) = self.octets.as_mut_slice().split_at_mut(at + 8);
+        BigEndian::write_u16(end, length);
+        true
+    }
+
+    // Writes data whose names may be shared as it is laid out, all of it or, where it does not fit,
+    // a part of it: of MX a preference and the name of an exchange (RFC 1035 3.3.9), of SOA the
+    // names of a server and of a mailbox and five numbers of 32 bits (3.3.13), of others one name.
+    fn put_data<H: SuffixHash>(&mut self, hash: &mut H, rtype: RType, rdata: &[u8]) -> bool
+        requires valid { Valid rtype.0 rdata.now }
+        requires shared { IsTrue (compresses rtype.0) }
+        ensures { Writes (H.numbers hash.old) (H.numbers hash.new) self.old self.new
+            (parts_laid rtype.0 rdata.now) result }
+    {
+        if rtype == RType::MX {
+            let (preference, exchange) = rdata.split_at(2);
+            return self.append(&[], preference) && self.put_name(hash, exchange);
+        }
+        if rtype == RType::SOA {
+            let Some((part, rest)) = first_part(Piece::Domain, rdata) else {
+                unreachable!();
+            };
+            let Part::Name(server) = part else {
+                unreachable!();
+            };
+            let (mailbox, numbers) = rest.split_at(rest.len() - 20);
+            if !self.put_name(hash, server) {
+                return false;
+            }
+            return self.put_name(hash, mailbox) && self.append(&[], numbers);
+        }
+        self.put_name(hash, rdata)
+    }
+
+    // Writes a name, given in its wire form: its labels before the longest suffix that is shared,
+    // and a pointer to that; or the whole name. False, with nothing written, where it does not fit
+    // the limit.
+    fn put_name<H: SuffixHash>(&mut self, hash: &mut H, name: &[u8]) -> bool
+        ensures { (n : DomainName) → name.now ≡ wire n → IsTrue (is_name n)
+            → Writes (H.numbers hash.old) (H.numbers hash.new) self.old self.new (name_laid n)
+            result }
+    {
+        let message = self.octets.as_slice();
+        let shared = shared_suffix(&self.places, message, hash, name, self.asked_end);
+        let (front, _) = name.split_at(shared.front);
+        let at = self.octets.len();
+        if !self.append_end(front, shared.place) {
+            return false;
+        }
+        keep_suffixes(&mut self.places, hash, name, shared.front, at);
+        true
+    }
+
+    // Appends the front of a name and what ends it: a pointer to a place (RFC 1035 4.1.4), or the
+    // root's length.
+    fn append_end(&mut self, front: &[u8], place: Option<u16>) -> bool
+        requires { IfSome place (λ p. p < 16384) }
+        ensures fits { IsTrue result ↔ (length self.old.octets
+            + (length front.now + length (end_octets place)) ≤ self.old.limit) }
+        ensures put { OnTrue result
+            (self.new ≡ with_octets self.old (front.now ++ end_octets place)) }
+        ensures unchanged { OnFalse result (self.new ≡ self.old) }
+    {
+        match place {
+            Some(place) => self.append(front, &number_octets(0xc000 + place)),
+            None => self.append(front, &[0]),
+        }
+    }
+
+    // Appends two runs of octets. False, with nothing written, where they do not fit the limit.
+    fn append(&mut self, front: &[u8], end: &[u8]) -> bool
+        ensures fits { IsTrue result ↔ (length self.old.octets
+            + (length front.now + length end.now) ≤ self.old.limit) }
+        ensures put { OnTrue result (self.new ≡ with_octets self.old (front.now ++ end.now)) }
+        ensures unchanged { OnFalse result (self.new ≡ self.old) }
+        ensures writes { (head : Octets → ℕ) → Writes head head self.old self.new
+            (octets_laid (front.now ++ end.now)) result }
+    {
+        let room = self.limit - self.octets.len();
+        if room < front.len() || room - front.len() < end.len() {
+            return false;
+        }
+        extend(&mut self.octets, front);
+        extend(&mut self.octets, end);
+        true
+    }
+}
+
+// Appends octets, for which there is room. Where there are none they are not copied: this saves
+// some 34 instructions of a short reply, and 1,216 of one with 64 addresses.
+fn extend<const SIZE: usize>(octets: &mut ArrayVec<u8, SIZE>, more: &[u8])
+    requires { length octets.old.items + length more.now ≤ SIZE }
+    ensures { octets.new.items ≡ octets.old.items ++ more.now }
+{
+    if !more.is_empty() && octets.try_extend_from_slice(more).is_err() {
+        unreachable!();
     }
 }
 
@@ -228,4 +371,25 @@ fn put_header(out: &mut [u8], head: &Head, counts: &Counts)
     BigEndian::write_u16(&mut out[6..], counts.answers);
     BigEndian::write_u16(&mut out[8..], counts.authorities);
     BigEndian::write_u16(&mut out[10..], counts.additionals);
+}
+
+// Type, class IN, TTL and data length of a record (RFC 1035 4.1.3).
+fn record_numbers(rtype: RType, ttl: u32, length: u16) -> [u8; 10]
+    ensures { result ≡ octets16 rtype.0 ++ octets16 class_in ++ octets32 ttl ++ octets16 length }
+{
+    let mut octets = [0; 10];
+    BigEndian::write_u16(&mut octets, rtype.0);
+    BigEndian::write_u16(&mut octets[2..], CLASS_IN);
+    BigEndian::write_u32(&mut octets[4..], ttl);
+    BigEndian::write_u16(&mut octets[8..], length);
+    octets
+}
+
+fn number_octets(number: u16) -> [u8; 2]
+    ensures octets { result ≡ octets16 number }
+    ensures fits { number < 2 ^ 16 }
+{
+    let mut octets = [0; 2];
+    BigEndian::write_u16(&mut octets, number);
+    octets
 }

@@ -93,13 +93,6 @@ impl<const N: usize> Places<N> {
         self.entries.len()
     }
 
-    /// Whether no place is kept.
-    pub(crate) fn is_empty(&self) -> bool
-        ensures { IsTrue result → length self.now ≡ 0 }
-    {
-        self.len() == 0
-    }
-
     /// Keeps a place more, of a suffix with this number.
     pub(crate) fn insert(&mut self, place: u16, number: u32)
         requires few { N ≤ 8192 }

@@ -47,8 +47,7 @@ impl<'h, H: SuffixHash> Writer<'h, H> {
     /// or none where with them the message is past its limit.
     pub fn put_set<S: SetView>(&mut self, section: Section, owner: &Name, ttl: u32, set: &S) -> bool
         ensures fits { (q : Option MessageQuestion) (items : List Item)
-            → IsDraft (H.numbers self.old.hash.now) q items self.old.page
-            → IsTrue result
+            → IsDraft (H.numbers self.old.hash.now) q items self.old.page → IsTrue result
             ↔ (size q (with_set items section owner.now ttl (S.set set.now))
             ≤ self.old.page.limit) }
         ensures put { (q : Option MessageQuestion) (items : List Item)
@@ -57,10 +56,8 @@ impl<'h, H: SuffixHash> Writer<'h, H> {
             (with_set items section owner.now ttl (S.set set.now)) self.new.page) }
         ensures least { (q : Option MessageQuestion) (items : List Item)
             → IsDraft (H.numbers self.old.hash.now) q items self.old.page
-            → self.old.page.limit ≤ 16384
-            → IsFalse result ↔ ((z : ℕ)
-            → Sharing q (with_set items section owner.now ttl (S.set set.now)) z
-            → self.old.page.limit < z) }
+            → self.old.page.limit ≤ 16384 → IsFalse result ↔ ((z : ℕ) → Sharing q
+            (with_set items section owner.now ttl (S.set set.now)) z → self.old.page.limit < z) }
         ensures unchanged { OnFalse result (self.new.page ≡ self.old.page) }
         ensures limit { self.new.page.limit ≡ self.old.page.limit }
         ensures same { H.numbers self.new.hash.now ≡ H.numbers self.old.hash.now }

@@ -1,23 +1,59 @@
-use Rattle.std.proofs.Common.{◌∙◌, refl, sym, ap, subst, subst₂, [], replicate, append-nil, Option, None, Some}
-use Rattle.dns_wire.specs.Writing.{Holds, asked_places}
-use Rattle.dns_wire.proofs.AskedLemmas.{asked_nothing}
+use Rattle.std.proofs.Common.{◌≡◌, ◌∙◌, refl, sym, ap, ap₂, subst, subst₂, arith, length, [], ◌++◌, replicate, append_assoc, append-nil, length-append, Option, None, Some}
 use Rattle.std.specs.Borrow.{Bor}
 use Rattle.std.specs.Option.{option_copied}
+use Rattle.dns_spec.specs.Names.{wire}
 use Rattle.dns_spec.specs.Reading.{MessageQuestion}
+use Rattle.dns_spec.specs.Layout.{octets16}
+use Rattle.dns_spec.specs.Laws.{IsAskable}
+use Rattle.dns_wire.specs.Writing.{Holds, asked_places}
 use Rattle.dns_wire.specs.SuffixNumbers.{suffix_number}
-use Rattle.dns_wire.specs.Draft.{Draft, IsDraft, no_draft}
+use Rattle.dns_wire.specs.Draft.{Draft, draft_of, IsDraft, IsWellKept, no_draft}
+use Rattle.dns_wire.proofs.AskedLemmas.{asked_nothing, is_asked_whole}
 use Rattle.dns_wire.proofs.NameWritten.{holds_nothing}
-use Rattle.dns_wire.proofs.DraftLemmas.{draft_begins}
+use Rattle.dns_wire.proofs.Steps.{kept_with}
+use Rattle.dns_wire.proofs.DraftLemmas.{draft_begins, asked_draft, asked_begins, question_whole}
 use Rattle.dns_wire.proofs.page.Page.put_question.Goals as goal
+use Rattle.dns_wire.proofs.page.Page.put_question.Given as given
+
+module _ (g : given.Over) (c : goal.After-self-in-Some-1 g) where
+  abbrev asked : MessageQuestion
+  asked = record { qname = c.question.inside.name; qtype = c.question.inside.qtype; qclass = c.question.inside.qclass }
+
+  begun : draft_of c.self.inside.limit c.self.inside.octets.items c.self.inside.asked_end c.self.inside.places c.self.inside.counts ≡ no_draft c.args.self.now.limit
+  begun = c.self.view_is ∙ c.requires.nothing
+
+  name : c.extend.new.octets.items ≡ replicate 12 0 ++ wire asked.qname
+  name = c.extend.ensures ∙ ap₂ ◌++◌ (ap (λ (d : Draft). d.octets) begun) c.octets.ensures.value
+
+  now : draft_of c.self.inside.limit c.extend-in-Some-2.new.octets.items c.len-self-inside.result c.self.inside.places (record c.self.inside.counts { questions = 1 }) ≡ asked_draft c.args.self.now.limit asked
+  now =
+      let qtype = octets16 c.question.inside.qtype in
+      let qclass = octets16 c.question.inside.qclass in
+      let octets = c.extend-in-Some-2.ensures ∙ ap₂ ◌++◌ (c.extend-in-Some.ensures ∙ ap₂ ◌++◌ name c.number_octets.ensures.octets) c.number_octets-in-Some.ensures.octets
+      ∙ append_assoc (replicate 12 0 ++ wire asked.qname) qtype qclass ∙ sym (question_whole asked) in
+      let end = c.len-self-inside.ensures.value ∙ ap length name ∙ length-append (replicate 12 0) (wire asked.qname) in
+      ap (λ (d : Draft). draft_of d.limit c.extend-in-Some-2.new.octets.items c.len-self-inside.result d.kept (record d.counts { questions = 1 })) begun
+      ∙ ap₂ (λ o a. record (asked_draft c.args.self.now.limit asked) { octets = o; asked_end = a }) octets end
+
+pub invariant_of-self : goal.invariant_of-self
+invariant_of-self g c =
+    let q = asked g c in
+    let s = subst (IsWellKept g.row.N g.row.SIZE) (begun g c) c.self.invariant in
+    let room = c.requires.from in
+    let short = c.octets.ensures.bound in
+    let long = ap length (question_whole q) in
+    let name = ap length c.octets.ensures.value in
+    let all = length-append (replicate 12 0 ++ wire q.qname) (octets16 q.qtype ++ octets16 q.qclass) in
+    let front = length-append (replicate 12 0) (wire q.qname) in
+    subst (IsWellKept g.row.N g.row.SIZE) (sym (now g c)) (kept_with s (omega (arith, room, short, long, name, all, front)) (omega arith)
+    (is_asked_whole q.qname (octets16 q.qtype ++ octets16 q.qclass) (question_whole q) c.octets.ensures.is_name (omega (arith, short, name)) refl) (omega (arith, long, all, front)) (omega arith))
 
 pub returns-in-Some-clause-draft : goal.returns-in-Some-clause-draft
 returns-in-Some-clause-draft g c =
     let head = g.H.SuffixHash.numbers c.args.hash.now in
-    let r = c.put_question.new.self in
-    let d : Draft = record { limit = r.limit; octets = r.octets.items; asked_end = r.asked_end; kept = r.places; counts = record c.self.inside.counts { questions = 1 } } in
-    let counts = ap (λ (k : Draft). record k.counts { questions = 1 }) (c.self.view_is ∙ c.requires.nothing) in
-    let begun = draft_begins head (Some c.in-Some.question.now) d c.put_question.ensures.octets (c.put_question.ensures.holds head) counts c.put_question.ensures.askable in
-    subst (λ (o : Option (Bor MessageQuestion)). IsDraft head (option_copied o) [] d) (sym c.in-Some.is) begun
+    let askable : IsAskable (asked g c) = record { qname = c.octets.ensures.is_name; qtype = c.number_octets.ensures.fits; qclass = c.number_octets-in-Some.ensures.fits } in
+    let begun = subst (λ q. IsDraft head (Some q) [] (asked_draft c.args.self.now.limit (asked g c))) c.question.view_is (asked_begins head c.args.self.now.limit (asked g c) askable) in
+    subst₂ (λ (o : Option (Bor MessageQuestion)) (d : Draft). IsDraft head (option_copied o) [] d) (sym c.in-Some.is) (sym (now g c)) begun
 
 pub returns-in_default-clause-draft : goal.returns-in_default-clause-draft
 returns-in_default-clause-draft g c =

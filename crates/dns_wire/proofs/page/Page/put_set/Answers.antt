@@ -1,27 +1,96 @@
-use Rattle.std.proofs.Common.{◌∙◌, true, false, ap, [], ◌∷◌, ◌++◌}
-use Rattle.dns_wire.specs.Draft.{with_counted, item_of}
+use Rattle.std.proofs.Common.{◌*◌, ◌∙◌, ap, ap₂, true, false, ◌+◌, ◌≤◌, sym, subst, arith, length, take, []}
+use Rattle.std.specs.Bool.{OnTrue}
+use Rattle.dns_spec.specs.Sets.{records_at}
+use Rattle.dns_wire.specs.Draft.{Draft, draft_of, IsDraft, IsWellKept, Writes, with_set, with_counted}
+use Rattle.dns_wire.specs.Writing.{shown, octets_laid, records_laid}
 use Rattle.dns_wire.proofs.DraftLemmas.{put_fits, put_in, least_of}
+use Rattle.dns_wire.proofs.Steps.{taken_back, never_written, none_written, writes_as}
+use Rattle.dns_wire.proofs.RecordsWritten.{records_none, record_more, records_past, all_taken, set_long}
 use Rattle.dns_wire.proofs.page.Page.put_set.Goals as goal
+use Rattle.dns_wire.proofs.page.Page.put_set.Given as given
 
-pub returns-then-not-put_set-clause-fits : goal.returns-then-not-put_set-clause-fits
-returns-then-not-put_set-clause-fits g c = λ q items draft.
-    put_fits q items c.args.section c.args.owner.now c.args.ttl (g.S.SetView.set c.args.set.now) c.self.view_is draft c.put_set.ensures.writes.written c.if-not-put_set.true
+pub records-init : goal.records-init
+records-init g c =
+    let s = subst (IsWellKept g.row.N g.row.SIZE) c.self.view_is c.self.invariant in
+    record {
+      writes = writes_as (octets_laid []) (records_laid []) (λ ms p. sym (records_none ms p)) (none_written (g.H.SuffixHash.numbers c.args.hash.now) c.args.self.now s.asked s.within);
+      longer = omega arith;
+    }
 
-pub returns-then-not-put_set-clause-least : goal.returns-then-not-put_set-clause-least
-returns-then-not-put_set-clause-least g c = λ q items draft low.
-    let i = item_of c.args.section c.args.owner.now c.args.ttl (g.S.SetView.set c.args.set.now) in
-    least_of q (items ++ i ∷ []) c.args.self.now.limit false (returns-then-not-put_set-clause-fits g c q items draft) low
+pub records-preserved : goal.records-preserved
+records-preserved g c =
+    let numbers = g.H.SuffixHash.numbers in
+    let set = g.S.SetView.set c.args.set.now in
+    let within = c.records-test.true in
+    let done = record_more c.args.owner.now c.args.ttl set c.records.i _ (omega (arith, within, c.len-i-end.ensures.value)) (ap₂ (λ t d. shown c.args.owner.now t c.args.ttl d) c.rtype.ensures c.rdata.ensures.value) c.records.invariant.writes c.put_record.ensures.writes in
+    let longer = subst (λ t. OnTrue t (length c.records.self.octets + 10 ≤ length c.put_record.new.self.octets)) c.if-not-put_record.false c.put_record.ensures.longer in
+    let so_far = c.records.invariant.longer in
+    record {
+      writes =
+          subst (λ t. Writes (numbers c.args.hash.now) (numbers c.put_record.new.hash) c.args.self.now c.put_record.new.self (records_laid (take (c.records.i + 1) (records_at c.args.owner.now c.args.ttl set))) t) c.if-not-put_record.false
+          done;
+      longer = omega (arith, longer, so_far);
+    }
+
+pub returns-then-self-octets-clause-fits : goal.returns-then-self-octets-clause-fits
+returns-then-self-octets-clause-fits g c = λ q items draft.
+    let set = g.S.SetView.set c.args.set.now in
+    let short = c.if-self-octets.true in
+    let within = c.self.invariant.within in
+    put_fits q items c.args.section c.args.owner.now c.args.ttl set (never_written (g.H.SuffixHash.numbers c.args.hash.now) c.args.self.now (records_laid (records_at c.args.owner.now c.args.ttl set)) (10 * length set.rdata)
+    (omega (arith, short, within, c.len.ensures.value, c.len-octets.ensures.value, ap (λ (d : Draft). d.limit) c.self.view_is, ap (λ (d : Draft). length d.octets) c.self.view_is)) (set_long c.args.owner.now c.args.ttl set)) draft
+
+pub returns-then-self-octets-clause-least : goal.returns-then-self-octets-clause-least
+returns-then-self-octets-clause-least g c = λ q items draft low.
+    least_of q (with_set items c.args.section c.args.owner.now c.args.ttl (g.S.SetView.set c.args.set.now)) c.args.self.now.limit false (returns-then-self-octets-clause-fits g c q items draft) low
+
+module _ (g : given.Over) (c : goal.After-take_back g) where
+  -- a part of the records was written
+  tried : Writes (g.H.SuffixHash.numbers c.args.hash.now) (g.H.SuffixHash.numbers c.put_record.new.hash) c.args.self.now c.put_record.new.self (records_laid (records_at c.args.owner.now c.args.ttl (g.S.SetView.set c.args.set.now))) false
+  tried =
+      let set = g.S.SetView.set c.args.set.now in
+      let within = c.records-test.true in
+      records_past (records_at c.args.owner.now c.args.ttl set) (c.records.i + 1) c.if-not-put_record.true
+      (record_more c.args.owner.now c.args.ttl set c.records.i _ (omega (arith, within, c.len-i-end.ensures.value)) (ap₂ (λ t d. shown c.args.owner.now t c.args.ttl d) c.rtype.ensures c.rdata.ensures.value) c.records.invariant.writes c.put_record.ensures.writes)
+
+pub returns-then-not-put_record-clause-unchanged : goal.returns-then-not-put_record-clause-unchanged
+returns-then-not-put_record-clause-unchanged g c =
+    let i = c.self-in-records.inside in
+    ap₂ (λ o ks. draft_of i.limit o i.asked_end ks i.counts) c.truncate.ensures.items c.take_back.ensures
+    ∙ ap (λ (d : Draft). record d { octets = take c.len-octets.result d.octets; kept = take c.len-places.result d.kept }) c.self-in-records.view_is
+    ∙ taken_back (tried g c).grows (c.len-octets.ensures.value ∙ ap (λ (d : Draft). length d.octets) c.self.view_is) (c.len-places.ensures.value ∙ ap (λ (d : Draft). length d.kept) c.self.view_is)
+
+pub invariant_of-self : goal.invariant_of-self
+invariant_of-self g c =
+    subst (IsWellKept g.row.N g.row.SIZE) (c.self.view_is ∙ sym (returns-then-not-put_record-clause-unchanged g c)) c.self.invariant
+
+pub returns-then-not-put_record-clause-fits : goal.returns-then-not-put_record-clause-fits
+returns-then-not-put_record-clause-fits g c = λ q items draft. put_fits q items c.args.section c.args.owner.now c.args.ttl (g.S.SetView.set c.args.set.now) (tried g c) draft
+
+pub returns-then-not-put_record-clause-least : goal.returns-then-not-put_record-clause-least
+returns-then-not-put_record-clause-least g c = λ q items draft low.
+    least_of q (with_set items c.args.section c.args.owner.now c.args.ttl (g.S.SetView.set c.args.set.now)) c.args.self.now.limit false (returns-then-not-put_record-clause-fits g c q items draft) low
+
+module _ (g : given.Over) (c : goal.After-self-1 g) where
+  done : Writes (g.H.SuffixHash.numbers c.args.hash.now) (g.H.SuffixHash.numbers c.records.hash) c.args.self.now c.records.self (records_laid (records_at c.args.owner.now c.args.ttl (g.S.SetView.set c.args.set.now))) true
+  done =
+      let numbers = g.H.SuffixHash.numbers in
+      let set = g.S.SetView.set c.args.set.now in
+      let over = c.records-test.false in
+      subst (λ rs. Writes (numbers c.args.hash.now) (numbers c.records.hash) c.args.self.now c.records.self (records_laid rs) true)
+      (all_taken c.args.owner.now c.args.ttl set c.records.i (omega (arith, over, c.len-i-end.ensures.value))) c.records.invariant.writes
 
 pub returns-clause-fits : goal.returns-clause-fits
-returns-clause-fits g c = λ q items draft.
-    put_fits q items c.args.section c.args.owner.now c.args.ttl (g.S.SetView.set c.args.set.now) c.self.view_is draft c.put_set.ensures.writes.written c.if-not-put_set.false
+returns-clause-fits g c = λ q items draft. put_fits q items c.args.section c.args.owner.now c.args.ttl (g.S.SetView.set c.args.set.now) (done g c) draft
 
 pub returns-clause-least : goal.returns-clause-least
 returns-clause-least g c = λ q items draft low.
-    let i = item_of c.args.section c.args.owner.now c.args.ttl (g.S.SetView.set c.args.set.now) in
-    least_of q (items ++ i ∷ []) c.args.self.now.limit true (returns-clause-fits g c q items draft) low
+    least_of q (with_set items c.args.section c.args.owner.now c.args.ttl (g.S.SetView.set c.args.set.now)) c.args.self.now.limit true (returns-clause-fits g c q items draft) low
 
 pub returns-clause-put : goal.returns-clause-put
 returns-clause-put g c = λ q items draft.
-    put_in q items c.args.section c.args.owner.now c.args.ttl (g.S.SetView.set c.args.set.now) c.self.view_is draft c.put_set.ensures.writes.written c.if-not-put_set.false
-    (c.with_records-self-inside.ensures ∙ ap (with_counted c.self.inside.counts c.args.section) c.len.ensures.value)
+    let set = g.S.SetView.set c.args.set.now in
+    let n = c.with_records-self-inside.result in
+    let counts = c.with_records-self-inside.ensures ∙ ap₂ (λ (d : Draft) k. with_counted d.counts c.args.section k) c.self-2.view_is c.len-2.ensures.value in
+    subst (λ (d : Draft). IsDraft (g.H.SuffixHash.numbers c.args.hash.now) q (with_set items c.args.section c.args.owner.now c.args.ttl set) (record d { counts = n })) (sym c.self-2.view_is)
+    (put_in q items c.args.section c.args.owner.now c.args.ttl set (done g c) counts draft)
