@@ -17,7 +17,7 @@ use Rattle.dns_answer.specs.Draft.{empty_draft, offer, offered, size_with}
 use Rattle.dns_answer.specs.DraftForm.{State, Holds}
 use Rattle.dns_answer.specs.Ending.{Rest, Says, TookRest}
 use Rattle.dns_answer.specs.Chain.{chain_rest}
-use Rattle.dns_answer.specs.Seeking.{leads_on, SeeksFrom, Followed, TookFrom}
+use Rattle.dns_answer.specs.Seeking.{leads_on, Seeks, Followed}
 use Rattle.dns_answer.specs.Replies.{IsReply, Answers, Costs}
 use Rattle.dns_answer.specs.declared.ending.Verdict.{Verdict}
 use Rattle.dns_answer.proofs.Offering.{Offers-is}
@@ -68,13 +68,14 @@ module _ (z : ZoneContents) (h : Header) (q : MessageQuestion) where
       go false b f e more = ap (λ x. not (x && not f)) e
 
   -- the zone and the question may be stated by other names
-  pub answers-found : {z1 : ZoneContents} {n : DomainName} {t : ℕ} {w w' : State} {v : Verdict}
-      {aa : Bool} {head : Header} (led : Bool) → z1 ≡ z → n ≡ q.qname → t ≡ q.qtype
-      → SeeksFrom w w' z1 t [] n v → Followed z1 t n v led → aa ≡ not (v.is_referral && not led)
+  pub answers-found : {s1 s' : Walk} {n : DomainName} {t : ℕ} {w w' : State} {v : Verdict}
+      {aa : Bool} {head : Header} (led : Bool) → s1.zone ≡ z → n ≡ q.qname → t ≡ q.qtype
+      → Seeks w w' s1 s' t [] n v → Followed s1.zone t n v led
+      → aa ≡ not (v.is_referral && not led)
       → head ≡ reply_head h aa v.is_truncated (code_of v.rcode) → Answers z h q w w' head
   answers-found {w = w} {w' = w'} {v = v} led zone name type seeks followed authority is_head =
-      let says : SeeksFrom w w' z q.qtype [] q.qname v =
-      subst (λ r. Says w w' r v) (λ i. chain_rest (zone i) (type i) most_aliases [] (name i)) seeks in
+      let says : Says w w' r v = subst (λ r. Says w w' r v)
+      (λ i. chain_rest (zone i) (type i) most_aliases [] (name i)) seeks.says in
       let led_is = λ (e : v.is_referral ≡ true).
       followed e ∙ (λ i. leads_on (zone i) (type i) (name i)) in
       let speaks = authority ∙ authoritative v led says.referral led_is in
@@ -105,7 +106,7 @@ module _ (z : ZoneContents) (h : Header) (q : MessageQuestion) where
 
 -- What the search for the question's name took is no more than an answer may take.
 pub answer-costs : (h : Header) (q : MessageQuestion) (n : DomainName) (t : ℕ) (s s1 s' : Walk) → is_name q.qname ≡ true → n ≡ q.qname → t ≡ q.qtype
-    → s.visits ≡ 0 → s.comparisons ≡ 0 → s1.visits ≡ s.visits + 1 → s1.comparisons ≡ s.comparisons → s1.zone ≡ s.zone → TookFrom s1.zone s1 s' t [] n → Costs (answered h q) s s'
+    → s.visits ≡ 0 → s.comparisons ≡ 0 → s1.visits ≡ s.visits + 1 → s1.comparisons ≡ s.comparisons → s1.zone ≡ s.zone → TookRest s1 s' (chain_rest s1.zone t most_aliases [] n) → Costs (answered h q) s s'
 answer-costs h q n t s s1 s' name same_name same_type visits comparisons one_visit same_count zone took =
     let z = s.zone in
     let there : TookRest s1 s' (chain_rest z q.qtype most_aliases [] q.qname) =

@@ -1,5 +1,5 @@
 -- What seeking a name has offered and taken, by what is found for it.
-use Rattle.std.proofs.Common.{◌≡◌, ◌⊎◌, inl, inr, ℕ, ◌+◌, ◌<◌, Bool, true, false, cond, ◌&&◌, ◌||◌, not, List, [], ◌∷◌, ◌++◌, map, reverse, length, get_or, Option, None, Some, refl, sym, ap, ap₂, ◌∙◌, arith, subst}
+use Rattle.std.proofs.Common.{◌≡◌, ◌⊎◌, inl, inr, ℕ, ◌+◌, ◌*◌, ◌<◌, ◌≤◌, Bool, true, false, cond, ◌&&◌, ◌||◌, not, List, [], ◌∷◌, ◌++◌, map, reverse, length, get_or, Option, None, Some, refl, sym, ap, ap₂, ◌∙◌, arith, subst}
 use Rattle.std.specs.List.{list_any}
 use Rattle.dns_spec.specs.Names.{Octets, DomainName, folded, names_equal, same, at_or_below}
 use Rattle.dns_spec.specs.Data.{target, type_cname}
@@ -7,25 +7,26 @@ use Rattle.dns_spec.specs.Records.{ResourceRecord, ZoneContents, at, of_type, wi
 use Rattle.dns_spec.specs.Sets.{RecordSet, set_of, records_at}
 use Rattle.dns_spec.specs.Reading.{no_error}
 use Rattle.dns_spec.specs.Layout.{answer, Item}
-use Rattle.dns_spec.specs.Answer.{item, follows_alias, alias_set, first_target, next_sought, has_any, Outcome, outcome_by, positive, negative}
+use Rattle.dns_spec.specs.Answer.{most_aliases, item, follows_alias, alias_set, first_target, next_sought, has_any, Outcome, outcome_by, positive, negative}
 use Rattle.dns_zone.specs.Nodes.{Walk, ZoneNode, IsSetOf}
 use Rattle.dns_answer.specs.Draft as spec
 use Rattle.dns_answer.specs.Draft.{offered}
 use Rattle.dns_answer.specs.DraftForm.{State, Offers}
 use Rattle.dns_answer.specs.Ending.{Rest, ending, after_sets, Says, TookRest, asked_item}
-use Rattle.dns_answer.specs.Walks.{AreRecords, Took}
+use Rattle.dns_answer.specs.Walks.{AreRecords, Took, IsApex, IsLeadTo}
+use Rattle.dns_zone.specs.Starts.{IsBelow}
 use Rattle.dns_answer.specs.Chain.{chain_rest}
-use Rattle.dns_answer.specs.Seeking.{names_of, aliases_left, leads_on, unsought, SeeksFrom, TookFrom, HasNoAlias, IsShown, alias_target, NextIs, IsLast}
+use Rattle.dns_answer.specs.Seeking.{names_of, aliases_left, leads_on, unsought, AreTargets, MaySeek, Seeks, HasNoAlias, IsShown, alias_target, NextIs}
 use Rattle.dns_zone.specs.declared.sought.Sought.{Sought}
 use Rattle.dns_answer.specs.declared.ending.Verdict.{Verdict}
-use Rattle.std.specs.Prelude.{All, drop}
+use Rattle.std.specs.Prelude.{All, drop, IfSome}
 use Rattle.std.proofs.lemmas.List.Elements.{All-nil, All-cons, All-head, All-tail, All-append}
 use Rattle.dns_answer.proofs.TargetLaws.{same-lower}
 use Rattle.std.proofs.Math.Bool.{or_comm, or-false}
 use Rattle.std.proofs.lemmas.Bool.{and_from, and_right}
 use Rattle.std.proofs.lemmas.List.{length-map, length-reverse, map-append, reverse-append}
 use Rattle.std.proofs.lemmas.List.Folds.{list_any-append}
-use Rattle.dns_answer.proofs.Taking.{Took-then, Took-within}
+use Rattle.dns_answer.proofs.Taking.{Took-then, Took-within, HasRoom-after}
 use Rattle.dns_answer.proofs.Offered.{offered-append}
 use Rattle.dns_answer.proofs.Offering.{Offers-then}
 use Rattle.dns_answer.proofs.EndingSets.{item-shown, of_type-shown}
@@ -44,35 +45,20 @@ says-after {w} {w1} {w'} {r} is nodes a h = record {
       ∙ ap (λ (x : spec.Draft). x.full) (sym (offered-append d is r.required));
 }
 
-module _ (z : ZoneContents) (t : ℕ) (before : List DomainName) (s : DomainName) where
-  module _ (is : List Item) (r : Rest)
-      (e : chain_rest z t (aliases_left before) before s ≡ after_sets is (depth_in z s) r) where
-    pub seeks : {w w1 w' : State} {v : Verdict} → Offers w w1 is → Says w1 w' r v
-        → SeeksFrom w w' z t before s v
-    seeks {w} {w1} {w'} {v} a h =
-        subst (λ r. Says w w' r v) (sym e) (says-after is (depth_in z s) a h)
-
-    pub took : {a b c : Walk} {depth : ℕ} → length s ≡ length z.origin + depth → Took a b depth 2
-        → TookRest b c r → TookFrom z a c t before s
-    took {a} {b} {c} deep first rest =
-        subst (λ (r : Rest). TookRest a c r) (sym e)
-        (Took-then (Took-within (omega arith) (omega arith) first) rest)
-
--- the name is the last
-pub is-last : (a : Walk) (t : ℕ) (before : List DomainName) (s : DomainName) (is : List Item)
+-- what seeking a name comes to, by what is still to come after its own sets
+pub sought-on : (a : Walk) (t : ℕ) (before : List DomainName) (s : DomainName) (is : List Item)
     (r : Rest) {w w1 w' : State} {b c : Walk} {depth : ℕ} {v : Verdict}
     → chain_rest a.zone t (aliases_left before) before s ≡ after_sets is (depth_in a.zone s) r
     → length s ≡ length a.zone.origin + depth → Took a b depth 2 → TookRest b c r
-    → Offers w w1 is → Says w1 w' r v → (v.is_referral ≡ true → leads_on a.zone t s ≡ false)
-    → IsLast w w' a c t before s v
-is-last a t before s is r e deep first rest offers says own = record {
-  seeks = seeks a.zone t before s is r e offers says;
-  took = took a.zone t before s is r e deep first rest;
-  own = own;
+    → Offers w w1 is → Says w1 w' r v → Seeks w w' a c t before s v
+sought-on a t before s is r {w = w} {w' = w'} {c = c} {v = v} e deep first rest offers says = record {
+  says = subst (λ r. Says w w' r v) (sym e) (says-after is (depth_in a.zone s) offers says);
+  took = subst (λ (r : Rest). TookRest a c r) (sym e)
+      (Took-then (Took-within (omega arith) (omega arith) first) rest);
 }
 
 -- the names that were sought, the last one first
-pub any-names : (n : DomainName) (ss : List Sought) → list_any (λ (s : Sought). same n s.name) ss ≡ list_any (same n) (names_of ss)
+any-names : (n : DomainName) (ss : List Sought) → list_any (λ (s : Sought). same n s.name) ss ≡ list_any (same n) (names_of ss)
 any-names n [] = refl
 any-names n (s ∷ ss) =
     let p = same n s.name in
@@ -94,26 +80,65 @@ unsought-is origin m sought o b leads inside among =
     go false = refl
 
 -- names in lower case are the same where they are equal
-pub any-lower : (n : DomainName) (ss : List Sought) → folded n ≡ n → All (λ (s : Sought). folded s.name ≡ s.name) ss
-    → list_any (λ (s : Sought). names_equal n s.name) ss ≡ list_any (λ (s : Sought). same n s.name) ss
+any-lower : (n : DomainName) (ss : List Sought) → folded n ≡ n
+    → All (λ (s : Sought). folded s.name ≡ s.name) ss
+    → list_any (λ (s : Sought). names_equal n s.name) ss
+    ≡ list_any (λ (s : Sought). same n s.name) ss
 any-lower n [] low all = refl
 any-lower n (s ∷ ss) low all =
-    ap₂ (λ a b. a || b) (same-lower n s.name low (All-head (λ (s : Sought). folded s.name ≡ s.name) s ss all)) (any-lower n ss low (All-tail (λ (s : Sought). folded s.name ≡ s.name) s ss all))
-
--- all but the first are in lower case, also with one more
-pub lower-more : (ss : List Sought) (s : Sought) → All (λ (s : Sought). folded s.name ≡ s.name) (drop 1 ss) → (0 < length ss → folded s.name ≡ s.name)
-    → All (λ (s : Sought). folded s.name ≡ s.name) (drop 1 (ss ++ s ∷ []))
-lower-more [] s all low = All-nil (λ (s : Sought). folded s.name ≡ s.name)
-lower-more (x ∷ xs) s all low =
-    All-append (λ (s : Sought). folded s.name ≡ s.name) xs (s ∷ []) all
-    (All-cons (λ (s : Sought). folded s.name ≡ s.name) s [] (low (omega arith)) (All-nil (λ (s : Sought). folded s.name ≡ s.name)))
+    let is_low = λ (s : Sought). folded s.name ≡ s.name in
+    ap₂ (λ a b. a || b) (same-lower n s.name low (All-head is_low s ss all))
+    (any-lower n ss low (All-tail is_low s ss all))
 
 pub names-more : (ss : List Sought) (s : Sought) → names_of (ss ++ s ∷ []) ≡ s.name ∷ names_of ss
 names-more ss s =
-    ap reverse (map-append (λ (s : Sought). s.name) ss (s ∷ [])) ∙ reverse-append (map (λ (s : Sought). s.name) ss) (s.name ∷ [])
+    ap reverse (map-append (λ (s : Sought). s.name) ss (s ∷ []))
+    ∙ reverse-append (map (λ (s : Sought). s.name) ss) (s.name ∷ [])
 
 pub names-count : (ss : List Sought) → length (names_of ss) ≡ length ss
-names-count ss = length-reverse (map (λ (s : Sought). s.name) ss) ∙ length-map ss (λ (s : Sought). s.name)
+names-count ss =
+    length-reverse (map (λ (s : Sought). s.name) ss) ∙ length-map ss (λ (s : Sought). s.name)
+
+-- a name in lower case was sought: the last one, or one before it
+pub among-is : (n : DomainName) (l f : Sought) (ts earlier : List Sought) → f ∷ ts ≡ earlier
+    → folded n ≡ n → AreTargets earlier l
+    → (names_equal n l.name || (list_any (λ (s : Sought). names_equal n s.name) ts
+    || same n f.name)) ≡ list_any (same n) (l.name ∷ names_of earlier)
+among-is n l f ts earlier e low lower =
+    let whole = sym e in
+    let others = subst (λ es. All (λ (s : Sought). folded s.name ≡ s.name) (drop 1 es)) whole
+    lower.others in
+    ap₂ (λ a b. a || (b || same n f.name))
+    (same-lower n l.name low (lower.last (omega (arith, ap length whole)))) (any-lower n ts low others)
+    ∙ ap (λ b. same n l.name || b) (or_comm _ (same n f.name) ∙ any-names n (f ∷ ts)
+    ∙ ap (λ es. list_any (same n) (names_of es)) e)
+
+-- another name may be sought after an alias
+pub may-follow : {s s' : Walk} {top : ZoneNode} {earlier : List Sought} {n m : Sought}
+    {l l' : Option ZoneNode} → MaySeek s top earlier n l → Took s s' n.depth 2
+    → length earlier < most_aliases → IsBelow m s.zone.origin → folded m.name ≡ m.name
+    → IfSome l' (IsLeadTo s.zone true) → MaySeek s' top (earlier ++ n ∷ []) m l'
+may-follow {s} {s'} {top} {earlier} {n} {m} {l} {l'} may took more below low lead =
+    let is_low = λ (s : Sought). folded s.name ≡ s.name in
+    let less : n.depth + 2 + 129 * (aliases_left (names_of (earlier ++ n ∷ [])) + 129)
+    ≤ 129 * (aliases_left (names_of earlier) + 129) =
+    omega (arith, ap length (names-more earlier n), names-count earlier, more, may.below.few, may.below.labels) in
+    record {
+      apex = subst (λ z. IsApex z top) (sym took.zone) may.apex;
+      below = subst (λ (z : ZoneContents). IsBelow m z.origin) (sym took.zone) below;
+      lead = subst (λ z. IfSome l' (IsLeadTo z true)) (sym took.zone) lead;
+      lower = record { last = λ _. low; others = others earlier may.lower.last may.lower.others };
+      room = HasRoom-after took less may.room;
+    }
+  where
+    others : (ss : List Sought) → (0 < length ss → folded n.name ≡ n.name)
+        → All (λ (s : Sought). folded s.name ≡ s.name) (drop 1 ss)
+        → All (λ (s : Sought). folded s.name ≡ s.name) (drop 1 (ss ++ n ∷ []))
+    others [] last all = All-nil (λ (s : Sought). folded s.name ≡ s.name)
+    others (x ∷ xs) last all =
+        All-append (λ (s : Sought). folded s.name ≡ s.name) xs (n ∷ []) all
+        (All-cons (λ (s : Sought). folded s.name ≡ s.name) n [] (last (omega arith))
+        (All-nil (λ (s : Sought). folded s.name ≡ s.name)))
 
 -- the records found for a name
 module _ (z : ZoneContents) (t : ℕ) (before : List DomainName) (s : DomainName) (node : ZoneNode)
