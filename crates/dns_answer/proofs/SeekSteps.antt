@@ -13,25 +13,24 @@ use Rattle.dns_answer.specs.Draft as spec
 use Rattle.dns_answer.specs.Draft.{offered}
 use Rattle.dns_answer.specs.DraftForm.{State, Offers}
 use Rattle.dns_answer.specs.Ending.{Rest, ending, after_sets, Says, TookRest, asked_item}
-use Rattle.dns_answer.specs.Walks.{AreRecords, Took, IsApex, IsLeadTo}
-use Rattle.dns_zone.specs.Starts.{IsBelow}
+use Rattle.dns_answer.specs.Walks.{AreRecords, Took, IsApex, IsAim, labels_below}
 use Rattle.dns_answer.specs.Chain.{chain_rest}
 use Rattle.dns_answer.specs.Seeking.{names_of, aliases_left, leads_on, unsought, AreTargets, MaySeek, Seeks, HasNoAlias, IsShown, alias_target, NextIs}
 use Rattle.dns_zone.specs.declared.sought.Sought.{Sought}
 use Rattle.dns_answer.specs.declared.ending.Verdict.{Verdict}
-use Rattle.std.specs.Prelude.{All, drop, IfSome}
+use Rattle.std.specs.Prelude.{All, drop}
 use Rattle.std.proofs.lemmas.List.Elements.{All-nil, All-cons, All-head, All-tail, All-append}
 use Rattle.dns_answer.proofs.TargetLaws.{same-lower}
 use Rattle.std.proofs.Math.Bool.{or_comm, or-false}
 use Rattle.std.proofs.lemmas.Bool.{and_from, and_right}
 use Rattle.std.proofs.lemmas.List.{length-map, length-reverse, map-append, reverse-append}
 use Rattle.std.proofs.lemmas.List.Folds.{list_any-append}
-use Rattle.dns_answer.proofs.Taking.{Took-then, Took-within, HasRoom-after}
+use Rattle.dns_answer.proofs.Taking.{Took-then, HasRoom-after}
 use Rattle.dns_answer.proofs.Offered.{offered-append}
 use Rattle.dns_answer.proofs.Offering.{Offers-then}
 use Rattle.dns_answer.proofs.EndingSets.{item-shown, of_type-shown}
 use Rattle.dns_answer.proofs.AskedSets.{asked-none, asked-some, none_any, some_any}
-use Rattle.dns_answer.proofs.ChainSteps.{depth_in, alias-found, outcome-found, outcome-alias, ends-plain, ends-alias, goes-on}
+use Rattle.dns_answer.proofs.ChainSteps.{alias-found, outcome-found, outcome-alias, ends-plain, ends-alias, goes-on}
 
 -- the sets of aliases before what is still to come
 pub says-after : {w w1 w' : State} {r : Rest} {v : Verdict} (is : List Item) (nodes : ℕ)
@@ -47,14 +46,14 @@ says-after {w} {w1} {w'} {r} is nodes a h = record {
 
 -- what seeking a name comes to, by what is still to come after its own sets
 pub sought-on : (a : Walk) (t : ℕ) (before : List DomainName) (s : DomainName) (is : List Item)
-    (r : Rest) {w w1 w' : State} {b c : Walk} {depth : ℕ} {v : Verdict}
-    → chain_rest a.zone t (aliases_left before) before s ≡ after_sets is (depth_in a.zone s) r
-    → length s ≡ length a.zone.origin + depth → Took a b depth 2 → TookRest b c r
+    (r : Rest) {w w1 w' : State} {b c : Walk} {v : Verdict}
+    → chain_rest a.zone t (aliases_left before) before s ≡ after_sets is (labels_below a.zone s) r
+    → Took a b (labels_below a.zone s) 2 → TookRest b c r
     → Offers w w1 is → Says w1 w' r v → Seeks w w' a c t before s v
-sought-on a t before s is r {w = w} {w' = w'} {c = c} {v = v} e deep first rest offers says = record {
-  says = subst (λ r. Says w w' r v) (sym e) (says-after is (depth_in a.zone s) offers says);
+sought-on a t before s is r {w = w} {w' = w'} {c = c} {v = v} e first rest offers says = record {
+  says = subst (λ r. Says w w' r v) (sym e) (says-after is (labels_below a.zone s) offers says);
   took = subst (λ (r : Rest). TookRest a c r) (sym e)
-      (Took-then (Took-within (omega arith) (omega arith) first) rest);
+      (Took-then first rest);
 }
 
 -- the names that were sought, the last one first
@@ -115,18 +114,18 @@ among-is n l f ts earlier e low lower =
 
 -- another name may be sought after an alias
 pub may-follow : {s s' : Walk} {top : ZoneNode} {earlier : List Sought} {n m : Sought}
-    {l l' : Option ZoneNode} → MaySeek s top earlier n l → Took s s' n.depth 2
-    → length earlier < most_aliases → IsBelow m s.zone.origin → folded m.name ≡ m.name
-    → IfSome l' (IsLeadTo s.zone true) → MaySeek s' top (earlier ++ n ∷ []) m l'
-may-follow {s} {s'} {top} {earlier} {n} {m} {l} {l'} may took more below low lead =
-    let is_low = λ (s : Sought). folded s.name ≡ s.name in
-    let less : n.depth + 2 + 129 * (aliases_left (names_of (earlier ++ n ∷ [])) + 129)
+    {l l' : Option ZoneNode} → MaySeek s top earlier n l
+    → Took s s' (labels_below s.zone n.name) 2 → length earlier < most_aliases
+    → IsAim s.zone true m l' → folded m.name ≡ m.name → MaySeek s' top (earlier ++ n ∷ []) m l'
+may-follow {s} {s'} {top} {earlier} {n} {m} {l} {l'} may took more aim low =
+    let fewer = ap length (names-more earlier n) in
+    let less : labels_below s.zone n.name + 2
+    + 129 * (aliases_left (names_of (earlier ++ n ∷ [])) + 129)
     ≤ 129 * (aliases_left (names_of earlier) + 129) =
-    omega (arith, ap length (names-more earlier n), names-count earlier, more, may.below.few, may.below.labels) in
+    omega (arith, fewer, names-count earlier, more, may.aim.below.few) in
     record {
       apex = subst (λ z. IsApex z top) (sym took.zone) may.apex;
-      below = subst (λ (z : ZoneContents). IsBelow m z.origin) (sym took.zone) below;
-      lead = subst (λ z. IfSome l' (IsLeadTo z true)) (sym took.zone) lead;
+      aim = subst (λ z. IsAim z true m l') (sym took.zone) aim;
       lower = record { last = λ _. low; others = others earlier may.lower.last may.lower.others };
       room = HasRoom-after took less may.room;
     }
@@ -150,7 +149,7 @@ module _ (z : ZoneContents) (t : ℕ) (before : List DomainName) (s : DomainName
   cnames = of_type type_cname rs
 
   abbrev Chain : List Item → Rest → Type 0
-  Chain is r = chain_rest z t (aliases_left before) before s ≡ after_sets is (depth_in z s) r
+  Chain is r = chain_rest z t (aliases_left before) before s ≡ after_sets is (labels_below z s) r
 
   aliases-at : alias_set z s ≡ with_owner s cnames
   aliases-at =
@@ -216,23 +215,23 @@ module _ (z : ZoneContents) (t : ℕ) (before : List DomainName) (s : DomainName
           go (d ∷ ds) h = refl
 
       -- it leads no further
-      pub alias-ends : NextIs set (s ∷ before) z.origin None
+      pub alias-ends : NextIs z set (s ∷ before) None
           → Chain (asked_item s set) (ending z (positive []))
       alias-ends next =
           ends-alias z t (aliases_left before) before s (asked_item s set) shown.0 alias-item
           (outcome-alias z t s (with_owner s rs) records.no_cut records.records has-alias)
           (ended next)
         where
-          ended : NextIs set (s ∷ before) z.origin None
+          ended : NextIs z set (s ∷ before) None
               → (aliases_left before ≡ 0) ⊎ (next_sought z (s ∷ before) s ≡ None)
           ended (inl none) = inl (omega (arith, none))
           ended (inr none) = inr (ap (unsought z.origin (s ∷ before)) alias-leads ∙ none)
 
       -- it leads to another name
-      pub alias-goes_on : (m : Sought) → NextIs set (s ∷ before) z.origin (Some m)
+      pub alias-goes_on : (m : Sought) (l : Option ZoneNode) → NextIs z set (s ∷ before) (Some (m, l))
           → Chain (asked_item s set)
           (chain_rest z t (aliases_left (s ∷ before)) (s ∷ before) m.name)
-      alias-goes_on m next =
+      alias-goes_on m l next =
           goes-on z t (aliases_left before) before s (aliases_left (s ∷ before)) m.name
           (asked_item s set) shown.0 alias-item
           (ap (unsought z.origin (s ∷ before)) alias-leads ∙ next.1) (omega (arith, next.0))

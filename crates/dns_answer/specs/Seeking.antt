@@ -1,6 +1,6 @@
 -- What a reader learns here: what seeking a name has offered, and what the header says of it.
 use Rattle.std.specs.Prelude.{◌≡◌, ◌⊎◌, ℕ, ◌+◌, ◌*◌, ◌-◌, ◌≤◌, ◌<◌, Bool, true, false, ◌&&◌, not, List, [], ◌∷◌, ◌++◌, length, map, reverse, drop, get_or, All, if◌then◌else◌}
-use Rattle.std.specs.Prelude.{Option, None, Some, IfSome}
+use Rattle.std.specs.Prelude.{Option, None, Some}
 use Rattle.std.specs.Option.{option_and_then}
 use Rattle.std.specs.List.{list_any}
 use Rattle.dns_spec.specs.Names.{DomainName, folded, same, at_or_below}
@@ -10,8 +10,7 @@ use Rattle.dns_spec.specs.Records.{ZoneContents, ResourceRecord, of_type}
 use Rattle.dns_spec.specs.Answer.{most_aliases, follows_alias, alias_set, has_any, asked_records}
 use Rattle.dns_zone.specs.Nodes.{Walk, ZoneNode}
 use Rattle.dns_answer.specs.DraftForm.{State}
-use Rattle.dns_zone.specs.Starts.{IsBelow}
-use Rattle.dns_answer.specs.Walks.{IsApex, IsLeadTo, HasRoom}
+use Rattle.dns_answer.specs.Walks.{IsApex, IsAim, HasRoom}
 use Rattle.dns_answer.specs.Ending.{Says, TookRest}
 use Rattle.dns_answer.specs.Chain.{chain_rest}
 use Rattle.dns_answer.specs.declared.ending.Verdict.{Verdict}
@@ -32,14 +31,12 @@ pub record AreTargets (earlier : List Sought) (s : Sought) : Type 0 where
   pub last : 0 < length earlier → folded s.name ≡ s.name
   pub others : All (λ (e : Sought). folded e.name ≡ e.name) (drop 1 earlier)
 
--- A name may be sought after others: it is at or below the origin, a lead to it may be kept, and for
--- it and each alias that may still be followed 127 nodes may be handed out, as for what ends an
--- answer.
+-- A name may be sought after others: by a way from a lead or the apex, and for it and each alias that
+-- may still be followed 129 nodes may be handed out, as for each of 129 targets.
 pub record MaySeek (s : Walk) (top : ZoneNode) (earlier : List Sought) (n : Sought)
     (l : Option ZoneNode) : Type 0 where
   pub apex : IsApex s.zone top
-  pub below : IsBelow n s.zone.origin
-  pub lead : IfSome l (IsLeadTo s.zone true)
+  pub aim : IsAim s.zone true n l
   pub lower : AreTargets earlier n
   pub room : HasRoom s (129 * (aliases_left (names_of earlier) + 129))
 
@@ -111,10 +108,12 @@ unsought origin sought o =
     option_and_then
     (λ m. if at_or_below m origin && not (list_any (same m) sought) then Some m else None) o
 
--- the next name sought after an alias, where the names so far are these; or why there is none
-abbrev pub NextIs : RecordSet → List DomainName → DomainName → Option Sought → Type 0
-NextIs set sought origin None =
-    (most_aliases < length sought) ⊎ (unsought origin sought (alias_target set) ≡ None)
-NextIs set sought origin (Some m) =
-    (length sought ≤ most_aliases) × (unsought origin sought (alias_target set) ≡ Some m.name)
-    × IsBelow m origin × (folded m.name ≡ m.name)
+-- the next name sought after an alias, where the names so far are these, and where the way to it
+-- begins; or why there is none
+abbrev pub NextIs : ZoneContents → RecordSet → List DomainName → Option (Sought × Option ZoneNode)
+    → Type 0
+NextIs z set sought None =
+    (most_aliases < length sought) ⊎ (unsought z.origin sought (alias_target set) ≡ None)
+NextIs z set sought (Some (m, l)) =
+    (length sought ≤ most_aliases) × (unsought z.origin sought (alias_target set) ≡ Some m.name)
+    × IsAim z true m l × (folded m.name ≡ m.name)

@@ -8,17 +8,16 @@ ghost use Rattle.dns_spec.specs.Records.{rrset};
 ghost use Rattle.dns_spec.specs.Layout.{additional};
 ghost use Rattle.dns_spec.specs.Sets.{HasValidData};
 ghost use Rattle.dns_zone.specs.Nodes.{IsSetOf};
-ghost use Rattle.dns_zone.specs.Starts.{IsBelow};
-ghost use Rattle.dns_answer.specs.Walks.{IsApex, IsStart, IsLeadTo, HasRoom, Took};
+ghost use Rattle.dns_answer.specs.Walks.{IsApex, IsLeadTo, HasRoom, Took};
 ghost use Rattle.dns_answer.specs.DraftForm.{Offers};
 ghost use Rattle.dns_answer.specs.Targets.{addresses_of, depth_in, side_items, side_nodes, side_takes, takes_target, set_targets, targets_of_first, target_items, target_nodes, target_misses};
 
 use crate::draft::Draft;
-use crate::lookup::{Cuts, Way, begin, or_start, walk};
+use crate::lookup::{Cuts, Way, aim, or_apex, walk};
 use dns_name::NameRef;
 use dns_rdata::{RType, SetView};
 use dns_wire::Section;
-use dns_zone::{Lead, Node, RecordSet, Sought, Steps};
+use dns_zone::{Lead, Node, RecordSet, Steps};
 
 /// Which targets are meant: all, or those at or below a cut, or the others.
 #[derive(Clone, Copy)]
@@ -152,38 +151,17 @@ fn offer_address<'z, const N: usize, const SIZE: usize>(
     ensures offers { Offers draft.old draft.new (addresses_of steps.old.zone target.now) }
     ensures took { Took steps.old steps.new (depth_in steps.old.zone target.now) 1 }
 {
-    match begin(target, lead, steps) {
-        Some((nearer, node)) => offer_from(&nearer, &node, steps, draft),
-        None => {
-            if let Some(sought) = Sought::below(target, &steps.origin().lent()) {
-                offer_from(&sought, apex, steps, draft);
-            }
-        }
-    }
-}
-
-// Offers the addresses of a name on the way down from a node.
-fn offer_from<'z, const N: usize, const SIZE: usize>(
-    target: &Sought<'_>,
-    start: &Node<'z>,
-    steps: &mut Steps<'z>,
-    draft: &mut Draft<N, SIZE>,
-)
-    requires start { IsStart steps.old.zone start.now }
-    requires below { IsBelow target.now start.now.name }
-    requires lower { folded target.now.name ≡ target.now.name }
-    requires room { HasRoom steps.old (target.now.depth + 1) }
-    ensures offers { Offers draft.old draft.new (addresses_of steps.old.zone target.now.name) }
-    ensures took { Took steps.old steps.new target.now.depth 1 }
-{
-    let node = match walk(target, start, Cuts::Pass, steps) {
+    let Some((sought, lead)) = aim(target, lead, &steps.origin().lent()) else {
+        return;
+    };
+    let node = match walk(&sought, lead, apex, Cuts::Pass, steps) {
         Way::Cut(_) => return,
         Way::Encloser(_) => return,
         Way::Name(node) => node,
     };
-    let node = or_start(&node, &*start);
-    offer_type(node, RType::A, &target.name, draft);
-    offer_type(node, RType::AAAA, &target.name, draft);
+    let node = or_apex(&node, &*apex);
+    offer_type(node, RType::A, target, draft);
+    offer_type(node, RType::AAAA, target, draft);
 }
 
 // Offers the set of a type at a node, if there is one.

@@ -1,14 +1,15 @@
 //! The names sought, one after the other (RFC 1034 4.3.2 step 3a).
-ghost use Rattle.std.specs.Prelude.{◌≡◌, ◌<◌, ◌∷◌, [], length, IfSome};
+ghost use Rattle.std.specs.Prelude.{◌≡◌, ◌<◌, ◌∷◌, [], length, true, IfSome};
 ghost use Rattle.std.specs.List.{list_any};
 ghost use Rattle.dns_spec.specs.Names.{folded, names_equal, same};
-ghost use Rattle.dns_spec.specs.Records.{at};
+ghost use Rattle.dns_spec.specs.Records.{ZoneContents, at};
 ghost use Rattle.dns_zone.specs.Nodes.{IsSetOf};
+ghost use Rattle.dns_answer.specs.Walks.{IsLeadTo};
 ghost use Rattle.dns_answer.specs.Seeking.{MaySeek, Seeks, Followed, AreTargets, SoughtAs, IsShown, NextIs, names_of};
 
 use crate::draft::Draft;
 use crate::ending::{Verdict, deny, end_with, ended, refer};
-use crate::lookup::{Found, look_up, or_start};
+use crate::lookup::{Found, aim, look_up, or_apex};
 use arrayvec::ArrayVec;
 use dns_name::NameRef;
 use dns_rdata::{RType, SetView};
@@ -105,7 +106,7 @@ fn seek_one<'z, const N: usize, const SIZE: usize>(
         Found::Nothing => return Next::Last(deny(Rcode::NameError, apex, steps, draft)),
         Found::Records(node) => node,
     };
-    let node = or_start(&node, &*apex);
+    let node = or_apex(&node, &*apex);
     let Some((set, is_alias)) = shown_set(node, qtype) else {
         return Next::Last(deny(Rcode::NoError, apex, steps, draft));
     };
@@ -113,10 +114,12 @@ fn seek_one<'z, const N: usize, const SIZE: usize>(
     if !is_alias {
         return Next::Last(end_with(node, &set, apex, steps, draft));
     }
-    let Some(target) = next_sought(&set, sought, earlier, &steps.origin().lent()) else {
+    let lead = node.lead(RType::CNAME, 0);
+    let next = next_sought(&set, lead, sought, earlier, &steps.origin().lent());
+    let Some((target, lead)) = next else {
         return Next::Last(ended(Rcode::NoError, draft));
     };
-    Next::Alias(target, node.lead(RType::CNAME, 0))
+    Next::Alias(target, lead)
 }
 
 // The set that an answer shows of the records at a node, and whether it is an alias, which leads
@@ -137,26 +140,28 @@ fn shown_set<'z>(node: &Node<'z>, qtype: u16) -> Option<(RecordSet<'z>, bool)>
     Some((node.set(RType(qtype))?, false))
 }
 
-// The name that is sought after an alias: its target, where more may be sought and it is at or below
-// the origin and was not sought yet.
+// The name that is sought after an alias, and where the way to it may begin: its target, where more
+// may be sought and it is at or below the origin and was not sought yet.
 fn next_sought<'z>(
     alias: &RecordSet<'z>,
+    lead: Option<Lead<'z>>,
     sought: &Sought<'_>,
     earlier: &[Sought<'_>],
     origin: &NameRef<'_>,
-) -> Option<Sought<'z>>
+) -> Option<(Sought<'z>, Option<Lead<'z>>)>
     requires some { 0 < length alias.now.rdata }
     requires lower { AreTargets earlier.now sought.now }
-    ensures { NextIs alias.now (sought.now.name ∷ names_of earlier.now) origin.now result }
+    ensures { (z : ZoneContents) → z.origin ≡ origin.now → IfSome lead.entry (IsLeadTo z true)
+        → NextIs z alias.now (sought.now.name ∷ names_of earlier.now) result }
 {
     if earlier.len() >= MOST_ALIASES {
         return None;
     }
-    let next = Sought::below(&alias.target(0)?, origin)?;
+    let (next, lead) = aim(&alias.target(0)?, lead, origin)?;
     if is_among(&next.name, sought, earlier) {
         return None;
     }
-    Some(next)
+    Some((next, lead))
 }
 
 // Whether a name in lower case is the last one sought, or was sought before. All names but the first

@@ -1,4 +1,4 @@
-use Rattle.std.proofs.Common.{◌≡◌, ◌<◌, length, [], ◌∷◌, true, refl, sym, ap, ◌∙◌, subst, arith, Some, None}
+use Rattle.std.proofs.Common.{◌≡◌, ◌<◌, length, [], ◌∷◌, true, refl, sym, ap, ◌∙◌, subst, arith}
 use Rattle.std.proofs.lemmas.Bool.{false≢true}
 use Rattle.dns_spec.specs.Records.{ZoneContents}
 use Rattle.dns_spec.specs.Answer.{most_aliases, positive, negative, referral_to}
@@ -8,7 +8,7 @@ use Rattle.dns_zone.specs.Nodes.{ZoneNode}
 use Rattle.dns_answer.specs.Chain.{chain_rest}
 use Rattle.dns_answer.specs.Ending.{Says, TookRest, ending, asked_item}
 use Rattle.dns_answer.specs.Walks.{AreRecords}
-use Rattle.dns_answer.specs.Seeking.{NextIs, names_of, aliases_left}
+use Rattle.dns_answer.specs.Seeking.{names_of, aliases_left}
 use Rattle.dns_answer.proofs.Taking.{Took-none}
 use Rattle.dns_answer.proofs.WaySteps.{leads-to}
 use Rattle.dns_answer.proofs.Offering.{Offers-nothing}
@@ -28,7 +28,7 @@ returns-in-Cut g c =
     record {
       seeks = sought-on c.args.steps.now c.args.qtype before s [] (ending z (referral_to z name))
           (ends-cut z c.args.qtype (aliases_left before) before s name cut)
-          c.requires.below.labels c.in-Cut.ensures.took
+          c.in-Cut.ensures.took
           (subst (λ y. TookRest c.look_up.new.steps c.refer.new.steps
           (ending y (referral_to y name))) zone c.refer.ensures.took)
           (Offers-nothing _) (rw zone at c.refer.ensures.ends);
@@ -45,7 +45,7 @@ returns-in-Nothing g c =
     record {
       seeks = sought-on c.args.steps.now c.args.qtype before s [] (ending z (negative z name_error))
           (ends-nothing z c.args.qtype (aliases_left before) before s found.no_cut found.none)
-          c.requires.below.labels c.in-Nothing.ensures.took Took-none (Offers-nothing _) denied;
+          c.in-Nothing.ensures.took Took-none (Offers-nothing _) denied;
       own = λ r. absurd (false≢true (sym denied.referral ∙ r));
     }
 
@@ -54,15 +54,15 @@ returns-in_default g c =
     let z = c.args.steps.now.zone in
     let s = c.args.sought.now.name in
     let before = names_of c.args.earlier.now in
-    let at_node = c.or_start-node.result.now in
-    let records = subst (AreRecords z s) (sym c.or_start-node.ensures) c.in-Records.ensures.found in
+    let at_node = c.or_apex-node.result.now in
+    let records = subst (AreRecords z s) (sym c.or_apex-node.ensures) c.in-Records.ensures.found in
     let shown = c.in_default.ensures.shown in
     let denied =
     rw (ap (λ (v : ZoneNode). v.zone) c.requires.apex.node) at c.deny-in_default.ensures in
     record {
       seeks = sought-on c.args.steps.now c.args.qtype before s [] (ending z (negative z no_error))
           (ends-none z c.args.qtype before s at_node records shown)
-          c.requires.below.labels c.in-Records.ensures.took Took-none (Offers-nothing _) denied;
+          c.in-Records.ensures.took Took-none (Offers-nothing _) denied;
       own = λ r. sym (no-alias z c.args.qtype before s at_node records shown.0);
     }
 
@@ -71,9 +71,9 @@ returns-then-not-is_alias g c =
     let z = c.args.steps.now.zone in
     let s = c.args.sought.now.name in
     let before = names_of c.args.earlier.now in
-    let at_node = c.or_start-node.result.now in
+    let at_node = c.or_apex-node.result.now in
     let set = c.in-Some.set in
-    let records = subst (AreRecords z s) (sym c.or_start-node.ensures) c.in-Records.ensures.found in
+    let records = subst (AreRecords z s) (sym c.or_apex-node.ensures) c.in-Records.ensures.found in
     let shown = rw c.if-not-is_alias.true at c.in-Some.ensures.shown in
     let offered = rw c.ttl.ensures at c.offer.ensures in
     let zone = c.look_up.ensures.took.zone in
@@ -81,33 +81,34 @@ returns-then-not-is_alias g c =
       seeks = sought-on c.args.steps.now c.args.qtype before s []
           (ending z (positive (asked_item s set)))
           (ends-asked z c.args.qtype before s at_node records set c.in-Some.ensures.kept shown)
-          c.requires.below.labels c.in-Records.ensures.took
+          c.in-Records.ensures.took
           (subst (λ y. TookRest c.look_up.new.steps c.end_with.new.steps
           (ending y (positive (asked_item s set)))) zone (c.end_with.ensures.took s))
           (Offers-nothing _) (rw zone at (c.end_with.ensures.ends s c.args.draft.now offered));
       own = λ r. sym (no-alias z c.args.qtype before s at_node records shown.0);
     }
 
-pub returns-in_default-next_sought : goal.returns-in_default-next_sought
-returns-in_default-next_sought g c =
+pub returns-in_default-next : goal.returns-in_default-next
+returns-in_default-next g c =
     let z = c.args.steps.now.zone in
     let s = c.args.sought.now.name in
     let before = names_of c.args.earlier.now in
-    let at_node = c.or_start-node.result.now in
+    let at_node = c.or_apex-node.result.now in
     let set = c.in-Some.set in
-    let records = subst (AreRecords z s) (sym c.or_start-node.ensures) c.in-Records.ensures.found in
+    let records = subst (AreRecords z s) (sym c.or_apex-node.ensures) c.in-Records.ensures.found in
     let shown = rw c.if-not-is_alias.false at c.in-Some.ensures.shown in
     let origin : c.lent.result ≡ z.origin =
     c.lent.ensures.value ∙ c.origin.ensures.value
     ∙ ap (λ (y : ZoneContents). y.origin) c.look_up.ensures.took.zone in
-    let next =
-    subst (λ o. NextIs set (s ∷ before) o None) origin c.in_default-next_sought.ensures in
+    let lead = leads-to z at_node.zone type_cname true c.lead-lead.result records.zone (λ _. refl)
+    c.lead-lead.ensures in
+    let next = c.in_default-next.ensures z (sym origin) lead in
     let ended = c.ended.ensures in
     record {
       seeks = sought-on c.args.steps.now c.args.qtype before s (asked_item s set)
           (ending z (positive []))
           (alias-ends z c.args.qtype before s at_node records set c.in-Some.ensures.kept shown next)
-          c.requires.below.labels c.in-Records.ensures.took Took-none
+          c.in-Records.ensures.took Took-none
           (rw c.ttl.ensures at c.offer.ensures)
           (Ends-positive z [] (Offers-nothing _) (Offers-none z [] refl) ended);
       own = λ r. absurd (false≢true (sym ended.referral ∙ r));
@@ -119,31 +120,32 @@ returns g c =
     let s = c.args.sought.now.name in
     let earlier = c.args.earlier.now in
     let before = names_of earlier in
-    let at_node = c.or_start-node.result.now in
+    let at_node = c.or_apex-node.result.now in
     let set = c.in-Some.set in
-    let m = c.in-Some-next_sought.target in
-    let records = subst (AreRecords z s) (sym c.or_start-node.ensures) c.in-Records.ensures.found in
+    let m = c.in-Some-next.target in
+    let records = subst (AreRecords z s) (sym c.or_apex-node.ensures) c.in-Records.ensures.found in
     let kept = c.in-Some.ensures.kept in
     let shown = rw c.if-not-is_alias.false at c.in-Some.ensures.shown in
     let first = c.in-Records.ensures.took in
     let origin : c.lent.result ≡ z.origin =
     c.lent.ensures.value ∙ c.origin.ensures.value
     ∙ ap (λ (y : ZoneContents). y.origin) first.zone in
-    let next =
-    subst (λ o. NextIs set (s ∷ before) o (Some m)) origin c.in-Some-next_sought.ensures in
+    let lead = leads-to z at_node.zone type_cname true c.lead-lead.result records.zone (λ _. refl)
+    c.lead-lead.ensures in
+    let next = c.in-Some-next.ensures z (sym origin) lead in
     let offered = rw c.ttl.ensures at c.offer.ensures in
     let rest = λ (y : ZoneContents). chain_rest y c.args.qtype (aliases_left (s ∷ before)) (s ∷ before) m.name in
-    let e = alias-goes_on z c.args.qtype before s at_node records set kept shown m next in
+    let e = alias-goes_on z c.args.qtype before s at_node records set kept shown m
+    c.in-Some-next.lead next in
     let more : length earlier < most_aliases = omega (arith, next.0, names-count earlier) in
     record {
       more = more;
-      may = may-follow c.requires first more next.2 next.3
-          (leads-to z at_node.zone type_cname true c.lead.result records.zone (λ _. refl) c.lead.ensures);
+      may = may-follow c.requires first more next.2 next.3;
       alias = has-alias z c.args.qtype before s at_node records set kept shown;
       completes = λ last end v after.
           let after = rw (names-more earlier c.args.sought.now) at after in
           sought-on c.args.steps.now c.args.qtype before s (asked_item s set) (rest z) e
-          c.requires.below.labels first
+          first
           (subst (λ y. TookRest c.look_up.new.steps end (rest y)) first.zone after.took) offered
           (subst (λ y. Says c.offer.new.self last (rest y) v) first.zone after.says);
     }

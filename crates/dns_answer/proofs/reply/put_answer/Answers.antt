@@ -20,9 +20,11 @@ seek-followed_alias-requires g c =
       record {
         apex = subst (λ z. IsApex z c.apex-apex.result) (sym apex.zone)
             (record { node = apex.node; exists = apex.exists });
-        below = subst (λ (z : ZoneContents). IsBelow c.args.sought z.origin) (sym apex.zone)
-            c.requires.below;
-        lead = tt;
+        aim = record {
+          lead = tt;
+          below = subst (λ (z : ZoneContents). IsBelow c.args.sought z.origin) (sym apex.zone)
+              c.requires.below;
+        };
         lower = record { last = λ h. absurd (omega (arith, h)); others = All-nil (λ (s : Sought). folded s.name ≡ s.name) };
         room = record { visits = omega arith; comparisons = omega arith };
       },
