@@ -7,7 +7,8 @@ use Rattle.dns_spec.specs.Query.{reply_head}
 use Rattle.dns_spec.specs.Layout.{Item, layout}
 use Rattle.dns_spec.specs.LayoutSize.{size}
 use Rattle.dns_spec.specs.Answer.{most_aliases, outcome, items, is_authoritative}
-use Rattle.dns_spec.specs.Reply.{kept, truncated, answered, keep_longest}
+use Rattle.std.specs.Option.{option_map}
+use Rattle.dns_spec.specs.Reply.{Decision, kept, truncated, answered, keep_longest, reply_of, reply_octets}
 use Rattle.dns_spec.proofs.Replies.FewItems.{few_nodes}
 use Rattle.dns_spec.proofs.Layouts.LayoutSize.{length-layout}
 use Rattle.dns_zone.specs.Nodes.{Walk}
@@ -26,11 +27,22 @@ use Rattle.dns_answer.proofs.AnswerItems.{items-are, required-are, required-firs
 use Rattle.dns_answer.proofs.AnswerCosts.{authority-is, visits-fit, comparisons-fit}
 
 -- a layout that stands at the front of the buffer has room there
-pub laid_within : (h : Header) (q : Option MessageQuestion) (is : List Item) (out : Octets) (len : ℕ) → len ≡ size q is → take len out ≡ layout h q is → len ≤ length out
+laid_within : (h : Header) (q : Option MessageQuestion) (is : List Item) (out : Octets) (len : ℕ)
+    → len ≡ size q is → take len out ≡ layout h q is → len ≤ length out
 laid_within h q is out len sized laid =
     let a = length-take len out in
     let b = ap length laid ∙ length-layout h q is ∙ sym sized in
     omega (arith, a, b)
+
+-- a header, and the question if it is repeated, are the reply of a refusal
+pub refusal-put : (z : ZoneContents) (limit : ℕ) (x : Decision) (h : Header)
+    (q : Option MessageQuestion) (len : ℕ) (out : Octets)
+    → Some (layout h q []) ≡ option_map reply_octets (reply_of (keep_longest z limit) z x)
+    → len ≡ size q [] → take len out ≡ layout h q [] → IsReply z limit x len out
+refusal-put z limit x h q len out is sized laid = record {
+  octets = ap (λ x. Some x) laid ∙ is;
+  within = laid_within h q [] out len sized laid;
+}
 
 -- offering sets does not change the question
 offered-question : (d : spec.Draft) (is : List Item) → (offered d is).question ≡ d.question
