@@ -11,7 +11,7 @@ use crate::draft::Draft;
 use crate::ending::{Verdict, deny, end_with, ended, refer};
 use crate::lookup::{Found, aim, look_up, or_apex};
 use arrayvec::ArrayVec;
-use dns_name::NameRef;
+use dns_name::{Name, NameRef};
 use dns_rdata::{RType, SetView};
 use dns_wire::{Rcode, Section};
 use dns_zone::{Lead, Node, RecordSet, Sought, Steps};
@@ -115,8 +115,7 @@ fn seek_one<'z, const N: usize, const SIZE: usize>(
         return Next::Last(end_with(node, &set, apex, steps, draft));
     }
     let lead = node.lead(RType::CNAME, 0);
-    let next = next_sought(&set, lead, sought, earlier, &steps.origin().lent());
-    let Some((target, lead)) = next else {
+    let Some((target, lead)) = next_sought(&set, lead, sought, earlier, steps.origin()) else {
         return Next::Last(ended(Rcode::NoError, draft));
     };
     Next::Alias(target, lead)
@@ -140,14 +139,14 @@ fn shown_set<'z>(node: &Node<'z>, qtype: u16) -> Option<(RecordSet<'z>, bool)>
     Some((node.set(RType(qtype))?, false))
 }
 
-// The name that is sought after an alias, and where the way to it may begin: its target, where more
-// may be sought and it is at or below the origin and was not sought yet.
+// The name that is sought after an alias, and where the way to it begins: its target, where more may
+// be sought and it is at or below the origin and was not sought yet.
 fn next_sought<'z>(
     alias: &RecordSet<'z>,
     lead: Option<Lead<'z>>,
     sought: &Sought<'_>,
     earlier: &[Sought<'_>],
-    origin: &NameRef<'_>,
+    origin: &Name,
 ) -> Option<(Sought<'z>, Option<Lead<'z>>)>
     requires some { 0 < length alias.now.rdata }
     requires lower { AreTargets earlier.now sought.now }
