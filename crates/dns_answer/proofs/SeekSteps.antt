@@ -14,8 +14,9 @@ use Rattle.dns_answer.specs.Draft.{offered}
 use Rattle.dns_answer.specs.DraftForm.{State, Offers}
 use Rattle.dns_answer.specs.Ending.{Rest, ending, after_sets, Says, TookRest, asked_item}
 use Rattle.dns_answer.specs.Walks.{AreRecords, Took, IsApex, IsAim, labels_below}
+use Rattle.dns_answer.specs.Targets.{target_at}
 use Rattle.dns_answer.specs.Chain.{chain_rest}
-use Rattle.dns_answer.specs.Seeking.{names_of, aliases_left, leads_on, unsought, AreTargets, MaySeek, Seeks, HasNoAlias, IsShown, alias_target, NextIs}
+use Rattle.dns_answer.specs.Seeking.{names_of, aliases_left, leads_on, unsought, AreTargets, MaySeek, Seeks, HasNoAlias, IsShown, NextIs}
 use Rattle.dns_zone.specs.declared.sought.Sought.{Sought}
 use Rattle.dns_answer.specs.declared.ending.Verdict.{Verdict}
 use Rattle.std.specs.Prelude.{All, drop}
@@ -199,7 +200,7 @@ module _ (z : ZoneContents) (t : ℕ) (before : List DomainName) (s : DomainName
       pub has-alias : leads_on z t s ≡ true
       has-alias = and_from (follows_alias t) (has_any (alias_set z s)) shown.0 some-alias
 
-      alias-leads : first_target (alias_set z s) ≡ alias_target set
+      alias-leads : first_target (alias_set z s) ≡ target_at 0 set
       alias-leads =
           ap first_target (aliases-at ∙ ap (with_owner s) (sym are_set))
           ∙ go set.rdata (ap set_of are_set ∙ sym shown.1)

@@ -1,10 +1,10 @@
 -- What a reader learns here: what seeking a name has offered, and what the header says of it.
-use Rattle.std.specs.Prelude.{◌≡◌, ◌⊎◌, ℕ, ◌+◌, ◌*◌, ◌-◌, ◌≤◌, ◌<◌, Bool, true, false, ◌&&◌, not, List, [], ◌∷◌, ◌++◌, length, map, reverse, drop, get_or, All, if◌then◌else◌}
+use Rattle.std.specs.Prelude.{◌≡◌, ◌⊎◌, ℕ, ◌+◌, ◌*◌, ◌-◌, ◌≤◌, ◌<◌, Bool, true, false, ◌&&◌, not, List, [], ◌∷◌, ◌++◌, length, map, reverse, drop, All, if◌then◌else◌}
 use Rattle.std.specs.Prelude.{Option, None, Some}
 use Rattle.std.specs.Option.{option_and_then}
 use Rattle.std.specs.List.{list_any}
 use Rattle.dns_spec.specs.Names.{DomainName, folded, same, at_or_below}
-use Rattle.dns_spec.specs.Data.{target, type_cname}
+use Rattle.dns_spec.specs.Data.{type_cname}
 use Rattle.dns_spec.specs.Sets.{RecordSet, set_of}
 use Rattle.dns_spec.specs.Records.{ZoneContents, ResourceRecord, of_type}
 use Rattle.dns_spec.specs.Answer.{most_aliases, follows_alias, alias_set, has_any, asked_records}
@@ -12,6 +12,7 @@ use Rattle.dns_zone.specs.Nodes.{Walk, ZoneNode}
 use Rattle.dns_answer.specs.DraftForm.{State}
 use Rattle.dns_answer.specs.Walks.{IsApex, IsAim, HasRoom}
 use Rattle.dns_answer.specs.Ending.{Says, TookRest}
+use Rattle.dns_answer.specs.Targets.{target_at}
 use Rattle.dns_answer.specs.Chain.{chain_rest}
 use Rattle.dns_answer.specs.declared.ending.Verdict.{Verdict}
 use Rattle.dns_answer.specs.declared.chain.Next.{Next}
@@ -98,10 +99,6 @@ IsShown t rs (Some (set, true)) =
 IsShown t rs (Some (set, false)) =
     HasNoAlias t rs × (Some set ≡ set_of (asked_records t rs))
 
--- the target of the first record of an alias
-abbrev pub alias_target : RecordSet → Option DomainName
-alias_target set = target set.rtype (get_or set.rdata 0 [])
-
 -- a target, where it is at or below the origin and was not sought yet
 abbrev pub unsought : DomainName → List DomainName → Option DomainName → Option DomainName
 unsought origin sought o =
@@ -113,7 +110,7 @@ unsought origin sought o =
 abbrev pub NextIs : ZoneContents → RecordSet → List DomainName → Option (Sought × Option ZoneNode)
     → Type 0
 NextIs z set sought None =
-    (most_aliases < length sought) ⊎ (unsought z.origin sought (alias_target set) ≡ None)
+    (most_aliases < length sought) ⊎ (unsought z.origin sought (target_at 0 set) ≡ None)
 NextIs z set sought (Some (m, l)) =
-    (length sought ≤ most_aliases) × (unsought z.origin sought (alias_target set) ≡ Some m.name)
+    (length sought ≤ most_aliases) × (unsought z.origin sought (target_at 0 set) ≡ Some m.name)
     × IsAim z true m l × (folded m.name ≡ m.name)

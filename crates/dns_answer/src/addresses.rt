@@ -2,7 +2,6 @@
 ghost use Rattle.std.specs.Prelude.{◌≡◌, ℕ, ◌+◌, ◌*◌, ◌≤◌, ◌<◌, ◌⊎◌, [], ◌∷◌, ◌++◌, length, take, get_or, map, true, false, not, IsTrue, IfSome};
 ghost use Rattle.std.specs.List.{list_any, list_all, filter};
 ghost use Rattle.dns_spec.specs.Names.{same, at_or_below, folded};
-ghost use Rattle.dns_spec.specs.Data.{target};
 ghost use Rattle.dns_spec.specs.Answer.{item};
 ghost use Rattle.dns_spec.specs.Records.{rrset};
 ghost use Rattle.dns_spec.specs.Layout.{additional};
@@ -10,7 +9,7 @@ ghost use Rattle.dns_spec.specs.Sets.{HasValidData};
 ghost use Rattle.dns_zone.specs.Nodes.{IsSetOf};
 ghost use Rattle.dns_answer.specs.Walks.{IsApex, IsLeadTo, HasRoom, Took};
 ghost use Rattle.dns_answer.specs.DraftForm.{Offers};
-ghost use Rattle.dns_answer.specs.Targets.{addresses_of, depth_in, side_items, side_nodes, side_takes, takes_target, set_targets, targets_of_first, target_items, target_nodes, target_misses};
+ghost use Rattle.dns_answer.specs.Targets.{addresses_of, depth_in, side_items, side_nodes, side_takes, takes_target, set_targets, targets_of_first, target_at, target_items, target_nodes, target_misses};
 
 use crate::draft::Draft;
 use crate::lookup::{Cuts, Way, aim, or_apex, walk};
@@ -93,16 +92,13 @@ fn offer_target<'z, const N: usize, const SIZE: usize>(
     requires valid { HasValidData set.now }
     requires inside { i < length set.now.rdata }
     requires room { HasRoom steps.old 128 }
-    ensures offers { Offers draft.old draft.new
-        (target_items steps.old.zone (side_takes side.entry) (targets_of_first i set.now)
-        (target set.now.rtype (get_or set.now.rdata i []))) }
+    ensures offers { Offers draft.old draft.new (target_items steps.old.zone (side_takes side.entry)
+        (targets_of_first i set.now) (target_at i set.now)) }
     ensures took { Took steps.old steps.new
-        (target_nodes steps.old.zone (side_takes side.entry)
-        (target set.now.rtype (get_or set.now.rdata i [])))
-        (target_misses (side_takes side.entry) (target set.now.rtype (get_or set.now.rdata i []))) }
+        (target_nodes steps.old.zone (side_takes side.entry) (target_at i set.now))
+        (target_misses (side_takes side.entry) (target_at i set.now)) }
     ensures bound { Took steps.old steps.new 127 1 }
-    ensures meant { result ≡ takes_target (side_takes side.entry)
-        (target set.now.rtype (get_or set.now.rdata i [])) }
+    ensures meant { result ≡ takes_target (side_takes side.entry) (target_at i set.now) }
 {
     let Some(target) = set.target(i) else {
         return true;

@@ -19,18 +19,18 @@ put_answer-requires g c =
 
 pub returns-in-Absent : goal.returns-in-Absent
 returns-in-Absent g c =
-    unanswered _ _ c.in-Absent.ensures _ _ _ _ refl refl
-    (nothing-taken _ _ c.requires.visits c.requires.comparisons)
+    unanswered _ _ c.in-Absent.ensures _ _ _
+    (nothing-taken _ _ c.requires.visits c.requires.comparisons) _ refl refl
 
 pub returns-in-Refused : goal.returns-in-Refused
 returns-in-Refused g c =
     let begun = c.begin.ensures.draft in
-    responded _ _ c.in-Refused.ensures _ _ _ _ _ refl c.origin-origin.ensures.built
-    (low _ (λ i. let h = c.type_inv.datagram i in omega arith)) c.requires.from c.requires.upto
-    (c.finish.auto.out ∙ c.requires.out)
+    responded _ _ c.in-Refused.ensures _ _ _
+    (nothing-taken _ _ c.requires.visits c.requires.comparisons) _ _ refl
+    c.origin-origin.ensures.built (low _ (λ i. let h = c.type_inv.datagram i in omega arith))
+    c.requires.from c.requires.upto (c.finish.auto.out ∙ c.requires.out)
     (refusal-put _ _ _ c.in-Refused.head _ _ _ refl (c.finish.ensures.length _ _ begun)
     (c.finish.ensures.octets _ _ begun))
-    (nothing-taken _ _ c.requires.visits c.requires.comparisons)
 
 pub returns-in-Err : goal.returns-in-Err
 returns-in-Err g c =
@@ -40,15 +40,15 @@ returns-in-Err g c =
     let put = c.finish-in-Err in
     let begun = c.begin-in-Err.ensures.draft in
     let judged = sym (c.in-Err.ensures s.zone (sym c.origin-origin.ensures.value)) in
-    responded _ _ c.in-Query.ensures _ _ _ _ _ refl c.origin-origin.ensures.built
-    (low _ (λ i. let h = c.type_inv.datagram i in omega arith)) c.requires.from c.requires.upto
-    (put.auto.out ∙ c.requires.out)
+    responded _ _ c.in-Query.ensures _ _ _
+    (subst (λ r. Costs (decide_question h q r) s s) judged
+    (nothing-taken _ s c.requires.visits c.requires.comparisons)) _ _ refl
+    c.origin-origin.ensures.built (low _ (λ i. let h = c.type_inv.datagram i in omega arith))
+    c.requires.from c.requires.upto (put.auto.out ∙ c.requires.out)
     (subst (λ r. IsReply s.zone g.row.SIZE (decide_question h q r) put.result put.new.out) judged
     (refusal-put _ _ _ c.reply.result _ _ _
     (ap (λ (h : Header). Some (layout h (Some q) [])) c.reply.ensures)
     (put.ensures.length _ _ begun) (put.ensures.octets _ _ begun)))
-    (subst (λ r. Costs (decide_question h q r) s s) judged
-    (nothing-taken _ s c.requires.visits c.requires.comparisons))
 
 pub returns-in-Ok : goal.returns-in-Ok
 returns-in-Ok g c =
@@ -57,9 +57,9 @@ returns-in-Ok g c =
     let q = c.in-Query.question in
     let put = c.put_answer in
     let judged = sym (c.in-Ok.ensures s.zone (sym c.origin-origin.ensures.value)).0 in
-    responded _ _ c.in-Query.ensures _ _ _ _ _ refl c.origin-origin.ensures.built
-    (low _ (λ i. let h = c.type_inv.datagram i in omega arith)) c.requires.from c.requires.upto
-    (put.auto.out ∙ c.requires.out)
+    responded _ _ c.in-Query.ensures _ _ _
+    (subst (λ r. Costs (decide_question h q r) s put.new.steps) judged put.ensures.costs) _ _ refl
+    c.origin-origin.ensures.built (low _ (λ i. let h = c.type_inv.datagram i in omega arith))
+    c.requires.from c.requires.upto (put.auto.out ∙ c.requires.out)
     (subst (λ r. IsReply s.zone g.row.SIZE (decide_question h q r) put.result put.new.out) judged
     put.ensures.reply)
-    (subst (λ r. Costs (decide_question h q r) s put.new.steps) judged put.ensures.costs)
