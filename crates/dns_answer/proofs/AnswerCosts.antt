@@ -8,19 +8,19 @@ use Rattle.dns_spec.specs.Records.{ResourceRecord, ZoneContents}
 use Rattle.dns_spec.specs.Layout.{answer, Item}
 use Rattle.dns_spec.specs.Answer.{most_aliases, item, follows_alias, alias_set, alias_items, chain, chain_from, has_any, outcome, is_authoritative, targets, nodes_to, targets_in_zone, most_visits, most_comparisons}
 use Rattle.dns_zone.specs.Nodes.{Walk}
-use Rattle.dns_answer.specs.Walks.{Took}
+use Rattle.dns_answer.specs.Walks.{Took, labels_below}
 use Rattle.dns_answer.specs.Chain.{chain_rest}
 use Rattle.dns_answer.specs.Seeking.{leads_on}
 use Rattle.dns_spec.proofs.Replies.FewItems.{sum_cons}
 use Rattle.dns_answer.proofs.TargetLaws.{depths}
 use Rattle.dns_answer.proofs.AnswerItems.{nodes-are, misses-are, speaks-unless}
-use Rattle.dns_answer.proofs.ChainSteps.{depth_in, last-name, none-shown}
+use Rattle.dns_answer.proofs.ChainSteps.{last-name, none-shown}
 
 nodes-sum : (z : ZoneContents) (ns : List DomainName) → sum (map (nodes_to z) ns) ≡ length ns + depths z ns
 nodes-sum z [] = omega arith
 nodes-sum z (n ∷ ns) =
     let a = sum_cons (nodes_to z n) (map (nodes_to z) ns) in
-    let b = sum_cons (depth_in z n) (map (depth_in z) ns) in
+    let b = sum_cons (labels_below z n) (map (labels_below z) ns) in
     let c = nodes-sum z ns in
     omega (arith, a, b, c)
 

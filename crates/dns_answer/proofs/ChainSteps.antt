@@ -1,5 +1,5 @@
 -- What is still to come of an answer, by what is found at a name of the chain.
-use Rattle.std.proofs.Common.{◌≡◌, ℕ, zero, suc, ◌+◌, ◌-◌, ◌*◌, Bool, true, false, cond, ◌&&◌, ◌⊎◌, inl, inr, not, List, [], ◌∷◌, ◌++◌, map, sum, length, None, Some, refl, sym, ap, ◌∙◌, arith, add-one, append-nil, append_assoc}
+use Rattle.std.proofs.Common.{◌≡◌, ℕ, zero, suc, ◌+◌, ◌*◌, Bool, true, false, cond, ◌&&◌, ◌⊎◌, inl, inr, not, List, [], ◌∷◌, ◌++◌, map, sum, length, None, Some, refl, sym, ap, ◌∙◌, arith, add-one, append-nil, append_assoc}
 use Rattle.std.proofs.Math.Bool.{and-false}
 use Rattle.std.specs.List.{flat_map, list_any}
 use Rattle.std.specs.Option.{option_and_then}
@@ -10,13 +10,11 @@ use Rattle.dns_spec.specs.Tree.{cut_of, found}
 use Rattle.dns_spec.specs.Reading.{name_error}
 use Rattle.dns_spec.specs.Layout.{answer, Item}
 use Rattle.dns_spec.specs.Answer.{item, follows_alias, alias_set, first_target, next_sought, chain_from, last_of, has_any, Outcome, positive, negative, referral_to, outcome_by, outcome_at}
+use Rattle.dns_answer.specs.Walks.{labels_below}
 use Rattle.dns_answer.specs.Ending.{ending, after_sets, ending_items, ending_required}
 use Rattle.dns_answer.specs.Chain.{names_from, aliases_of, rest_of, chain_rest}
 use Rattle.dns_answer.specs.Seeking.{leads_on}
 use Rattle.dns_spec.proofs.Replies.FewItems.{sum_cons}
-
-abbrev pub depth_in : ZoneContents → DomainName → ℕ
-depth_in z n = length n - length z.origin
 
 -- the names sought where s is the last
 from-last : (z : ZoneContents) (k : ℕ) (sought : List DomainName) (s : DomainName) → next_sought z (s ∷ sought) s ≡ None → chain_from z k sought s ≡ s ∷ []
@@ -61,14 +59,14 @@ outcome-alias z t s rs e f h =
 module _ (z : ZoneContents) (t k : ℕ) (sought : List DomainName) (s : DomainName) where
   -- the chain ends at s: the outcome there, after its alias if it has one
   abbrev pub ChainEnds : List Item → Outcome → Type 0
-  ChainEnds aliases o = chain_rest z t k sought s ≡ after_sets aliases (depth_in z s) (ending z o)
+  ChainEnds aliases o = chain_rest z t k sought s ≡ after_sets aliases (labels_below z s) (ending z o)
 
   ends : (aliases : List Item) (o : Outcome) → names_from z t k sought s ≡ s ∷ []
       → aliases_of z t (s ∷ []) ≡ aliases → outcome_at z t s ≡ o → ChainEnds aliases o
   unfolding chain_rest
   ends aliases o names shown is =
-      let depth : sum (map (depth_in z) (s ∷ [])) ≡ depth_in z s =
-      sum_cons (depth_in z s) [] ∙ omega arith in
+      let depth : sum (map (labels_below z) (s ∷ [])) ≡ labels_below z s =
+      sum_cons (labels_below z s) [] ∙ omega arith in
       ap (rest_of z t s) names ∙ (λ i. record {
         items = shown i ++ ending_items z (is i);
         required = shown i ++ ending_required z (is i);
@@ -135,7 +133,7 @@ module _ (z : ZoneContents) (t k : ℕ) (sought : List DomainName) (s : DomainNa
 pub goes-on : (z : ZoneContents) (t k : ℕ) (sought : List DomainName) (s : DomainName) (k' : ℕ)
     (m : DomainName) (is : List Item) → follows_alias t ≡ true → item answer (alias_set z s) ≡ is
     → next_sought z (s ∷ sought) s ≡ Some m → k ≡ k' + 1
-    → chain_rest z t k sought s ≡ after_sets is (depth_in z s) (chain_rest z t k' (s ∷ sought) m)
+    → chain_rest z t k sought s ≡ after_sets is (labels_below z s) (chain_rest z t k' (s ∷ sought) m)
 unfolding chain_rest
 goes-on z t k sought s k' m first follows are e count =
     let ns = names_from z t k' (s ∷ sought) m in
@@ -154,9 +152,9 @@ goes-on z t k sought s k' m first follows are e count =
     (sym (ap (λ b. cond b (flat_map (λ n. item answer (alias_set z n)) ns) []) follows)) in
     let r = λ (o : Outcome). ending z o in
     let o = outcome_at z t (last_of m ns) in
-    let nodes : sum (map (depth_in z) (s ∷ ns)) + (r o).nodes
-    ≡ depth_in z s + (sum (map (depth_in z) ns) + (r o).nodes) =
-    let c = sum_cons (depth_in z s) (map (depth_in z) ns) in omega (arith, c) in
+    let nodes : sum (map (labels_below z) (s ∷ ns)) + (r o).nodes
+    ≡ labels_below z s + (sum (map (labels_below z) ns) + (r o).nodes) =
+    let c = sum_cons (labels_below z s) (map (labels_below z) ns) in omega (arith, c) in
     let misses : 2 * length (s ∷ ns) + (r o).misses ≡ 2 + (2 * length ns + (r o).misses) =
     omega arith in
     ap (rest_of z t s) names
@@ -164,7 +162,7 @@ goes-on z t k sought s k' m first follows are e count =
       items = shown i ++ (r (is i)).items;
       required = shown i ++ (r (is i)).required;
       outcome = is i;
-      nodes = sum (map (depth_in z) (s ∷ ns)) + (r (is i)).nodes;
+      nodes = sum (map (labels_below z) (s ∷ ns)) + (r (is i)).nodes;
       misses = 2 * length (s ∷ ns) + (r (is i)).misses;
     })
     ∙ (λ i. record {

@@ -1,14 +1,19 @@
 -- The way down to a name that has several labels below the node where it begins.
-use Rattle.std.proofs.Common.{◌≡◌, ℕ, zero, suc, Bool, true, ◌+◌, ◌-◌, ◌≤◌, ◌<◌, [], ◌∷◌, length, drop, length-drop, Option, None, ap, ◌∙◌, subst, arith}
-use Rattle.dns_spec.specs.Names.{Octets, DomainName, at_or_below}
+use Rattle.std.proofs.Common.{◌≡◌, ℕ, zero, suc, Bool, true, ◌+◌, ◌-◌, ◌≤◌, ◌<◌, [], ◌∷◌, length, drop, length-drop, Option, None, Some, reverse, refl, sym, ap, ◌∙◌, subst, arith}
+use Rattle.dns_spec.specs.Names.{Octets, DomainName, folded, at_or_below, suffixes}
 use Rattle.dns_spec.specs.Records.{ZoneContents}
 use Rattle.dns_zone.specs.Nodes.{ZoneNode}
 use Rattle.dns_zone.specs.declared.sought.Sought.{Sought}
 use Rattle.dns_zone.specs.Starts.{IsBelow}
-use Rattle.dns_answer.specs.Walks.{IsThere, IsMissing, IsBelowCut, IsStart, IsUncut}
-use Rattle.dns_zone.proofs.NameTree.{under-trans}
-use Rattle.dns_zone.proofs.WayLaws.{above_under}
-use Rattle.dns_answer.proofs.WaySteps.{there-at_start, cut-further, missing-further}
+use Rattle.std.specs.List.{find}
+use Rattle.std.specs.Option.{is_some}
+use Rattle.dns_spec.specs.Tree.{exists, is_cut, cut_of}
+use Rattle.dns_answer.specs.Walks.{node_of, node_or, labels_below, one_if, IsApex, IsAim, IsThere, IsMissing, IsBelowCut}
+use Rattle.dns_zone.proofs.NameOrder.{same-is, same-from}
+use Rattle.dns_zone.proofs.NameTree.{itself-under, under-trans}
+use Rattle.dns_zone.proofs.Existing.{exists-lower}
+use Rattle.dns_zone.proofs.WayLaws.{above_under, under_same, no_cut-at_origin}
+use Rattle.dns_answer.proofs.WaySteps.{cut-further, missing-further}
 
 -- what is known of a name above holds of the whole name
 pub cut-whole : (z : ZoneContents) (k : ℕ) (n : DomainName) (node : ZoneNode) → IsBelowCut z (drop k n) node → IsBelowCut z n node
@@ -29,17 +34,66 @@ under-drop (suc k) (l ∷ n) a h len =
     let longer : length a ≤ length n = omega (arith, len) in
     under-drop k n a (above_under l n a (length n - length a) h (omega (arith, longer))) (omega (arith, len))
 
--- the name above, where the way begins
-pub there-above : (z : ZoneContents) (start : ZoneNode) (ends : Bool) (s : Sought) → IsStart z start → (ends ≡ true → IsUncut z start.name) → IsBelow s start.name → IsThere z start ends (drop s.depth s.name) None
-there-above z start ends s begins uncut below =
-    there-at_start z start ends (drop s.depth s.name) begins uncut (under-drop s.depth s.name start.name below.below (omega (arith, below.labels))) (omega (arith, length-drop s.depth s.name, below.labels))
+-- where a way begins
+module _ (z : ZoneContents) (apex : ZoneNode) (ends : Bool) (s : Sought) (top : IsApex z apex) where
+  record Start (l : Option ZoneNode) : Type 0 where
+    zone : (node_or apex l).zone ≡ z
+    lower : folded (node_or apex l).name ≡ (node_or apex l).name
+    stands : exists z (node_or apex l).name ≡ true
+    inside : at_or_below (node_or apex l).name z.origin ≡ true
+    no_cut : ends ≡ true → cut_of z (node_or apex l).name ≡ None
+    below : IsBelow s (node_or apex l).name
+    deep : one_if (is_some l) + s.depth ≤ labels_below z s.name
 
--- below it no name is above the origin, where the way ends at cuts
-pub under-origin : (z : ZoneContents) (start : ZoneNode) (ends : Bool) (s : Sought) (k : ℕ) → (ends ≡ true → IsUncut z start.name) → IsBelow s start.name → k ≤ s.depth
-    → ends ≡ true → at_or_below (drop k s.name) z.origin ≡ true
-under-origin z start ends s k uncut below few ending =
-    under-trans (drop k s.name) start.name z.origin
-    (under-drop k s.name start.name below.below (omega (arith, below.labels, few))) (uncut ending).inside
+  start : (l : Option ZoneNode) → IsAim z ends s l → Start l
+  start None aim =
+      let name = ap (λ (v : ZoneNode). v.name) (sym top.node) in
+      record {
+        zone = ap (λ (v : ZoneNode). v.zone) top.node;
+        lower = subst (λ n. folded n ≡ n) name top.exists.lower;
+        stands = subst (λ n. exists z n ≡ true) name top.exists.stands;
+        inside = subst (λ n. at_or_below n z.origin ≡ true) name
+            (itself-under z.origin z.origin (same-from z.origin z.origin refl));
+        no_cut = λ e. subst (λ n. cut_of z n ≡ None) name (no_cut-at_origin z z.origin (omega arith));
+        below = subst (IsBelow s) name aim.below;
+        deep = omega (arith, aim.below.labels);
+      }
+  start (Some v) aim = record {
+    zone = aim.lead.zone;
+    lower = aim.lead.exists.lower;
+    stands = aim.lead.exists.stands;
+    inside = aim.lead.inside;
+    no_cut = aim.lead.uncut;
+    below = aim.below;
+    deep = omega (arith, aim.below.labels, aim.lead.longer);
+  }
+
+  module _ (l : Option ZoneNode) (aim : IsAim z ends s l) where
+    pub aim-deep : one_if (is_some l) + s.depth ≤ labels_below z s.name
+    aim-deep = (start l aim).deep
+
+    pub there-above : IsThere z apex ends (drop s.depth s.name) l
+    there-above =
+        let a = start l aim in
+        let top = (node_or apex l).name in
+        let n = drop s.depth s.name in
+        let len : length n ≡ length top =
+        omega (arith, length-drop s.depth s.name, a.below.labels) in
+        let under = under-drop s.depth s.name top a.below.below (omega (arith, a.below.labels)) in
+        let alike = same-is n top (under_same n top under len) in
+        record {
+          no_cut = λ e. ap (λ f. find (is_cut z) (reverse (suffixes f))) alike ∙ a.no_cut e;
+          stands = exists-lower z n top alike len ∙ a.stands;
+          at_name = ap (λ y. node_of y top) a.zone ∙ ap (node_of z) (sym (alike ∙ a.lower));
+        }
+
+    -- below it no name is above the origin
+    pub under-origin : (k : ℕ) → k ≤ s.depth → at_or_below (drop k s.name) z.origin ≡ true
+    under-origin k few =
+        let a = start l aim in
+        let top = (node_or apex l).name in
+        under-trans (drop k s.name) top z.origin
+        (under-drop k s.name top a.below.below (omega (arith, a.below.labels, few))) a.inside
 
 -- the label before so many others
 pub label-before : (n labels : DomainName) (l : Octets) (b : ℕ) → labels ≡ n → 0 < b → drop (b - 1) labels ≡ l ∷ drop (b - 1 + 1) labels → drop (b - 1) n ≡ l ∷ drop b n

@@ -7,7 +7,8 @@ use Rattle.dns_spec.specs.Query.{reply_head}
 use Rattle.dns_spec.specs.Layout.{Item, layout}
 use Rattle.dns_spec.specs.LayoutSize.{size}
 use Rattle.dns_spec.specs.Answer.{most_aliases, outcome, items, is_authoritative}
-use Rattle.dns_spec.specs.Reply.{kept, truncated, answered, keep_longest}
+use Rattle.std.specs.Option.{option_map}
+use Rattle.dns_spec.specs.Reply.{Decision, kept, truncated, answered, keep_longest, reply_of, reply_octets}
 use Rattle.dns_spec.proofs.Replies.FewItems.{few_nodes}
 use Rattle.dns_spec.proofs.Layouts.LayoutSize.{length-layout}
 use Rattle.dns_zone.specs.Nodes.{Walk}
@@ -17,7 +18,7 @@ use Rattle.dns_answer.specs.Draft.{empty_draft, offer, offered, size_with}
 use Rattle.dns_answer.specs.DraftForm.{State, Holds}
 use Rattle.dns_answer.specs.Ending.{Rest, Says, TookRest}
 use Rattle.dns_answer.specs.Chain.{chain_rest}
-use Rattle.dns_answer.specs.Seeking.{leads_on, SeeksFrom, Followed, TookFrom}
+use Rattle.dns_answer.specs.Seeking.{leads_on, Seeks, Followed}
 use Rattle.dns_answer.specs.Replies.{IsReply, Answers, Costs}
 use Rattle.dns_answer.specs.declared.ending.Verdict.{Verdict}
 use Rattle.dns_answer.proofs.Offering.{Offers-is}
@@ -26,11 +27,22 @@ use Rattle.dns_answer.proofs.AnswerItems.{items-are, required-are, required-firs
 use Rattle.dns_answer.proofs.AnswerCosts.{authority-is, visits-fit, comparisons-fit}
 
 -- a layout that stands at the front of the buffer has room there
-pub laid_within : (h : Header) (q : Option MessageQuestion) (is : List Item) (out : Octets) (len : ℕ) → len ≡ size q is → take len out ≡ layout h q is → len ≤ length out
+laid_within : (h : Header) (q : Option MessageQuestion) (is : List Item) (out : Octets) (len : ℕ)
+    → len ≡ size q is → take len out ≡ layout h q is → len ≤ length out
 laid_within h q is out len sized laid =
     let a = length-take len out in
     let b = ap length laid ∙ length-layout h q is ∙ sym sized in
     omega (arith, a, b)
+
+-- a header, and the question if it is repeated, are the reply of a refusal
+pub refusal-put : (z : ZoneContents) (limit : ℕ) (x : Decision) (h : Header)
+    (q : Option MessageQuestion) (len : ℕ) (out : Octets)
+    → Some (layout h q []) ≡ option_map reply_octets (reply_of (keep_longest z limit) z x)
+    → len ≡ size q [] → take len out ≡ layout h q [] → IsReply z limit x len out
+refusal-put z limit x h q len out is sized laid = record {
+  octets = ap (λ x. Some x) laid ∙ is;
+  within = laid_within h q [] out len sized laid;
+}
 
 -- offering sets does not change the question
 offered-question : (d : spec.Draft) (is : List Item) → (offered d is).question ≡ d.question
@@ -68,13 +80,14 @@ module _ (z : ZoneContents) (h : Header) (q : MessageQuestion) where
       go false b f e more = ap (λ x. not (x && not f)) e
 
   -- the zone and the question may be stated by other names
-  pub answers-found : {z1 : ZoneContents} {n : DomainName} {t : ℕ} {w w' : State} {v : Verdict}
-      {aa : Bool} {head : Header} (led : Bool) → z1 ≡ z → n ≡ q.qname → t ≡ q.qtype
-      → SeeksFrom w w' z1 t [] n v → Followed z1 t n v led → aa ≡ not (v.is_referral && not led)
+  pub answers-found : {s1 s' : Walk} {n : DomainName} {t : ℕ} {w w' : State} {v : Verdict}
+      {aa : Bool} {head : Header} (led : Bool) → s1.zone ≡ z → n ≡ q.qname → t ≡ q.qtype
+      → Seeks w w' s1 s' t [] n v → Followed s1.zone t n v led
+      → aa ≡ not (v.is_referral && not led)
       → head ≡ reply_head h aa v.is_truncated (code_of v.rcode) → Answers z h q w w' head
   answers-found {w = w} {w' = w'} {v = v} led zone name type seeks followed authority is_head =
-      let says : SeeksFrom w w' z q.qtype [] q.qname v =
-      subst (λ r. Says w w' r v) (λ i. chain_rest (zone i) (type i) most_aliases [] (name i)) seeks in
+      let says : Says w w' r v = subst (λ r. Says w w' r v)
+      (λ i. chain_rest (zone i) (type i) most_aliases [] (name i)) seeks.says in
       let led_is = λ (e : v.is_referral ≡ true).
       followed e ∙ (λ i. leads_on (zone i) (type i) (name i)) in
       let speaks = authority ∙ authoritative v led says.referral led_is in
@@ -105,7 +118,7 @@ module _ (z : ZoneContents) (h : Header) (q : MessageQuestion) where
 
 -- What the search for the question's name took is no more than an answer may take.
 pub answer-costs : (h : Header) (q : MessageQuestion) (n : DomainName) (t : ℕ) (s s1 s' : Walk) → is_name q.qname ≡ true → n ≡ q.qname → t ≡ q.qtype
-    → s.visits ≡ 0 → s.comparisons ≡ 0 → s1.visits ≡ s.visits + 1 → s1.comparisons ≡ s.comparisons → s1.zone ≡ s.zone → TookFrom s1.zone s1 s' t [] n → Costs (answered h q) s s'
+    → s.visits ≡ 0 → s.comparisons ≡ 0 → s1.visits ≡ s.visits + 1 → s1.comparisons ≡ s.comparisons → s1.zone ≡ s.zone → TookRest s1 s' (chain_rest s1.zone t most_aliases [] n) → Costs (answered h q) s s'
 answer-costs h q n t s s1 s' name same_name same_type visits comparisons one_visit same_count zone took =
     let z = s.zone in
     let there : TookRest s1 s' (chain_rest z q.qtype most_aliases [] q.qname) =

@@ -1,5 +1,5 @@
 -- What seeking a name has offered and taken, by what is found for it.
-use Rattle.std.proofs.Common.{◌≡◌, ◌⊎◌, inl, inr, ℕ, ◌+◌, ◌<◌, Bool, true, false, cond, ◌&&◌, ◌||◌, not, List, [], ◌∷◌, ◌++◌, map, reverse, length, get_or, Option, None, Some, refl, sym, ap, ap₂, ◌∙◌, arith, subst}
+use Rattle.std.proofs.Common.{◌≡◌, ◌⊎◌, inl, inr, ℕ, ◌+◌, ◌*◌, ◌<◌, ◌≤◌, Bool, true, false, cond, ◌&&◌, ◌||◌, not, List, [], ◌∷◌, ◌++◌, map, reverse, length, get_or, Option, None, Some, refl, sym, ap, ap₂, ◌∙◌, arith, subst}
 use Rattle.std.specs.List.{list_any}
 use Rattle.dns_spec.specs.Names.{Octets, DomainName, folded, names_equal, same, at_or_below}
 use Rattle.dns_spec.specs.Data.{target, type_cname}
@@ -7,15 +7,16 @@ use Rattle.dns_spec.specs.Records.{ResourceRecord, ZoneContents, at, of_type, wi
 use Rattle.dns_spec.specs.Sets.{RecordSet, set_of, records_at}
 use Rattle.dns_spec.specs.Reading.{no_error}
 use Rattle.dns_spec.specs.Layout.{answer, Item}
-use Rattle.dns_spec.specs.Answer.{item, follows_alias, alias_set, first_target, next_sought, has_any, Outcome, outcome_by, positive, negative}
+use Rattle.dns_spec.specs.Answer.{most_aliases, item, follows_alias, alias_set, first_target, next_sought, has_any, Outcome, outcome_by, positive, negative}
 use Rattle.dns_zone.specs.Nodes.{Walk, ZoneNode, IsSetOf}
 use Rattle.dns_answer.specs.Draft as spec
 use Rattle.dns_answer.specs.Draft.{offered}
 use Rattle.dns_answer.specs.DraftForm.{State, Offers}
 use Rattle.dns_answer.specs.Ending.{Rest, ending, after_sets, Says, TookRest, asked_item}
-use Rattle.dns_answer.specs.Walks.{AreRecords, Took}
+use Rattle.dns_answer.specs.Walks.{AreRecords, Took, IsApex, IsAim, labels_below}
+use Rattle.dns_answer.specs.Targets.{target_at}
 use Rattle.dns_answer.specs.Chain.{chain_rest}
-use Rattle.dns_answer.specs.Seeking.{names_of, aliases_left, leads_on, unsought, SeeksFrom, TookFrom, HasNoAlias, IsShown, alias_target, NextIs, IsLast}
+use Rattle.dns_answer.specs.Seeking.{names_of, aliases_left, leads_on, unsought, AreTargets, MaySeek, Seeks, HasNoAlias, IsShown, NextIs}
 use Rattle.dns_zone.specs.declared.sought.Sought.{Sought}
 use Rattle.dns_answer.specs.declared.ending.Verdict.{Verdict}
 use Rattle.std.specs.Prelude.{All, drop}
@@ -25,12 +26,12 @@ use Rattle.std.proofs.Math.Bool.{or_comm, or-false}
 use Rattle.std.proofs.lemmas.Bool.{and_from, and_right}
 use Rattle.std.proofs.lemmas.List.{length-map, length-reverse, map-append, reverse-append}
 use Rattle.std.proofs.lemmas.List.Folds.{list_any-append}
-use Rattle.dns_answer.proofs.Taking.{Took-then, Took-within}
+use Rattle.dns_answer.proofs.Taking.{Took-then, HasRoom-after}
 use Rattle.dns_answer.proofs.Offered.{offered-append}
 use Rattle.dns_answer.proofs.Offering.{Offers-then}
 use Rattle.dns_answer.proofs.EndingSets.{item-shown, of_type-shown}
 use Rattle.dns_answer.proofs.AskedSets.{asked-none, asked-some, none_any, some_any}
-use Rattle.dns_answer.proofs.ChainSteps.{depth_in, alias-found, outcome-found, outcome-alias, ends-plain, ends-alias, goes-on}
+use Rattle.dns_answer.proofs.ChainSteps.{alias-found, outcome-found, outcome-alias, ends-plain, ends-alias, goes-on}
 
 -- the sets of aliases before what is still to come
 pub says-after : {w w1 w' : State} {r : Rest} {v : Verdict} (is : List Item) (nodes : ℕ)
@@ -44,35 +45,20 @@ says-after {w} {w1} {w'} {r} is nodes a h = record {
       ∙ ap (λ (x : spec.Draft). x.full) (sym (offered-append d is r.required));
 }
 
-module _ (z : ZoneContents) (t : ℕ) (before : List DomainName) (s : DomainName) where
-  module _ (is : List Item) (r : Rest)
-      (e : chain_rest z t (aliases_left before) before s ≡ after_sets is (depth_in z s) r) where
-    pub seeks : {w w1 w' : State} {v : Verdict} → Offers w w1 is → Says w1 w' r v
-        → SeeksFrom w w' z t before s v
-    seeks {w} {w1} {w'} {v} a h =
-        subst (λ r. Says w w' r v) (sym e) (says-after is (depth_in z s) a h)
-
-    pub took : {a b c : Walk} {depth : ℕ} → length s ≡ length z.origin + depth → Took a b depth 2
-        → TookRest b c r → TookFrom z a c t before s
-    took {a} {b} {c} deep first rest =
-        subst (λ (r : Rest). TookRest a c r) (sym e)
-        (Took-then (Took-within (omega arith) (omega arith) first) rest)
-
--- the name is the last
-pub is-last : (a : Walk) (t : ℕ) (before : List DomainName) (s : DomainName) (is : List Item)
-    (r : Rest) {w w1 w' : State} {b c : Walk} {depth : ℕ} {v : Verdict}
-    → chain_rest a.zone t (aliases_left before) before s ≡ after_sets is (depth_in a.zone s) r
-    → length s ≡ length a.zone.origin + depth → Took a b depth 2 → TookRest b c r
-    → Offers w w1 is → Says w1 w' r v → (v.is_referral ≡ true → leads_on a.zone t s ≡ false)
-    → IsLast w w' a c t before s v
-is-last a t before s is r e deep first rest offers says own = record {
-  seeks = seeks a.zone t before s is r e offers says;
-  took = took a.zone t before s is r e deep first rest;
-  own = own;
+-- what seeking a name comes to, by what is still to come after its own sets
+pub sought-on : (a : Walk) (t : ℕ) (before : List DomainName) (s : DomainName) (is : List Item)
+    (r : Rest) {w w1 w' : State} {b c : Walk} {v : Verdict}
+    → chain_rest a.zone t (aliases_left before) before s ≡ after_sets is (labels_below a.zone s) r
+    → Took a b (labels_below a.zone s) 2 → TookRest b c r
+    → Offers w w1 is → Says w1 w' r v → Seeks w w' a c t before s v
+sought-on a t before s is r {w = w} {w' = w'} {c = c} {v = v} e first rest offers says = record {
+  says = subst (λ r. Says w w' r v) (sym e) (says-after is (labels_below a.zone s) offers says);
+  took = subst (λ (r : Rest). TookRest a c r) (sym e)
+      (Took-then first rest);
 }
 
 -- the names that were sought, the last one first
-pub any-names : (n : DomainName) (ss : List Sought) → list_any (λ (s : Sought). same n s.name) ss ≡ list_any (same n) (names_of ss)
+any-names : (n : DomainName) (ss : List Sought) → list_any (λ (s : Sought). same n s.name) ss ≡ list_any (same n) (names_of ss)
 any-names n [] = refl
 any-names n (s ∷ ss) =
     let p = same n s.name in
@@ -94,26 +80,65 @@ unsought-is origin m sought o b leads inside among =
     go false = refl
 
 -- names in lower case are the same where they are equal
-pub any-lower : (n : DomainName) (ss : List Sought) → folded n ≡ n → All (λ (s : Sought). folded s.name ≡ s.name) ss
-    → list_any (λ (s : Sought). names_equal n s.name) ss ≡ list_any (λ (s : Sought). same n s.name) ss
+any-lower : (n : DomainName) (ss : List Sought) → folded n ≡ n
+    → All (λ (s : Sought). folded s.name ≡ s.name) ss
+    → list_any (λ (s : Sought). names_equal n s.name) ss
+    ≡ list_any (λ (s : Sought). same n s.name) ss
 any-lower n [] low all = refl
 any-lower n (s ∷ ss) low all =
-    ap₂ (λ a b. a || b) (same-lower n s.name low (All-head (λ (s : Sought). folded s.name ≡ s.name) s ss all)) (any-lower n ss low (All-tail (λ (s : Sought). folded s.name ≡ s.name) s ss all))
-
--- all but the first are in lower case, also with one more
-pub lower-more : (ss : List Sought) (s : Sought) → All (λ (s : Sought). folded s.name ≡ s.name) (drop 1 ss) → (0 < length ss → folded s.name ≡ s.name)
-    → All (λ (s : Sought). folded s.name ≡ s.name) (drop 1 (ss ++ s ∷ []))
-lower-more [] s all low = All-nil (λ (s : Sought). folded s.name ≡ s.name)
-lower-more (x ∷ xs) s all low =
-    All-append (λ (s : Sought). folded s.name ≡ s.name) xs (s ∷ []) all
-    (All-cons (λ (s : Sought). folded s.name ≡ s.name) s [] (low (omega arith)) (All-nil (λ (s : Sought). folded s.name ≡ s.name)))
+    let is_low = λ (s : Sought). folded s.name ≡ s.name in
+    ap₂ (λ a b. a || b) (same-lower n s.name low (All-head is_low s ss all))
+    (any-lower n ss low (All-tail is_low s ss all))
 
 pub names-more : (ss : List Sought) (s : Sought) → names_of (ss ++ s ∷ []) ≡ s.name ∷ names_of ss
 names-more ss s =
-    ap reverse (map-append (λ (s : Sought). s.name) ss (s ∷ [])) ∙ reverse-append (map (λ (s : Sought). s.name) ss) (s.name ∷ [])
+    ap reverse (map-append (λ (s : Sought). s.name) ss (s ∷ []))
+    ∙ reverse-append (map (λ (s : Sought). s.name) ss) (s.name ∷ [])
 
 pub names-count : (ss : List Sought) → length (names_of ss) ≡ length ss
-names-count ss = length-reverse (map (λ (s : Sought). s.name) ss) ∙ length-map ss (λ (s : Sought). s.name)
+names-count ss =
+    length-reverse (map (λ (s : Sought). s.name) ss) ∙ length-map ss (λ (s : Sought). s.name)
+
+-- a name in lower case was sought: the last one, or one before it
+pub among-is : (n : DomainName) (l f : Sought) (ts earlier : List Sought) → f ∷ ts ≡ earlier
+    → folded n ≡ n → AreTargets earlier l
+    → (names_equal n l.name || (list_any (λ (s : Sought). names_equal n s.name) ts
+    || same n f.name)) ≡ list_any (same n) (l.name ∷ names_of earlier)
+among-is n l f ts earlier e low lower =
+    let whole = sym e in
+    let others = subst (λ es. All (λ (s : Sought). folded s.name ≡ s.name) (drop 1 es)) whole
+    lower.others in
+    ap₂ (λ a b. a || (b || same n f.name))
+    (same-lower n l.name low (lower.last (omega (arith, ap length whole)))) (any-lower n ts low others)
+    ∙ ap (λ b. same n l.name || b) (or_comm _ (same n f.name) ∙ any-names n (f ∷ ts)
+    ∙ ap (λ es. list_any (same n) (names_of es)) e)
+
+-- another name may be sought after an alias
+pub may-follow : {s s' : Walk} {top : ZoneNode} {earlier : List Sought} {n m : Sought}
+    {l l' : Option ZoneNode} → MaySeek s top earlier n l
+    → Took s s' (labels_below s.zone n.name) 2 → length earlier < most_aliases
+    → IsAim s.zone true m l' → folded m.name ≡ m.name → MaySeek s' top (earlier ++ n ∷ []) m l'
+may-follow {s} {s'} {top} {earlier} {n} {m} {l} {l'} may took more aim low =
+    let fewer = ap length (names-more earlier n) in
+    let less : labels_below s.zone n.name + 2
+    + 129 * (aliases_left (names_of (earlier ++ n ∷ [])) + 129)
+    ≤ 129 * (aliases_left (names_of earlier) + 129) =
+    omega (arith, fewer, names-count earlier, more, may.aim.below.few) in
+    record {
+      apex = subst (λ z. IsApex z top) (sym took.zone) may.apex;
+      aim = subst (λ z. IsAim z true m l') (sym took.zone) aim;
+      lower = record { last = λ _. low; others = others earlier may.lower.last may.lower.others };
+      room = HasRoom-after took less may.room;
+    }
+  where
+    others : (ss : List Sought) → (0 < length ss → folded n.name ≡ n.name)
+        → All (λ (s : Sought). folded s.name ≡ s.name) (drop 1 ss)
+        → All (λ (s : Sought). folded s.name ≡ s.name) (drop 1 (ss ++ n ∷ []))
+    others [] last all = All-nil (λ (s : Sought). folded s.name ≡ s.name)
+    others (x ∷ xs) last all =
+        All-append (λ (s : Sought). folded s.name ≡ s.name) xs (n ∷ []) all
+        (All-cons (λ (s : Sought). folded s.name ≡ s.name) n [] (last (omega arith))
+        (All-nil (λ (s : Sought). folded s.name ≡ s.name)))
 
 -- the records found for a name
 module _ (z : ZoneContents) (t : ℕ) (before : List DomainName) (s : DomainName) (node : ZoneNode)
@@ -125,7 +150,7 @@ module _ (z : ZoneContents) (t : ℕ) (before : List DomainName) (s : DomainName
   cnames = of_type type_cname rs
 
   abbrev Chain : List Item → Rest → Type 0
-  Chain is r = chain_rest z t (aliases_left before) before s ≡ after_sets is (depth_in z s) r
+  Chain is r = chain_rest z t (aliases_left before) before s ≡ after_sets is (labels_below z s) r
 
   aliases-at : alias_set z s ≡ with_owner s cnames
   aliases-at =
@@ -175,7 +200,7 @@ module _ (z : ZoneContents) (t : ℕ) (before : List DomainName) (s : DomainName
       pub has-alias : leads_on z t s ≡ true
       has-alias = and_from (follows_alias t) (has_any (alias_set z s)) shown.0 some-alias
 
-      alias-leads : first_target (alias_set z s) ≡ alias_target set
+      alias-leads : first_target (alias_set z s) ≡ target_at 0 set
       alias-leads =
           ap first_target (aliases-at ∙ ap (with_owner s) (sym are_set))
           ∙ go set.rdata (ap set_of are_set ∙ sym shown.1)
@@ -191,23 +216,23 @@ module _ (z : ZoneContents) (t : ℕ) (before : List DomainName) (s : DomainName
           go (d ∷ ds) h = refl
 
       -- it leads no further
-      pub alias-ends : NextIs set (s ∷ before) z.origin None
+      pub alias-ends : NextIs z set (s ∷ before) None
           → Chain (asked_item s set) (ending z (positive []))
       alias-ends next =
           ends-alias z t (aliases_left before) before s (asked_item s set) shown.0 alias-item
           (outcome-alias z t s (with_owner s rs) records.no_cut records.records has-alias)
           (ended next)
         where
-          ended : NextIs set (s ∷ before) z.origin None
+          ended : NextIs z set (s ∷ before) None
               → (aliases_left before ≡ 0) ⊎ (next_sought z (s ∷ before) s ≡ None)
           ended (inl none) = inl (omega (arith, none))
           ended (inr none) = inr (ap (unsought z.origin (s ∷ before)) alias-leads ∙ none)
 
       -- it leads to another name
-      pub alias-goes_on : (m : Sought) → NextIs set (s ∷ before) z.origin (Some m)
+      pub alias-goes_on : (m : Sought) (l : Option ZoneNode) → NextIs z set (s ∷ before) (Some (m, l))
           → Chain (asked_item s set)
           (chain_rest z t (aliases_left (s ∷ before)) (s ∷ before) m.name)
-      alias-goes_on m next =
+      alias-goes_on m l next =
           goes-on z t (aliases_left before) before s (aliases_left (s ∷ before)) m.name
           (asked_item s set) shown.0 alias-item
           (ap (unsought z.origin (s ∷ before)) alias-leads ∙ next.1) (omega (arith, next.0))

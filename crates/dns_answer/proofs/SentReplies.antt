@@ -80,37 +80,30 @@ nothing-taken x s visits comparisons = record {
   comparisons = omega (arith, comparisons);
 }
 
-module _ (d : Octets) (y : QueryRead) (read : y ≡ query_read d) (s s' : Walk) (limit : ℕ) where
+module _ (d : Octets) (y : QueryRead) (read : y ≡ query_read d) (s s' : Walk) (limit : ℕ)
+    (costs : Costs (decide_query s.zone y) s s') where
   -- no reply is owed
-  pub unanswered : (out : Octets) → is_absent y ≡ true → option_map reply_octets (reply_of (keep_longest s.zone limit) s.zone (decide_query s.zone y)) ≡ None
-      → Costs (decide_query s.zone y) s s' → Responds s s' d limit None out
-  unanswered out missing none costs =
-      let c = costs-by d y read s.zone s s' costs in
-      record {
-        absent = silent d y read missing;
-        octets = sym none ∙ octets-by d y read s.zone limit;
-        spells = tt;
-        fits = tt;
-        zone = c.zone;
-        visits = c.visits;
-        visits_a_name = c.visits_a_name;
-        comparisons = c.comparisons;
-      }
+  pub unanswered : (out : Octets) → is_absent y ≡ true
+      → option_map reply_octets (reply_of (keep_longest s.zone limit) s.zone (decide_query s.zone y))
+      ≡ None → Responds s s' d limit None out
+  unanswered out missing none = record {
+    absent = silent d y read missing;
+    octets = sym none ∙ octets-by d y read s.zone limit;
+    spells = tt;
+    fits = tt;
+    costs = costs-by d y read s.zone s s' costs;
+  }
 
   -- the octets of a reply are sent
-  pub responded : (len : ℕ) (out : Octets) → is_absent y ≡ false → IsBuilt s.zone → All (λ o. o < 256) d → 512 ≤ limit → limit ≤ 65535 → length out ≡ limit
-      → IsReply s.zone limit (decide_query s.zone y) len out → Costs (decide_query s.zone y) s s' → Responds s s' d limit (Some len) out
-  responded len out owed built low from upto long sent costs =
-      let c = costs-by d y read s.zone s s' costs in
+  pub responded : (len : ℕ) (out : Octets) → is_absent y ≡ false → IsBuilt s.zone
+      → All (λ o. o < 256) d → 512 ≤ limit → limit ≤ 65535 → length out ≡ limit
+      → IsReply s.zone limit (decide_query s.zone y) len out → Responds s s' d limit (Some len) out
+  responded len out owed built low from upto long sent =
       let octets = sent.octets ∙ octets-by d y read s.zone limit in
-      let within = sent.within in
       record {
         absent = stated d y read owed len;
         octets = octets;
         spells = spelled s.zone d (take len out) limit built low (omega (arith, from)) upto octets;
-        fits = omega (arith, within, long);
-        zone = c.zone;
-        visits = c.visits;
-        visits_a_name = c.visits_a_name;
-        comparisons = c.comparisons;
+        fits = omega (arith, sent.within, long);
+        costs = costs-by d y read s.zone s s' costs;
       }

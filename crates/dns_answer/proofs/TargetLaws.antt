@@ -34,14 +34,14 @@ use Rattle.dns_zone.proofs.WayLaws.{at-folded}
 use Rattle.dns_answer.specs.Walks.{Took}
 use Rattle.dns_answer.specs.DraftForm.{State, Offers}
 use Rattle.dns_answer.proofs.Offering.{Offers-is, Offers-then, Offers-full}
-use Rattle.dns_answer.specs.Targets.{set_targets, targets_of_first, takes_target, addresses_of, depth_in, target_items, side_items, side_nodes, target_nodes, target_misses}
+use Rattle.dns_answer.specs.Targets.{set_targets, targets_of_first, target_at, takes_target, addresses_of, depth_in, target_items, side_items, side_nodes, target_nodes, target_misses}
 
 one_more : (o : Option DomainName) → cons_option o [] ≡ option_to_list o
 one_more None = refl
 one_more (Some m) = refl
 
 -- the targets of one record more
-pub first-more : (set : RecordSet) (i : ℕ) → i < length set.rdata → targets_of_first (i + 1) set ≡ targets_of_first i set ++ option_to_list (target set.rtype (get_or set.rdata i []))
+pub first-more : (set : RecordSet) (i : ℕ) → i < length set.rdata → targets_of_first (i + 1) set ≡ targets_of_first i set ++ option_to_list (target_at i set)
 first-more set i h =
     let f = λ (d : Octets). target set.rtype d in
     let d = get_or set.rdata i [] in
@@ -51,12 +51,12 @@ first-more set i h =
 -- a target more, and whether one stood before
 pub any-more : (p : DomainName → Bool) (set : RecordSet) (i : ℕ) → i < length set.rdata
     → list_any p (targets_of_first (i + 1) set) ≡ (list_any p (targets_of_first i set)
-    || list_any p (option_to_list (target set.rtype (get_or set.rdata i []))))
+    || list_any p (option_to_list (target_at i set)))
 any-more p set i h =
     ap (list_any p) (first-more set i h) ∙ list_any-append p (targets_of_first i set) _
 
 pub stood-some : (p : DomainName → Bool) (set : RecordSet) (count i : ℕ) (m : DomainName)
-    → i < count → count ≤ length set.rdata → target set.rtype (get_or set.rdata i []) ≡ Some m
+    → i < count → count ≤ length set.rdata → target_at i set ≡ Some m
     → p m ≡ true → list_any p (targets_of_first count set) ≡ true
 stood-some p set zero i m h l e f = absurd (omega arith)
 stood-some p set (suc k) i m h l e f =
@@ -79,9 +79,9 @@ stood-some p set (suc k) i m h l e f =
 pub all-more : (p : DomainName → Bool) (set : RecordSet) (i : ℕ) → i < length set.rdata
     → list_all p (targets_of_first (i + 1) set)
     ≡ (list_all p (targets_of_first i set)
-    && takes_target p (target set.rtype (get_or set.rdata i [])))
+    && takes_target p (target_at i set))
 all-more p set i h =
-    let o = target set.rtype (get_or set.rdata i []) in
+    let o = target_at i set in
     ap (list_all p) (first-more set i h)
     ∙ list_all-append p (targets_of_first i set) (option_to_list o)
     ∙ ap (λ b. list_all p (targets_of_first i set) && b) (one o)
@@ -104,9 +104,9 @@ side_items-one z p before None = refl
 side_items-one z p before (Some m) = append-nil (target_items z p before (Some m))
 
 pub side_items-more : (z : ZoneContents) (p : DomainName → Bool) (set : RecordSet) (i : ℕ) → i < length set.rdata
-    → side_items z p [] (targets_of_first i set) ++ target_items z p (targets_of_first i set) (target set.rtype (get_or set.rdata i [])) ≡ side_items z p [] (targets_of_first (i + 1) set)
+    → side_items z p [] (targets_of_first i set) ++ target_items z p (targets_of_first i set) (target_at i set) ≡ side_items z p [] (targets_of_first (i + 1) set)
 side_items-more z p set i h =
-    let o = target set.rtype (get_or set.rdata i []) in
+    let o = target_at i set in
     ap (λ x. side_items z p [] (targets_of_first i set) ++ x) (sym (side_items-one z p (targets_of_first i set) o))
     ∙ sym (side_items-append z p [] (targets_of_first i set) (option_to_list o)) ∙ ap (side_items z p []) (sym (first-more set i h))
 
@@ -167,13 +167,13 @@ module _ (z : ZoneContents) (p : DomainName → Bool) where
   pub Took-more : (set : RecordSet) (i : ℕ) {s s' s'' : Walk} → i < length set.rdata
       → Took s s' (side_nodes z p (targets_of_first i set))
       (length (filter p (targets_of_first i set)))
-      → Took s' s'' (target_nodes z p (target set.rtype (get_or set.rdata i [])))
-      (target_misses p (target set.rtype (get_or set.rdata i [])))
+      → Took s' s'' (target_nodes z p (target_at i set))
+      (target_misses p (target_at i set))
       → Took s s'' (side_nodes z p (targets_of_first (i + 1) set))
       (length (filter p (targets_of_first (i + 1) set)))
   Took-more set i {s} {s'} {s''} h a b =
       let ms = targets_of_first i set in
-      let o = target set.rtype (get_or set.rdata i []) in
+      let o = target_at i set in
       subst (λ ns. Took s s'' (side_nodes z p ns) (length (filter p ns))) (sym (first-more set i h))
       (Took-within (omega (arith, nodes-append ms (option_to_list o), nodes-one o))
       (omega (arith, misses-append ms (option_to_list o), misses-one o)) (Took-then a b))

@@ -1,35 +1,22 @@
 -- A label more on the way down to a name.
-use Rattle.std.proofs.Common.{◌≡◌, ℕ, suc, Bool, true, false, ◌&&◌, ◌∷◌, map, reverse, length, Option, None, Some, refl, sym, ap, ◌∙◌, subst, ◌+◌, ◌≤◌, arith}
+use Rattle.std.proofs.Common.{◌≡◌, ℕ, suc, Bool, true, false, ◌&&◌, ◌∷◌, map, Option, None, Some, refl, sym, ap, ◌∙◌, subst}
 use Rattle.std.proofs.lemmas.Bool.{false≢true, and_parts, false_from_ne_true}
 use Rattle.std.proofs.lemmas.List.{length-map}
 use Rattle.std.specs.Prelude.{◌==◌, IfSome}
 use Rattle.std.specs.Char.{to_ascii_lowercase}
-use Rattle.std.specs.List.{find}
 use Rattle.std.specs.Option.{is_some}
-use Rattle.dns_spec.specs.Names.{Octets, DomainName, folded, same, at_or_below, below, suffixes}
+use Rattle.dns_spec.specs.Names.{Octets, DomainName, folded, same, at_or_below, below}
 use Rattle.dns_spec.specs.Data.{type_ns, type_cname}
 use Rattle.dns_spec.specs.Records.{ResourceRecord, ZoneContents, owns, rrset}
 use Rattle.dns_spec.specs.Sets.{set_of}
-use Rattle.dns_spec.specs.Tree.{exists, is_cut, cut_of}
-use Rattle.dns_zone.specs.Nodes.{Walk, ZoneNode, IsLead}
-use Rattle.dns_answer.proofs.Taking.{Took-then, Took-within}
-use Rattle.dns_zone.proofs.NameOrder.{same-is, same-from, lower_twice}
+use Rattle.dns_spec.specs.Tree.{exists, is_cut}
+use Rattle.dns_zone.specs.Nodes.{ZoneNode, IsLead}
+use Rattle.dns_zone.proofs.NameOrder.{same-from, lower_twice}
 use Rattle.dns_zone.proofs.NameTree.{itself-under, below-cons, same-under}
 use Rattle.dns_zone.proofs.WayLaws.{any_weaker}
 use Rattle.dns_zone.proofs.Existing.{exists-lower}
-use Rattle.dns_answer.specs.Walks.{node_of, node_or, IsThere, IsMissing, IsBelowCut, IsStart, IsUncut, IsLeadTo, IsApex, Took}
-use Rattle.dns_zone.proofs.WayLaws.{under_same, no_cut-at_origin, cut-above, cut-here, cut-none, cut-by_set, exists-folded, exists-up, encloser-here, encloser-above}
-
--- a name as long as that of the node where its way begins is the node's
-pub there-at_start : (z : ZoneContents) (start : ZoneNode) (ends : Bool) (n : DomainName) → IsStart z start → (ends ≡ true → IsUncut z start.name)
-    → at_or_below n start.name ≡ true → length n ≡ length start.name → IsThere z start ends n None
-there-at_start z start ends n begins uncut under len =
-    let alike = same-is n start.name (under_same n start.name under len) in
-    record {
-      no_cut = λ e. ap (λ f. find (is_cut z) (reverse (suffixes f))) alike ∙ (uncut e).no_cut;
-      stands = exists-lower z n start.name alike len ∙ begins.exists.stands;
-      at_name = ap (λ y. node_of y start.name) begins.zone ∙ ap (node_of z) (sym (alike ∙ begins.exists.lower));
-    }
+use Rattle.dns_answer.specs.Walks.{node_of, node_or, IsThere, IsMissing, IsBelowCut, IsLeadTo}
+use Rattle.dns_zone.proofs.WayLaws.{cut-above, cut-here, cut-none, cut-by_set, exists-folded, exists-up, encloser-here, encloser-above}
 
 -- what owns a record exists
 owns-exists : (z : ZoneContents) (n : DomainName) (t : ℕ) → exists z n ≡ false → owns z n t ≡ false
@@ -103,35 +90,17 @@ module _ (z : ZoneContents) (start : ZoneNode) (ends : Bool) (l : Octets) (n : D
   }
 
 -- a lead that the zone keeps
-pub lead-to : (z : ZoneContents) (t : ℕ) (ends : Bool) (v : ZoneNode) → v.zone ≡ z
-    → IsLead z t v.name → (ends ≡ true → t ≡ type_cname) → IsLeadTo z ends v
-lead-to z t ends v zone lead alias = record {
-  start = record { zone = zone; exists = lead.node };
-  inside = lead.inside;
-  longer = lead.longer;
-  uncut = λ e. lead.uncut (alias e);
-}
-
--- a way from the apex
-pub apex-uncut : (z : ZoneContents) (apex : ZoneNode) → IsApex z apex → IsUncut z apex.name
-apex-uncut z apex h = record {
-  inside = ap (λ (v : ZoneNode). at_or_below v.name z.origin) h.node
-      ∙ itself-under z.origin z.origin (same-from z.origin z.origin refl);
-  no_cut = ap (λ (v : ZoneNode). cut_of z v.name) h.node ∙ no_cut-at_origin z z.origin (omega arith);
-}
-
-pub Took-lead : {s s' s'' : Walk} {near depth misses : ℕ}
-    → s' ≡ record s { visits = s.visits + 1 } → near + 1 ≤ depth → Took s' s'' near misses
-    → Took s s'' depth misses
-Took-lead {s} {s'} {s''} {near} {depth} {misses} e less took =
-    let one : Took s s' 1 0 = subst (λ w. Took s w 1 0) (sym e)
-    (record { zone = refl; from = omega arith; visits = omega arith; comparisons = omega arith }) in
-    Took-within (omega arith) (omega arith) (Took-then one took)
-
 pub leads-to : (z y : ZoneContents) (t : ℕ) (ends : Bool) (lead : Option ZoneNode) → y ≡ z
     → (ends ≡ true → t ≡ type_cname)
     → IfSome lead (λ (v : ZoneNode). (v.zone ≡ y) × IsLead y t v.name)
     → IfSome lead (IsLeadTo z ends)
 leads-to z y t ends None e alias h = tt
 leads-to z y t ends (Some v) e alias h =
-    lead-to z t ends v (h.0 ∙ e) (subst (λ (x : ZoneContents). IsLead x t v.name) e h.1) alias
+    let lead = subst (λ (x : ZoneContents). IsLead x t v.name) e h.1 in
+    record {
+      zone = h.0 ∙ e;
+      exists = lead.node;
+      inside = lead.inside;
+      longer = lead.longer;
+      uncut = λ e. lead.uncut (alias e);
+    }

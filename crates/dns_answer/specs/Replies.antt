@@ -75,8 +75,4 @@ pub record Responds (s s' : Walk) (datagram : Octets) (limit : ℕ) (sent : Opti
   pub spells : IfSome sent (λ len. IfSome (reply s.zone datagram limit)
       (λ r. Spells (take len out) (reply_message r)))
   pub fits : IfSome sent (λ len. len ≤ limit)
-  pub zone : s'.zone ≡ s.zone
-  pub visits : s'.visits ≤ visits_for s.zone (decide s.zone datagram)
-  pub visits_a_name : s'.visits ≤ 128 * names_for s.zone (decide s.zone datagram)
-  pub comparisons : s'.comparisons
-      ≤ comparisons_for s.zone (decide s.zone datagram) s'.visits
+  pub costs : Costs (decide s.zone datagram) s s'

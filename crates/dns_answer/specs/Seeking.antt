@@ -1,18 +1,18 @@
 -- What a reader learns here: what seeking a name has offered, and what the header says of it.
-use Rattle.std.specs.Prelude.{◌≡◌, ◌⊎◌, ℕ, ◌-◌, ◌≤◌, ◌<◌, Bool, true, false, ◌&&◌, not, List, [], ◌∷◌, length, map, reverse, get_or, if◌then◌else◌}
-use Rattle.std.specs.Prelude.{Option, None, Some, IfSome}
+use Rattle.std.specs.Prelude.{◌≡◌, ◌⊎◌, ℕ, ◌+◌, ◌*◌, ◌-◌, ◌≤◌, ◌<◌, Bool, true, false, ◌&&◌, not, List, [], ◌∷◌, ◌++◌, length, map, reverse, drop, All, if◌then◌else◌}
+use Rattle.std.specs.Prelude.{Option, None, Some}
 use Rattle.std.specs.Option.{option_and_then}
 use Rattle.std.specs.List.{list_any}
 use Rattle.dns_spec.specs.Names.{DomainName, folded, same, at_or_below}
-use Rattle.dns_spec.specs.Data.{target, type_cname}
+use Rattle.dns_spec.specs.Data.{type_cname}
 use Rattle.dns_spec.specs.Sets.{RecordSet, set_of}
 use Rattle.dns_spec.specs.Records.{ZoneContents, ResourceRecord, of_type}
 use Rattle.dns_spec.specs.Answer.{most_aliases, follows_alias, alias_set, has_any, asked_records}
 use Rattle.dns_zone.specs.Nodes.{Walk, ZoneNode}
 use Rattle.dns_answer.specs.DraftForm.{State}
-use Rattle.dns_zone.specs.Starts.{IsBelow}
-use Rattle.dns_answer.specs.Walks.{Took, IsLeadTo}
+use Rattle.dns_answer.specs.Walks.{IsApex, IsAim, HasRoom}
 use Rattle.dns_answer.specs.Ending.{Says, TookRest}
+use Rattle.dns_answer.specs.Targets.{target_at}
 use Rattle.dns_answer.specs.Chain.{chain_rest}
 use Rattle.dns_answer.specs.declared.ending.Verdict.{Verdict}
 use Rattle.dns_answer.specs.declared.chain.Next.{Next}
@@ -27,11 +27,26 @@ names_of ss = reverse (map (λ (s : Sought). s.name) ss)
 abbrev pub aliases_left : List DomainName → ℕ
 aliases_left before = most_aliases - length before
 
--- What is still to come of an answer at the name s is offered, and the header says how its last
--- name is answered.
-abbrev pub SeeksFrom : State → State → ZoneContents → ℕ → List DomainName → DomainName → Verdict
-    → Type 0
-SeeksFrom w w' z t before s v = Says w w' (chain_rest z t (aliases_left before) before s) v
+-- All names sought but the first are targets, in lower case: those before the last one, and it.
+pub record AreTargets (earlier : List Sought) (s : Sought) : Type 0 where
+  pub last : 0 < length earlier → folded s.name ≡ s.name
+  pub others : All (λ (e : Sought). folded e.name ≡ e.name) (drop 1 earlier)
+
+-- A name may be sought after others: by a way from a lead or the apex, and for it and each alias that
+-- may still be followed 129 nodes may be handed out, as for each of 129 targets.
+pub record MaySeek (s : Walk) (top : ZoneNode) (earlier : List Sought) (n : Sought)
+    (l : Option ZoneNode) : Type 0 where
+  pub apex : IsApex s.zone top
+  pub aim : IsAim s.zone true n l
+  pub lower : AreTargets earlier n
+  pub room : HasRoom s (129 * (aliases_left (names_of earlier) + 129))
+
+-- What is still to come of an answer at the name n was offered and taken, and the header says how
+-- its last name is answered.
+pub record Seeks (w w' : State) (s s' : Walk) (t : ℕ) (before : List DomainName) (n : DomainName)
+    (v : Verdict) : Type 0 where
+  pub says : Says w w' (chain_rest s.zone t (aliases_left before) before n) v
+  pub took : TookRest s s' (chain_rest s.zone t (aliases_left before) before n)
 
 -- a name has an alias that is followed
 abbrev pub leads_on : ZoneContents → ℕ → DomainName → Bool
@@ -41,40 +56,34 @@ leads_on z t n = follows_alias t && has_any (alias_set z n)
 abbrev pub Followed : ZoneContents → ℕ → DomainName → Verdict → Bool → Type 0
 Followed z t s v led = v.is_referral ≡ true → led ≡ leads_on z t s
 
--- so much was taken for them
-abbrev pub TookFrom : ZoneContents → Walk → Walk → ℕ → List DomainName → DomainName → Type 0
-TookFrom z s s' t before n = TookRest s s' (chain_rest z t (aliases_left before) before n)
-
--- The name is the last: it has offered and taken so much, and a referral is from its own cut.
+-- The name is the last, and a referral is from its own cut.
 pub record IsLast (w w' : State) (s s' : Walk) (t : ℕ) (before : List DomainName) (n : DomainName)
     (v : Verdict) : Type 0 where
-  pub seeks : SeeksFrom w w' s.zone t before n v
-  pub took : TookFrom s.zone s s' t before n
-  pub own : v.is_referral ≡ true → leads_on s.zone t n ≡ false
+  pub seeks : Seeks w w' s s' t before n v
+  pub own : Followed s.zone t n v false
 
 -- what seeking a name m still offers and takes, completes what seeking n has
-pub record Completes (w w' : State) (s s' : Walk) (z : ZoneContents) (t : ℕ)
-    (before before' : List DomainName) (n m : DomainName) : Type 0 where
-  pub zone : s'.zone ≡ z
-  pub seeks : (last : State) (v : Verdict) → SeeksFrom w' last z t before' m v
-      → SeeksFrom w last z t before n v
-  pub took : (last : Walk) → TookFrom z s' last t before' m → TookFrom z s last t before n
+abbrev pub Completes : State → State → Walk → Walk → ℕ → List DomainName → List DomainName
+    → DomainName → DomainName → Type 0
+Completes w w' s s' t before before' n m =
+    (last : State) (end : Walk) (v : Verdict) → Seeks w' last s' end t before' m v
+    → Seeks w last s end t before n v
 
--- The name has an alias, which leads to the name m.
-pub record LeadsTo (w w' : State) (s s' : Walk) (t : ℕ) (before : List DomainName) (n : DomainName)
-    (m : Sought) (l : Option ZoneNode) : Type 0 where
-  pub more : length before < most_aliases
-  pub below : IsBelow m s.zone.origin
-  pub lower : folded m.name ≡ m.name
-  pub lead : IfSome l (IsLeadTo s.zone true)
-  pub alias : leads_on s.zone t n ≡ true
-  pub took : Took s s' 127 2
-  pub completes : Completes w w' s s' s.zone t before (n ∷ before) n m.name
+-- The name n has an alias, which leads to the name m.
+pub record LeadsTo (w w' : State) (s s' : Walk) (t : ℕ) (top : ZoneNode) (earlier : List Sought)
+    (n m : Sought) (l : Option ZoneNode) : Type 0 where
+  pub more : length earlier < most_aliases
+  pub may : MaySeek s' top (earlier ++ n ∷ []) m l
+  pub alias : leads_on s.zone t n.name ≡ true
+  pub completes : Completes w w' s s' t (names_of earlier) (names_of (earlier ++ n ∷ [])) n.name
+      m.name
 
-abbrev pub SoughtAs : State → State → Walk → Walk → ℕ → List DomainName → DomainName → Next
+abbrev pub SoughtAs : State → State → Walk → Walk → ℕ → ZoneNode → List Sought → Sought → Next
     → Type 0
-SoughtAs w w' s s' t before n (nexts.Last v) = IsLast w w' s s' t before n v
-SoughtAs w w' s s' t before n (nexts.Alias m lead) = LeadsTo w w' s s' t before n m lead
+SoughtAs w w' s s' t top earlier n (nexts.Last v) =
+    IsLast w w' s s' t (names_of earlier) n.name v
+SoughtAs w w' s s' t top earlier n (nexts.Alias m lead) =
+    LeadsTo w w' s s' t top earlier n m lead
 
 -- no alias among the records is followed
 abbrev pub HasNoAlias : ℕ → List ResourceRecord → Type 0
@@ -90,20 +99,18 @@ IsShown t rs (Some (set, true)) =
 IsShown t rs (Some (set, false)) =
     HasNoAlias t rs × (Some set ≡ set_of (asked_records t rs))
 
--- the target of the first record of an alias
-abbrev pub alias_target : RecordSet → Option DomainName
-alias_target set = target set.rtype (get_or set.rdata 0 [])
-
 -- a target, where it is at or below the origin and was not sought yet
 abbrev pub unsought : DomainName → List DomainName → Option DomainName → Option DomainName
 unsought origin sought o =
     option_and_then
     (λ m. if at_or_below m origin && not (list_any (same m) sought) then Some m else None) o
 
--- the next name sought after an alias, where the names so far are these; or why there is none
-abbrev pub NextIs : RecordSet → List DomainName → DomainName → Option Sought → Type 0
-NextIs set sought origin None =
-    (most_aliases < length sought) ⊎ (unsought origin sought (alias_target set) ≡ None)
-NextIs set sought origin (Some m) =
-    (length sought ≤ most_aliases) × (unsought origin sought (alias_target set) ≡ Some m.name)
-    × IsBelow m origin × (folded m.name ≡ m.name)
+-- the next name sought after an alias, where the names so far are these, and where the way to it
+-- begins; or why there is none
+abbrev pub NextIs : ZoneContents → RecordSet → List DomainName → Option (Sought × Option ZoneNode)
+    → Type 0
+NextIs z set sought None =
+    (most_aliases < length sought) ⊎ (unsought z.origin sought (target_at 0 set) ≡ None)
+NextIs z set sought (Some (m, l)) =
+    (length sought ≤ most_aliases) × (unsought z.origin sought (target_at 0 set) ≡ Some m.name)
+    × IsAim z true m l × (folded m.name ≡ m.name)

@@ -1,5 +1,5 @@
 -- What a reader learns here: which addresses are offered for targets, one target after the other.
-use Rattle.std.specs.Prelude.{ℕ, ◌-◌, Bool, true, ◌&&◌, not, sum, List, [], ◌∷◌, ◌++◌, map, length, take, if◌then◌else◌}
+use Rattle.std.specs.Prelude.{ℕ, ◌-◌, Bool, true, ◌&&◌, not, sum, List, [], ◌∷◌, ◌++◌, map, length, take, get_or, if◌then◌else◌}
 use Rattle.std.specs.Prelude.{Option, None, Some}
 use Rattle.std.specs.List.{list_any, filter, filter_map}
 use Rattle.dns_spec.specs.Names.{Octets, DomainName, same, at_or_below}
@@ -18,6 +18,10 @@ set_targets set = filter_map (λ (d : Octets). target set.rtype d) set.rdata
 -- those of its first records
 abbrev pub targets_of_first : ℕ → RecordSet → List DomainName
 targets_of_first k set = filter_map (λ (d : Octets). target set.rtype d) (take k set.rdata)
+
+-- that of one of them
+abbrev pub target_at : ℕ → RecordSet → Option DomainName
+target_at i set = target set.rtype (get_or set.rdata i [])
 
 abbrev pub side_takes : Side → DomainName → Bool
 side_takes All m = true

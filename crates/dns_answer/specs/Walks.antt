@@ -1,7 +1,7 @@
 -- What a reader learns here: where the way down to a name ends, what is found for it, and what
 -- that took.
-use Rattle.std.specs.Prelude.{◌≡◌, ℕ, ◌+◌, ◌*◌, ◌<◌, ◌≤◌, Bool, true, false, length, if◌then◌else◌}
-use Rattle.std.specs.Prelude.{Option, None, Some}
+use Rattle.std.specs.Prelude.{◌≡◌, ℕ, ◌+◌, ◌-◌, ◌*◌, ◌<◌, ◌≤◌, Bool, true, false, length, if◌then◌else◌}
+use Rattle.std.specs.Prelude.{Option, None, Some, IfSome}
 use Rattle.std.specs.Option.{unwrap_or}
 use Rattle.dns_spec.specs.Names.{DomainName, folded, at_or_below}
 use Rattle.dns_spec.specs.Records.{ZoneContents, at, with_owner}
@@ -29,30 +29,32 @@ pub record IsApex (z : ZoneContents) (apex : ZoneNode) : Type 0 where
   pub node : apex ≡ node_of z z.origin
   pub exists : IsNode z z.origin
 
--- a node from which the way down to a name begins
-pub record IsStart (z : ZoneContents) (start : ZoneNode) : Type 0 where
-  pub zone : start.zone ≡ z
-  pub exists : IsNode z start.name
-
--- a name at or below the origin, where no cut is at or above it
-pub record IsUncut (z : ZoneContents) (n : DomainName) : Type 0 where
-  pub inside : at_or_below n z.origin ≡ true
-  pub no_cut : cut_of z n ≡ None
-
 -- a node below the origin at which a way may begin, also one that ends at cuts
 pub record IsLeadTo (z : ZoneContents) (ends : Bool) (v : ZoneNode) : Type 0 where
-  pub start : IsStart z v
+  pub zone : v.zone ≡ z
+  pub exists : IsNode z v.name
   pub inside : at_or_below v.name z.origin ≡ true
   pub longer : length z.origin < length v.name
   pub uncut : ends ≡ true → cut_of z v.name ≡ None
 
--- a lead that a name is at or below was handed out
-pub record IsBegun (s s' : Walk) (m : DomainName) (lead : Option ZoneNode) (sought : Sought)
-    (node : ZoneNode) : Type 0 where
-  pub name : sought.name ≡ m
-  pub at : lead ≡ Some node
-  pub below : IsBelow sought node.name
-  pub visits : s' ≡ record s { visits = s.visits + 1 }
+-- the name of the node at which a way begins: that of a lead, or the apex
+abbrev pub start_name : ZoneContents → Option ZoneNode → DomainName
+start_name z l = (node_or (node_of z z.origin) l).name
+
+-- a name that is sought from a lead, or from the apex
+pub record IsAim (z : ZoneContents) (ends : Bool) (s : Sought) (l : Option ZoneNode)
+    : Type 0 where
+  pub lead : IfSome l (IsLeadTo z ends)
+  pub below : IsBelow s (start_name z l)
+
+-- where the way to a name begins, if it is at or below the origin
+abbrev pub IsAimed : ZoneContents → Bool → DomainName → Option (Sought × Option ZoneNode) → Type 0
+IsAimed z ends n None = at_or_below n z.origin ≡ false
+IsAimed z ends n (Some (s, l)) = (at_or_below n z.origin ≡ true) × IsAim z ends s l
+
+-- so many labels a name has below the origin
+abbrev pub labels_below : ZoneContents → DomainName → ℕ
+labels_below z n = length n - length z.origin
 
 abbrev pub ends_at_cuts : Cuts → Bool
 ends_at_cuts End = true

@@ -2,23 +2,21 @@
 ghost use Rattle.std.specs.Prelude.{◌≡◌, ℕ, ◌+◌, ◌*◌, ◌≤◌, ◌<◌, ◌⊎◌, [], ◌∷◌, ◌++◌, length, take, get_or, map, true, false, not, IsTrue, IfSome};
 ghost use Rattle.std.specs.List.{list_any, list_all, filter};
 ghost use Rattle.dns_spec.specs.Names.{same, at_or_below, folded};
-ghost use Rattle.dns_spec.specs.Data.{target};
 ghost use Rattle.dns_spec.specs.Answer.{item};
 ghost use Rattle.dns_spec.specs.Records.{rrset};
 ghost use Rattle.dns_spec.specs.Layout.{additional};
 ghost use Rattle.dns_spec.specs.Sets.{HasValidData};
 ghost use Rattle.dns_zone.specs.Nodes.{IsSetOf};
-ghost use Rattle.dns_zone.specs.Starts.{IsBelow};
-ghost use Rattle.dns_answer.specs.Walks.{IsApex, IsStart, IsLeadTo, HasRoom, Took};
+ghost use Rattle.dns_answer.specs.Walks.{IsApex, IsLeadTo, HasRoom, Took};
 ghost use Rattle.dns_answer.specs.DraftForm.{Offers};
-ghost use Rattle.dns_answer.specs.Targets.{addresses_of, depth_in, side_items, side_nodes, side_takes, takes_target, set_targets, targets_of_first, target_items, target_nodes, target_misses};
+ghost use Rattle.dns_answer.specs.Targets.{addresses_of, depth_in, side_items, side_nodes, side_takes, takes_target, set_targets, targets_of_first, target_at, target_items, target_nodes, target_misses};
 
 use crate::draft::Draft;
-use crate::lookup::{Cuts, Way, begin, or_start, walk};
+use crate::lookup::{Cuts, Way, aim, or_apex, walk};
 use dns_name::NameRef;
 use dns_rdata::{RType, SetView};
 use dns_wire::Section;
-use dns_zone::{Lead, Node, RecordSet, Sought, Steps};
+use dns_zone::{Lead, Node, RecordSet, Steps};
 
 /// Which targets are meant: all, or those at or below a cut, or the others.
 #[derive(Clone, Copy)]
@@ -94,16 +92,13 @@ fn offer_target<'z, const N: usize, const SIZE: usize>(
     requires valid { HasValidData set.now }
     requires inside { i < length set.now.rdata }
     requires room { HasRoom steps.old 128 }
-    ensures offers { Offers draft.old draft.new
-        (target_items steps.old.zone (side_takes side.entry) (targets_of_first i set.now)
-        (target set.now.rtype (get_or set.now.rdata i []))) }
+    ensures offers { Offers draft.old draft.new (target_items steps.old.zone (side_takes side.entry)
+        (targets_of_first i set.now) (target_at i set.now)) }
     ensures took { Took steps.old steps.new
-        (target_nodes steps.old.zone (side_takes side.entry)
-        (target set.now.rtype (get_or set.now.rdata i [])))
-        (target_misses (side_takes side.entry) (target set.now.rtype (get_or set.now.rdata i []))) }
+        (target_nodes steps.old.zone (side_takes side.entry) (target_at i set.now))
+        (target_misses (side_takes side.entry) (target_at i set.now)) }
     ensures bound { Took steps.old steps.new 127 1 }
-    ensures meant { result ≡ takes_target (side_takes side.entry)
-        (target set.now.rtype (get_or set.now.rdata i [])) }
+    ensures meant { result ≡ takes_target (side_takes side.entry) (target_at i set.now) }
 {
     let Some(target) = set.target(i) else {
         return true;
@@ -152,38 +147,17 @@ fn offer_address<'z, const N: usize, const SIZE: usize>(
     ensures offers { Offers draft.old draft.new (addresses_of steps.old.zone target.now) }
     ensures took { Took steps.old steps.new (depth_in steps.old.zone target.now) 1 }
 {
-    match begin(target, lead, steps) {
-        Some((nearer, node)) => offer_from(&nearer, &node, steps, draft),
-        None => {
-            if let Some(sought) = Sought::below(target, &steps.origin().lent()) {
-                offer_from(&sought, apex, steps, draft);
-            }
-        }
-    }
-}
-
-// Offers the addresses of a name on the way down from a node.
-fn offer_from<'z, const N: usize, const SIZE: usize>(
-    target: &Sought<'_>,
-    start: &Node<'z>,
-    steps: &mut Steps<'z>,
-    draft: &mut Draft<N, SIZE>,
-)
-    requires start { IsStart steps.old.zone start.now }
-    requires below { IsBelow target.now start.now.name }
-    requires lower { folded target.now.name ≡ target.now.name }
-    requires room { HasRoom steps.old (target.now.depth + 1) }
-    ensures offers { Offers draft.old draft.new (addresses_of steps.old.zone target.now.name) }
-    ensures took { Took steps.old steps.new target.now.depth 1 }
-{
-    let node = match walk(target, start, Cuts::Pass, steps) {
+    let Some((sought, lead)) = aim(target, lead, steps.origin()) else {
+        return;
+    };
+    let node = match walk(&sought, lead, apex, Cuts::Pass, steps) {
         Way::Cut(_) => return,
         Way::Encloser(_) => return,
         Way::Name(node) => node,
     };
-    let node = or_start(&node, &*start);
-    offer_type(node, RType::A, &target.name, draft);
-    offer_type(node, RType::AAAA, &target.name, draft);
+    let node = or_apex(&node, &*apex);
+    offer_type(node, RType::A, target, draft);
+    offer_type(node, RType::AAAA, target, draft);
 }
 
 // Offers the set of a type at a node, if there is one.

@@ -1,19 +1,17 @@
 //! The names sought, one after the other (RFC 1034 4.3.2 step 3a).
-ghost use Rattle.std.specs.Prelude.{◌≡◌, ◌+◌, ◌*◌, ◌≤◌, ◌<◌, ◌⊎◌, ◌||◌, [], ◌∷◌, length, drop, All, true, false, IsTrue, IfSome};
+ghost use Rattle.std.specs.Prelude.{◌≡◌, ◌<◌, ◌∷◌, [], length, true, IfSome};
 ghost use Rattle.std.specs.List.{list_any};
 ghost use Rattle.dns_spec.specs.Names.{folded, names_equal, same};
-ghost use Rattle.dns_spec.specs.Records.{at};
-ghost use Rattle.dns_spec.specs.Answer.{most_aliases};
+ghost use Rattle.dns_spec.specs.Records.{ZoneContents, at};
 ghost use Rattle.dns_zone.specs.Nodes.{IsSetOf};
-ghost use Rattle.dns_zone.specs.Starts.{IsBelow};
-ghost use Rattle.dns_answer.specs.Walks.{IsApex, IsLeadTo, HasRoom};
-ghost use Rattle.dns_answer.specs.Seeking.{SeeksFrom, TookFrom, Followed, SoughtAs, IsShown, NextIs, names_of, aliases_left};
+ghost use Rattle.dns_answer.specs.Walks.{IsLeadTo};
+ghost use Rattle.dns_answer.specs.Seeking.{MaySeek, Seeks, Followed, AreTargets, SoughtAs, IsShown, NextIs, names_of};
 
 use crate::draft::Draft;
 use crate::ending::{Verdict, deny, end_with, ended, refer};
-use crate::lookup::{Found, look_up, or_start};
+use crate::lookup::{Found, aim, look_up, or_apex};
 use arrayvec::ArrayVec;
-use dns_name::NameRef;
+use dns_name::{Name, NameRef};
 use dns_rdata::{RType, SetView};
 use dns_wire::{Rcode, Section};
 use dns_zone::{Lead, Node, RecordSet, Sought, Steps};
@@ -43,12 +41,8 @@ pub(crate) fn seek<'q, 'z: 'q, const N: usize, const SIZE: usize>(
     steps: &mut Steps<'z>,
     draft: &mut Draft<N, SIZE>,
 ) -> (Verdict, bool)
-    requires apex { IsApex steps.old.zone apex.now }
-    requires below { IsBelow first steps.old.zone.origin }
-    requires room { HasRoom steps.old (129 * (most_aliases + 129)) }
-    ensures seeks { SeeksFrom draft.old draft.new steps.old.zone qtype [] first.entry.name
-        result.0 }
-    ensures took { TookFrom steps.old.zone steps.old steps.new qtype [] first.entry.name }
+    requires { MaySeek steps.old apex.now [] first None }
+    ensures seeks { Seeks draft.old draft.new steps.old steps.new qtype [] first.entry.name result.0 }
     ensures followed { Followed steps.old.zone qtype first.entry.name result.0 result.1 }
 {
     match seek_one(&first, None, qtype, &[], apex, steps, draft) {
@@ -71,15 +65,9 @@ fn seek_targets<'q, 'z: 'q, const N: usize, const SIZE: usize>(
     steps: &mut Steps<'z>,
     draft: &mut Draft<N, SIZE>,
 ) -> Verdict
-    requires apex { IsApex steps.old.zone apex.now }
-    requires below { IsBelow target steps.old.zone.origin }
-    requires lower { folded target.name ≡ target.name }
-    requires lead { IfSome lead (IsLeadTo steps.old.zone true) }
-    requires room { HasRoom steps.old (129 * (most_aliases + 128)) }
-    ensures seeks { SeeksFrom draft.old draft.new steps.old.zone qtype (first.entry.name ∷ [])
+    requires { MaySeek steps.old apex.now (first ∷ []) target lead }
+    ensures { Seeks draft.old draft.new steps.old steps.new qtype (first.entry.name ∷ [])
         target.entry.name result }
-    ensures took { TookFrom steps.old.zone steps.old steps.new qtype (first.entry.name ∷ [])
-        target.entry.name }
 {
     let mut earlier: ArrayVec<Sought<'q>, MOST_ALIASES> = ArrayVec::new();
     earlier.push(first);
@@ -109,21 +97,16 @@ fn seek_one<'z, const N: usize, const SIZE: usize>(
     steps: &mut Steps<'z>,
     draft: &mut Draft<N, SIZE>,
 ) -> Next<'z>
-    requires lead { IfSome lead (IsLeadTo steps.old.zone true) }
-    requires apex { IsApex steps.old.zone apex.now }
-    requires below { IsBelow sought.now steps.old.zone.origin }
-    requires room { HasRoom steps.old (129 * (aliases_left (names_of earlier.now) + 129)) }
-    requires low { 0 < length earlier.now → folded sought.now.name ≡ sought.now.name }
-    requires lower { All (λ s. folded s.name ≡ s.name) (drop 1 earlier.now) }
-    ensures { SoughtAs draft.old draft.new steps.old steps.new qtype (names_of earlier.now)
-        sought.now.name result }
+    requires { MaySeek steps.old apex.now earlier.now sought.now lead }
+    ensures { SoughtAs draft.old draft.new steps.old steps.new qtype apex.now earlier.now sought.now
+        result }
 {
     let node = match look_up(sought, lead, apex, steps) {
         Found::Cut(cut) => return Next::Last(refer(&cut, apex, steps, draft)),
         Found::Nothing => return Next::Last(deny(Rcode::NameError, apex, steps, draft)),
         Found::Records(node) => node,
     };
-    let node = or_start(&node, &*apex);
+    let node = or_apex(&node, &*apex);
     let Some((set, is_alias)) = shown_set(node, qtype) else {
         return Next::Last(deny(Rcode::NoError, apex, steps, draft));
     };
@@ -131,10 +114,11 @@ fn seek_one<'z, const N: usize, const SIZE: usize>(
     if !is_alias {
         return Next::Last(end_with(node, &set, apex, steps, draft));
     }
-    let Some(target) = next_sought(&set, sought, earlier, &steps.origin().lent()) else {
+    let lead = node.lead(RType::CNAME, 0);
+    let Some((target, lead)) = next_sought(&set, lead, sought, earlier, steps.origin()) else {
         return Next::Last(ended(Rcode::NoError, draft));
     };
-    Next::Alias(target, node.lead(RType::CNAME, 0))
+    Next::Alias(target, lead)
 }
 
 // The set that an answer shows of the records at a node, and whether it is an alias, which leads
@@ -155,37 +139,36 @@ fn shown_set<'z>(node: &Node<'z>, qtype: u16) -> Option<(RecordSet<'z>, bool)>
     Some((node.set(RType(qtype))?, false))
 }
 
-// The name that is sought after an alias: its target, where more may be sought and it is at or below
-// the origin and was not sought yet.
+// The name that is sought after an alias, and where the way to it begins: its target, where more may
+// be sought and it is at or below the origin and was not sought yet.
 fn next_sought<'z>(
     alias: &RecordSet<'z>,
+    lead: Option<Lead<'z>>,
     sought: &Sought<'_>,
     earlier: &[Sought<'_>],
-    origin: &NameRef<'_>,
-) -> Option<Sought<'z>>
+    origin: &Name,
+) -> Option<(Sought<'z>, Option<Lead<'z>>)>
     requires some { 0 < length alias.now.rdata }
-    requires low { 0 < length earlier.now → folded sought.now.name ≡ sought.now.name }
-    requires lower { All (λ s. folded s.name ≡ s.name) (drop 1 earlier.now) }
-    ensures { NextIs alias.now (sought.now.name ∷ names_of earlier.now) origin.now result }
+    requires lower { AreTargets earlier.now sought.now }
+    ensures { (z : ZoneContents) → z.origin ≡ origin.now → IfSome lead.entry (IsLeadTo z true)
+        → NextIs z alias.now (sought.now.name ∷ names_of earlier.now) result }
 {
     if earlier.len() >= MOST_ALIASES {
         return None;
     }
-    let next = Sought::below(&alias.target(0)?, origin)?;
+    let (next, lead) = aim(&alias.target(0)?, lead, origin)?;
     if is_among(&next.name, sought, earlier) {
         return None;
     }
-    Some(next)
+    Some((next, lead))
 }
 
 // Whether a name in lower case is the last one sought, or was sought before. All names but the first
 // are targets, in lower case too, so that those are the same only where they are equal.
 fn is_among(name: &NameRef<'_>, last: &Sought<'_>, earlier: &[Sought<'_>]) -> bool
     requires name { folded name.now ≡ name.now }
-    requires low { 0 < length earlier.now → folded last.now.name ≡ last.now.name }
-    requires lower { All (λ s. folded s.name ≡ s.name) (drop 1 earlier.now) }
-    ensures { result ≡ (same name.now last.now.name
-        || list_any (λ s. same name.now s.name) earlier.now) }
+    requires lower { AreTargets earlier.now last.now }
+    ensures { result ≡ list_any (same name.now) (last.now.name ∷ names_of earlier.now) }
 {
     let Some((first, targets)) = earlier.split_first() else {
         return name.same(&last.name);

@@ -1,25 +1,23 @@
 //! What a zone has for a name (RFC 1034 4.3.2 step 3).
-ghost use Rattle.std.specs.Prelude.{◌≡◌, ◌+◌, ◌≤◌, ◌<◌, ◌∷◌, ◌&&◌, length, drop, get_or, IsTrue, IfSome, MatchOption, true, false, is_some};
+ghost use Rattle.std.specs.Prelude.{◌≡◌, ◌+◌, ◌<◌, ◌∷◌, ◌&&◌, Bool, IfSome, MatchOption, true, false, is_some};
 ghost use Rattle.dns_spec.specs.Data.{type_ns};
-ghost use Rattle.dns_spec.specs.Records.{rrset};
+ghost use Rattle.dns_spec.specs.Records.{ZoneContents, rrset};
 ghost use Rattle.dns_spec.specs.Sets.{set_of};
 ghost use Rattle.dns_spec.specs.Tree.{exists, asterisk};
-ghost use Rattle.dns_name.specs.WireForm.{labels_of, IsWireForm};
-ghost use Rattle.dns_zone.specs.Starts.{IsBelow};
-ghost use Rattle.dns_answer.specs.Walks.{IsApex, IsStart, IsUncut, IsLeadTo, IsBegun, node_or, ends_at_cuts, WalkedTo, FoundAs, HasRoom, Took, TookWay, TookChild, missed};
+ghost use Rattle.dns_answer.specs.Walks.{IsApex, IsLeadTo, IsAim, IsAimed, labels_below, node_or, ends_at_cuts, WalkedTo, FoundAs, HasRoom, Took, TookWay, TookChild, missed, one_if};
 
-use dns_name::{Label, NameRef};
+use dns_name::{Label, Name, NameRef};
 use dns_rdata::RType;
 use dns_zone::{Lead, MOST_LABELS, Node, Sought, Steps, label_after, put_starts};
 
-/// Where the way from a node down to a name ends.
+/// Where the way down to a name ends.
 #[derive(Drop)]
 pub(crate) enum Way<'z> {
     /// At the first cut on the way.
     Cut(Node<'z>),
-    /// At the name. `None` is the node where it began.
+    /// At the name. `None` is the apex.
     Name(Option<Node<'z>>),
-    /// At the closest encloser of a name that does not exist. `None` is the node where it began.
+    /// At the closest encloser of a name that does not exist. `None` is the apex.
     Encloser(Option<Node<'z>>),
 }
 
@@ -50,52 +48,29 @@ pub(crate) fn look_up<'z>(
     apex: &Node<'z>,
     steps: &mut Steps<'z>,
 ) -> Found<'z>
-    requires lead { IfSome lead (IsLeadTo steps.old.zone true) }
     requires apex { IsApex steps.old.zone apex.now }
-    requires below { IsBelow sought.now steps.old.zone.origin }
-    requires room { HasRoom steps.old (sought.now.depth + 1) }
+    requires aim { IsAim steps.old.zone true sought.now lead }
+    requires room { HasRoom steps.old 128 }
     ensures found { FoundAs steps.old.zone apex.now sought.now.name result }
-    ensures took { Took steps.old steps.new sought.now.depth 2 }
+    ensures took { Took steps.old steps.new (labels_below steps.old.zone sought.now.name) 2 }
 {
-    match begin(&sought.name, lead, steps) {
-        None => look_up_from(sought, apex, steps),
-        Some((nearer, node)) => match look_up_from(&nearer, &node, steps) {
-            Found::Records(None) => Found::Records(Some(node)),
-            Found::Records(Some(child)) => Found::Records(Some(child)),
-            Found::Cut(cut) => Found::Cut(cut),
-            Found::Nothing => Found::Nothing,
-        },
-    }
-}
-
-// What is found for a name on the way down from a node. In line it saves 38 to 120 instructions a
-// reply.
-#[inline(always)]
-fn look_up_from<'z>(sought: &Sought<'_>, start: &Node<'z>, steps: &mut Steps<'z>) -> Found<'z>
-    requires start { IsStart steps.old.zone start.now }
-    requires uncut { IsUncut steps.old.zone start.now.name }
-    requires below { IsBelow sought.now start.now.name }
-    requires room { HasRoom steps.old (sought.now.depth + 1) }
-    ensures found { FoundAs steps.old.zone start.now sought.now.name result }
-    ensures took { Took steps.old steps.new sought.now.depth 2 }
-{
-    match walk(sought, start, Cuts::End, steps) {
+    match walk(sought, lead, apex, Cuts::End, steps) {
         Way::Cut(node) => Found::Cut(node),
         Way::Name(node) => Found::Records(node),
-        Way::Encloser(node) => match wildcard_below(or_start(&node, &*start), steps) {
+        Way::Encloser(node) => match wildcard_below(or_apex(&node, &*apex), steps) {
             Some(node) => Found::Records(Some(node)),
             None => Found::Nothing,
         },
     }
 }
 
-/// The node, or the one where the way began.
-pub(crate) fn or_start<'a, 'z>(node: &'a Option<Node<'z>>, start: &'a Node<'z>) -> &'a Node<'z>
-    ensures { result.now ≡ node_or start.now node.now }
+/// The node, or the apex.
+pub(crate) fn or_apex<'a, 'z>(node: &'a Option<Node<'z>>, apex: &'a Node<'z>) -> &'a Node<'z>
+    ensures { result.now ≡ node_or apex.now node.now }
 {
     match node {
         Some(node) => node,
-        None => start,
+        None => apex,
     }
 }
 
@@ -115,47 +90,51 @@ fn wildcard_below<'z>(encloser: &Node<'z>, steps: &mut Steps<'z>) -> Option<Node
     encloser.down(label, steps)
 }
 
-/// Where the way down to a name may begin: at a lead, where one is kept that the name is at or below.
-/// It is handed out then.
-pub(crate) fn begin<'n, 'z>(
+/// Where the way down to a name begins: at a lead, where one is kept that the name is at or below,
+/// or at the apex. `None` where the name is not at or below the origin.
+pub(crate) fn aim<'n, 'z>(
     name: &NameRef<'n>,
     lead: Option<Lead<'z>>,
-    steps: &mut Steps<'z>,
-) -> Option<(Sought<'n>, Node<'z>)>
-    requires { steps.old.visits < 4294967295 }
-    ensures { MatchOption result (steps.new ≡ steps.old) (λ (sought, node).
-        IsBegun steps.old steps.new name.now lead.entry sought node) }
+    origin: &Name,
+) -> Option<(Sought<'n>, Option<Lead<'z>>)>
+    ensures name { IfSome result (λ (sought, _). sought.name ≡ name.now) }
+    ensures aimed { (z : ZoneContents) (ends : Bool) → z.origin ≡ origin.now
+        → IfSome lead.entry (IsLeadTo z ends) → IsAimed z ends name.now result }
 {
-    let lead = lead?;
-    let sought = Sought::below(name, &lead.name())?;
-    Some((sought, lead.node(steps)))
+    if let Some(lead) = lead {
+        if let Some(sought) = Sought::below(name, &lead.name()) {
+            return Some((sought, Some(lead)));
+        }
+    }
+    Some((Sought::below(name, &origin.lent())?, None))
 }
 
-/// The way from a node down to a name (RFC 1034 4.3.2 step 3b). The labels are taken from the
-/// right.
+/// The way down to a name from where it begins (RFC 1034 4.3.2 step 3b). The labels are taken from
+/// the right.
 // In line it saves 43 to 105 instructions a reply over UDP.
 #[inline(always)]
 pub(crate) fn walk<'z>(
     sought: &Sought<'_>,
-    start: &Node<'z>,
+    lead: Option<Lead<'z>>,
+    apex: &Node<'z>,
     cuts: Cuts,
     steps: &mut Steps<'z>,
 ) -> Way<'z>
-    requires start { IsStart steps.old.zone start.now }
-    requires uncut { IsTrue (ends_at_cuts cuts) → IsUncut steps.old.zone start.now.name }
-    requires below { IsBelow sought.now start.now.name }
-    requires room { HasRoom steps.old sought.now.depth }
-    ensures way { WalkedTo steps.old.zone start.now (ends_at_cuts cuts) sought.now.name result }
-    ensures took { TookWay steps.old steps.new sought.now.depth (missed result) }
+    requires apex { IsApex steps.old.zone apex.now }
+    requires aim { IsAim steps.old.zone (ends_at_cuts cuts) sought.now lead }
+    requires room { HasRoom steps.old 127 }
+    ensures way { WalkedTo steps.old.zone apex.now (ends_at_cuts cuts) sought.now.name result }
+    ensures took { TookWay steps.old steps.new (labels_below steps.old.zone sought.now.name)
+        (missed result) }
 {
     let octets = sought.name.octets();
     let mut starts = [0; MOST_LABELS];
     put_starts(octets, sought.depth, &mut starts);
-    let mut node = None;
+    let mut node = handed_out(lead, steps);
     let mut before = sought.depth;
     'labels: while before > 0 {
         let label = label_after(octets, &starts, before - 1);
-        let Some(child) = or_start(&node, &*start).down(label, steps) else {
+        let Some(child) = or_apex(&node, &*apex).down(label, steps) else {
             return Way::Encloser(node);
         };
         if is_end(&child, cuts) {
@@ -165,6 +144,15 @@ pub(crate) fn walk<'z>(
         before -= 1;
     }
     Way::Name(node)
+}
+
+// The node of a lead, if there is one.
+fn handed_out<'z>(lead: Option<Lead<'z>>, steps: &mut Steps<'z>) -> Option<Node<'z>>
+    requires { steps.old.visits < 4294967295 }
+    ensures node { result ≡ lead.entry }
+    ensures took { Took steps.old steps.new (one_if (is_some lead.entry)) 0 }
+{
+    Some(lead?.node(steps))
 }
 
 // Whether a way ends at a node since that is a cut.

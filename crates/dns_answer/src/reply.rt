@@ -86,8 +86,8 @@ pub fn respond(
         ≤ comparisons_for steps.old.zone (decide steps.old.zone datagram.now) steps.new.visits }
 {
     match limit {
-        Limit::Udp => respond_with(steps, datagram, &mut UdpDraft::new(), out),
-        Limit::Tcp => respond_with(steps, datagram, &mut TcpDraft::new(), out),
+        Limit::Udp => respond_in(steps, datagram, &mut UdpDraft::new(), out),
+        Limit::Tcp => respond_in(steps, datagram, &mut TcpDraft::new(), out),
     }
 }
 
@@ -113,32 +113,17 @@ pub fn respond_in<const N: usize, const SIZE: usize>(
     ensures { Responds steps.old steps.new datagram.now SIZE result out.new }
 {
     draft.clear();
-    respond_with(steps, datagram, draft, out)
-}
-
-// Writes the reply to a datagram, made in a draft that has nothing yet.
-fn respond_with<const N: usize, const SIZE: usize>(
-    steps: &mut Steps<'_>,
-    datagram: &[u8],
-    draft: &mut Draft<N, SIZE>,
-    out: &mut [u8],
-) -> Option<usize>
-    requires blank { draft.old ≡ blank SIZE }
-    requires visits { steps.old.visits ≡ 0 }
-    requires comparisons { steps.old.comparisons ≡ 0 }
-    requires from { 512 ≤ SIZE }
-    requires upto { SIZE ≤ 65535 }
-    requires out { length out.old ≡ SIZE }
-    ensures { Responds steps.old steps.new datagram.now SIZE result out.new }
-{
     let origin = steps.origin();
     match lent_query(datagram) {
         QueryRef::Absent => None,
-        QueryRef::Refused(head) => Some(put_refusal(head, None, draft, out)),
+        QueryRef::Refused(head) => {
+            draft.begin(None);
+            Some(draft.finish(head, out))
+        }
         QueryRef::Query(head, question) => match judge(&question, origin) {
             Err(rcode) => {
-                let head = head.reply(false, false, rcode);
-                Some(put_refusal(head, Some(&question), draft, out))
+                draft.begin(Some(&question));
+                Some(draft.finish(head.reply(false, false, rcode), out))
             }
             Ok(sought) => Some(put_answer(steps, &head, &question, sought, draft, out)),
         },
@@ -164,22 +149,6 @@ fn is_meta_type(qtype: u16) -> bool
     ensures { result ≡ is_meta_type qtype }
 {
     qtype == 0 || qtype == 41 || (128 <= qtype && qtype <= 254)
-}
-
-// Puts a reply without records: a header, and the question if it is repeated.
-fn put_refusal<const N: usize, const SIZE: usize>(
-    head: Head,
-    question: Option<&QuestionRef<'_>>,
-    draft: &mut Draft<N, SIZE>,
-    out: &mut [u8],
-) -> usize
-    requires blank { draft.old ≡ blank SIZE }
-    requires out { length out.old ≡ SIZE }
-    ensures octets { take result out.new ≡ layout head (option_copied question.entry) [] }
-    ensures within { result ≤ length out.new }
-{
-    draft.begin(question);
-    draft.finish(head, out)
 }
 
 // Puts the answer to a question, whose name is sought.

@@ -1,5 +1,5 @@
 -- What calls of a source give together.
-use Rattle.std.proofs.Common.{◌≡◌, ℕ, ◌+◌, ◌-◌, ◌^◌, ◌<◌, ◌≤◌, min, All, [], ◌∷◌, ◌++◌, length, take, Option, subst, sym, ap, ap₂, ◌∙◌, arith, length-append}
+use Rattle.std.proofs.Common.{◌≡◌, ℕ, ◌+◌, ◌-◌, ◌^◌, ◌<◌, ◌≤◌, min, All, [], ◌∷◌, ◌++◌, length, take, Option, subst, sym, ap, ◌∙◌, arith, length-append}
 use Rattle.std.proofs.Math.Seq.{take-append-add}
 use Rattle.std.specs.Io.KnownBytes.{Consumes}
 use Rattle.std.proofs.lemmas.List.Elements.{All-head}
@@ -8,7 +8,7 @@ use Rattle.std.proofs.KnownBytes.{Consumes-trans}
 use Rattle.dns_spec.specs.Query.{most_over_udp}
 use Rattle.dns_spec.specs.Names.{Octets}
 use Rattle.dns_spec.specs.Layout.{octets16}
-use Rattle.dns_serve.specs.Reads.{Passed, Gives, GivesSome, GivesFewer, GivesBeginning, GivesPart, GivesPartOfBody, GivesMessage, GivesBody}
+use Rattle.dns_serve.specs.Reads.{Gives, GivesFewer, GivesBeginning, GivesPart, GivesPartOfBody, GivesMessage, GivesBody}
 use Rattle.dns_serve.proofs.Frames.{no_frame_short, cut_first, no_frame_inside, cut_inside, kept_front}
 
 -- what came before stands at the front of a buffer, and what comes now after it
@@ -17,14 +17,6 @@ pub came_after : (a b c : Option Octets) (front rest : Octets) (n k : ℕ) → l
 came_after a b c front rest n k len first second =
     subst (Consumes a c) (sym (take-append-add front rest k) ∙ ap (λ m. take (m + k) (front ++ rest)) len)
     (Consumes-trans a b c front (take k rest) first second)
-
--- octets that pass, and then others
-pub passed_after : (a b c : Option Octets) (n k : ℕ) (octets : Octets) → length octets ≡ k → Passed a b n → Consumes b c octets → Passed a c (n + k)
-passed_after a b c n k octets len p more = record {
-  octets = p.octets ++ octets;
-  consumed = Consumes-trans a b c p.octets octets p.consumed more;
-  count_is = length-append p.octets octets ∙ ap₂ ◌+◌ p.count_is len;
-}
 
 -- octets came, and then fewer than were asked for
 pub fewer_after : (a b c : Option Octets) (n m : ℕ) (front : Octets) → Consumes a b front → length front + m ≤ n → GivesFewer b c m → GivesFewer a c n
@@ -98,20 +90,28 @@ pub length_came : (a b : Option Octets) (buf : Octets) (count n : ℕ) → lengt
 length_came a b buf count n two more is g =
     subst (Consumes a b) (take_all count buf (omega (arith, two, more)) ∙ sym is) g.consumed
 
--- what is kept of a message came whole, and then all of the rest, or too little
-pub body_came : (a b c : Option Octets) (count kept first skipped : ℕ) (buf others : Octets) → kept ≡ min count most_over_udp → length buf ≡ kept → kept ≤ first
-    → Gives a b (length buf) first (take first buf) → count - kept ≤ skipped → GivesSome b c (count - kept) skipped → GivesBody a c count (take kept (buf ++ others))
-body_came a b c count kept first skipped buf others least len whole g all s =
-    let within : first ≤ length buf = g.within in
-    let front : take first buf ≡ buf = take_all first buf (omega (arith, len, whole)) in
-    let is_front : take kept (buf ++ others) ≡ buf = take-append-le kept buf others (omega (arith, len)) ∙ take_all kept buf (omega (arith, len)) in
-    subst (GivesBody a c count) (sym is_front)
-    (body_in_two a b c count buf s.passed.octets (subst (Consumes a b) front g.consumed) s.passed.consumed (len ∙ least) (omega (arith, s.passed.count_is, s.within, all, least)))
+-- what is kept of a message came whole, and then all of the others, or too little
+module _ (a b c : Option Octets) (count kept first then : ℕ) (buf others : Octets)
+    (least : kept ≡ min count most_over_udp) (len : length buf ≡ kept)
+    (rest : length others ≡ count - kept) (g : Gives a b (length buf) first (take first buf))
+    (s : Gives b c (length others) then (take then others)) where
+  pub body_came : (after : Octets) → kept ≤ first → count - kept ≤ then
+      → GivesBody a c count (take kept (buf ++ after))
+  body_came after whole all =
+      let front : take first buf ≡ buf = take_all first buf (omega (arith, len, whole)) in
+      let is_front : take kept (buf ++ after) ≡ buf =
+      take-append-le kept buf after (omega (arith, len)) ∙ take_all kept buf (omega (arith, len)) in
+      subst (GivesBody a c count) (sym is_front)
+      (body_in_two a b c count buf (take then others) (subst (Consumes a b) front g.consumed)
+      s.consumed (len ∙ least) (omega (arith, s.length_is, s.within, rest, all, least)))
 
-pub body_cut : (a b c : Option Octets) (count kept first skipped : ℕ) (buf : Octets) → kept ≡ min count most_over_udp → length buf ≡ kept
-    → Gives a b (length buf) first (take first buf) → skipped < count - kept → GivesSome b c (count - kept) skipped → GivesPartOfBody a c count
-body_cut a b c count kept first skipped buf least len g few s = record {
-  fewer = fewer_after a b c count (count - kept) (take first buf) g.consumed (omega (arith, g.length_is, g.within, len, least))
-      (record { octets = s.passed.octets; consumed = s.passed.consumed; fewer = omega (arith, s.passed.count_is, few) });
-  over = s.over few;
-}
+  pub body_cut : then < count - kept → GivesPartOfBody a c count
+  body_cut few = record {
+    fewer = fewer_after a b c count (count - kept) (take first buf) g.consumed
+        (omega (arith, g.length_is, g.within, len, least)) (record {
+          octets = take then others;
+          consumed = s.consumed;
+          fewer = omega (arith, s.length_is, few);
+        });
+    over = s.over (omega (arith, rest, few));
+  }

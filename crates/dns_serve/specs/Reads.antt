@@ -16,18 +16,6 @@ pub record Gives (old new : Option Octets) (most count : ℕ) (octets : Octets) 
   pub within : count ≤ most
   pub over : count < most → IsAtEnd new
 
--- so many octets, whatever they are, were taken
-pub record Passed (old new : Option Octets) (count : ℕ) : Type 0 where
-  pub octets : Octets
-  pub consumed : Consumes old new octets
-  pub count_is : length octets ≡ count
-
--- as many as were asked for, or all up to the end of the source
-pub record GivesSome (old new : Option Octets) (most count : ℕ) : Type 0 where
-  pub passed : Passed old new count
-  pub within : count ≤ most
-  pub over : count < most → IsAtEnd new
-
 -- fewer than were asked for, before the source failed
 pub record GivesFewer (old new : Option Octets) (most : ℕ) : Type 0 where
   pub octets : Octets

@@ -8,7 +8,7 @@ ghost use Rattle.dns_serve.specs.Reads.{MessageRead};
 ghost use Rattle.dns_serve.specs.Streams.{SessionOf, reply_over_tcp, source_failures_after, sink_failures_after};
 
 use crate::fault::StreamFault;
-use crate::read::{read_full, skip};
+use crate::read::read_full;
 use byteorder::{BigEndian, ByteOrder};
 use dns_answer::{TcpDraft, respond_in};
 use dns_name::{SinkFailed, Tally};
@@ -114,7 +114,7 @@ pub fn serve_stream_in<R: Read, W: Write>(
 }
 
 // Reads a message after its length, and answers how many of its octets are kept, at the front of
-// `message`; `None` at the end of the source.
+// `message`; `None` at the end of the source. The others pass through `room`.
 fn read_message<R: Read>(
     source: &mut Tally<R>,
     message: &mut [u8],
@@ -122,7 +122,7 @@ fn read_message<R: Read>(
 ) -> Result<Option<usize>, StreamFault>
     requires source { source.old.failures < 2 ^ 64 - 1 }
     requires message { length message.old ≡ 512 }
-    requires room { 0 < length room.old }
+    requires room { 65535 ≤ length room.old }
     ensures read { MessageRead (R.remaining source.old.device) (R.remaining source.new.device)
         message.new result }
     ensures kept { IfOk result (λ kept. IfSome kept (λ k. k ≤ 512)) }
@@ -142,7 +142,8 @@ fn read_message<R: Read>(
     if read_full(source, front)? < kept {
         return Err(StreamFault::Cut);
     }
-    if skip(source, room, count - kept)? < count - kept {
+    let (others, _) = room.split_at_mut(count - kept);
+    if read_full(source, others)? < count - kept {
         return Err(StreamFault::Cut);
     }
     Ok(Some(kept))

@@ -1,38 +1,29 @@
-use Rattle.std.proofs.Common.{◌≡◌, ◌+◌, ◌≤◌, ◌-◌, cond, true, false, length, sym, ap, subst, ◌∙◌, arith}
-use Rattle.std.specs.Prelude.{IfSome}
-use Rattle.dns_spec.specs.Names.{DomainName, at_or_below}
-use Rattle.dns_zone.specs.Nodes.{Walk}
-use Rattle.dns_zone.proofs.NameTree.{under-trans}
-use Rattle.dns_answer.specs.Walks.{IsLeadTo, Took}
-use Rattle.dns_answer.proofs.WaySteps.{Took-lead}
-use Rattle.dns_answer.proofs.Offering.{Offers-empty}
-use Rattle.dns_answer.proofs.TargetLaws.{none-outside}
+use Rattle.std.proofs.Common.{false, sym, ap, ◌∙◌}
+use Rattle.dns_spec.specs.Tree.{exists}
+use Rattle.dns_zone.specs.Nodes.{ZoneNode}
+use Rattle.dns_answer.specs.Targets.{addresses_of}
+use Rattle.dns_answer.proofs.Offering.{Offers-is, Offers-empty, Offers-then}
+use Rattle.dns_answer.proofs.TargetLaws.{none-outside, none-missing, addresses-folded}
 use Rattle.dns_answer.proofs.addresses.offer_address.Goals as goal
-
-pub returns-in-Some-clause-took : goal.returns-in-Some-clause-took
-returns-in-Some-clause-took g c =
-    let z = c.args.steps.now.zone in
-    let m = c.args.target.now in
-    let b = c.in-Some.ensures in
-    let node = c.in-Some.node in
-    let near = c.in-Some.nearer.depth in
-    let depth = length m - length z.origin in
-    let lead = subst (λ o. IfSome o (IsLeadTo z false)) b.at c.requires.lead in
-    let under : at_or_below m z.origin ≡ true =
-    under-trans m node.name z.origin
-    (subst (λ n. at_or_below n node.name ≡ true) b.name b.below.below) lead.inside in
-    let less : near + 1 ≤ depth = omega (arith, b.below.labels, ap length b.name, lead.longer) in
-    subst (λ d. Took c.args.steps.now c.offer_from.new.steps d 1)
-    (sym (ap (λ b. cond b depth 0) under))
-    (Took-lead b.visits less c.offer_from.ensures.took)
 
 pub returns-in_default-clause-offers : goal.returns-in_default-clause-offers
 returns-in_default-clause-offers g c =
+    Offers-empty _ (none-outside c.args.steps.now.zone c.args.target.now c.requires.apex.exists.built
+    (c.in_default.ensures.aimed c.args.steps.now.zone false (sym c.origin.ensures.value)
+    c.requires.lead))
+
+pub returns-in-Encloser-clause-offers : goal.returns-in-Encloser-clause-offers
+returns-in-Encloser-clause-offers g c =
     let z = c.args.steps.now.zone in
-    let m = c.args.target.now in
-    let origin_is : c.lent.result ≡ z.origin =
-    c.lent.ensures.value ∙ c.origin.ensures.value
-    ∙ ap (λ (w : Walk). w.zone.origin) c.in-None.ensures in
-    let outside : at_or_below m z.origin ≡ false =
-    ap (λ (o : DomainName). at_or_below m o) (sym origin_is) ∙ c.in_default.ensures in
-    Offers-empty _ (none-outside z m c.requires.apex.exists.built outside)
+    let name = c.in-Some.ensures.name in
+    Offers-empty _ (none-missing z c.args.target.now
+    (ap (exists z) (sym name) ∙ c.in-Encloser.ensures.way.missing))
+
+pub returns-clause-offers : goal.returns-clause-offers
+returns-clause-offers g c =
+    let z = c.args.steps.now.zone in
+    let name = c.in-Some.ensures.name in
+    let node = c.or_apex-node.ensures ∙ c.in-Name.ensures.way.at_name in
+    Offers-is _ _ _ _ (ap (λ (v : ZoneNode). addresses_of v.zone v.name) node
+    ∙ addresses-folded z c.in-Some.sought.name ∙ ap (addresses_of z) name)
+    (Offers-then _ _ _ _ _ c.offer_type.ensures c.offer_type-2.ensures)

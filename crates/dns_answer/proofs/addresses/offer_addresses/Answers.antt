@@ -1,10 +1,10 @@
-use Rattle.std.proofs.Common.{inr, ◌≡◌, List, take, take_all, ◌<◌, get_or, length, [], ◌&&◌, refl, sym, ap, ap₂, ◌∙◌, subst, arith}
+use Rattle.std.proofs.Common.{inr, ◌≡◌, List, take, take_all, ◌<◌, length, ◌&&◌, refl, sym, ap, ap₂, ◌∙◌, subst, arith}
 use Rattle.dns_spec.specs.Records.{ZoneContents}
 use Rattle.dns_spec.specs.Data.{target}
 use Rattle.std.specs.List.{filter_map, list_all}
 use Rattle.dns_spec.specs.Names.{Octets}
 use Rattle.dns_answer.specs.Walks.{Took}
-use Rattle.dns_answer.specs.Targets.{target_nodes, target_misses, side_takes}
+use Rattle.dns_answer.specs.Targets.{target_at, target_nodes, target_misses, side_takes}
 use Rattle.dns_answer.proofs.Taking.{Took-none, Took-then, Took-within}
 use Rattle.dns_answer.proofs.Offering.{Offers-is, Offers-empty, Offers-then}
 use Rattle.dns_answer.proofs.TargetLaws.{side_items-none, side_items-more, Took-more, Took-rest, Offers-rest, all-more}
@@ -27,7 +27,7 @@ targets-preserved g c =
     let i = c.targets.i in
     let inside : i < length set.rdata =
     omega (arith, c.targets-test.true, c.len-i-end.ensures.value) in
-    let o = target set.rtype (get_or set.rdata i []) in
+    let o = target_at i set in
     let one = c.offer_target-all.ensures in
     let offered = rw inv.took.zone at one.offers in
     let taken = subst (λ (y : ZoneContents). Took c.targets.steps c.offer_target-all.new.steps

@@ -1,28 +1,19 @@
-use Rattle.std.proofs.Common.{◌||◌, ◌∷◌, true, false, inr, sym, ap, ◌∙◌, arith, Some}
-use Rattle.dns_spec.specs.Names.{folded, same}
+use Rattle.std.proofs.Common.{◌∷◌, true, false, sym, ap, ◌∙◌, arith, Some}
+use Rattle.dns_spec.specs.Names.{DomainName, folded, at_or_below}
 use Rattle.dns_answer.specs.Seeking.{names_of}
-use Rattle.dns_answer.proofs.SeekSteps.{any-names, names-count, unsought-is}
+use Rattle.dns_answer.proofs.SeekSteps.{names-count, unsought-is}
 use Rattle.dns_answer.proofs.chain.next_sought.Goals as goal
 
-pub returns-then-is_among : goal.returns-then-is_among
-returns-then-is_among c =
-    let m = c.in_ok-next.next.name in
-    let s = c.args.sought.now.name in
-    inr (unsought-is c.args.origin.now m (s ∷ names_of c.args.earlier.now) _ true
-    (sym c.target.ensures.value ∙ c.in_ok-target.was ∙ ap Some (sym c.in_ok-next.ensures.0))
-    c.in_ok-next.ensures.1.below
-    (ap (λ b. same m s || b) (sym (any-names m c.args.earlier.now)) ∙ sym c.if-is_among.ensures))
-
 pub returns : goal.returns
-returns c =
-    let m = c.in_ok-next.next.name in
-    let s = c.args.sought.now.name in (
+returns c = λ z same_origin lead.
+    let name = c.in_ok-next.ensures.name in
+    let aimed = c.in_ok-next.ensures.aimed z true same_origin lead in (
       omega (arith, names-count c.args.earlier.now, c.if-earlier-ge-MOST_ALIASES.false),
-      unsought-is c.args.origin.now m (s ∷ names_of c.args.earlier.now) _ false
-          (sym c.target.ensures.value ∙ c.in_ok-target.was ∙ ap Some (sym c.in_ok-next.ensures.0))
-          c.in_ok-next.ensures.1.below
-          (ap (λ b. same m s || b) (sym (any-names m c.args.earlier.now)) ∙ sym c.is_among.ensures
-          ∙ c.if-is_among.false),
-      c.in_ok-next.ensures.1,
-      ap folded c.in_ok-next.ensures.0 ∙ c.in_ok-target.ensures.lower ∙ sym c.in_ok-next.ensures.0,
+      unsought-is z.origin c.in_ok-next.next.name
+          (c.args.sought.now.name ∷ names_of c.args.earlier.now) _ false
+          (sym c.target.ensures.value ∙ c.in_ok-target.was ∙ ap Some (sym name))
+          (ap (λ (n : DomainName). at_or_below n z.origin) name ∙ aimed.0)
+          (sym c.is_among.ensures ∙ c.if-is_among.false),
+      aimed.1,
+      ap folded name ∙ c.in_ok-target.ensures.lower ∙ sym name,
     )

@@ -21,8 +21,8 @@ returns-then-not-are_all_inside-clause-ends g c =
     let set = c.in-Some.ensures in
     let first = c.offer_addresses-are_all_inside in
     let named = c.in-Some-owner.ensures.name in
-    Ends-referred c.args.steps.now.zone c.args.cut.now c.in-Some.servers c.requires.cut.1.zone
-    set.set set.rtype set.kept (rw (named, c.ttl.ensures) at c.offer.ensures)
+    Ends-referred _ _ c.in-Some.servers c.requires.cut.1.zone set.set set.rtype set.kept
+    (rw (named, c.ttl.ensures) at c.offer.ensures)
     (rw named at first.ensures.offers)
     (rw (first.ensures.took.zone, named) at c.offer_addresses.ensures.offers) refl refl
     c.is_full-is_truncated.ensures
@@ -32,8 +32,8 @@ returns-then-not-are_all_inside-clause-took g c =
     let set = c.in-Some.ensures in
     let first = c.offer_addresses-are_all_inside in
     let named = c.in-Some-owner.ensures.name in
-    Took-referred c.args.steps.now.zone c.args.cut.now c.in-Some.servers c.requires.cut.1.zone
-    set.set set.rtype set.kept first.new.steps.zone first.ensures.took.zone
+    Took-referred _ _ c.in-Some.servers c.requires.cut.1.zone set.set set.rtype set.kept
+    first.new.steps.zone first.ensures.took.zone
     (rw named at first.ensures.took) (rw named at c.offer_addresses.ensures.took)
 
 -- where all targets are at or below the cut, or the reply is full, nothing is offered for others
@@ -44,14 +44,14 @@ returns-else-not-are_all_inside-clause-ends g c =
     let named = c.in-Some-owner.ensures.name in
     let others = Offers-others c.args.steps.now.zone c.in-Some-owner.owner first.new.draft
     (set_targets c.in-Some.servers) _ first.ensures.all c.if-not-are_all_inside.false in
-    Ends-referred c.args.steps.now.zone c.args.cut.now c.in-Some.servers c.requires.cut.1.zone
-    set.set set.rtype set.kept (rw (named, c.ttl.ensures) at c.offer.ensures)
+    Ends-referred _ _ c.in-Some.servers c.requires.cut.1.zone set.set set.rtype set.kept
+    (rw (named, c.ttl.ensures) at c.offer.ensures)
     (rw named at first.ensures.offers) (rw named at others) refl refl c.is_full-is_truncated.ensures
 
 pub returns-else-not-are_all_inside-clause-took : goal.returns-else-not-are_all_inside-clause-took
 returns-else-not-are_all_inside-clause-took g c =
     let set = c.in-Some.ensures in
     let named = c.in-Some-owner.ensures.name in
-    Took-referred c.args.steps.now.zone c.args.cut.now c.in-Some.servers c.requires.cut.1.zone
-    set.set set.rtype set.kept c.args.steps.now.zone refl
+    Took-referred _ _ c.in-Some.servers c.requires.cut.1.zone set.set set.rtype set.kept
+    c.args.steps.now.zone refl
     (rw named at c.offer_addresses-are_all_inside.ensures.took) Took-none

@@ -1,17 +1,20 @@
 use Rattle.std.proofs.Common.{◌≡◌, ◌+◌, ◌*◌, ◌≤◌, drop}
-use Rattle.dns_answer.specs.Walks.{IsThere, ends_at_cuts}
+use Rattle.dns_answer.specs.Walks.{IsThere, ends_at_cuts, labels_below}
 use Rattle.dns_answer.proofs.lookup.walk.Given as goal
 
 -- the node is that of the name without its first labels, of which so many are left
 abbrev pub invariant-labels : goal.invariant-labels
-invariant-labels l = record {
-  there : IsThere l.fn.steps.zone l.start (ends_at_cuts l.cuts) (drop l.before l.sought.name) l.node;
-  fewer : l.before ≤ l.sought.depth;
-  zone : l.steps.zone ≡ l.fn.steps.zone;
-  from : l.fn.steps.visits ≤ l.steps.visits;
-  visits : l.steps.visits + l.before ≤ l.fn.steps.visits + l.sought.depth;
-  comparisons : l.steps.comparisons + 17 * l.fn.steps.visits ≤ l.fn.steps.comparisons + 17 * l.steps.visits;
-}
+invariant-labels l =
+    let z = l.fn.steps.zone in
+    record {
+      there : IsThere z l.apex (ends_at_cuts l.cuts) (drop l.before l.sought.name) l.node;
+      fewer : l.before ≤ l.sought.depth;
+      zone : l.steps.zone ≡ z;
+      from : l.fn.steps.visits ≤ l.steps.visits;
+      visits : l.steps.visits + l.before ≤ l.fn.steps.visits + labels_below z l.sought.name;
+      comparisons : l.steps.comparisons + 17 * l.fn.steps.visits
+          ≤ l.fn.steps.comparisons + 17 * l.steps.visits;
+    }
 
 abbrev pub decreases-labels : goal.decreases-labels
 decreases-labels l = l.before

@@ -3,6 +3,9 @@ use Rattle.dns_spec.specs.Names.{is_name}
 use Rattle.dns_spec.specs.Records.{ZoneContents}
 use Rattle.dns_spec.specs.Reading.{MessageQuestion}
 use Rattle.dns_zone.specs.Starts.{IsBelow}
+use Rattle.std.proofs.lemmas.List.Elements.{All-nil}
+use Rattle.dns_spec.specs.Names.{folded}
+use Rattle.dns_zone.specs.declared.sought.Sought.{Sought}
 use Rattle.dns_answer.specs.Draft.{empty_draft}
 use Rattle.dns_answer.specs.DraftForm.{Holds}
 use Rattle.dns_answer.specs.Walks.{IsApex}
@@ -14,15 +17,17 @@ pub seek-followed_alias-requires : goal.seek-followed_alias-requires
 seek-followed_alias-requires g c =
     let apex = c.apex-apex.ensures in (
       search rules,
-      (
-        subst (λ z. IsApex z c.apex-apex.result) (sym apex.zone)
-            (record { node = apex.node; exists = apex.exists }),
-        (
-          subst (λ (z : ZoneContents). IsBelow c.args.sought z.origin) (sym apex.zone)
-              c.requires.below,
-          record { visits = omega arith; comparisons = omega arith },
-        ),
-      ),
+      record {
+        apex = subst (λ z. IsApex z c.apex-apex.result) (sym apex.zone)
+            (record { node = apex.node; exists = apex.exists });
+        aim = record {
+          lead = tt;
+          below = subst (λ (z : ZoneContents). IsBelow c.args.sought z.origin) (sym apex.zone)
+              c.requires.below;
+        };
+        lower = record { last = λ h. absurd (omega (arith, h)); others = All-nil (λ (s : Sought). folded s.name ≡ s.name) };
+        room = record { visits = omega arith; comparisons = omega arith };
+      },
     )
 
 pub returns-clause-reply : goal.returns-clause-reply
@@ -56,4 +61,4 @@ returns-clause-costs g c =
     c.seek-followed_alias.new.steps name c.requires.asked
     (ap (λ (q : MessageQuestion). q.qtype) c.question.view_is)
     c.requires.visits c.requires.comparisons c.apex-apex.ensures.visits
-    c.apex-apex.ensures.comparisons c.apex-apex.ensures.zone c.seek-followed_alias.ensures.took
+    c.apex-apex.ensures.comparisons c.apex-apex.ensures.zone c.seek-followed_alias.ensures.seeks.took

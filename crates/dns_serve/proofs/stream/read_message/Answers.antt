@@ -42,10 +42,10 @@ returns-then-branch-kept-clause-read g c =
       over = came.over (omega (arith, few, front));
     })
 
-pub returns-in_err-skip-clause-read : goal.returns-in_err-skip-clause-read
-returns-in_err-skip-clause-read g c =
-    let p = err_from_is_err_and c.from_residual-in_err-skip.result
-    c.from_residual-in_err-skip.ensures.1 in
+pub returns-in_err-read_full-2-clause-read : goal.returns-in_err-read_full-2-clause-read
+returns-in_err-read_full-2-clause-read g c =
+    let p = err_from_is_err_and c.from_residual-in_err-read_full-2.result
+    c.from_residual-in_err-read_full-2.ensures.1 in
     let length =
     length_came _ _ c.read_full.new.buf _ _ c.read_full.auto.buf c.if-came-lt2.false
     c.message_length-count.ensures.octets c.in_ok-came.ensures.ok in
@@ -54,7 +54,7 @@ returns-in_err-skip-clause-read g c =
     let fits = c.min-kept.ensures in
     rw (p.1, p.2) (beginning_after _ _ _ _ c.message_length-count.ensures.below length
     (fewer_after _ _ _ _ _ _ came.consumed
-    (omega (arith, came.length_is, came.within, fits, front)) c.in_err-skip.ensures.err))
+    (omega (arith, came.length_is, came.within, fits, front)) c.in_err-read_full-2.ensures.err))
 
 pub returns-then-branch-count-clause-read : goal.returns-then-branch-count-clause-read
 returns-then-branch-count-clause-read g c =
@@ -62,9 +62,10 @@ returns-then-branch-count-clause-read g c =
     length_came _ _ c.read_full.new.buf _ _ c.read_full.auto.buf c.if-came-lt2.false
     c.message_length-count.ensures.octets c.in_ok-came.ensures.ok in
     let front = c.read_full-2.auto.buf ∙ c.split_at_mut-front.ensures.front_len in
+    let others = c.read_full-3.auto.buf ∙ c.split_at_mut-others.ensures.front_len in
     part_after _ _ _ _ c.message_length-count.ensures.below length
-    (body_cut _ _ _ _ _ _ _ c.read_full-2.new.buf c.min-kept.ensures front
-    c.in_ok-read_full.ensures.ok c.if-branch-count.true c.in_ok-skip.ensures.ok)
+    (body_cut _ _ _ _ _ _ _ c.read_full-2.new.buf c.read_full-3.new.buf c.min-kept.ensures front
+    others c.in_ok-read_full.ensures.ok c.in_ok-read_full-2.ensures.ok c.if-branch-count.true)
 
 pub returns-clause-read : goal.returns-clause-read
 returns-clause-read g c =
@@ -72,7 +73,8 @@ returns-clause-read g c =
     length_came _ _ c.read_full.new.buf _ _ c.read_full.auto.buf c.if-came-lt2.false
     c.message_length-count.ensures.octets c.in_ok-came.ensures.ok in
     let front = c.read_full-2.auto.buf ∙ c.split_at_mut-front.ensures.front_len in
+    let others = c.read_full-3.auto.buf ∙ c.split_at_mut-others.ensures.front_len in
     message_after _ _ _ _ _ c.message_length-count.ensures.below length
-    (body_came _ _ _ _ _ _ _ c.read_full-2.new.buf _ c.min-kept.ensures front
-    c.if-branch-kept.false c.in_ok-read_full.ensures.ok c.if-branch-count.false
-    c.in_ok-skip.ensures.ok)
+    (body_came _ _ _ _ _ _ _ c.read_full-2.new.buf c.read_full-3.new.buf c.min-kept.ensures front
+    others c.in_ok-read_full.ensures.ok c.in_ok-read_full-2.ensures.ok _ c.if-branch-kept.false
+    c.if-branch-count.false)
