@@ -147,7 +147,7 @@ fn offer_address<'z, const N: usize, const SIZE: usize>(
     ensures offers { Offers draft.old draft.new (addresses_of steps.old.zone target.now) }
     ensures took { Took steps.old steps.new (depth_in steps.old.zone target.now) 1 }
 {
-    let Some((sought, lead)) = aim(target, lead, steps.origin()) else {
+    let Some((sought, lead)) = aim(target, lead, &steps.origin().lent()) else {
         return;
     };
     let node = match walk(&sought, lead, apex, Cuts::Pass, steps) {

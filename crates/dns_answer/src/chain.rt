@@ -156,7 +156,7 @@ fn next_sought<'z>(
     if earlier.len() >= MOST_ALIASES {
         return None;
     }
-    let (next, lead) = aim(&alias.target(0)?, lead, origin)?;
+    let (next, lead) = aim(&alias.target(0)?, lead, &origin.lent())?;
     if is_among(&next.name, sought, earlier) {
         return None;
     }

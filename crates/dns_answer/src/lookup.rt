@@ -6,7 +6,7 @@ ghost use Rattle.dns_spec.specs.Sets.{set_of};
 ghost use Rattle.dns_spec.specs.Tree.{exists, asterisk};
 ghost use Rattle.dns_answer.specs.Walks.{IsApex, IsLeadTo, IsAim, IsAimed, labels_below, node_or, ends_at_cuts, WalkedTo, FoundAs, HasRoom, Took, TookWay, TookChild, missed, one_if};
 
-use dns_name::{Label, Name, NameRef};
+use dns_name::{Label, NameRef};
 use dns_rdata::RType;
 use dns_zone::{Lead, MOST_LABELS, Node, Sought, Steps, label_after, put_starts};
 
@@ -95,7 +95,7 @@ fn wildcard_below<'z>(encloser: &Node<'z>, steps: &mut Steps<'z>) -> Option<Node
 pub(crate) fn aim<'n, 'z>(
     name: &NameRef<'n>,
     lead: Option<Lead<'z>>,
-    origin: &Name,
+    origin: &NameRef<'_>,
 ) -> Option<(Sought<'n>, Option<Lead<'z>>)>
     ensures name { IfSome result (λ (sought, _). sought.name ≡ name.now) }
     ensures aimed { (z : ZoneContents) (ends : Bool) → z.origin ≡ origin.now
@@ -106,7 +106,7 @@ pub(crate) fn aim<'n, 'z>(
             return Some((sought, Some(lead)));
         }
     }
-    Some((Sought::below(name, &origin.lent())?, None))
+    Some((Sought::below(name, origin)?, None))
 }
 
 /// The way down to a name from where it begins (RFC 1034 4.3.2 step 3b). The labels are taken from

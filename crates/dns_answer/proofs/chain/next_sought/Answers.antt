@@ -7,7 +7,8 @@ use Rattle.dns_answer.proofs.chain.next_sought.Goals as goal
 pub returns : goal.returns
 returns c = λ z same_origin lead.
     let name = c.in_ok-next.ensures.name in
-    let aimed = c.in_ok-next.ensures.aimed z true same_origin lead in (
+    let aimed = c.in_ok-next.ensures.aimed z true
+    (same_origin ∙ sym c.lent.ensures.value) lead in (
       omega (arith, names-count c.args.earlier.now, c.if-earlier-ge-MOST_ALIASES.false),
       unsought-is z.origin c.in_ok-next.next.name
           (c.args.sought.now.name ∷ names_of c.args.earlier.now) _ false
