@@ -1,11 +1,12 @@
 -- Words are taken from the left, each by its form: what those of one piece say, and then those of
 -- the pieces after it, is what all say by all forms.
 use Rattle.std.proofs.Common.{◌≡◌, ℕ, suc, ◌+◌, ◌-◌, ◌<◌, ◌≤◌, List, [], ◌∷◌, ◌++◌, length, take, drop, get_or, replicate, refl, sym, ap, ◌∙◌, subst, arith}
-use Rattle.std.proofs.lemmas.List.{append_assoc, append-nil, length-append, length-replicate, map-append, nil_from_length, replicate-append-replicate, take-append-drop, take_all, take_more}
+use Rattle.std.proofs.lemmas.List.{append_assoc, append-nil, length-append, length-replicate, length-map, map-append, nil_from_length, replicate-append-replicate, take-append-drop, take_all, take_more}
 use Rattle.std.proofs.lemmas.Grind.{flat_map-append}
 use Rattle.std.specs.List.{flat_map}
+use Rattle.std.specs.Char.{to_ascii_lowercase}
 use Rattle.dns_spec.specs.Names.{Octets, DomainName}
-use Rattle.dns_spec.specs.DataText.{Word, WordForm, SaysWord, SaysForms, forms_in}
+use Rattle.dns_spec.specs.DataText.{Word, WordForm, number_word, ipv4_word, ipv6_word, name_word, string_word, SaysWord, SaysForms, forms_in}
 use Rattle.dns_rdata.specs.declared.table.Piece as code
 use Rattle.dns_rdata.specs.TypeRows.{piece_of, pieces_in}
 use Rattle.dns_rdata.specs.WordForms.{kept, Appends, SaysKept, AppendsFront, SaysNoFront}
@@ -24,11 +25,18 @@ kept_said [] origin (w ∷ ws) d e h = absurd h
 kept_said (f ∷ fs) origin [] d e h = absurd h
 kept_said (f ∷ fs) origin (w ∷ ws) d e (front, back, low, is, kept_is, said, h) = (front, back, is, said, kept_said fs origin ws back low h)
 
+length-kept : (f : WordForm) (d : Octets) → length (kept f d) ≡ length d
+length-kept (number_word k) d = refl
+length-kept ipv4_word d = refl
+length-kept ipv6_word d = refl
+length-kept name_word d = length-map d to_ascii_lowercase
+length-kept string_word d = refl
+
 module _ (origin : DomainName) where
   -- no word was taken yet
   pub front-none : (ws : List Word) (octets : Octets) → AppendsFront [] origin ws ws octets octets
   front-none ws octets =
-      record { spelled = []; low = []; grown = sym (append-nil octets); count = omega arith; on = λ gs d e h. h; back = λ gs d h. (d, h, refl) }
+      record { spelled = []; low = []; grown = sym (append-nil octets); as_long = refl; count = omega arith; on = λ gs d e h. h; back = λ gs d h. (d, h, refl) }
 
   -- the first word was taken
   pub front-word : (f : WordForm) (w : Word) (ws rest : List Word) (octets octets' : Octets) → ws ≡ w ∷ rest → Appends (kept f) (SaysWord f origin w) octets octets'
@@ -39,6 +47,7 @@ module _ (origin : DomainName) where
         spelled = a.spelled;
         low = kept f a.spelled;
         grown = a.grown;
+        as_long = length-kept f a.spelled;
         count = omega arith;
         on = λ gs d low h. (a.spelled, d, low, refl, refl, a.said, h);
         back = λ gs d h. (h.1, h.4, h.2 ∙ ap (λ x. x ++ h.1) (a.only h.0 h.3));
@@ -51,6 +60,7 @@ module _ (origin : DomainName) where
     spelled = a.spelled ++ b.spelled;
     low = a.low ++ b.low;
     grown = b.grown ∙ ap (λ v. v ++ b.low) a.grown ∙ append_assoc x a.low b.low;
+    as_long = omega (arith, a.as_long, b.as_long, length-append a.low b.low, length-append a.spelled b.spelled);
     count = omega (arith, a.count, b.count, length-append fs gs);
     on = λ hs d e h. simp append_assoc (a.on (gs ++ hs) (b.spelled ++ d) (b.low ++ e) (b.on hs d e h));
     back = λ hs d h.
@@ -60,24 +70,30 @@ module _ (origin : DomainName) where
   }
 
   -- the first word is none of its form
-  pub no-word : (f : WordForm) (w : Word) (ws rest : List Word) → ws ≡ w ∷ rest → ((d : Octets) → SaysWord f origin w d → ⊥) → SaysNoFront (f ∷ []) origin ws
-  no-word f w ws rest e none gs d h =
+  pub no-word : (n : ℕ) (f : WordForm) (w : Word) (ws rest : List Word) → ws ≡ w ∷ rest → ((d : Octets) → SaysWord f origin w d → ⊥) → SaysNoFront n (f ∷ []) origin ws
+  no-word n f w ws rest e none gs d h short =
       let said = subst (λ v. SaysForms (f ∷ gs) origin v d) e h in
       none said.0 said.3
 
+  -- what was appended for the first words is too long
+  pub too-long : (fs : List WordForm) (ws rest : List Word) (x y : Octets) → AppendsFront fs origin ws rest x y → 65535 < length y → SaysNoFront (length x) fs origin ws
+  too-long fs ws rest x y a over gs d h short =
+      let r = a.back gs d h in
+      omega (arith, over, short, ap length r.2, length-append a.spelled r.0, ap length a.grown, length-append x a.low, a.as_long)
+
   -- the words after those that were taken say nothing
-  pub no-rest : (fs gs : List WordForm) (ws mid : List Word) (x y : Octets) → AppendsFront fs origin ws mid x y → SaysNoFront gs origin mid → SaysNoFront (fs ++ gs) origin ws
-  no-rest fs gs ws mid x y a none hs d h =
+  pub no-rest : (fs gs : List WordForm) (ws mid : List Word) (x y : Octets) → AppendsFront fs origin ws mid x y → SaysNoFront (length y) gs origin mid → SaysNoFront (length x) (fs ++ gs) origin ws
+  no-rest fs gs ws mid x y a none hs d h short =
       let r = a.back (gs ++ hs) d (subst (λ v. SaysForms v origin ws d) (append_assoc fs gs hs) h) in
-      none hs r.0 r.1
+      none hs r.0 r.1 (omega (arith, short, ap length r.2, length-append a.spelled r.0, ap length a.grown, length-append x a.low, a.as_long))
 
   -- nor do they with further words
-  pub no-more : (fs gs : List WordForm) (ws : List Word) → SaysNoFront fs origin ws → SaysNoFront (fs ++ gs) origin ws
-  no-more fs gs ws none hs d h = none (gs ++ hs) d (subst (λ v. SaysForms v origin ws d) (append_assoc fs gs hs) h)
+  pub no-more : (n : ℕ) (fs gs : List WordForm) (ws : List Word) → SaysNoFront n fs origin ws → SaysNoFront n (fs ++ gs) origin ws
+  no-more n fs gs ws none hs d h = none (gs ++ hs) d (subst (λ v. SaysForms v origin ws d) (append_assoc fs gs hs) h)
 
   -- so the words, where they are all, say nothing
-  pub no-all : (fs : List WordForm) (ws : List Word) → SaysNoFront fs origin ws → (d : Octets) → SaysForms fs origin ws d → ⊥
-  no-all fs ws none d h = none [] d (subst (λ v. SaysForms v origin ws d) (sym (append-nil fs)) h)
+  no-all : (n : ℕ) (fs : List WordForm) (ws : List Word) → SaysNoFront n fs origin ws → (d : Octets) → SaysForms fs origin ws d → n + length d ≤ 65535 → ⊥
+  no-all n fs ws none d h = none [] d (subst (λ v. SaysForms v origin ws d) (sym (append-nil fs)) h)
 
 -- so many of a form, and one more
 pub once_more : (f : WordForm) (n : ℕ) → replicate n f ++ f ∷ [] ≡ replicate (n + 1) f
@@ -128,12 +144,12 @@ module _ (k : ℕ) (pieces : List code.Piece) (i : ℕ) (p : code.Piece) (inside
       subst (λ fs. AppendsFront fs origin ws rest x z) forms-up (front-joined origin (forms_for k (take i pieces)) (replicate n f) ws mid rest x y z a b)
 
   -- where the words left say no run, all say nothing
-  pub run-refused : (origin : DomainName) (ws rest : List Word) (x y : Octets) → AppendsFront (forms_for k (take i pieces)) origin ws rest x y → SaysNoFront (replicate n f) origin rest
-      → (d : Octets) → SaysForms (forms_for k pieces) origin ws d → ⊥
+  pub run-refused : (origin : DomainName) (ws rest : List Word) (x y : Octets) → AppendsFront (forms_for k (take i pieces)) origin ws rest x y → SaysNoFront (length y) (replicate n f) origin rest
+      → (d : Octets) → SaysForms (forms_for k pieces) origin ws d → length x + length d ≤ 65535 → ⊥
   run-refused origin ws rest x y a none =
       let so_far = no-rest origin (forms_for k (take i pieces)) (replicate n f) ws rest x y a none in
-      no-all origin (forms_for k pieces) ws
-      (subst (λ fs. SaysNoFront fs origin ws) forms-whole (no-more origin (forms_for k (take i pieces) ++ replicate n f) (forms_for k (drop (i + 1) pieces)) ws so_far))
+      no-all origin (length x) (forms_for k pieces) ws
+      (subst (λ fs. SaysNoFront (length x) fs origin ws) forms-whole (no-more origin (length x) (forms_for k (take i pieces) ++ replicate n f) (forms_for k (drop (i + 1) pieces)) ws so_far))
 
 -- the words of all pieces are taken
 pub pieces-taken : (k : ℕ) (pieces : List code.Piece) (i : ℕ) (origin : DomainName) (ws rest : List Word) (x y : Octets) → length pieces ≤ i

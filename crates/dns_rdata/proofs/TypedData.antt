@@ -1,6 +1,6 @@
 -- What words say by the forms of a type is data of the type, where it is not too long, and what is kept of it is that data
 -- in lower case.
-use Rattle.std.proofs.Common.{◌≡◌, ◌↔◌, ℕ, zero, suc, ◌*◌, ◌<◌, ◌≤◌, Bool, true, false, ◌&&◌, nat_le, ◌==◌, List, [], ◌∷◌, ◌++◌, map, max, length, replicate, Option, Some, refl, sym, ap, ◌∙◌, subst, arith, append-nil, append_assoc, length-append}
+use Rattle.std.proofs.Common.{◌≡◌, ◌↔◌, ℕ, zero, suc, ◌*◌, ◌≤◌, Bool, true, false, ◌&&◌, nat_le, ◌==◌, List, [], ◌∷◌, ◌++◌, map, max, length, replicate, Option, Some, refl, sym, ap, ◌∙◌, subst, arith, append-nil, append_assoc, length-append}
 use Rattle.std.specs.List.{list_all, flat_map}
 use Rattle.std.specs.Option.{is_some, option_map, unwrap_or}
 use Rattle.std.specs.Prelude.{MatchOption}
@@ -209,11 +209,11 @@ module _ (t : ℕ) (row : TypeRow) (origin : DomainName) (ws : List Word) (count
     leb-true _ _ (and_parts (nat_le (length said.as_spelled) 65535) _ said.is_valid).0,
   )
 
-  pub nothing_typed : ((d : Octets) → SaysForms (flat_map (forms_in count) row.pieces) origin ws d → ⊥) → (d : Octets) → Says t ws origin d → ⊥
-  nothing_typed none d said = let r = by_row d said in none r.0 r.1
+  pub nothing_typed : ((d : Octets) → SaysForms (flat_map (forms_in count) row.pieces) origin ws d → length d ≤ 65535 → ⊥) → (d : Octets) → Says t ws origin d → ⊥
+  nothing_typed none d said = let r = by_row d said in none r.0 r.1 r.2
 
   pub other_count : (length (flat_map (forms_in count) row.pieces) ≡ count → ⊥) → (d : Octets) → Says t ws origin d → ⊥
-  other_count other = nothing_typed (λ d forms. other (as_many_words (flat_map (forms_in count) row.pieces) origin ws d forms ∙ sym counted))
+  other_count other = nothing_typed (λ d forms _. other (as_many_words (flat_map (forms_in count) row.pieces) origin ws d forms ∙ sym counted))
 
   -- all words were taken
   module _ (e : Octets) (a : AppendsFront (flat_map (forms_in count) row.pieces) origin ws [] [] e) where
@@ -237,9 +237,3 @@ module _ (t : ℕ) (row : TypeRow) (origin : DomainName) (ws : List Word) (count
           is_valid = and_from (nat_le (length a.spelled) 65535) _ (le-leb (length a.spelled) 65535 (omega (arith, short, as_long))) (ap is_some cut_is);
           lower = ap (λ y. joined (map part_folded (unwrap_or y (octets a.spelled ∷ [])))) cut_is ∙ cut_of.lowered;
         }
-
-    pub typed_long : 65535 < length e → (d : Octets) → Says t ws origin d → ⊥
-    typed_long over d said =
-        let r = by_row d said in
-        let b = a.back [] r.0 (subst (λ v. SaysForms v origin ws r.0) (sym (append-nil (flat_map (forms_in count) row.pieces))) r.1) in
-        omega (arith, over, as_long, r.2, ap length b.2, length-append a.spelled b.0)

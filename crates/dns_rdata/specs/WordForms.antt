@@ -1,6 +1,6 @@
 -- What a reader learns here: what the code's forms of words are in the words of the definitions,
 -- and what is appended for a word.
-use Rattle.std.specs.Prelude.{◌≡◌, ◌+◌, Bool, false, List, [], ◌∷◌, ◌++◌, length, map}
+use Rattle.std.specs.Prelude.{◌≡◌, ℕ, ◌+◌, ◌≤◌, Bool, false, List, [], ◌∷◌, ◌++◌, length, map}
 use Rattle.std.specs.Char.{to_ascii_lowercase}
 use Rattle.dns_spec.specs.Names.{Octets, DomainName}
 use Rattle.dns_spec.specs.DataText as text
@@ -49,16 +49,19 @@ pub record AppendsFront (fs : List text.WordForm) (origin : DomainName) (ws rest
   pub spelled : Octets
   pub low : Octets
   pub grown : after ≡ before ++ low
+  pub as_long : length low ≡ length spelled
   pub count : length ws ≡ length fs + length rest
   pub on : (gs : List text.WordForm) (d e : Octets) → SaysKept gs origin rest d e
       → SaysKept (fs ++ gs) origin ws (spelled ++ d) (low ++ e)
   pub back : (gs : List text.WordForm) (d : Octets) → SaysForms (fs ++ gs) origin ws d
       → (e : Octets) × SaysForms gs origin rest e × (d ≡ spelled ++ e)
 
--- the first words say nothing by these forms, whatever stands after them
-abbrev pub SaysNoFront : List text.WordForm → DomainName → List text.Word → Type 0
-SaysNoFront fs origin ws =
-    (gs : List text.WordForm) (d : Octets) → SaysForms (fs ++ gs) origin ws d → ⊥
+-- the first words, after n octets of the data, say nothing of data of at most 65,535 octets by these
+-- forms, whatever stands after them
+abbrev pub SaysNoFront : ℕ → List text.WordForm → DomainName → List text.Word → Type 0
+SaysNoFront n fs origin ws =
+    (gs : List text.WordForm) (d : Octets) → SaysForms (fs ++ gs) origin ws d
+    → n + length d ≤ 65535 → ⊥
 
 -- whether the first word is the unquoted `\#`
 abbrev pub is_marked : List text.Word → Bool

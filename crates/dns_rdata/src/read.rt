@@ -1,8 +1,8 @@
 //! Data from the words of a zone file (RFC 1035 5.1, RFC 3597 5).
-ghost use Rattle.std.specs.Prelude.{◌≡◌, ◌≢◌, ◌≤◌, [], length, IfOk, IfErr, OnOk};
+ghost use Rattle.std.specs.Prelude.{◌≡◌, ◌≢◌, [], length, IfOk, IfErr};
 ghost use Rattle.dns_spec.specs.Names.{Octets};
 ghost use Rattle.dns_spec.specs.Data.{Valid};
-ghost use Rattle.dns_spec.specs.DataText.{Says, SaysAsSpelled};
+ghost use Rattle.dns_spec.specs.DataText.{Says};
 
 use crate::fault::RdataFault;
 use crate::rdata::Rdata;

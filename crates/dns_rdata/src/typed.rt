@@ -65,11 +65,7 @@ pub(crate) fn put_typed<'w, W: Words<'w>>(
     if !is_word_count(row.pieces, count) {
         return Err(RdataFault::WordCount);
     }
-    append_words(row.pieces, count, words, origin, name, octets)?;
-    if octets.len() > MAX_OCTETS {
-        return Err(RdataFault::BadString);
-    }
-    Ok(())
+    append_words(row.pieces, count, words, origin, name, octets)
 }
 
 // Whether pieces have so many words, where the record has so many.
@@ -121,9 +117,10 @@ fn append_words<'w, W: Words<'w>>(
         ≡ length (W.to_come words) }
     ensures ok { OnOk result (AppendsFront (flat_map (forms_in count) (pieces_in pieces.now))
         origin.now (W.to_come words) [] [] octets.new.items) }
+    ensures bound { OnOk result (length octets.new.items ≤ 65535) }
     ensures fault { IfErr result (λ fault. fault ≢ RdataFault.NoMemory → (d : Octets)
         → SaysForms (flat_map (forms_in count) (pieces_in pieces.now)) origin.now
-        (W.to_come words) d → ⊥) }
+        (W.to_come words) d → length d ≤ 65535 → ⊥) }
 {
     let mut words = words;
     'pieces: for piece in pieces {
@@ -140,11 +137,13 @@ fn append_run<'w, W: Words<'w>>(
     name: &mut Name,
     octets: &mut Vec<u8>,
 ) -> Result<W, RdataFault>
-    requires { run.times ≤ length (W.to_come words) }
+    requires words { run.times ≤ length (W.to_come words) }
+    requires bound { length octets.old.items ≤ 65535 }
     ensures ok { IfOk result (λ others. AppendsFront (replicate run.times (form_of run.form))
         origin.now (W.to_come words) (W.to_come others) octets.old.items octets.new.items) }
+    ensures bound { IfOk result (λ _. length octets.new.items ≤ 65535) }
     ensures fault { IfErr result (λ fault. fault ≢ RdataFault.NoMemory
-        → SaysNoFront (replicate run.times (form_of run.form)) origin.now (W.to_come words)) }
+        → SaysNoFront (length octets.old.items) (replicate run.times (form_of run.form)) origin.now (W.to_come words)) }
 {
     let mut others = words;
     'run: for _ in 0..run.times {
@@ -152,6 +151,9 @@ fn append_run<'w, W: Words<'w>>(
             unreachable!();
         };
         append_word(run.form, &word, origin, name, octets)?;
+        if octets.len() > MAX_OCTETS {
+            return Err(RdataFault::BadString);
+        }
         others = after;
     }
     Ok(others)

@@ -1,17 +1,19 @@
-use Rattle.std.proofs.Common.{◌≡◌, ◌+◌, ◌-◌, [], ◌∷◌, ap, arith, length, replicate, subst}
+use Rattle.std.proofs.Common.{◌≡◌, ℕ, List, ◌+◌, ◌-◌, [], ◌∷◌, ap, arith, length, replicate, subst}
 use Rattle.std.proofs.lemmas.List.{length-replicate}
-use Rattle.dns_rdata.specs.WordForms.{form_of, AppendsFront, SaysNoFront}
+use Rattle.dns_rdata.specs.WordForms.{form_of, kept, Appends, AppendsFront, SaysNoFront}
+use Rattle.dns_spec.specs.Names.{Octets, DomainName}
+use Rattle.dns_spec.specs.DataText.{Word, WordForm, SaysWord}
 use Rattle.dns_name.proofs.Results.{fault_handed_on}
-use Rattle.dns_rdata.proofs.FormFronts.{front-none, front-word, front-joined, no-word, no-rest, no-more, once_more, one_of}
+use Rattle.dns_rdata.proofs.FormFronts.{front-none, front-word, front-joined, no-word, too-long, no-rest, no-more, once_more, one_of}
 use Rattle.dns_rdata.proofs.typed.append_run.Goals as goal
 
 pub run-init : goal.run-init
-run-init g c = front-none _ _ _
+run-init g c = record { front = front-none _ _ _; bound = c.requires.bound }
 
 pub unreachable-requires : goal.unreachable-requires
 unreachable-requires g c =
     let form = form_of c.args.run.form in
-    omega (arith, c.run.invariant.count, ap length c.in_default.ensures, length-replicate c.run.counter form, c.run-test.true, c.requires)
+    omega (arith, c.run.invariant.front.count, ap length c.in_default.ensures, length-replicate c.run.counter form, c.run-test.true, c.requires.words)
 
 pub returns-in_err-append_word-clause-fault : goal.returns-in_err-append_word-clause-fault
 returns-in_err-append_word-clause-fault g c =
@@ -19,23 +21,37 @@ returns-in_err-append_word-clause-fault g c =
     let ws = g.W.Words.to_come c.args.words in
     let rest = g.W.Words.to_come c.run.others in
     fault_handed_on c.from_residual.result c.in_err-append_word.field-0.0 _ c.from_residual.ensures.1 (λ other.
-    let none = no-word c.args.origin.now form c.in-Some.word rest (g.W.Words.to_come c.in-Some.after) c.in-Some.ensures (c.in_err-append_word.ensures.fault other) in
-    let so_far = no-rest c.args.origin.now (replicate c.run.counter form) (form ∷ []) ws rest _ _ c.run.invariant none in
-    let one_more = subst (λ fs. SaysNoFront fs c.args.origin.now ws) (once_more form c.run.counter) so_far in
-    subst (λ fs. SaysNoFront fs c.args.origin.now ws) (one_of form c.run.counter c.args.run.times c.run-test.true)
-    (no-more c.args.origin.now (replicate (c.run.counter + 1) form) (replicate (c.args.run.times - (c.run.counter + 1)) form) ws one_more))
+    let n = length c.args.octets.now.items in
+    let none = no-word c.args.origin.now (length c.run.octets.items) form c.in-Some.word rest (g.W.Words.to_come c.in-Some.after) c.in-Some.ensures (c.in_err-append_word.ensures.fault other) in
+    let so_far = no-rest c.args.origin.now (replicate c.run.counter form) (form ∷ []) ws rest _ _ c.run.invariant.front none in
+    let one_more = subst (λ fs. SaysNoFront n fs c.args.origin.now ws) (once_more form c.run.counter) so_far in
+    subst (λ fs. SaysNoFront n fs c.args.origin.now ws) (one_of form c.run.counter c.args.run.times c.run-test.true)
+    (no-more c.args.origin.now n (replicate (c.run.counter + 1) form) (replicate (c.args.run.times - (c.run.counter + 1)) form) ws one_more))
 
-pub run-preserved : goal.run-preserved
-run-preserved g c =
+taken : (n : ℕ) (f : WordForm) (origin : DomainName) (w : Word) (ws rest after : List Word) (x y z : Octets) → AppendsFront (replicate n f) origin ws rest x y → rest ≡ w ∷ after
+    → Appends (kept f) (SaysWord f origin w) y z → AppendsFront (replicate (n + 1) f) origin ws after x z
+taken n f origin w ws rest after x y z front e word =
+    subst (λ fs. AppendsFront fs origin ws after x z) (once_more f n)
+    (front-joined origin (replicate n f) (f ∷ []) ws rest after x y z front (front-word origin f w rest after y z e word))
+
+pub returns-then-len-gt-MAX_OCTETS-clause-fault : goal.returns-then-len-gt-MAX_OCTETS-clause-fault
+returns-then-len-gt-MAX_OCTETS-clause-fault g c = λ _.
     let form = form_of c.args.run.form in
     let ws = g.W.Words.to_come c.args.words in
-    let rest = g.W.Words.to_come c.run.others in
-    let after = g.W.Words.to_come c.in-Some.after in
-    subst (λ fs. AppendsFront fs c.args.origin.now ws after c.args.octets.now.items c.append_word.new.octets.items) (once_more form c.run.counter)
-    (front-joined c.args.origin.now (replicate c.run.counter form) (form ∷ []) ws rest after _ _ _ c.run.invariant
-    (front-word c.args.origin.now form c.in-Some.word rest after _ _ c.in-Some.ensures c.in_ok-append_word.ensures.ok))
+    let n = length c.args.octets.now.items in
+    let front = taken c.run.counter form c.args.origin.now c.in-Some.word ws (g.W.Words.to_come c.run.others) (g.W.Words.to_come c.in-Some.after) _ _ _ c.run.invariant.front c.in-Some.ensures c.in_ok-append_word.ensures.ok in
+    subst (λ fs. SaysNoFront n fs c.args.origin.now ws) (one_of form c.run.counter c.args.run.times c.run-test.true)
+    (no-more c.args.origin.now n (replicate (c.run.counter + 1) form) (replicate (c.args.run.times - (c.run.counter + 1)) form) ws
+    (too-long c.args.origin.now (replicate (c.run.counter + 1) form) ws _ _ _ front (omega (arith, c.len.ensures, c.if-len-gt-MAX_OCTETS.true))))
+
+pub run-preserved : goal.run-preserved
+run-preserved g c = record {
+  front = taken c.run.counter (form_of c.args.run.form) c.args.origin.now c.in-Some.word (g.W.Words.to_come c.args.words) (g.W.Words.to_come c.run.others) (g.W.Words.to_come c.in-Some.after) _ _ _
+      c.run.invariant.front c.in-Some.ensures c.in_ok-append_word.ensures.ok;
+  bound = omega (arith, c.len.ensures, c.if-len-gt-MAX_OCTETS.false);
+}
 
 pub returns-clause-ok : goal.returns-clause-ok
 returns-clause-ok g c =
     let all : c.run.counter ≡ c.args.run.times = omega (arith, c.run.auto.counter-end, c.run-test.false) in
-    subst (λ n. AppendsFront (replicate n (form_of c.args.run.form)) c.args.origin.now (g.W.Words.to_come c.args.words) (g.W.Words.to_come c.run.others) c.args.octets.now.items c.run.octets.items) all c.run.invariant
+    subst (λ n. AppendsFront (replicate n (form_of c.args.run.form)) c.args.origin.now (g.W.Words.to_come c.args.words) (g.W.Words.to_come c.run.others) c.args.octets.now.items c.run.octets.items) all c.run.invariant.front

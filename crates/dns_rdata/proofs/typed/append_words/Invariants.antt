@@ -1,4 +1,4 @@
-use Rattle.std.proofs.Common.{take}
+use Rattle.std.proofs.Common.{◌≤◌, length, take}
 use Rattle.std.specs.List.{flat_map}
 use Rattle.dns_spec.specs.DataText.{forms_in}
 use Rattle.dns_rdata.specs.TypeRows.{pieces_in}
@@ -7,4 +7,7 @@ use Rattle.dns_rdata.proofs.typed.append_words.Given as goal
 
 -- the words of the pieces before the index are taken
 abbrev pub invariant-pieces : goal.invariant-pieces
-invariant-pieces g l = AppendsFront (flat_map (forms_in l.count) (pieces_in (take l.piece-index l.pieces))) l.origin (g.W.Words.to_come l.fn.words) (g.W.Words.to_come l.words) l.initial.octets.items l.octets.items
+invariant-pieces g l = record {
+  front : AppendsFront (flat_map (forms_in l.count) (pieces_in (take l.piece-index l.pieces))) l.origin (g.W.Words.to_come l.fn.words) (g.W.Words.to_come l.words) l.initial.octets.items l.octets.items;
+  bound : length l.octets.items ≤ 65535;
+}

@@ -1,16 +1,25 @@
 use Rattle.std.proofs.lemmas.Bool.{eqb-false}
-use Rattle.std.proofs.Common.{◌∙◌, sym, arith}
-use Rattle.dns_rdata.proofs.TypedData.{typed_said, typed_long, other_count}
+use Rattle.std.proofs.Common.{◌∙◌, sym, OnOk, Result, Ok, Err}
+use Rattle.dns_name.proofs.Results.{IfErr-map}
+use Rattle.dns_rdata.proofs.TypedData.{typed_said, nothing_typed, other_count}
 use Rattle.dns_rdata.proofs.typed.put_typed.Goals as goal
 
 pub returns-then-not-is_word_count-clause-fault : goal.returns-then-not-is_word_count-clause-fault
 returns-then-not-is_word_count-clause-fault g c = λ _.
     other_count _ _ _ _ _ c.requires.not_unknown c.in-Some.ensures c.count-count.ensures (eqb-false _ _ (sym c.is_word_count.ensures ∙ c.if-not-is_word_count.true))
 
-pub returns-then-len-gt-MAX_OCTETS-clause-fault : goal.returns-then-len-gt-MAX_OCTETS-clause-fault
-returns-then-len-gt-MAX_OCTETS-clause-fault g c = λ _.
-    typed_long _ _ _ _ _ c.requires.not_unknown c.in-Some.ensures c.count-count.ensures _ c.in_ok-append_words.ensures.ok (omega (arith, c.len.ensures, c.if-len-gt-MAX_OCTETS.true))
-
 pub returns-clause-ok : goal.returns-clause-ok
 returns-clause-ok g c =
-    typed_said _ _ _ _ _ c.requires.not_unknown c.in-Some.ensures c.count-count.ensures _ c.in_ok-append_words.ensures.ok (omega (arith, c.len.ensures, c.if-len-gt-MAX_OCTETS.false))
+    OnOk-both c.append_words.result
+    (λ front short. typed_said _ _ _ _ _ c.requires.not_unknown c.in-Some.ensures c.count-count.ensures _ front short)
+    c.append_words.ensures.ok c.append_words.ensures.bound
+  where
+    OnOk-both : {A E P Q R : Type 0} (r : Result A E) → (P → Q → R) → OnOk r P → OnOk r Q → OnOk r R
+    OnOk-both (Ok a) f p q = f p q
+    OnOk-both (Err e) f p q = tt
+
+pub returns-clause-fault : goal.returns-clause-fault
+returns-clause-fault g c =
+    IfErr-map c.append_words.result
+    (λ fault none other. nothing_typed _ _ _ _ _ c.requires.not_unknown c.in-Some.ensures c.count-count.ensures (none other))
+    c.append_words.ensures.fault
