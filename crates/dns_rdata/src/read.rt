@@ -20,6 +20,8 @@ pub struct DataRoom {
     alloc: Global,
     name: Name,
     octets: Vec<u8>,
+    // Octets in the form for any type, before they are judged.
+    spelled: Vec<u8>,
 }
 
 impl DataRoom {
@@ -29,6 +31,7 @@ impl DataRoom {
             alloc,
             name: Name::root(),
             octets: Vec::new(alloc),
+            spelled: Vec::new(alloc),
         }
     }
 
@@ -95,9 +98,9 @@ impl Rdata {
         let mut octets = room.cleared()?;
         if let Some((first, others)) = words.split_first() {
             if is_unknown_mark(&first) {
-                let mut spelled = Vec::new(room.alloc);
-                put_unknown(others, &mut spelled)?;
-                return Rdata::lowered(rtype, spelled.as_slice(), octets);
+                room.spelled.clear();
+                put_unknown(others, &mut room.spelled)?;
+                return Rdata::lowered(rtype, room.spelled.as_slice(), octets);
             }
         }
         put_typed(rtype, words, origin, &mut room.name, &mut octets)?;

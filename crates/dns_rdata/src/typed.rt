@@ -143,7 +143,8 @@ fn append_run<'w, W: Words<'w>>(
         origin.now (W.to_come words) (W.to_come others) octets.old.items octets.new.items) }
     ensures bound { IfOk result (λ _. length octets.new.items ≤ 65535) }
     ensures fault { IfErr result (λ fault. fault ≢ RdataFault.NoMemory
-        → SaysNoFront (length octets.old.items) (replicate run.times (form_of run.form)) origin.now (W.to_come words)) }
+        → SaysNoFront (length octets.old.items) (replicate run.times (form_of run.form))
+        origin.now (W.to_come words)) }
 {
     let mut others = words;
     'run: for _ in 0..run.times {
@@ -167,8 +168,8 @@ fn append_word(
     name: &mut Name,
     octets: &mut Vec<u8>,
 ) -> Result<(), RdataFault>
-    ensures ok { OnOk result (Appends (kept (form_of form)) (SaysWord (form_of form) origin.now word.now)
-        octets.old.items octets.new.items) }
+    ensures ok { OnOk result (Appends (kept (form_of form))
+        (SaysWord (form_of form) origin.now word.now) octets.old.items octets.new.items) }
     ensures fault { IfErr result (λ fault. fault ≢ RdataFault.NoMemory → (d : Octets)
         → SaysWord (form_of form) origin.now word.now d → ⊥) }
 {
@@ -195,8 +196,8 @@ fn append_form(
     name: &mut Name,
     octets: &mut Vec<u8>,
 ) -> Result<(), RdataFault>
-    ensures ok { OnOk result (Appends (kept (form_of form)) (SaysForm (form_of form) origin.now text.now)
-        octets.old.items octets.new.items) }
+    ensures ok { OnOk result (Appends (kept (form_of form))
+        (SaysForm (form_of form) origin.now text.now) octets.old.items octets.new.items) }
     ensures fault { IfErr result (λ fault. fault ≢ RdataFault.NoMemory → (d : Octets)
         → SaysForm (form_of form) origin.now text.now d → ⊥) }
 {
@@ -243,7 +244,8 @@ fn append_u32(text: &[u8], octets: &mut Vec<u8>) -> Result<(), RdataFault>
 }
 
 fn append_ipv4(text: &[u8], octets: &mut Vec<u8>) -> Result<(), RdataFault>
-    ensures ok { OnOk result (Appends as_it_is (SaysIpv4 text.now) octets.old.items octets.new.items) }
+    ensures ok { OnOk result (Appends as_it_is (SaysIpv4 text.now)
+        octets.old.items octets.new.items) }
     ensures fault { IfErr result (λ fault. fault ≢ RdataFault.NoMemory → (d : Octets)
         → SaysIpv4 text.now d → ⊥) }
 {
@@ -252,7 +254,8 @@ fn append_ipv4(text: &[u8], octets: &mut Vec<u8>) -> Result<(), RdataFault>
 }
 
 fn append_ipv6(text: &[u8], octets: &mut Vec<u8>) -> Result<(), RdataFault>
-    ensures ok { OnOk result (Appends as_it_is (SaysIpv6 text.now) octets.old.items octets.new.items) }
+    ensures ok { OnOk result (Appends as_it_is (SaysIpv6 text.now)
+        octets.old.items octets.new.items) }
     ensures fault { IfErr result (λ fault. fault ≢ RdataFault.NoMemory → (d : Octets)
         → SaysIpv6 text.now d → ⊥) }
 {
@@ -279,7 +282,8 @@ fn append_name(
 
 // A string after its length (RFC 1035 3.3).
 fn append_string(text: &[u8], octets: &mut Vec<u8>) -> Result<(), RdataFault>
-    ensures ok { OnOk result (Appends as_it_is (SaysString text.now) octets.old.items octets.new.items) }
+    ensures ok { OnOk result (Appends as_it_is (SaysString text.now)
+        octets.old.items octets.new.items) }
     ensures fault { IfErr result (λ fault. fault ≢ RdataFault.NoMemory → (d : Octets)
         → SaysString text.now d → ⊥) }
 {
