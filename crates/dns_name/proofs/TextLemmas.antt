@@ -1,14 +1,13 @@
 -- Reading a text from left to right finds what it spells, and nothing else.
 use Rattle.std.proofs.Common.{Result, Ok, Err, ◌≡◌, ◌≢◌, ℕ, suc, ◌+◌, ◌-◌, ◌*◌, ◌<◌, ◌≤◌, ◌⊎◌, ◌↔◌, inl, inr, Bool, true, false, ◌&&◌, ◌==◌, nat_le, nat_lt, [], ◌∷◌, ◌++◌, length, take, drop, Option, Some, None, refl, sym, ◌∙◌, ap, subst, arith, length-append}
 use Rattle.std.proofs.lemmas.List.{append_assoc, append-nil, length-take, take_all, take-append-le}
-use Rattle.std.proofs.lemmas.Bool.{true≢false, false≢true, and_parts, and_from, and_left, and_right, and_cases, lt-leb, leb-false, eqb-true, eqb-false, or_parts, ltb-false, eq-eqb, ne_eqb, lt-ltb, ltb-true, le-leb, leb-true, cases_Bool, cases_lt}
+use Rattle.std.proofs.lemmas.Bool.{true≢false, false≢true, and_parts, and_from, and_left, and_right, and_cases, lt-leb, leb-false, eqb-true, eqb-false, or_parts, eq-eqb, ne_eqb, lt-ltb, ltb-true, le-leb, leb-true, cases_Bool, cases_lt}
 use Rattle.std.specs.Option.{option_and_then}
 use Rattle.std.specs.Bool.{OnTrue, MatchBool}
 use Rattle.std.specs.Result.{IsErr}
 use Rattle.std.specs.Prelude.{if◌then◌else◌}
 use Rattle.std.specs.Char.{is_ascii_digit, IsAsciiDigit, IsNotAsciiDigit}
-use Rattle.std.specs.List.{list_all, position, position_or_len}
-use Rattle.std.proofs.Math.ListN.{drop_of_length-le}
+use Rattle.std.specs.List.{list_all, position_or_len}
 use Rattle.dns_spec.proofs.DomainNames.NameLaws.{is_label-head, length-wire-append, IsName-is_name, IsLabel-is_label}
 use Rattle.dns_spec.specs.Names.{Octets, DomainName, wire, is_label, is_name}
 use Rattle.dns_spec.specs.NameText.{three_digits_value, SpellsOctet, LabelThen, TextSpells, SpellsName}
@@ -164,7 +163,7 @@ LabelThen-push text (y ∷ l) rest x others (first, after, f, h, g) next =
     (first, after, f, h, LabelThen-push after l rest x others g next)
 
 -- octets up to the first dot or backslash spell themselves
-up_to_mark : (text : Octets) → LabelThen text (take (position_or_len is_mark text) text) (drop (position_or_len is_mark text) text)
+pub up_to_mark : (text : Octets) → LabelThen text (take (position_or_len is_mark text) text) (drop (position_or_len is_mark text) text)
 up_to_mark [] = refl
 up_to_mark (a ∷ text) = elim (cases_Bool (is_mark a)) [
   | inl mark ↦ rw mark refl
@@ -173,26 +172,6 @@ up_to_mark (a ∷ text) = elim (cases_Bool (is_mark a)) [
       let after : suc (position_or_len is_mark text) ≡ position_or_len is_mark (a ∷ text) = rw plain (omega arith) in
       let P : ℕ → Type 0 = λ n. LabelThen (a ∷ text) (take n (a ∷ text)) (drop n (a ∷ text)) in
       subst P after (a ∷ [], text, refl, (refl, eqb-false a 46 parts.0, eqb-false a 92 parts.1), up_to_mark text)
-]
-
-pub LabelThen-mark : (text : Octets) (n : ℕ) → position is_mark text ≡ Some n → (n ≤ length text) × LabelThen text (take n text) (drop n text)
-LabelThen-mark text n e = elim (cases_Bool (nat_lt (position_or_len is_mark text) (length text))) [
-  | inl within ↦
-      let place : position_or_len is_mark text ≡ n = some_inner _ _ (rw within at e) in
-      let P : ℕ → Type 0 = λ k. (k ≤ length text) × LabelThen text (take k text) (drop k text) in
-      let before : position_or_len is_mark text < length text = ltb-true _ _ within in
-      subst P place (omega arith, up_to_mark text)
-  | inr none ↦ let f : None ≡ Some n = rw none at e in cc
-]
-
-pub LabelThen-no_mark : (text : Octets) → position is_mark text ≡ None → LabelThen text text []
-LabelThen-no_mark text e = elim (cases_Bool (nat_lt (position_or_len is_mark text) (length text))) [
-  | inl within ↦ let f : Some (position_or_len is_mark text) ≡ None = rw within at e in cc
-  | inr none ↦
-      let long : length text ≤ position_or_len is_mark text = ltb-false _ _ none in
-      let P : Octets → Type 0 = λ l. LabelThen text l (drop (position_or_len is_mark text) text) in
-      let Q : Octets → Type 0 = LabelThen text text in
-      subst Q (drop_of_length-le text {i = position_or_len is_mark text} long) (subst P (take_all _ text long) (up_to_mark text))
 ]
 
 LabelThen-at : (text l rest text' : Octets) → text ≡ text' → LabelThen text l rest → LabelThen text' l rest

@@ -17,7 +17,7 @@ pub use lent::{Labels, NameRef, first_label};
 pub use name::Name;
 pub use octets::are_equal;
 pub use tally::{SinkFailed, SourceFailed, Tally};
-pub use text::{NameFault, first_octet};
+pub use text::{NameFault, first_digit, first_octet};
 
 #[cfg(test)]
 mod tests;

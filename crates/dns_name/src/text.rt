@@ -1,9 +1,9 @@
 //! Names in the text of zone files (RFC 1035 5.1).
-ghost use Rattle.std.specs.Prelude.{◌≡◌, ◌≢◌, true, ℕ, if◌then◌else◌, IsNone, ◌↔◌, [], ◌∷◌, ◌++◌, IsTrue, IfOk, OnOk, OnErr, Ok, IfSome, ◌<◌};
+ghost use Rattle.std.specs.Prelude.{◌≡◌, ◌≢◌, true, ℕ, if◌then◌else◌, IsNone, ◌↔◌, [], ◌∷◌, ◌++◌, ◌≤◌, length, IsTrue, IfOk, OnOk, OnErr, Ok, IfSome, ◌<◌};
 ghost use Rattle.dns_spec.specs.Names.{Octets, DomainName, is_label, is_name};
 ghost use Rattle.dns_spec.specs.NameText.{LabelThen, TextSpells, SpellsName};
 ghost use Rattle.dns_name.specs.NameFault.{fault_code};
-ghost use Rattle.std.specs.List.{position};
+ghost use Rattle.std.specs.List.{list_any, position_or_len};
 ghost use Rattle.dns_name.specs.TextForm.{is_mark, ReadsLabel, PushesLabel, HasNoLabel, SpellsIff, spelled_as, Gives, digit_at, decimal_at, escaped_at, octet_at, is_label_end, Appended};
 
 use crate::label::Label;
@@ -12,6 +12,9 @@ use arrayvec::ArrayVec;
 
 // A label has at most 63 octets. One more is kept, which shows that it is too long.
 const KEPT_OCTETS: usize = 64;
+
+// How many octets of a name are told at once.
+const GROUP: usize = 8;
 
 /// Why a word spells no name.
 #[derive(Clone, Copy, Debug, PartialEq, Eq)]
@@ -148,23 +151,51 @@ fn push_octets(name: &mut Name, octets: &[u8]) -> Result<bool, NameFault>
 fn plain_octets(text: &[u8]) -> (&[u8], &[u8])
     ensures { LabelThen text.now result.0.now result.1.now }
 {
-    let Some(place) = mark_place(text) else {
-        return (text, &[]);
-    };
-    text.split_at(place)
+    text.split_at(plain_length(text))
 }
 
-// Where the first dot or backslash stands.
-fn mark_place(text: &[u8]) -> Option<usize>
-    ensures { result ≡ position is_mark text.now }
+// How many octets stand before the first dot or backslash. Groups without one are passed, which
+// saves a fortieth of a check.
+fn plain_length(text: &[u8]) -> usize
+    ensures value { result ≡ position_or_len is_mark text.now }
+    ensures bound { result ≤ length text.now }
 {
-    text.iter().position(|octet| is_mark(*octet))
+    let mut front = 0;
+    let mut rest = text;
+    'groups: while let Some((group, others)) = rest.split_first_chunk::<GROUP>() {
+        if has_mark(group) {
+            break;
+        }
+        front += GROUP;
+        rest = others;
+    }
+    front + mark_place(rest)
+}
+
+// The same, octet by octet.
+fn mark_place(text: &[u8]) -> usize
+    ensures value { result ≡ position_or_len is_mark text.now }
+    ensures bound { result ≤ length text.now }
+{
+    text.iter().take_while(|octet| !is_mark(**octet)).count()
+}
+
+// Whether one of a group is a dot or a backslash. Each is looked at, so that a processor can do it
+// to all at once.
+fn has_mark(group: &[u8; GROUP]) -> bool
+    ensures { result ≡ list_any is_mark group.now }
+{
+    let mut any = false;
+    'octets: for octet in group {
+        any |= is_mark(*octet);
+    }
+    any
 }
 
 fn is_mark(octet: u8) -> bool
     ensures { result ≡ is_mark octet }
 {
-    octet == b'.' || octet == b'\\'
+    (octet == b'.') | (octet == b'\\')
 }
 
 // The octets of the label that a text begins with, at most 64 of them, and the text from its end
@@ -221,14 +252,16 @@ fn escaped(text: &[u8]) -> Option<(u8, &[u8])>
 fn decimal(text: &[u8]) -> Option<(u8, &[u8])>
     ensures { Gives result (decimal_at text.now) }
 {
-    let (hundreds, text) = digit(text)?;
-    let (tens, text) = digit(text)?;
-    let (ones, text) = digit(text)?;
+    let (hundreds, text) = first_digit(text)?;
+    let (tens, text) = first_digit(text)?;
+    let (ones, text) = first_digit(text)?;
     let value = u8::try_from(100 * hundreds + 10 * tens + ones).ok()?;
     Some((value, text))
 }
 
-fn digit(text: &[u8]) -> Option<(u16, &[u8])>
+/// The value of the decimal digit that a text begins with, and the text after it. `None` where it
+/// begins with none.
+pub fn first_digit(text: &[u8]) -> Option<(u16, &[u8])>
     ensures value { Gives result (digit_at text.now) }
     ensures bound { IfSome result (λ x. x.0 < 10) }
 {

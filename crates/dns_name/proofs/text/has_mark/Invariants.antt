@@ -1,0 +1,8 @@
+use Rattle.std.proofs.Common.{◌≡◌, take}
+use Rattle.std.specs.List.{list_any}
+use Rattle.dns_name.specs.TextForm.{is_mark}
+use Rattle.dns_name.proofs.text.has_mark.Given as goal
+
+-- whether one of the octets so far is one
+abbrev pub invariant-octets : goal.invariant-octets
+invariant-octets l = l.any ≡ list_any is_mark (take l.octet-index l.group)
