@@ -1,73 +1,206 @@
--- The first dot of a text stands after its first number.
-use Rattle.std.proofs.Common.{◌≡◌, ◌↔◌, ℕ, [], ◌∷◌, ◌++◌, ◌<◌, ◌≤◌, Bool, true, false, ◌==◌, length, take, drop, refl, sym, ◌∙◌, ap, subst, arith, decimal, length-append, drop-cons, get_or, nat_lt}
-use Rattle.std.specs.Prelude.{Option, Some, None, position}
-use Rattle.std.specs.List.{position_or_len}
-use Rattle.std.specs.Str.Parse.{AllDigits}
-use Rattle.std.proofs.Math.Seq.{take-append_seam, drop-append_seam}
-use Rattle.std.proofs.lemmas.List.{take-append-drop}
-use Rattle.std.proofs.lemmas.List.Quantifiers.{position-Some}
-use Rattle.std.proofs.lemmas.Bool.{ne_eqb, lt-ltb, eqb-true, and_from}
-use Rattle.std.proofs.lemmas.Fmt.{decimal_is_IsNumeral, decimal_injective}
-use Rattle.std.proofs.lemmas.Str.Parse.{digit_from_value}
+-- The numbers of an address stand between its dots.
+use Rattle.std.proofs.Common.{◌≡◌, ◌↔◌, ℕ, [], ◌∷◌, ◌++◌, ◌+◌, ◌-◌, ◌*◌, ◌/◌, ◌%◌, ◌<◌, ◌≤◌, ◌⊎◌, inl, inr, true, ◌==◌, length, refl, sym, ◌∙◌, ap, subst, arith, decimal, nat_lt, nat_le}
+use Rattle.std.proofs.lemmas.Bool.{ne_eqb, eqb-false, lt-ltb, ltb-true, le-leb, leb-true, and_from, and_parts, cases_Bool, cases_lt}
+use Rattle.std.proofs.lemmas.Fmt.{decimal_digit, decimal_step, decimal_injective}
+use Rattle.std.proofs.lemmas.List.{append-nil}
+use Rattle.std.specs.Char.{is_ascii_digit}
+use Rattle.dns_name.specs.TextForm.{digit_at}
+use Rattle.std.specs.Prelude.{Option, Some, None, if◌then◌else◌}
 use Rattle.dns_spec.specs.Names.{Octets}
 use Rattle.dns_spec.specs.AddressText.{SaysIpv4}
 use Rattle.dns_spec.proofs.DataWords.OneData.{four_numbers}
-use Rattle.dns_rdata.specs.AddressForm.{OctetThen}
+use Rattle.dns_rdata.specs.AddressForm.{OctetThen, number_at, number_on, number_end}
 
-abbrev is_dot : ℕ → Bool
-is_dot o = o == 46
+is_digit : (d : ℕ) → d < 10 → is_ascii_digit (48 + d) ≡ true
+is_digit d small = and_from _ _ (le-leb 48 (48 + d) (omega arith)) (le-leb (48 + d) 57 (omega arith))
 
-after_digits : (ds rest : Octets) → AllDigits 10 ds → position_or_len is_dot (ds ++ 46 ∷ rest) ≡ length ds
-after_digits [] rest all = refl
-after_digits (c ∷ ds) rest (digit, all) =
-    let in_range = digit_from_value c digit in
-    let no_dot : is_dot c ≡ false = ne_eqb c 46 (λ e. omega (arith, in_range.0)) in
-    rw no_dot (omega (arith, after_digits ds rest all))
+digit_here : (d : ℕ) (rest : Octets) → d < 10 → digit_at ((48 + d) ∷ rest) ≡ Some (d, rest)
+digit_here d rest small = rw (is_digit d small) (ap (λ k. Some (k, rest)) (omega arith))
 
-dot_place : (text rest : Octets) (n : ℕ) → OctetThen text n rest → position is_dot text ≡ Some (length (decimal n))
-dot_place text rest n said =
-    let numeral = decimal_is_IsNumeral n (omega (arith, said.1)) in
-    let place : position_or_len is_dot text ≡ length (decimal n) = ap (position_or_len is_dot) said.0 ∙ after_digits (decimal n) rest numeral.0.1 in
-    let inside : length (decimal n) < length text = omega (arith, ap length said.0, length-append (decimal n) (46 ∷ rest)) in
-    rw place (rw (lt-ltb _ _ inside) refl)
+-- a text begins with a digit or with none
+digit_or_none : (text : Octets) → (digit_at text ≡ None) ⊎ ((d : ℕ) × (rest : Octets)
+    × (text ≡ (48 + d) ∷ rest) × (d < 10) × (digit_at text ≡ Some (d, rest)))
+digit_or_none [] = inl refl
+digit_or_none (a ∷ rest) = elim (cases_Bool (is_ascii_digit a)) [
+  | inl digit ↦
+      let parts = and_parts (nat_le 48 a) (nat_le a 57) digit in
+      let low = leb-true 48 a parts.0 in
+      let high = leb-true a 57 parts.1 in
+      inr (a - 48, rest, ap (λ k. k ∷ rest) (omega (arith, low)), omega (arith, low, high), rw digit refl)
+  | inr none ↦ inl (rw none refl)
+]
 
--- no dot
-pub no_dot : (text : Octets) → None ≡ position is_dot text → (n : ℕ) (rest : Octets) → OctetThen text n rest → ⊥
-no_dot text none n rest said = let place = dot_place text rest n said in absurd (none_is_some (length (decimal n)) (none ∙ place))
+two_places : (n : ℕ) (rest : Octets) → 10 ≤ n → n < 100
+    → decimal n ++ rest ≡ (48 + n / 10) ∷ (48 + n % 10) ∷ rest
+two_places n rest from upto =
+    rw (decimal_step n from (omega arith), decimal_digit (n / 10) (omega arith)) refl
+
+three_places : (n : ℕ) (rest : Octets) → 100 ≤ n → n < 1000
+    → decimal n ++ rest ≡ (48 + n / 10 / 10) ∷ (48 + n / 10 % 10) ∷ (48 + n % 10) ∷ rest
+three_places n rest from upto =
+    rw (
+      decimal_step n (omega arith) (omega arith),
+      decimal_step (n / 10) (omega arith) (omega arith),
+      decimal_digit (n / 10 / 10) (omega arith),
+    ) refl
+
+-- the number that a decimal says which no other digit follows
+number_of : (n : ℕ) (rest : Octets) → n ≤ 255 → digit_at rest ≡ None
+    → number_at (decimal n ++ rest) ≡ Some (n, rest)
+unfolding number_at
+number_of n rest le none = elim (cases_lt n 10) [
+  | inl small ↦ rw (decimal_digit n small, digit_here n rest small) (elim (cases_Bool (n == 0)) [
+    | inl zero ↦ rw zero refl
+    | inr some ↦ rw (some, none) refl
+  ])
+  | inr large ↦ elim (cases_lt n 100) [
+    | inl below ↦
+        rw (
+          two_places n rest large below,
+          digit_here (n / 10) ((48 + n % 10) ∷ rest) (omega arith),
+          ne_eqb (n / 10) 0 (λ e. omega (arith, e)),
+          digit_here (n % 10) rest (omega arith),
+          none,
+        )
+        (ap (λ k. Some (k, rest)) (omega arith))
+    | inr above ↦
+        let end : Octets = (48 + n % 10) ∷ rest in
+        rw (
+          three_places n rest above (omega arith),
+          digit_here (n / 10 / 10) ((48 + n / 10 % 10) ∷ end) (omega arith),
+          ne_eqb (n / 10 / 10) 0 (λ e. omega (arith, e)),
+          digit_here (n / 10 % 10) end (omega arith),
+          digit_here (n % 10) rest (omega arith),
+          lt-ltb (10 * (10 * (n / 10 / 10) + n / 10 % 10) + n % 10) 256 (omega arith),
+        )
+        (ap (λ k. Some (k, rest)) (omega arith))
+  ]
+]
+
+-- a number, and what stands after it
+abbrev pub read_as : ℕ → Octets → Option (ℕ × Octets)
+read_as n rest = Some (n, rest)
+
+some_pair : {a b : ℕ} {xs ys : Octets} → read_as a xs ≡ read_as b ys → (a ≡ b) × (xs ≡ ys)
+some_pair e = let pair = inner e in (ap (λ r. r.0) pair, ap (λ r. r.1) pair)
   where
-    none_is_some : (k : ℕ) → None ≡ Some k → ⊥
-    none_is_some k e = cc
+    inner : {r s : ℕ × Octets} → Some r ≡ Some s → r ≡ s
+    inner g = cc
 
--- no number before the dot
-pub no_number : (text front : Octets) (end : ℕ) → Some end ≡ position is_dot text → front ≡ take end text → ((n : ℕ) → front ≡ decimal n → n ≤ 255 → ⊥) → (n : ℕ) (rest : Octets) → OctetThen text n rest → ⊥
-no_number text front end place front_is refuted n rest said =
-    let at : end ≡ length (decimal n) = only (place ∙ dot_place text rest n said) in
-    refuted n (front_is ∙ ap (λ k. take k text) at ∙ ap (take (length (decimal n))) said.0 ∙ take-append_seam (decimal n) (46 ∷ rest)) said.1
+not_none : {a : ℕ} {xs : Octets} → None ≡ read_as a xs → ⊥
+not_none e = cc
+
+-- what is read is what the text begins with
+abbrev Begins : Octets → ℕ → Octets → Type 0
+Begins text n rest = (text ≡ decimal n ++ rest) × (n ≤ 255)
+
+two_digits : (a b n : ℕ) (after rest : Octets) → 0 < a → a < 10 → b < 10
+    → number_end (10 * a + b, after) (digit_at after) ≡ Some (n, rest)
+    → Begins ((48 + a) ∷ (48 + b) ∷ after) n rest
+two_digits a b n after rest some small low h = elim (digit_or_none after) [
+  | inl none ↦
+      let is = some_pair (rw none at h) in
+      let P : ℕ → Octets → Type 0 = λ k end. Begins ((48 + a) ∷ (48 + b) ∷ after) k end in
+      let two = two_places (10 * a + b) after (omega arith) (omega arith) in
+      let first : (10 * a + b) / 10 ≡ a = omega arith in
+      let second : (10 * a + b) % 10 ≡ b = omega arith in
+      subst (P n) is.1 (subst (λ k. P k after) is.0 (sym (rw (first, second) at two), omega arith))
+  | inr (c, end, is_end, last, digit) ↦ elim (cases_Bool (nat_lt (10 * (10 * a + b) + c) 256)) [
+    | inl fits ↦
+        let is = some_pair (rw (digit, fits) at h) in
+        let value : ℕ = 10 * (10 * a + b) + c in
+        let below = ltb-true value 256 fits in
+        let three = three_places value end (omega arith) (omega arith) in
+        let P : ℕ → Octets → Type 0 = λ k rest. Begins ((48 + a) ∷ (48 + b) ∷ after) k rest in
+        let first : value / 10 / 10 ≡ a = omega arith in
+        let second : value / 10 % 10 ≡ b = omega arith in
+        let third : value % 10 ≡ c = omega arith in
+        let text : (48 + a) ∷ (48 + b) ∷ after ≡ decimal value ++ end =
+        ap (λ t. (48 + a) ∷ (48 + b) ∷ t) is_end
+        ∙ sym (rw (first, second, third) at three) in
+        subst (P n) is.1 (subst (λ k. P k end) is.0 (text, omega (arith, below)))
+    | inr wide ↦ absurd (not_none (rw (digit, wide) at h))
+  ]
+]
+
+one_digit : (a n : ℕ) (after rest : Octets) → a < 10
+    → (if a == 0 then Some (a, after) else number_on (a, after) (digit_at after)) ≡ Some (n, rest)
+    → Begins ((48 + a) ∷ after) n rest
+one_digit a n after rest small h =
+    let P : ℕ → Octets → Type 0 = λ k end. Begins ((48 + a) ∷ after) k end in
+    let alone : Begins ((48 + a) ∷ after) a after = (rw (decimal_digit a small) refl, omega arith) in
+    let as_read : read_as a after ≡ read_as n rest → P n rest = λ e.
+    let is = some_pair e in subst (P n) is.1 (subst (λ k. P k after) is.0 alone) in
+    elim (cases_Bool (a == 0)) [
+      | inl zero ↦ as_read (rw zero at h)
+      | inr other ↦ elim (digit_or_none after) [
+        | inl none ↦ as_read (rw (other, none) at h)
+        | inr (b, end, is_end, low, digit) ↦
+            let two = two_digits a b n end rest (omega (arith, eqb-false a 0 other)) small low (rw (other, digit) at h) in
+            subst (λ t. Begins ((48 + a) ∷ t) n rest) (sym is_end) two
+      ]
+    ]
+
+pub number_read : (text : Octets) (n : ℕ) (rest : Octets) → number_at text ≡ Some (n, rest)
+    → Begins text n rest
+unfolding number_at
+number_read text n rest h = elim (digit_or_none text) [
+  | inl none ↦ absurd (not_none (rw none at h))
+  | inr (a, after, is, small, digit) ↦
+      subst (λ t. Begins t n rest) (sym is) (one_digit a n after rest small (rw digit at h))
+]
+
+-- the number that all of a text says
+number_alone : (text : Octets) (n : ℕ) → (text ≡ decimal n) × (n ≤ 255)
+    → number_at text ≡ read_as n []
+number_alone text n said =
+    ap number_at (said.0 ∙ sym (append-nil (decimal n))) ∙ number_of n [] said.1 refl
+
+pub none_alone : (text : Octets) → number_at text ≡ None → (n : ℕ) → text ≡ decimal n → n ≤ 255 → ⊥
+none_alone text none n is le = not_none (sym none ∙ number_alone text n (is, le))
+
+pub more_than_one : (text : Octets) (m : ℕ) (end : Octets) → number_at text ≡ read_as m end
+    → (length end ≡ 0 → ⊥) → (n : ℕ) → text ≡ decimal n → n ≤ 255 → ⊥
+more_than_one text m end read refuted n is le =
+    refuted (ap length (some_pair (sym read ∙ number_alone text n (is, le))).1)
+
+pub one_alone : (text : Octets) (m : ℕ) (end : Octets) → number_at text ≡ read_as m end
+    → length end ≡ 0 → (n : ℕ) → (Some m ≡ Some n) ↔ ((text ≡ decimal n) × (n ≤ 255))
+one_alone text m [] read none n = (
+  λ h. (let P : ℕ → Type 0 = λ k. (text ≡ decimal k) × (k ≤ 255) in
+      let begins = number_read text m [] read in
+      subst P (only h) (begins.0 ∙ append-nil (decimal m), begins.1)),
+  λ said. ap (λ k. Some k) (some_pair (sym read ∙ number_alone text n said)).0,
+)
   where
-    only : {j k : ℕ} → Some j ≡ Some k → j ≡ k
+    only : Some m ≡ Some n → m ≡ n
     only e = cc
+one_alone text m (a ∷ end) read none n = absurd (omega (arith, none))
 
-only_head : {a b : ℕ} {xs ys : Octets} → a ∷ xs ≡ b ∷ ys → (a ≡ b) × (xs ≡ ys)
-only_head e = (cc, cc)
+-- that which a dot ends
+pub number_then : (text rest : Octets) (n : ℕ) → OctetThen text n rest → number_at text ≡ Some (n, 46 ∷ rest)
+number_then text rest n said = ap number_at said.0 ∙ number_of n (46 ∷ rest) said.1 refl
 
-pub number_then : (text front back rest : Octets) (end n dot : ℕ) → Some end ≡ position is_dot text → front ≡ take end text → back ≡ drop end text → back ≡ dot ∷ rest → front ≡ decimal n → n ≤ 255 → OctetThen text n rest
-number_then text front back rest end n dot place front_is back_is after said le =
-    let found = position-Some is_dot text end 0 (sym place) in
-    let next = only_head (sym after ∙ back_is ∙ drop-cons text end 0 found.0) in
-    let dot_is : dot ≡ 46 = next.0 ∙ eqb-true (get_or text end 0) 46 found.1 in
-    let whole = sym (take-append-drop end text) in
-    (whole ∙ ap (λ f. f ++ drop end text) (sym front_is ∙ said) ∙ ap (λ b. decimal n ++ b) (sym back_is ∙ after ∙ ap (λ k. k ∷ rest) dot_is), le)
+-- no number is read, or none that a dot ends
+pub not_read : (text : Octets) (n : ℕ) (rest : Octets) → number_at text ≡ None
+    → OctetThen text n rest → ⊥
+not_read text n rest none said =
+    not_none (sym none ∙ number_then text rest n said)
+
+pub other_end : (text : Octets) (m : ℕ) (end : Octets) (n : ℕ) (rest : Octets)
+    → number_at text ≡ Some (m, end) → (end ≡ 46 ∷ rest → ⊥) → OctetThen text n rest → ⊥
+other_end text m end n rest read refuted said =
+    refuted (some_pair (sym read ∙ number_then text rest n said)).1
 
 -- a text begins with one number and a dot
-pub one_octet : (text : Octets) (m n : ℕ) (rest others : Octets) → OctetThen text m rest → OctetThen text n others → (m ≡ n) × (rest ≡ others)
+one_octet : (text : Octets) (m n : ℕ) (rest others : Octets) → OctetThen text m rest
+    → OctetThen text n others → (m ≡ n) × (rest ≡ others)
 one_octet text m n rest others h k =
-    let same_place = only_some (sym (dot_place text rest m h) ∙ dot_place text others n k) in
-    let front = sym (take-append_seam (decimal m) (46 ∷ rest)) ∙ ap (take (length (decimal m))) (sym h.0) ∙ ap (λ j. take j text) same_place ∙ ap (take (length (decimal n))) k.0 ∙ take-append_seam (decimal n) (46 ∷ others) in
-    let back = sym (drop-append_seam (decimal m) (46 ∷ rest)) ∙ ap (drop (length (decimal m))) (sym h.0) ∙ ap (λ j. drop j text) same_place ∙ ap (drop (length (decimal n))) k.0 ∙ drop-append_seam (decimal n) (46 ∷ others) in
-    (decimal_injective m n (omega (arith, h.1)) (omega (arith, k.1)) front, (only_head back).1)
+    let is = some_pair (sym (number_then text rest m h) ∙ number_then text others n k) in
+    (is.0, after_dot is.1)
   where
-    only_some : {i j : ℕ} → Some i ≡ Some j → i ≡ j
-    only_some e = cc
+    after_dot : 46 ∷ rest ≡ 46 ∷ others → rest ≡ others
+    after_dot e = cc
 
 -- the four numbers of an address in its text
 pub record Ipv4Parts (text d : Octets) : Type 0 where

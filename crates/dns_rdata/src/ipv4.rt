@@ -2,10 +2,11 @@
 ghost use Rattle.std.specs.Prelude.{◌≡◌, ◌↔◌, ℕ, IsNone, IfSome, Some, ◌≤◌, decimal, ◌==◌, ◌+◌, ◌++◌, length, position};
 ghost use Rattle.dns_spec.specs.Names.{Octets};
 ghost use Rattle.dns_spec.specs.AddressText.{SaysIpv4, ipv4_text};
-ghost use Rattle.dns_rdata.specs.AddressForm.{OctetThen};
+ghost use Rattle.dns_rdata.specs.AddressForm.{OctetThen, number_at};
+ghost use Rattle.dns_name.specs.TextForm.{Gives};
 
-use crate::number::read_number;
 use arrayvec::ArrayVec;
+use dns_name::first_digit;
 use itoa::Buffer;
 
 /// The text of an IPv4 address has at most 15 octets.
@@ -53,22 +54,45 @@ fn push_octet(text: &mut ArrayVec<u8, MOST_IPV4_OCTETS>, octet: u8)
     }
 }
 
-// The number up to the first dot, and the text after the dot.
+// The number that a text begins with, and the text after the dot that follows it.
 fn octet_and_dot(text: &[u8]) -> Option<(u8, &[u8])>
     ensures some { IfSome result (λ x. OctetThen text.now x.0 x.1.now) }
     ensures none { IsNone result → (n : ℕ) (rest : Octets) → OctetThen text.now n rest → ⊥ }
 {
-    let end = place_of(text, b'.')?;
-    let (number, dot_and_rest) = text.split_at(end);
-    let (_, rest) = dot_and_rest.split_first()?;
-    Some((read_octet(number)?, rest))
+    let (octet, end) = first_number(text)?;
+    let (dot, rest) = end.split_first()?;
+    if *dot != b'.' {
+        return None;
+    }
+    Some((octet, rest))
 }
 
 fn read_octet(text: &[u8]) -> Option<u8>
     ensures { (n : ℕ) → (result ≡ Some n) ↔ ((text.now ≡ decimal n) × (n ≤ 255)) }
 {
-    let number = read_number(text, 255)?;
-    u8::try_from(number).ok()
+    let (octet, end) = first_number(text)?;
+    if end.is_empty() { Some(octet) } else { None }
+}
+
+// The number that a text begins with, without zeros in front, and the text after its digits, three
+// at most.
+#[tactic(auto, unfolding(crate::specs::AddressForm::number_at))]
+fn first_number(text: &[u8]) -> Option<(u8, &[u8])>
+    ensures { Gives result (number_at text.now) }
+{
+    let (hundreds, rest) = first_digit(text)?;
+    if hundreds == 0 {
+        return Some((0, rest));
+    }
+    let Some((tens, others)) = first_digit(rest) else {
+        return Some((hundreds as u8, rest));
+    };
+    let number = 10 * hundreds + tens;
+    let Some((ones, end)) = first_digit(others) else {
+        return Some((number as u8, others));
+    };
+    let number = u8::try_from(10 * number + ones).ok()?;
+    Some((number, end))
 }
 
 // Where the first such octet stands.

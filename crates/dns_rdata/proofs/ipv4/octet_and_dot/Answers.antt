@@ -1,19 +1,22 @@
-use Rattle.std.proofs.Common.{refl, Some, None, ◌≡◌, ℕ}
-use Rattle.dns_rdata.proofs.Ipv4Lemmas.{no_dot, no_number, number_then}
+use Rattle.std.proofs.Common.{◌++◌, ◌∷◌, decimal, length, get_or, sym, ◌∙◌, ap, arith}
+use Rattle.dns_rdata.proofs.Ipv4Lemmas.{not_read, other_end, number_read}
 use Rattle.dns_rdata.proofs.ipv4.octet_and_dot.Goals as goal
 
-none_is_some : (n : ℕ) → None ≡ Some n → ⊥
-none_is_some n e = cc
+pub returns-in_err-octet-clause-none : goal.returns-in_err-octet-clause-none
+returns-in_err-octet-clause-none c = λ none n rest. not_read _ n rest c.in_err-octet.ensures
 
-pub returns-in_err-end-clause-none : goal.returns-in_err-end-clause-none
-returns-in_err-end-clause-none c = λ none. no_dot c.args.text.now c.in_err-end.ensures
+pub returns-in_err-dot-clause-none : goal.returns-in_err-dot-clause-none
+returns-in_err-dot-clause-none c = λ none n rest.
+    other_end _ _ _ n rest c.in_ok-octet.ensures
+    (λ e. omega (arith, c.in_err-dot.ensures.cases, ap length e))
 
-pub returns-in_err-read_octet-clause-none : goal.returns-in_err-read_octet-clause-none
-returns-in_err-read_octet-clause-none c = λ none.
-    no_number c.args.text.now _ c.in_ok-end.end c.in_ok-end.ensures c.split_at.ensures.front
-    (λ n e le. none_is_some n ((c.in_err-read_octet.ensures n).1 (e, le)))
+pub returns-then-dot-ne46-clause-none : goal.returns-then-dot-ne46-clause-none
+returns-then-dot-ne46-clause-none c = λ none n rest.
+    other_end _ _ _ n rest c.in_ok-octet.ensures
+    (λ e. c.if-dot-ne46.true (ap (λ t. get_or t 0 0) (sym c.in_ok-dot.ensures.cases.0 ∙ e)))
 
 pub returns-clause-some : goal.returns-clause-some
 returns-clause-some c =
-    let said = (c.in_ok-read_octet.ensures c.in_ok-read_octet.field-0).0 refl in
-    number_then c.args.text.now _ _ _ c.in_ok-end.end _ _ c.in_ok-end.ensures c.split_at.ensures.front c.split_at.ensures.back c.in_ok-rest.ensures.cases.0 said.0 said.1
+    let read = number_read _ _ _ c.in_ok-octet.ensures in
+    let dot = ap (λ d. d ∷ c.in_ok-dot.rest.now) c.if-dot-ne46.false in
+    (read.0 ∙ ap (λ t. decimal c.in_ok-octet.octet ++ t) (c.in_ok-dot.ensures.cases.0 ∙ dot), read.1)
