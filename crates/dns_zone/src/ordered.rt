@@ -105,12 +105,16 @@ fn comes_first(keys: &[u8], one: &Entry, start: u32, next: &Entry, after: u32) -
         .is_lt()
 }
 
-// The order of the owners of two records, by their keys.
+// The order of the owners of two records, by their keys: mostly they share one, which saves a
+// hundredth of a check.
 fn owner_order(keys: &[u8], one: &Entry, start: u32, next: &Entry, after: u32) -> Ordering
     requires one { key_in keys.now start one.now.owner ≡ name_key one.now.owner }
     requires next { key_in keys.now after next.now.owner ≡ name_key next.now.owner }
     ensures { result ≡ name_order one.now.owner next.now.owner }
 {
+    if start == after && one.owner().octets().len() == next.owner().octets().len() {
+        return Ordering::Equal;
+    }
     key_at(keys, start, one).cmp(key_at(keys, after, next))
 }
 

@@ -1,7 +1,31 @@
-use Rattle.std.proofs.Common.{ap₂, ◌∙◌, nat_cmp}
+use Rattle.std.proofs.Common.{◌≡◌, ◌-◌, length, take, drop, sym, ap, ap₂, subst, ◌∙◌, nat_cmp}
 use Rattle.std.specs.Cmp.Lexicographic.{slice_cmp}
+use Rattle.dns_spec.specs.Names.{DomainName, wire, folded}
+use Rattle.dns_zone.specs.KeyForm.{name_key}
+use Rattle.dns_zone.proofs.CheckedNames.{one_key}
 use Rattle.dns_zone.proofs.KeyOrder.{key_order}
+use Rattle.dns_zone.proofs.NameOrder.{same-from, same-tied}
 use Rattle.dns_zone.proofs.ordered.owner_order.Goals as goal
+
+abbrev Low : DomainName → Type 0
+Low n = folded n ≡ n
+
+pub returns-then-octets : goal.returns-then-octets
+returns-then-octets c =
+    let n = c.args.one.now.owner in
+    let m = c.args.next.now.owner in
+    let size = sym (ap wire c.owner.ensures.value) ∙ sym c.octets.ensures.value in
+    let sizes : length (wire n) ≡ length (wire m) =
+    ap length size ∙ c.if-octets.true
+    ∙ ap length (c.octets-then-start-after.ensures.value
+    ∙ ap wire c.owner-then-start-after.ensures.value) in
+    let keys : name_key n ≡ name_key m =
+    sym c.requires.one
+    ∙ ap₂ (λ k s. take (k - 1) (drop s c.args.keys.now)) sizes c.if-start-after.true
+    ∙ c.requires.next in
+    let low = subst Low c.owner.ensures.value c.owner.ensures.lower in
+    let next_low = subst Low c.owner-then-start-after.ensures.value c.owner-then-start-after.ensures.lower in
+    sym (same-tied n m (same-from n m (ap folded (one_key n m low next_low keys))))
 
 pub returns : goal.returns
 returns c =
