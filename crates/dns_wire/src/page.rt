@@ -97,7 +97,7 @@ impl<const N: usize, const SIZE: usize> Page<N, SIZE> {
     {
         self.octets.clear();
         extend(&mut self.octets, &[0; HEADER_OCTETS]);
-        self.places.clear();
+        self.places.take_back(0);
         self.limit = limit;
         self.asked_end = 0;
         self.counts = Counts::default();
@@ -160,7 +160,7 @@ impl<const N: usize, const SIZE: usize> Page<N, SIZE> {
                 return false;
             }
         }
-        self.counts = with_records(self.counts, section, set.len() as u16);
+        count_records(&mut self.counts, section, set.len() as u16);
         true
     }
 
@@ -335,18 +335,16 @@ fn extend<const SIZE: usize>(octets: &mut ArrayVec<u8, SIZE>, more: &[u8])
     }
 }
 
-// The counts with so many records more in a section.
-fn with_records(counts: Counts, section: Section, count: u16) -> Counts
-    requires { counts.answers + counts.authorities + counts.additionals + count < 2 ^ 16 }
-    ensures { result ≡ with_counted counts section count }
+// Counts so many records more in a section.
+fn count_records(counts: &mut Counts, section: Section, count: u16)
+    requires { counts.old.answers + counts.old.authorities + counts.old.additionals + count < 2 ^ 16 }
+    ensures { counts.new ≡ with_counted counts.old section count }
 {
-    let mut counts = counts;
     match section {
         Section::Answer => counts.answers += count,
         Section::Authority => counts.authorities += count,
         Section::Additional => counts.additionals += count,
     }
-    counts
 }
 
 fn put_body(out: &mut [u8], body: &[u8])

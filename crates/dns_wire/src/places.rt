@@ -77,14 +77,6 @@ impl<const N: usize> Places<N> {
         }
     }
 
-    /// Forgets all places. Only the heads of the chains and what was kept are written over.
-    pub(crate) fn clear(&mut self)
-        ensures { self.new ≡ [] }
-    {
-        self.heads = [0; HEADS];
-        self.entries.clear();
-    }
-
     /// How many places are kept.
     pub(crate) fn len(&self) -> usize
         ensures value { result ≡ length self.now }

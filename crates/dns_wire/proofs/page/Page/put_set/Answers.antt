@@ -71,7 +71,7 @@ pub returns-then-not-put_record-clause-least : goal.returns-then-not-put_record-
 returns-then-not-put_record-clause-least g c = λ q items draft low.
     least_of q (with_set items c.args.section c.args.owner.now c.args.ttl (g.S.SetView.set c.args.set.now)) c.args.self.now.limit false (returns-then-not-put_record-clause-fits g c q items draft) low
 
-module _ (g : given.Over) (c : goal.After-self-1 g) where
+module _ (g : given.Over) (c : goal.After-count_records g) where
   done : Writes (g.H.SuffixHash.numbers c.args.hash.now) (g.H.SuffixHash.numbers c.records.hash) c.args.self.now c.records.self (records_laid (records_at c.args.owner.now c.args.ttl (g.S.SetView.set c.args.set.now))) true
   done =
       let numbers = g.H.SuffixHash.numbers in
@@ -90,7 +90,7 @@ returns-clause-least g c = λ q items draft low.
 pub returns-clause-put : goal.returns-clause-put
 returns-clause-put g c = λ q items draft.
     let set = g.S.SetView.set c.args.set.now in
-    let n = c.with_records-self-inside.result in
-    let counts = c.with_records-self-inside.ensures ∙ ap₂ (λ (d : Draft) k. with_counted d.counts c.args.section k) c.self-2.view_is c.len-2.ensures.value in
+    let n = c.count_records.new.counts in
+    let counts = c.count_records.ensures ∙ ap₂ (λ (d : Draft) k. with_counted d.counts c.args.section k) c.self-2.view_is c.len-2.ensures.value in
     subst (λ (d : Draft). IsDraft (g.H.SuffixHash.numbers c.args.hash.now) q (with_set items c.args.section c.args.owner.now c.args.ttl set) (record d { counts = n })) (sym c.self-2.view_is)
     (put_in q items c.args.section c.args.owner.now c.args.ttl set (done g c) counts draft)
