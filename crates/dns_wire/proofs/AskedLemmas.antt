@@ -14,9 +14,10 @@ use Rattle.dns_wire.proofs.SuffixLemmas.{one_run, next_label, kept-root}
 use Rattle.dns_wire.proofs.NameWritten.{kept_left, kept_right, kept_split, kept_sound, kept_complete, NewSuffix, is_name-suffix}
 
 -- what stands between the header and its end
-pub before_is : (b : Octets) (a : ℕ) {front name : Octets} → front ≡ take a b → 12 ≤ length front → name ≡ drop 12 front → name ≡ name_before b a
-before_is b a front some name =
-    let whole : a ≡ 12 + (a - 12) = omega (arith, some, ap length front, length-take a b) in
+pub before_is : {b : Octets} {a : ℕ} {front name : Octets} → IsAsked b a → front ≡ take a b → name ≡ drop 12 front → name ≡ name_before b a
+before_is {b} {a} asked front name =
+    let after = asked.after in
+    let whole : a ≡ 12 + (a - 12) = omega (arith, after) in
     name ∙ ap (drop 12) front ∙ ap (λ k. drop 12 (take k b)) whole ∙ drop-take 12 (a - 12) b
 
 -- what stands before the end of the name decides it
@@ -34,8 +35,16 @@ unfolding asked_places
 asked_same head b b' a a' e same =
     ap (λ k. new_places head [] (labels_of (name_before b' k)) 12) same ∙ ap (λ o. new_places head [] (labels_of o) 12) (name_same b b' a e)
 
+front_same : (b b' : Octets) (a : ℕ) → 12 ≤ a → a ≤ length b → a ≤ length b' → take a b' ≡ take a b → take 12 b' ≡ take 12 b
+front_same b b' a after inside inside' e = sym (one b' inside') ∙ ap (take 12) e ∙ one b inside
+  where
+    one : (x : Octets) → a ≤ length x → take 12 (take a x) ≡ take 12 x
+    one x h = sym (take-append-le 12 (take a x) (drop a x) (omega (arith, after, h, length-take a x))) ∙ ap (take 12) (take-append-drop a x)
+
 pub is_asked_same : {b b' : Octets} {a a' : ℕ} → IsAsked b a → take a b' ≡ take a b → a' ≡ a → a ≤ length b' → IsAsked b' a'
 is_asked_same {b} {b'} {a} asked e same inside = subst (IsAsked b') (sym same) (record {
+  blank = front_same b b' a asked.after asked.inside inside e ∙ asked.blank;
+  after = asked.after;
   inside = inside;
   near = asked.near;
   name = λ h. subst IsWireForm (sym (name_same b b' a e)) (asked.name h);
@@ -60,7 +69,7 @@ no_labels : labels_of [] ≡ []
 unfolding labels_of
 no_labels = refl
 
-pub asked_nothing : (head : Octets → ℕ) (b : Octets) → asked_places head b 0 ≡ []
+pub asked_nothing : (head : Octets → ℕ) (b : Octets) → asked_places head b 12 ≡ []
 unfolding asked_places
 asked_nothing head b = ap (λ n. new_places head [] n 12) no_labels ∙ kept-root head [] 12
 
@@ -77,6 +86,8 @@ asked_whole head {b} {a} n o e ok end = ap (λ m. new_places head [] m 12) (labe
 
 pub is_asked_whole : {b : Octets} {a : ℕ} (n : DomainName) (o : Octets) → b ≡ (replicate 12 0 ++ wire n) ++ o → is_name n ≡ true → length (wire n) ≤ 255 → a ≡ 12 + length (wire n) → IsAsked b a
 is_asked_whole {b} {a} n o e ok short end = record {
+  blank = ap (take 12) e;
+  after = omega (arith, end);
   inside = omega (arith, end, ap length e, length-append (replicate 12 0 ++ wire n) o, length-append (replicate 12 0) (wire n));
   near = omega (arith, short, end);
   name = λ h. IsWireForm-wire (name_before b a) n (name_whole n b o a e end) ok;

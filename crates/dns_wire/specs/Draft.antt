@@ -69,7 +69,7 @@ abbrev pub no_draft : ℕ → Draft
 no_draft limit = record {
   limit = limit;
   octets = replicate 12 0;
-  asked_end = 0;
+  asked_end = 12;
   kept = [];
   counts = record { questions = 0; answers = 0; authorities = 0; additionals = 0 };
 }

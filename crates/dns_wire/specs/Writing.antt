@@ -1,7 +1,7 @@
 -- What a reader learns here: how a writer lays a name out, which places it keeps for later names,
 -- and what must hold of the places kept, and of the octets written so far, that later names share
 -- rightly.
-use Rattle.std.specs.Prelude.{◌≡◌, ℕ, ◌+◌, ◌<◌, ◌≤◌, List, [], ◌∷◌, ◌++◌, ◌-◌, length, take, drop, nat_le, IsTrue, if◌then◌else◌}
+use Rattle.std.specs.Prelude.{◌≡◌, ℕ, ◌+◌, ◌<◌, ◌≤◌, List, [], ◌∷◌, ◌++◌, ◌-◌, length, replicate, take, drop, nat_le, IsTrue, if◌then◌else◌}
 use Rattle.std.specs.Prelude.{Option, None, Some}
 use Rattle.dns_spec.specs.Names.{Octets, DomainName, wire, is_name}
 use Rattle.dns_spec.specs.Data.{laid_parts}
@@ -48,12 +48,15 @@ new_places number ms (l ∷ n) p = elim (shared_place ms (l ∷ n)) [
   | Some q ↦ []
 ]
 
--- the octets of the name of the question, which ends at place a; none before it is written
+-- the octets of the name of the question, which ends at place a; none where the header ends there
 abbrev pub name_before : Octets → ℕ → Octets
 name_before b a = take (a - 12) (drop 12 b)
 
--- The name of the question ends at this place, or it is not written yet.
+-- The name of the question ends at this place, or the header does, of which only the room is kept,
+-- and the name is not written yet.
 pub record IsAsked (b : Octets) (a : ℕ) : Type 0 where
+  pub blank : take 12 b ≡ replicate 12 0
+  pub after : 12 ≤ a
   pub inside : a ≤ length b
   pub near : a ≤ 267
   pub name : 12 < a → IsWireForm (name_before b a)

@@ -40,8 +40,8 @@ pub struct Page<const N: usize, const SIZE: usize> {
     // Those of names after the question's that later names may point to.
     places: Places<N>,
     limit: usize,
-    // Where the name of the question ends; 0 before it is written. No places of its suffixes are
-    // kept, since this tells where each of them may stand.
+    // Where the name of the question ends, or the header before it is written. No places of its
+    // suffixes are kept, since this tells where each of them may stand.
     asked_end: usize,
     counts: Counts,
 }
@@ -79,7 +79,7 @@ impl<const N: usize, const SIZE: usize> Page<N, SIZE> {
             octets,
             places: Places::new(),
             limit,
-            asked_end: 0,
+            asked_end: HEADER_OCTETS,
             counts: Counts::default(),
         }
     }
@@ -95,11 +95,10 @@ impl<const N: usize, const SIZE: usize> Page<N, SIZE> {
         requires octets { limit ≤ SIZE }
         ensures { self.new ≡ no_draft limit }
     {
-        self.octets.clear();
-        extend(&mut self.octets, &[0; HEADER_OCTETS]);
+        self.octets.truncate(HEADER_OCTETS);
         self.places.take_back(0);
         self.limit = limit;
-        self.asked_end = 0;
+        self.asked_end = HEADER_OCTETS;
         self.counts = Counts::default();
     }
 

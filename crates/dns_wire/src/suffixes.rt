@@ -98,8 +98,8 @@ fn place_before(message: &[u8], end: usize, suffix: &[u8]) -> Option<u16>
     if suffix.len() < 2 {
         return None;
     }
-    let (front, _) = message.split_at_checked(end)?;
-    let (_, name) = front.split_at_checked(HEADER_OCTETS)?;
+    let (front, _) = message.split_at(end);
+    let (_, name) = front.split_at(HEADER_OCTETS);
     if !has_last_labels(name, suffix) {
         return None;
     }

@@ -59,5 +59,5 @@ pub returns-in_default-clause-draft : goal.returns-in_default-clause-draft
 returns-in_default-clause-draft g c =
     let head = g.H.SuffixHash.numbers c.args.hash.now in
     let number = suffix_number head in
-    let begun = draft_begins head None (no_draft c.args.self.now.limit) refl (subst (Holds number [] (replicate 12 0)) (sym (append-nil (asked_places number (replicate 12 0) 0) ∙ asked_nothing number (replicate 12 0))) (holds_nothing number)) refl tt in
+    let begun = draft_begins head None (no_draft c.args.self.now.limit) refl (subst (Holds number [] (replicate 12 0)) (sym (append-nil (asked_places number (replicate 12 0) 12) ∙ asked_nothing number (replicate 12 0))) (holds_nothing number)) refl tt in
     subst₂ (λ (o : Option (Bor MessageQuestion)) (d : Draft). IsDraft head (option_copied o) [] d) (sym c.in_default.is) (sym c.requires.nothing) begun
