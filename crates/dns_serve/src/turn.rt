@@ -5,7 +5,7 @@ ghost use Rattle.dns_serve.specs.Turns.{TurnOf};
 
 use crate::datagrams::Datagrams;
 use crate::fault::TurnFault;
-use dns_answer::{Limit, respond};
+use dns_answer::{UdpDraft, respond_in};
 use dns_zone::{Steps, Zone};
 
 // The octets that are kept of a datagram, and those that a reply has at most.
@@ -16,6 +16,8 @@ const MOST_OCTETS: usize = 512;
 ///
 /// `ReceiveFailed` where the device failed before, with nothing sent; `SendFailed` where it failed
 /// then. Nothing is tried again, and no memory is taken.
+///
+/// The room of the turn is filled first. Who takes many turns keeps it, and calls `udp_turn_in`.
 pub fn udp_turn<D: Datagrams>(zone: &Zone, device: &mut D) -> Result<bool, TurnFault>
     requires { D.count device.old < 2 ^ 64 - 1 }
     ensures turn { TurnOf zone.now
@@ -28,14 +30,38 @@ pub fn udp_turn<D: Datagrams>(zone: &Zone, device: &mut D) -> Result<bool, TurnF
         result }
     ensures counted { D.count device.new ≡ failures_after (D.count device.old) result }
 {
-    let mut room = [0; MOST_OCTETS];
-    let Ok(count) = device.receive(&mut room) else {
+    let mut draft = UdpDraft::new();
+    udp_turn_in(zone, device, &mut [0; MOST_OCTETS], &mut draft, &mut [0; MOST_OCTETS])
+}
+
+/// Takes a turn in room that is lent, for the datagram, for the reply while it is made, and for
+/// the reply: all of what `udp_turn` says.
+///
+/// Nothing is left of the turns that were taken in the room before, and it is not filled.
+pub fn udp_turn_in<D: Datagrams>(
+    zone: &Zone,
+    device: &mut D,
+    room: &mut [u8; MOST_OCTETS],
+    draft: &mut UdpDraft,
+    out: &mut [u8; MOST_OCTETS],
+) -> Result<bool, TurnFault>
+    requires { D.count device.old < 2 ^ 64 - 1 }
+    ensures turn { TurnOf zone.now
+        (record {
+          had = D.received device.old;
+          has = D.received device.new;
+          sent = D.sent device.old;
+          has_sent = D.sent device.new;
+        })
+        result }
+    ensures counted { D.count device.new ≡ failures_after (D.count device.old) result }
+{
+    let Ok(count) = device.receive(room) else {
         return Err(TurnFault::ReceiveFailed);
     };
     let (datagram, _) = room.split_at(count);
-    let mut out = [0; MOST_OCTETS];
     let mut steps = Steps::new(zone);
-    let Some(len) = respond(&mut steps, datagram, Limit::Udp, &mut out) else {
+    let Some(len) = respond_in(&mut steps, datagram, draft, out) else {
         return Ok(false);
     };
     let (reply, _) = out.split_at(len);

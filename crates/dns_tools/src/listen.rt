@@ -5,8 +5,9 @@ ghost use Rattle.dns_tools.specs.Turns.{TakesTurns};
 use crate::fault::{FaultWord, TurnWord};
 use crate::peer::{Messages, Peer};
 use crate::socket::Socket;
+use dns_answer::UdpDraft;
 use dns_name::Tally;
-use dns_serve::{Datagrams, StreamFault, StreamRoom, serve_stream_in, udp_turn};
+use dns_serve::{Datagrams, StreamFault, StreamRoom, serve_stream_in, udp_turn_in};
 use dns_zone::Zone;
 use std::alloc::Global;
 use std::io::{self, BufReader, Read};
@@ -57,9 +58,12 @@ pub fn serve_datagrams<E: Eprint, D: Datagrams>(
           failures = D.count device.new;
         }) }
 {
+    let mut room = [0; 512];
+    let mut draft = UdpDraft::new();
+    let mut out = [0; 512];
     let mut are_said = true;
     'turns: for _ in 0..turns {
-        if let Err(fault) = udp_turn(zone, device) {
+        if let Err(fault) = udp_turn_in(zone, device, &mut room, &mut draft, &mut out) {
             are_said = say_of_turn(rt, are_said, TurnWord::from(fault));
         }
     }
