@@ -270,9 +270,16 @@ keep_past {head} {old} {ks} {place = place} k keep a past ms n e ok f =
     sym (x.kept ∙ ap (λ x. ks ++ new_places head ms x place) g.whole ∙ ap (λ x. ks ++ x) none ∙ append-nil ks)
 
 -- nothing is kept of a name that is a pointer alone
-pub keep_none : (head : Octets → ℕ) (ms : List Placed) (n : DomainName) (at : ℕ) (ks : List Kept) → front_size ms n ≡ 0 → ks ≡ ks ++ new_places head ms n at
+keep_none : (head : Octets → ℕ) (ms : List Placed) (n : DomainName) (at : ℕ) (ks : List Kept) → front_size ms n ≡ 0 → ks ≡ ks ++ new_places head ms n at
 keep_none head ms [] at ks none = sym (append-nil ks) ∙ ap (λ x. ks ++ x) (sym (kept-root head ms at))
 keep_none head ms (l ∷ n) at ks none = sym (append-nil ks) ∙ ap (λ x. ks ++ x) (sym (kept-shared head ms l n at (omega (arith, none))))
+
+pub keep_end : {head : Octets → ℕ} {old ks : List Kept} {name rest : Octets} {front at place : ℕ} → Keep head old ks name rest front at place → at + front ≤ place
+    → (ms : List Placed) (n : DomainName) → name ≡ wire n → is_name n ≡ true → front ≡ front_size ms n → ks ≡ old ++ new_places head ms n at
+keep_end {head} {old} {ks} {place = place} keep end ms n e ok f =
+    let x = keep.all ms n e ok f in
+    let fit = x.fits in
+    keep_none head ms x.left place ks (omega (arith, fit, end)) ∙ sym x.kept
 
 -- octets that have no first label are the wire form of no other name than the root
 pub root_empty : (o : Octets) (n : DomainName) → o ≡ wire n → length o ≡ 0 → n ≡ []

@@ -164,12 +164,12 @@ pub(crate) fn keep_suffixes<H: SuffixHash, const N: usize>(
     ensures more { Follows places.old places.new }
     ensures same { H.numbers hash.new ≡ H.numbers hash.old }
 {
-    if front == 0 {
-        return;
-    }
     let mut rest = name;
     let mut place = at;
-    'suffixes: while let Some((length, after)) = after_first_label(rest) {
+    'suffixes: while place < at + front {
+        let Some((length, after)) = after_first_label(rest) else {
+            return;
+        };
         let next = place + 1 + length;
         if next > at + front || place > LAST_PLACE {
             return;

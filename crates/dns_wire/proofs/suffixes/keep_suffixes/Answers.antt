@@ -1,15 +1,8 @@
-use Rattle.std.proofs.Common.{◌∙◌, refl, sym, ap}
-use Rattle.dns_wire.proofs.SuffixLemmas.{follows_none, follows_again, keep_begins, keep_label, keep_root, keep_high, keep_past, keep_none}
+use Rattle.std.proofs.Common.{◌∙◌, refl, ap}
+use Rattle.dns_wire.proofs.SuffixLemmas.{follows_none, follows_again, keep_begins, keep_label, keep_root, keep_high, keep_past, keep_end}
 use Rattle.dns_wire.specs.SuffixNumbers.{suffix_number}
 use Rattle.dns_wire.proofs.suffixes.keep_suffixes.Goals.{then-next-at-via-then-next-at, then-next-at-via-else-next-at+then-place-gt-LAST_PLACE}
 use Rattle.dns_wire.proofs.suffixes.keep_suffixes.Goals as goal
-
-pub returns-then-front-eq0-clause-kept : goal.returns-then-front-eq0-clause-kept
-returns-then-front-eq0-clause-kept g c = λ ms n e ok front.
-    keep_none (suffix_number (g.H.SuffixHash.numbers c.args.hash.now)) ms n c.args.at c.args.places.now (sym front ∙ c.if-front-eq0.true)
-
-pub returns-then-front-eq0-clause-more : goal.returns-then-front-eq0-clause-more
-returns-then-front-eq0-clause-more g c = follows_none c.args.places.now
 
 pub suffixes-init : goal.suffixes-init
 suffixes-init g c = record {
@@ -38,4 +31,7 @@ returns-then-next-at-clause-kept g c = λ ms n e ok front.
     ]
 
 pub returns-clause-kept : goal.returns-clause-kept
-returns-clause-kept g c = λ ms n e ok front. keep_root c.suffixes.invariant.keep (c.in_default.ensures.root refl) ms n e ok front
+returns-clause-kept g c = λ ms n e ok front. keep_end c.suffixes.invariant.keep c.suffixes-test.false ms n e ok front
+
+pub returns-in_default-clause-kept : goal.returns-in_default-clause-kept
+returns-in_default-clause-kept g c = λ ms n e ok front. keep_root c.suffixes.invariant.keep (c.in_default.ensures.root refl) ms n e ok front
