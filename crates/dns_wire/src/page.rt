@@ -152,8 +152,10 @@ impl<const N: usize, const SIZE: usize> Page<N, SIZE> {
         if (self.limit - octets) / 10 < set.len() {
             return false;
         }
+        let rtype = set.rtype();
+        let shares = rtype.compresses();
         'records: for i in 0..set.len() {
-            if !self.put_record(hash, owner, set.rtype(), ttl, set.rdata(i)) {
+            if !self.put_record(hash, owner, rtype, shares, ttl, set.rdata(i)) {
                 self.octets.truncate(octets);
                 self.places.take_back(places);
                 return false;
@@ -186,16 +188,19 @@ impl<const N: usize, const SIZE: usize> Page<N, SIZE> {
         length
     }
 
-    // Writes a record of class IN. False where it does not fit; then a part of it may be written.
+    // Writes a record of class IN, in whose data names are shared or not. False where it does not
+    // fit; then a part of it may be written.
     fn put_record<H: SuffixHash>(
         &mut self,
         hash: &mut H,
         owner: &NameRef<'_>,
         rtype: RType,
+        shares: bool,
         ttl: u32,
         rdata: &[u8],
     ) -> bool
-        requires { Valid rtype.0 rdata.now }
+        requires valid { Valid rtype.0 rdata.now }
+        requires shares { shares ≡ compresses rtype.0 }
         ensures writes { Writes (H.numbers hash.old) (H.numbers hash.new) self.old self.new
             (λ ms p. record_laid ms p (shown owner.now rtype.0 ttl rdata.now)) result }
         ensures longer { OnTrue result
@@ -204,7 +209,7 @@ impl<const N: usize, const SIZE: usize> Page<N, SIZE> {
         if !self.put_name(hash, owner.octets()) {
             return false;
         }
-        if rtype.compresses() {
+        if shares {
             self.put_shared_tail(hash, rtype, ttl, rdata)
         } else {
             self.append(&record_numbers(rtype, ttl, rdata.len() as u16), rdata)

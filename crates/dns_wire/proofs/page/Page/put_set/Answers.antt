@@ -22,7 +22,7 @@ records-preserved g c =
     let numbers = g.H.SuffixHash.numbers in
     let set = g.S.SetView.set c.args.set.now in
     let within = c.records-test.true in
-    let done = record_more c.args.owner.now c.args.ttl set c.records.i _ (omega (arith, within, c.len-i-end.ensures.value)) (ap₂ (λ t d. shown c.args.owner.now t c.args.ttl d) c.rtype.ensures c.rdata.ensures.value) c.records.invariant.writes c.put_record.ensures.writes in
+    let done = record_more c.args.owner.now c.args.ttl set c.records.i _ (omega (arith, within, c.len-i-end.ensures.value)) (ap₂ (λ t d. shown c.args.owner.now t c.args.ttl d) c.rtype-rtype.ensures c.rdata.ensures.value) c.records.invariant.writes c.put_record.ensures.writes in
     let longer = subst (λ t. OnTrue t (length c.records.self.octets + 10 ≤ length c.put_record.new.self.octets)) c.if-not-put_record.false c.put_record.ensures.longer in
     let so_far = c.records.invariant.longer in
     record {
@@ -51,7 +51,7 @@ module _ (g : given.Over) (c : goal.After-take_back g) where
       let set = g.S.SetView.set c.args.set.now in
       let within = c.records-test.true in
       records_past (records_at c.args.owner.now c.args.ttl set) (c.records.i + 1) c.if-not-put_record.true
-      (record_more c.args.owner.now c.args.ttl set c.records.i _ (omega (arith, within, c.len-i-end.ensures.value)) (ap₂ (λ t d. shown c.args.owner.now t c.args.ttl d) c.rtype.ensures c.rdata.ensures.value) c.records.invariant.writes c.put_record.ensures.writes)
+      (record_more c.args.owner.now c.args.ttl set c.records.i _ (omega (arith, within, c.len-i-end.ensures.value)) (ap₂ (λ t d. shown c.args.owner.now t c.args.ttl d) c.rtype-rtype.ensures c.rdata.ensures.value) c.records.invariant.writes c.put_record.ensures.writes)
 
 pub returns-then-not-put_record-clause-unchanged : goal.returns-then-not-put_record-clause-unchanged
 returns-then-not-put_record-clause-unchanged g c =
