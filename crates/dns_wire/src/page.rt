@@ -283,13 +283,13 @@ impl<const N: usize, const SIZE: usize> Page<N, SIZE> {
             result }
     {
         let message = self.octets.as_slice();
-        let shared = shared_suffix(&self.places, message, hash, name, self.asked_end);
-        let (front, _) = name.split_at(shared.front);
+        let (before, place) = shared_suffix(&self.places, message, hash, name, self.asked_end);
+        let (front, _) = name.split_at(before);
         let at = self.octets.len();
-        if !self.append_end(front, shared.place) {
+        if !self.append_end(front, place) {
             return false;
         }
-        keep_suffixes(&mut self.places, hash, name, shared.front, at);
+        keep_suffixes(&mut self.places, hash, name, before, at);
         true
     }
 

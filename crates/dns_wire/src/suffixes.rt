@@ -15,46 +15,33 @@ use dns_name::are_equal;
 // The last place that the 14 bits of a pointer reach.
 const LAST_PLACE: usize = 16383;
 
-/// How a name is laid out: the octets of its labels before the suffix that it shares, and the place
-/// of that suffix.
-#[derive(Clone, Copy)]
-pub(crate) struct Shared {
-    pub(crate) front: usize,
-    pub(crate) place: Option<u16>,
-}
-
-/// The longest suffix of a name, in its wire form, that a pointer may stand for.
+/// How a name, in its wire form, is laid out: how many octets are before the longest suffix that a
+/// pointer may stand for, and the place of that suffix.
 pub(crate) fn shared_suffix<H: SuffixHash, const N: usize>(
     places: &Places<N>,
     message: &[u8],
     hash: &mut H,
     name: &[u8],
     asked_end: usize,
-) -> Shared
+) -> (usize, Option<u16>)
     requires asked { IsAsked message.now asked_end }
     ensures shared { (ms : List Placed) (n : DomainName)
         → Holds (suffix_number (H.numbers hash.old)) ms message.now
         (asked_places (suffix_number (H.numbers hash.old)) message.now asked_end ++ places.now)
         → name.now ≡ wire n → IsTrue (is_name n)
-        → (front_size ms n ≡ result.front) × (pointed_place ms n ≡ result.place) }
-    ensures inside { result.front ≤ length name.now }
-    ensures reached { IfSome result.place (λ place. place < 16384) }
+        → (front_size ms n ≡ result.0) × (pointed_place ms n ≡ result.1) }
+    ensures inside { result.0 ≤ length name.now }
+    ensures reached { IfSome result.1 (λ place. place < 16384) }
     ensures same { H.numbers hash.new ≡ H.numbers hash.old }
 {
     let mut rest = name;
     'suffixes: while let Some((_, after)) = after_first_label(rest) {
         if let Some(place) = find_suffix(places, message, hash, rest, asked_end) {
-            return Shared {
-                front: name.len() - rest.len(),
-                place: Some(place),
-            };
+            return (name.len() - rest.len(), Some(place));
         }
         rest = after;
     }
-    Shared {
-        front: name.len() - rest.len(),
-        place: None,
-    }
+    (name.len() - rest.len(), None)
 }
 
 // A place at which the message spells a suffix: one in the name of the question, or one that is

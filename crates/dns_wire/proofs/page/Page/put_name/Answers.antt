@@ -23,16 +23,16 @@ pub returns-then-not-append_end : goal.returns-then-not-append_end
 returns-then-not-append_end g c = λ n e ok.
     let now = c.args.self.now in
     let numbers = g.H.SuffixHash.numbers in
-    subst (λ d. Writes (numbers c.args.hash.now) (numbers c.shared_suffix-shared.new.hash) now d (name_laid n) false) (sym c.if-not-append_end.ensures.unchanged) (record {
+    subst (λ d. Writes (numbers c.args.hash.now) (numbers c.shared_suffix-before.new.hash) now d (name_laid n) false) (sym c.if-not-append_end.ensures.unchanged) (record {
       grows = grows_not now;
-      same = c.shared_suffix-shared.ensures.same;
+      same = c.shared_suffix-before.ensures.same;
       written = λ ms holds.
-          let shared = c.shared_suffix-shared.ensures.shared ms n (there c.self.view_is c.as_slice-message.ensures.value holds) e ok in
+          let shared = c.shared_suffix-before.ensures.shared ms n (there c.self.view_is c.as_slice-message.ensures.value holds) e ok in
           let whole = ap length (shared_cut ms n ∙ ap₂ (λ x p. x ++ end_octets p) (ap₂ take shared.0 (sym e) ∙ sym c.split_at.ensures.front) shared.1) in
           record {
             exactly = (
               λ no. absurd (false≢true no),
-              λ room. sym c.if-not-append_end.true ∙ c.append_end.ensures.fits.1 (omega (arith, room, whole, length-append now.octets (shared_octets ms n), length-append c.split_at.result.0.now (end_octets c.shared_suffix-shared.result.place))),
+              λ room. sym c.if-not-append_end.true ∙ c.append_end.ensures.fits.1 (omega (arith, room, whole, length-append now.octets (shared_octets ms n), length-append c.split_at.result.0.now (end_octets c.shared_suffix-before.result.1))),
             );
             written = tt;
             stands = tt;
@@ -41,7 +41,7 @@ returns-then-not-append_end g c = λ n e ok.
 
 module _ (g : given.Over) (c : goal.After-keep_suffixes g) where
   abbrev end : Octets
-  end = c.split_at.result.0.now ++ end_octets c.shared_suffix-shared.result.place
+  end = c.split_at.result.0.now ++ end_octets c.shared_suffix-before.result.1
 
   is : draft_of c.self-2.inside.limit c.self-2.inside.octets.items c.self-2.inside.asked_end c.self-2.inside.places c.self-2.inside.counts ≡ with_octets c.args.self.now end
   is = c.self-2.view_is ∙ c.if-not-append_end.ensures.put
@@ -53,7 +53,7 @@ pub invariant_of-self : goal.invariant_of-self
 invariant_of-self g c =
     let s = c.self-2.invariant in
     let few = c.keep_suffixes.ensures.few in
-    let long = length-append c.split_at.result.0.now (end_octets c.shared_suffix-shared.result.place) in
+    let long = length-append c.split_at.result.0.now (end_octets c.shared_suffix-before.result.1) in
     kept_with s s.within (omega (arith, few, ap (λ (d : Draft). length d.octets) (is g c), length-append c.args.self.now.octets (end g c), long, c.split_at.ensures.front_len, place g c)) s.asked s.header s.listed
 
 pub returns : goal.returns
@@ -73,21 +73,21 @@ returns g c = λ n e ok.
         limit = refl;
         counts = refl;
       };
-      same = c.keep_suffixes.ensures.same ∙ c.shared_suffix-shared.ensures.same;
+      same = c.keep_suffixes.ensures.same ∙ c.shared_suffix-before.ensures.same;
       written = λ ms holds.
-          let shared = c.shared_suffix-shared.ensures.shared ms n (there c.self.view_is c.as_slice-message.ensures.value holds) e ok in
+          let shared = c.shared_suffix-before.ensures.shared ms n (there c.self.view_is c.as_slice-message.ensures.value holds) e ok in
           let whole = shared_cut ms n ∙ ap₂ (λ x p. x ++ end_octets p) (ap₂ take shared.0 (sym e) ∙ sym c.split_at.ensures.front) shared.1 in
           let room = c.append_end.ensures.fits.0 c.if-not-append_end.false in
           let new = new_places number ms n (length b) in
           let places : c.keep_suffixes.new.places ≡ now.kept ++ new =
           c.keep_suffixes.ensures.kept ms n e ok (sym shared.0)
-          ∙ ap₂ (λ x h. x ++ new_places (suffix_number h) ms n c.len-at.result) ks c.shared_suffix-shared.ensures.same
+          ∙ ap₂ (λ x h. x ++ new_places (suffix_number h) ms n c.len-at.result) ks c.shared_suffix-before.ensures.same
           ∙ ap (λ i. now.kept ++ new_places number ms n i) (place g c) in
           let s = subst (IsWellKept g.row.N g.row.SIZE) c.self.view_is c.self.invariant in
           let known : asked_places number (b ++ o) now.asked_end ++ c.keep_suffixes.new.places ≡ known_places number now ++ new =
           kept_more number _ _ _ _ _ _ o s.asked refl refl places ∙ sym (append_assoc (asked_places number b now.asked_end) now.kept new) in
           record {
-            exactly = (λ yes. omega (arith, room, ap length whole, length-append b (shared_octets ms n), length-append c.split_at.result.0.now (end_octets c.shared_suffix-shared.result.place)), λ fits. refl);
+            exactly = (λ yes. omega (arith, room, ap length whole, length-append b (shared_octets ms n), length-append c.split_at.result.0.now (end_octets c.shared_suffix-before.result.1)), λ fits. refl);
             written = ap (λ x. b ++ x) (sym whole);
             stands = λ x same held.
                 subst₂ (λ p z. Holds number (ms ++ (n, p) ∷ []) (x ++ shared_octets ms n) z) same (ap (λ p. known_places number now ++ new_places number ms n p) same ∙ sym known)
