@@ -181,15 +181,13 @@ impl<const N: usize, const SIZE: usize> Page<N, SIZE> {
             → Spells (take result out.new) (message_of head q items) }
     {
         let octets = self.octets.as_slice();
-        let length = octets.len();
-        let (_, body) = octets.split_at(HEADER_OCTETS);
-        put_body(out, body);
+        let (front, _) = out.split_at_mut(octets.len());
+        front.copy_from_slice(octets);
         put_header(out, &head, &self.counts);
-        length
+        octets.len()
     }
 
-    // Writes a record of class IN, in whose data names are shared or not. False where it does not
-    // fit; then a part of it may be written.
+    // Writes a record of class IN. False where it does not fit; then a part of it may be written.
     fn put_record<H: SuffixHash>(
         &mut self,
         hash: &mut H,
@@ -275,8 +273,7 @@ impl<const N: usize, const SIZE: usize> Page<N, SIZE> {
     }
 
     // Writes a name, given in its wire form: its labels before the longest suffix that is shared,
-    // and a pointer to that; or the whole name. False, with nothing written, where it does not fit
-    // the limit.
+    // and a pointer to that; or the whole name. False, with nothing written, where it does not fit.
     fn put_name<H: SuffixHash>(&mut self, hash: &mut H, name: &[u8]) -> bool
         ensures { (n : DomainName) → name.now ≡ wire n → IsTrue (is_name n)
             → Writes (H.numbers hash.old) (H.numbers hash.new) self.old self.new (name_laid n)
@@ -349,14 +346,6 @@ fn count_records(counts: &mut Counts, section: Section, count: u16)
         Section::Authority => counts.authorities += count,
         Section::Additional => counts.additionals += count,
     }
-}
-
-fn put_body(out: &mut [u8], body: &[u8])
-    requires { 12 + length body.now ≤ length out.old }
-    ensures body { take (length body.now) (drop 12 out.new) ≡ body.now }
-    ensures length { length out.new ≡ length out.old }
-{
-    out[HEADER_OCTETS..HEADER_OCTETS + body.len()].copy_from_slice(body);
 }
 
 fn put_header(out: &mut [u8], head: &Head, counts: &Counts)

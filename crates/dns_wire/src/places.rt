@@ -8,8 +8,7 @@ use crate::spelled::is_spelled;
 use arrayvec::ArrayVec;
 use std::marker::Model;
 
-// There are so many chains of places: a suffix with number k is in the one of k modulo this. They
-// are few, since a table of them is filled for each message.
+// So many chains of places: a suffix with number k is in the one of k modulo this.
 //
 // However a hash chooses, a chain has suffixes of eight lengths, 32 octets apart, since five of
 // the seven bits that choose it are of the length. So of a name it has one for each 32 octets: at

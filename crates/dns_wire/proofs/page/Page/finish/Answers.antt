@@ -1,5 +1,5 @@
-use Rattle.std.proofs.Common.{◌≡◌, ◌+◌, ◌∙◌, refl, sym, ap, ap₂, subst, arith, length, drop, ◌++◌}
-use Rattle.std.proofs.lemmas.List.{length-drop}
+use Rattle.std.proofs.Common.{◌≡◌, ◌+◌, ◌∙◌, refl, sym, ap, ap₂, subst, arith, length, take, drop, ◌++◌}
+use Rattle.std.proofs.lemmas.List.{take_at, drop-take, length-drop}
 use Rattle.dns_spec.specs.Reading.{Spells}
 use Rattle.dns_spec.specs.Layout.{message_of}
 use Rattle.dns_wire.specs.Draft.{Draft}
@@ -12,13 +12,15 @@ returns-clause-length g c = λ h q items draft. ap length (c.as_slice-octets.ens
 pub returns-clause-layout : goal.returns-clause-layout
 returns-clause-layout g c = λ h q items draft.
     let d = c.args.self.now in
+    let own = c.as_slice-octets.result.now in
     let octets = c.as_slice-octets.ensures.value ∙ ap (λ (d : Draft). d.octets) c.self.view_is in
-    let body = c.split_at.result.1.now in
-    let cut : body ≡ drop 12 d.octets = c.split_at.ensures.back ∙ ap (drop 12) octets in
     let some = draft.holds.after_header in
-    let long : length c.as_slice-octets.result.now ≡ 12 + length body = omega (arith, ap length octets, ap length cut, length-drop 12 d.octets, some) in
-    finished (header_of c.args.head c.self.inside.counts) _ c.put_header.new.out body _ c.put_header.ensures.octets refl long c.put_body.ensures.body
-    ∙ ap₂ (λ (d : Draft) z. header_of c.args.head d.counts ++ z) c.self.view_is cut ∙ draft_laid c.args.head q items d draft
+    let long : length own ≡ 12 + length (drop 12 own) = omega (arith, ap length octets, length-drop 12 own, some) in
+    let rest = c.split_at_mut-front.result.1.now in
+    let whole = ap (λ x. x ++ rest) c.copy_from_slice.ensures.after in
+    let body = sym (drop-take 12 (length (drop 12 own)) _) ∙ ap₂ (λ k x. drop 12 (take k x)) (sym long) whole ∙ ap (drop 12) (take_at own rest _ refl) in
+    finished (header_of c.args.head c.self.inside.counts) _ c.put_header.new.out (drop 12 own) _ c.put_header.ensures.octets refl long body
+    ∙ ap₂ (λ (d : Draft) z. header_of c.args.head d.counts ++ drop 12 z) c.self.view_is octets ∙ draft_laid c.args.head q items d draft
 
 pub returns-clause-spelled : goal.returns-clause-spelled
 returns-clause-spelled g c = λ h q items draft order writable.
