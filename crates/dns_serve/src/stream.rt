@@ -31,7 +31,7 @@ const MOST_FRAME: usize = 65_537;
 /// message the first 512 octets are kept, the rest is read and let go. Nothing is tried again, and
 /// no memory is taken.
 ///
-/// The room of the replies, some 181,000 octets, is filled first. Who serves many streams, or has
+/// The room of the replies, some 197,000 octets, is filled first. Who serves many streams, or has
 /// little stack, keeps a `StreamRoom`, and calls `serve_stream_in`.
 pub fn serve_stream<R: Read, W: Write>(
     zone: &Zone,
@@ -66,7 +66,7 @@ pub struct StreamRoom {
 }
 
 impl StreamRoom {
-    /// Room in which nothing was served. It has some 181,000 octets, which stand in the value
+    /// Room in which nothing was served. It has some 197,000 octets, which stand in the value
     /// itself.
     pub fn new() -> StreamRoom {
         StreamRoom {

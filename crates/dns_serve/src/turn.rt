@@ -30,8 +30,10 @@ pub fn udp_turn<D: Datagrams>(zone: &Zone, device: &mut D) -> Result<bool, TurnF
         result }
     ensures counted { D.count device.new ≡ failures_after (D.count device.old) result }
 {
+    let mut room = [0; MOST_OCTETS];
     let mut draft = UdpDraft::new();
-    udp_turn_in(zone, device, &mut [0; MOST_OCTETS], &mut draft, &mut [0; MOST_OCTETS])
+    let mut out = [0; MOST_OCTETS];
+    udp_turn_in(zone, device, &mut room, &mut draft, &mut out)
 }
 
 /// Takes a turn in room that is lent, for the datagram, for the reply while it is made, and for

@@ -1,6 +1,7 @@
 use super::devices::Mailbox;
 use super::zones::{WWW, WWW_REPLY, sample};
-use crate::{Datagrams, TurnFault, udp_turn};
+use crate::{Datagrams, TurnFault, udp_turn, udp_turn_in};
+use dns_answer::UdpDraft;
 use std::test::Fail;
 
 #[test]
@@ -19,6 +20,7 @@ fn a_datagram_and_its_reply(rt: HostRuntime) -> Result<(), Fail> {
             b"\x12\x34\x80\x01\x00\x00\x00\x00\x00\x00\x00\x00",
         ),
     ];
+    let (mut room, mut draft, mut out) = ([0; 512], UdpDraft::new(), [0; 512]);
     for (datagram, replied, reply) in rows {
         let mut mailbox = Mailbox {
             datagram,
@@ -28,7 +30,8 @@ fn a_datagram_and_its_reply(rt: HostRuntime) -> Result<(), Fail> {
             calls: 0,
             failures: 0,
         };
-        assert_eq!(rt; udp_turn(&zone, &mut mailbox), Ok(replied));
+        let turn = udp_turn_in(&zone, &mut mailbox, &mut room, &mut draft, &mut out);
+        assert_eq!(rt; turn, Ok(replied));
         assert_eq!(rt; mailbox.replies.as_slice(), reply);
         assert_eq!(rt; mailbox.sends, u32::from(replied));
         assert_eq!(rt; mailbox.failures(), 0);
