@@ -1,6 +1,6 @@
 -- The names that faults are reported of: the origin, and each owner once.
-use Rattle.std.proofs.Common.{◌≡◌, ℕ, suc, Bool, true, false, cond, ◌⊎◌, inl, inr, List, [], ◌∷◌, ◌++◌, map, refl, sym, ap₂, ◌∙◌, filter, is_gt, Ordering, Less, Equal, Greater}
-use Rattle.std.proofs.lemmas.Bool.{false≢true, true≢false}
+use Rattle.std.proofs.Common.{◌≡◌, ℕ, suc, Bool, true, false, cond, ◌⊎◌, inl, inr, List, [], ◌∷◌, ◌++◌, map, refl, sym, ap₂, ◌∙◌, ◌==◌, ◌&&◌, filter, is_gt, Ordering, Less, Equal, Greater}
+use Rattle.std.proofs.lemmas.Bool.{false≢true, true≢false, and_parts, eqb-true}
 use Rattle.std.proofs.lemmas.Cmp.{tied_back, alike_right}
 use Rattle.std.specs.Prelude.{if◌then◌else◌}
 use Rattle.dns_spec.specs.Names.{DomainName, folded, same, name_order}
@@ -13,26 +13,26 @@ use Rattle.dns_zone.proofs.NameOrder.{name_order_total, same-is, same-from, same
 use Rattle.dns_zone.proofs.AtName.{OwnerNotAfter}
 
 -- the codes of checks rise by one
-abbrev Codes : ℕ → List (ℕ × Check) → Type 0
-Codes k [] = Unit {0}
-Codes k (c ∷ cs) = (c.0 ≡ k) × Codes (suc k) cs
+abbrev rise_by_one : ℕ → List (ℕ × Check) → Bool
+rise_by_one k [] = true
+rise_by_one k (c ∷ cs) = c.0 == k && rise_by_one (suc k) cs
 
-failed_in_order : (z : ZoneContents) (n : DomainName) (k : ℕ) (cs : List (ℕ × Check)) → Codes k cs
+failed_in_order : (z : ZoneContents) (n : DomainName) (k : ℕ) (cs : List (ℕ × Check)) → rise_by_one k cs ≡ true
     → failed_from n k (map (λ (c : ℕ × Check). c.1 z n) cs) ≡ map (λ (c : ℕ × Check). record { owner = n; code = c.0 }) (filter (λ (c : ℕ × Check). c.1 z n) cs)
 failed_in_order z n k [] h = refl
-failed_in_order z n k (c ∷ cs) h = go (c.1 z n) (failed_in_order z n (suc k) cs h.1)
+failed_in_order z n k (c ∷ cs) h =
+    let both = and_parts (c.0 == k) (rise_by_one (suc k) cs) h in
+    go (eqb-true c.0 k both.0) (c.1 z n) (failed_in_order z n (suc k) cs both.1)
   where
-    go : (b : Bool) → failed_from n (suc k) (map (λ (d : ℕ × Check). d.1 z n) cs) ≡ map (λ (d : ℕ × Check). record { owner = n; code = d.0 }) (filter (λ (d : ℕ × Check). d.1 z n) cs)
+    go : c.0 ≡ k → (b : Bool) → failed_from n (suc k) (map (λ (d : ℕ × Check). d.1 z n) cs) ≡ map (λ (d : ℕ × Check). record { owner = n; code = d.0 }) (filter (λ (d : ℕ × Check). d.1 z n) cs)
         → (if b then record { owner = n; code = k } ∷ [] else []) ++ failed_from n (suc k) (map (λ (d : ℕ × Check). d.1 z n) cs)
         ≡ map (λ (d : ℕ × Check). record { owner = n; code = d.0 }) (cond b (c ∷ filter (λ (d : ℕ × Check). d.1 z n) cs) (filter (λ (d : ℕ × Check). d.1 z n) cs))
-    go true e = ap₂ (λ (i : ℕ) fs. record { owner = n; code = i } ∷ fs) (sym h.0) e
-    go false e = e
+    go f true e = ap₂ (λ (i : ℕ) fs. record { owner = n; code = i } ∷ fs) (sym f) e
+    go f false e = e
 
 pub failed-reported : (z : ZoneContents) (n : DomainName) → failed_from n 1 (map (λ (c : ℕ × Check). c.1 z n) checks) ≡ reported_at z n
 unfolding reported_at
-failed-reported z n =
-    failed_in_order z n 1 checks
-    (refl, (refl, (refl, (refl, (refl, (refl, (refl, (refl, (refl, (refl, (refl, (refl, (refl, (refl, (refl, tt)))))))))))))))
+failed-reported z n = failed_in_order z n 1 checks refl
 
 each_once : (P : DomainName → Type 0) (rs : List ResourceRecord) → Each (λ r. P (folded r.owner)) rs → Each P (owners_once rs)
 each_once P [] e = tt

@@ -73,7 +73,7 @@ fn add_failed(
     failed: &[bool],
     found: &mut Vec<CheckFault>,
 ) -> Result<(), AllocError>
-    requires { length failed.now ≤ 15 }
+    requires { length failed.now ≤ 254 }
     ensures { OnOk result (found.new.items ≡ found.old.items ++ failed_from name.now 1 failed.now) }
 {
     if !failed.contains(&true) {

@@ -6,7 +6,7 @@ use Rattle.dns_zone.proofs.faults.add_failed.Given as goal
 abbrev pub invariant-checks : goal.invariant-checks
 invariant-checks l = record {
   all : l.found.items ++ failed_from l.name l.code l.rest ≡ l.initial.found.items ++ failed_from l.name 1 l.failed;
-  codes : l.code + length l.rest ≤ 16;
+  codes : l.code + length l.rest ≤ 255;
 }
 
 abbrev pub decreases-checks : goal.decreases-checks
