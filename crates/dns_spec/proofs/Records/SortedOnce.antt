@@ -11,6 +11,11 @@ abbrev pub Each : {X : Type 0} → (X → Type 0) → List X → Type 0
 Each P [] = Unit {0}
 Each P (x ∷ xs) = P x × Each P xs
 
+-- a proof for the first element, before those for the others
+infixr 10 ◌⊲◌
+abbrev pub ◌⊲◌ : {P Q : Type 0} → P → Q → P × Q
+p ⊲ q = (p, q)
+
 abbrev pub Among : {X : Type 0} → X → List X → Type 0
 Among x [] = ⊥
 Among x (y ∷ ys) = (x ≡ y) ⊎ Among x ys

@@ -12,7 +12,7 @@ use Rattle.dns_spec.specs.Data.{type_ns, type_cname, type_soa, type_mx, type_srv
 use Rattle.dns_spec.specs.Records.{ResourceRecord, ZoneContents, at, owns, distinct}
 use Rattle.dns_spec.specs.Tree.{is_cut}
 use Rattle.dns_spec.specs.Checks.{most_of_a_set, most_sets, Check, is_origin, is_owner, count, owns_such, has_target, is_address_type, below_cut, lacks_address, checks, fails, Fault, faults_at, checked_names, faults, fault_order}
-use Rattle.dns_spec.proofs.Records.SortedOnce.{Each, Among, each_at, Rises, apart_distinct, sort_rises, among_sort, among_distinct, among_filter, filter_among, filter_each, each_filter}
+use Rattle.dns_spec.proofs.Records.SortedOnce.{◌⊲◌, Each, Among, each_at, Rises, apart_distinct, sort_rises, among_sort, among_distinct, among_filter, filter_among, filter_each, each_filter}
 use Rattle.dns_spec.proofs.Records.RecordOrder.{contains_among, among_contains}
 use Rattle.dns_spec.proofs.ZoneChecks.FaultOrder.{Lower, one_lower, each_lower, name_order_total, name_tie, folded_folded, any_counted}
 
@@ -100,52 +100,23 @@ abbrev OfChecked : ZoneContents → DomainName → ℕ × Check → Type 0
 OfChecked z n c = c.1 z n ≡ true → IsChecked z n
 
 each_of_checked : (z : ZoneContents) (n : DomainName) → Each (OfChecked z n) checks
-each_of_checked z n = (
-  λ e. inl (and_parts (is_origin z n) (not (owns z n type_soa)) e).0,
-  (
-    λ e. inl (and_parts (is_origin z n) (nat_lt 1 (count z n type_soa)) e).0,
-    (
-      λ e. inr (owner_if_owns z n type_soa (and_parts (not (is_origin z n)) (owns z n type_soa) e).1),
-      (
-        λ e. inl (and_parts (is_origin z n) (not (owns z n type_ns)) e).0,
-        (
-          λ e. inr (and_parts (is_owner z n) (not (at_or_below n z.origin)) e).0,
-          (
-            λ e. inr (owner_if_owns z n type_cname (and_parts (owns z n type_cname) (owns_such z n (λ t. not (t == type_cname))) e).0),
-            (
-              λ e. inr (owner_if z n (λ rs. nat_lt 1 (length (filter (λ (r : ResourceRecord). r.rtype == type_cname) rs))) refl e),
-              (
-                λ e. inr (owner_if z n (λ rs. list_any (λ (r : ResourceRecord). list_any (λ (s : ResourceRecord). r.rtype == s.rtype && not (r.ttl == s.ttl)) rs) rs) refl e),
-                (
-                  λ e. inr (of_target (λ t. t == type_ns) (λ m. owns z m type_cname) e),
-                  (
-                    λ e. inr (of_target (λ t. t == type_ns) (lacks_address z n) e),
-                    (
-                      λ e. inr (of_target (λ t. t == type_mx || t == type_srv) (λ m. owns z m type_cname) e),
-                      (
-                        λ e. inr (at_a_cut (is_cut z n && owns_such z n other) (and_parts (is_cut z n) (owns_such z n other)) e),
-                        (
-                          λ e. inr (owner_if_owns z n type_ns (and_parts _ (owns z n type_ns) e).1),
-                          (
-                            λ e. inr (owner_if z n (λ rs. list_any (λ (r : ResourceRecord). nat_lt most_of_a_set (count z n r.rtype)) rs) refl e),
-                            (
-                              λ e. inr (owner_if z n (λ rs. nat_lt most_sets (length (distinct ◌==◌ (map (λ (r : ResourceRecord). r.rtype) rs)))) refl e),
-                              tt,
-                            ),
-                          ),
-                        ),
-                      ),
-                    ),
-                  ),
-                ),
-              ),
-            ),
-          ),
-        ),
-      ),
-    ),
-  ),
-)
+each_of_checked z n =
+    (λ e. inl (and_parts (is_origin z n) (not (owns z n type_soa)) e).0)
+    ⊲ (λ e. inl (and_parts (is_origin z n) (nat_lt 1 (count z n type_soa)) e).0)
+    ⊲ (λ e. inr (owner_if_owns z n type_soa (and_parts (not (is_origin z n)) (owns z n type_soa) e).1))
+    ⊲ (λ e. inl (and_parts (is_origin z n) (not (owns z n type_ns)) e).0)
+    ⊲ (λ e. inr (and_parts (is_owner z n) (not (at_or_below n z.origin)) e).0)
+    ⊲ (λ e. inr (owner_if_owns z n type_cname (and_parts (owns z n type_cname) (owns_such z n (λ t. not (t == type_cname))) e).0))
+    ⊲ (λ e. inr (owner_if z n (λ rs. nat_lt 1 (length (filter (λ (r : ResourceRecord). r.rtype == type_cname) rs))) refl e))
+    ⊲ (λ e. inr (owner_if z n (λ rs. list_any (λ (r : ResourceRecord). list_any (λ (s : ResourceRecord). r.rtype == s.rtype && not (r.ttl == s.ttl)) rs) rs) refl e))
+    ⊲ (λ e. inr (of_target (λ t. t == type_ns) (λ m. owns z m type_cname) e))
+    ⊲ (λ e. inr (of_target (λ t. t == type_ns) (lacks_address z n) e))
+    ⊲ (λ e. inr (of_target (λ t. t == type_mx || t == type_srv) (λ m. owns z m type_cname) e))
+    ⊲ (λ e. inr (at_a_cut (is_cut z n && owns_such z n other) (and_parts (is_cut z n) (owns_such z n other)) e))
+    ⊲ (λ e. inr (owner_if_owns z n type_ns (and_parts _ (owns z n type_ns) e).1))
+    ⊲ (λ e. inr (owner_if z n (λ rs. list_any (λ (r : ResourceRecord). nat_lt most_of_a_set (count z n r.rtype)) rs) refl e))
+    ⊲ (λ e. inr (owner_if z n (λ rs. nat_lt most_sets (length (distinct ◌==◌ (map (λ (r : ResourceRecord). r.rtype) rs)))) refl e))
+    ⊲ tt
   where
     other : ℕ → Bool
     other t = not (t == type_ns || is_address_type t)

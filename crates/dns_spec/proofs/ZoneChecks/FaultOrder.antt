@@ -17,7 +17,7 @@ use Rattle.dns_spec.specs.Records.{ResourceRecord, ZoneContents, at, owns, disti
 use Rattle.dns_spec.specs.Tree.{is_cut, without_first}
 use Rattle.dns_spec.specs.Checks.{most_of_a_set, most_sets, Check, count, has_target, at_or_below_cut, below_cut, has_address, is_address_type, no_soa, many_soa, soa_elsewhere, no_ns, outside, cname_and_other, many_cname, ttls_differ, ns_target_alias, lacks_address, ns_target_lost, mx_target_alias, data_at_cut, first_is_asterisk, wildcard_ns, large_set, many_sets, checks, Fault, faults_at, checked_names, faults}
 use Rattle.dns_spec.proofs.DomainNames.NameLaws.{names_equal-decides}
-use Rattle.dns_spec.proofs.Records.SortedOnce.{Each, Among, length-sort_by, same_sorted}
+use Rattle.dns_spec.proofs.Records.SortedOnce.{◌⊲◌, Each, Among, length-sort_by, same_sorted}
 
 -- two lists of which each test passes as many
 abbrev SameCounts : {X : Type 0} → List X → List X → Type 0
@@ -250,46 +250,10 @@ module _ (o : DomainName) (xs ys : List ResourceRecord) (c : SameCounts xs ys) w
   faults_at_kept : (n : DomainName) → faults_at z n ≡ faults_at z' n
   faults_at_kept n =
       ap (map (λ (k : ℕ × Check). record { owner = n; code = k.0 }))
-      (filter_alike (λ k. k.1 z n) (λ k. k.1 z' n) checks (
-        no_soa_kept n,
-        (
-          many_soa_kept n,
-          (
-            soa_elsewhere_kept n,
-            (
-              no_ns_kept n,
-              (
-                outside_kept n,
-                (
-                  cname_and_other_kept n,
-                  (
-                    many_cname_kept n,
-                    (
-                      ttls_differ_kept n,
-                      (
-                        ns_target_alias_kept n,
-                        (
-                          ns_target_lost_kept n,
-                          (
-                            mx_target_alias_kept n,
-                            (
-                              data_at_cut_kept n,
-                              (
-                                wildcard_ns_kept n,
-                                (large_set_kept n, (many_sets_kept n, tt)),
-                              ),
-                            ),
-                          ),
-                        ),
-                      ),
-                    ),
-                  ),
-                ),
-              ),
-            ),
-          ),
-        ),
-      ))
+      (filter_alike (λ k. k.1 z n) (λ k. k.1 z' n) checks
+      (no_soa_kept n ⊲ many_soa_kept n ⊲ soa_elsewhere_kept n ⊲ no_ns_kept n ⊲ outside_kept n
+      ⊲ cname_and_other_kept n ⊲ many_cname_kept n ⊲ ttls_differ_kept n ⊲ ns_target_alias_kept n ⊲ ns_target_lost_kept n
+      ⊲ mx_target_alias_kept n ⊲ data_at_cut_kept n ⊲ wildcard_ns_kept n ⊲ large_set_kept n ⊲ many_sets_kept n ⊲ tt))
 
   checked_names_kept : checked_names z ≡ checked_names z'
   unfolding z z'
