@@ -1,5 +1,5 @@
 -- What is appended for a word by its form.
-use Rattle.std.proofs.Common.{◌≡◌, ℕ, ◌<◌, ◌^◌, ◌++◌, Option, None, Some, Ok, decimal, arith, refl, sym, ap, ◌∙◌}
+use Rattle.std.proofs.Common.{◌≡◌, ℕ, ◌<◌, ◌≤◌, ◌^◌, ◌++◌, Option, None, Some, Ok, decimal, refl, sym, ap, ◌∙◌}
 use Rattle.std.specs.Option.{ok_or}
 use Rattle.std.specs.Int.{bytes_high_first}
 use Rattle.dns_spec.specs.Names.{Octets, DomainName, wire, folded}
@@ -14,11 +14,11 @@ pub ok_or-some : {A E : Type 0} (x : Option A) (e : E) (a : A) → ok_or x e ≡
 ok_or-some None e a h = cc
 ok_or-some (Some b) e a h = cc
 
-pub number_appended : (n : ℕ) (text before after piece : Octets) → text ≡ decimal n → n < 2 ^ 16 → piece ≡ bytes_high_first 2 n → after ≡ before ++ piece
-    → Appends as_it_is (SaysNumber 2 text) before after
-number_appended n text before after piece said small is grown =
-    let here : SaysNumber 2 text piece = (n, small, said, is) in
-    record { spelled = piece; said = here; only = λ d h. number_once 2 text d piece (omega arith) h here; grown = grown }
+pub number_appended : (k : ℕ) → k ≤ 4 → (n : ℕ) (text before after piece : Octets) → text ≡ decimal n → n < 256 ^ k → piece ≡ bytes_high_first k n → after ≡ before ++ piece
+    → Appends as_it_is (SaysNumber k text) before after
+number_appended k few n text before after piece said small is grown =
+    let here : SaysNumber k text piece = (n, small, said, is) in
+    record { spelled = piece; said = here; only = λ d h. number_once k text d piece few h here; grown = grown }
 
 -- a name is appended in lower case
 pub name_appended : (origin : DomainName) (text before after : Octets) (n : DomainName) → SpellsName origin text n → after ≡ before ++ wire (folded n)

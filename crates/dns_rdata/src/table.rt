@@ -1,5 +1,5 @@
 //! The table of the types that have a name: of which pieces the data of each is made.
-ghost use Rattle.std.specs.Prelude.{◌≡◌, map};
+ghost use Rattle.std.specs.Prelude.{◌≡◌, ◌^◌, suc, map};
 ghost use Rattle.std.specs.Option.{option_map};
 ghost use Rattle.std.specs.List.{find};
 ghost use Rattle.dns_spec.specs.Data.{width, type_table, row_of, pieces_of};
@@ -144,6 +144,16 @@ impl NumberSize {
         match self {
             NumberSize::Two => 2,
             NumberSize::Four => 4,
+        }
+    }
+
+    /// The greatest number that it has room for.
+    pub(crate) fn most(self) -> u32
+        ensures { suc result ≡ 256 ^ size_of self }
+    {
+        match self {
+            NumberSize::Two => 0xffff,
+            NumberSize::Four => 0xffff_ffff,
         }
     }
 }

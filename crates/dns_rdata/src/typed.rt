@@ -210,37 +210,15 @@ fn append_form(
     }
 }
 
-// A number of 16 or of 32 bits, the most significant octet first (RFC 1035 2.3.2).
+// A number, the most significant octet first (RFC 1035 2.3.2).
 fn append_number(size: NumberSize, text: &[u8], octets: &mut Vec<u8>) -> Result<(), RdataFault>
     ensures ok { OnOk result (Appends as_it_is (SaysNumber (size_of size) text.now)
         octets.old.items octets.new.items) }
     ensures fault { IfErr result (λ fault. fault ≢ RdataFault.NoMemory → (d : Octets)
         → SaysNumber (size_of size) text.now d → ⊥) }
 {
-    match size {
-        NumberSize::Two => append_u16(text, octets),
-        NumberSize::Four => append_u32(text, octets),
-    }
-}
-
-fn append_u16(text: &[u8], octets: &mut Vec<u8>) -> Result<(), RdataFault>
-    ensures ok { OnOk result (Appends as_it_is (SaysNumber 2 text.now)
-        octets.old.items octets.new.items) }
-    ensures fault { IfErr result (λ fault. fault ≢ RdataFault.NoMemory → (d : Octets)
-        → SaysNumber 2 text.now d → ⊥) }
-{
-    let number = read_number(text, u32::from(u16::MAX)).ok_or(RdataFault::BadNumber)?;
-    append(octets, &(number as u16).to_be_bytes())
-}
-
-fn append_u32(text: &[u8], octets: &mut Vec<u8>) -> Result<(), RdataFault>
-    ensures ok { OnOk result (Appends as_it_is (SaysNumber 4 text.now)
-        octets.old.items octets.new.items) }
-    ensures fault { IfErr result (λ fault. fault ≢ RdataFault.NoMemory → (d : Octets)
-        → SaysNumber 4 text.now d → ⊥) }
-{
-    let number = read_number(text, u32::MAX).ok_or(RdataFault::BadNumber)?;
-    append(octets, &number.to_be_bytes())
+    let number = read_number(text, size.most()).ok_or(RdataFault::BadNumber)?;
+    append(octets, &number.to_be_bytes()[4 - size.octets()..])
 }
 
 fn append_ipv4(text: &[u8], octets: &mut Vec<u8>) -> Result<(), RdataFault>
