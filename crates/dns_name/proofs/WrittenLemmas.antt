@@ -1,13 +1,12 @@
 -- What is written for an octet, a label and a name, as it is put together, and how long it can get.
-use Rattle.std.proofs.Common.{◌≡◌, ◌≢◌, not, ℕ, ◌+◌, ◌-◌, ◌*◌, ◌<◌, ◌≤◌, inl, inr, true, false, [], ◌∷◌, ◌++◌, length, map, take, refl, sym, ◌∙◌, ap, ap₂, arith, length-append}
+use Rattle.std.proofs.Common.{◌≡◌, ◌≢◌, ℕ, ◌+◌, ◌-◌, ◌*◌, ◌<◌, ◌≤◌, inl, inr, true, false, [], ◌∷◌, ◌++◌, length, map, take, refl, sym, ◌∙◌, ap, ap₂, arith, length-append}
 use Rattle.std.proofs.lemmas.List.{append_assoc, append-nil, take_at}
-use Rattle.std.proofs.lemmas.Bool.{cases_Bool, and_parts, false≢true}
+use Rattle.std.proofs.lemmas.Bool.{cases_Bool}
 use Rattle.std.specs.Char.{is_ascii_graphic}
-use Rattle.std.specs.List.{join_with_byte, list_all}
+use Rattle.std.specs.List.{join_with_byte}
 use Rattle.dns_spec.specs.Names.{Octets, DomainName, wire}
 use Rattle.dns_spec.specs.NameText.{is_special, three_digits, octet_text, label_text, labels_text, name_text}
 use Rattle.dns_spec.specs.Report.{bare_name_text}
-use Rattle.dns_name.specs.WrittenForm.{is_plain}
 
 pub special_text : (x : ℕ) → is_special x ≡ true → octet_text x ≡ 92 ∷ x ∷ []
 unfolding octet_text
@@ -20,21 +19,6 @@ graphic_text x plain graphic = rw (plain, graphic) refl
 pub other_text : (x : ℕ) → is_special x ≡ false → is_ascii_graphic x ≡ false → octet_text x ≡ 92 ∷ three_digits x
 unfolding octet_text
 other_text x plain other = rw (plain, other) refl
-
--- an octet that is written as it is
-plain_text : (x : ℕ) → is_plain x ≡ true → octet_text x ≡ x ∷ []
-plain_text x e =
-    let both = and_parts (is_ascii_graphic x) (not (is_special x)) e in
-    elim (cases_Bool (is_special x)) [
-      | inl special ↦ absurd (false≢true (ap not (sym special) ∙ both.1))
-      | inr plain ↦ graphic_text x plain both.0
-    ]
-
-pub plain_label : (l : Octets) → list_all is_plain l ≡ true → label_text l ≡ l
-plain_label [] e = refl
-plain_label (x ∷ l) e =
-    let both = and_parts (is_plain x) (list_all is_plain l) e in
-    ap₂ (λ a b. a ++ b) (plain_text x both.0) (plain_label l both.1)
 
 -- at most four octets are written for one
 pub length-octet_text : (x : ℕ) → length (octet_text x) ≤ 4

@@ -2,4 +2,3 @@ pub mod Counted
 pub mod NameFault
 pub mod TextForm
 pub mod WireForm
-pub mod WrittenForm

@@ -1,10 +1,8 @@
 //! Names as they are written in zone files (RFC 1035 5.1).
 ghost use Rattle.std.specs.Prelude.{◌≡◌, ◌+◌, ◌-◌, ◌*◌, ◌^◌, ◌<◌, ◌≤◌, ◌++◌, length, OnOk, OnErr};
-ghost use Rattle.std.specs.List.{list_all};
 ghost use Rattle.dns_spec.specs.NameText.{is_special, octet_text, label_text, labels_text, name_text};
 ghost use Rattle.dns_spec.specs.Report.{bare_name_text};
 ghost use Rattle.dns_name.specs.Counted.{Writes};
-ghost use Rattle.dns_name.specs.WrittenForm.{is_plain};
 
 use crate::buffer::TextBuffer;
 use crate::lent::NameRef;
@@ -97,26 +95,9 @@ fn append_label(text: &mut TextBuffer, label: &[u8])
     requires { length text.old + 4 * length label.now ≤ 4096 }
     ensures { text.new ≡ text.old ++ label_text label.now }
 {
-    if are_plain(label) {
-        text.append(label);
-        return;
-    }
     'octets: for octet in label {
         append_octet(text, *octet);
     }
-}
-
-// Whether each octet is written as it is.
-fn are_plain(octets: &[u8]) -> bool
-    ensures { result ≡ list_all is_plain octets.now }
-{
-    octets.iter().all(|octet| is_plain(*octet))
-}
-
-fn is_plain(octet: u8) -> bool
-    ensures { result ≡ is_plain octet }
-{
-    octet.is_ascii_graphic() && !is_special(octet)
 }
 
 fn append_octet(text: &mut TextBuffer, octet: u8)
@@ -138,12 +119,14 @@ fn append_octet(text: &mut TextBuffer, octet: u8)
     }
 }
 
-// Whether an octet means something else in a zone file, where no backslash stands before it.
+// Whether an octet means something else in a zone file, where no backslash stands before it. Most
+// octets of names are small letters, which one test tells.
 fn is_special(octet: u8) -> bool
     ensures { result ≡ is_special octet }
 {
-    matches!(
-        octet,
-        b'"' | b'$' | b'(' | b')' | b'.' | b';' | b'@' | b'\\'
-    )
+    !octet.is_ascii_lowercase()
+        && matches!(
+            octet,
+            b'"' | b'$' | b'(' | b')' | b'.' | b';' | b'@' | b'\\'
+        )
 }
