@@ -89,21 +89,20 @@ fn append_octet(text: &mut TextBuffer, octet: u8)
     }
 }
 
-// Whether each octet is written as it is.
+// Whether each octet is written as it is. All are looked at, so that a processor can do it to many at
+// once.
 fn are_plain(octets: &[u8]) -> bool
     ensures { result ≡ list_all is_plain octets.now }
 {
-    octets.iter().all(|octet| is_plain(*octet))
-}
-
-fn is_plain(octet: u8) -> bool
-    ensures { result ≡ is_plain octet }
-{
-    is_printable(octet) && octet != b'"' && octet != b'\\'
+    let mut all = true;
+    'octets: for octet in octets {
+        all &= is_printable(*octet) & (*octet != b'"') & (*octet != b'\\');
+    }
+    all
 }
 
 fn is_printable(octet: u8) -> bool
     ensures { result ≡ is_printable octet }
 {
-    octet >= b' ' && octet <= b'~'
+    (octet >= b' ') & (octet <= b'~')
 }

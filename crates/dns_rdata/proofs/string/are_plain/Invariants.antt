@@ -1,0 +1,8 @@
+use Rattle.std.proofs.Common.{◌≡◌, take}
+use Rattle.std.specs.List.{list_all}
+use Rattle.dns_rdata.specs.WrittenForm.{is_plain}
+use Rattle.dns_rdata.proofs.string.are_plain.Given as goal
+
+-- the octets so far are plain or not
+abbrev pub invariant-octets : goal.invariant-octets
+invariant-octets l = l.all ≡ list_all is_plain (take l.octet-index l.octets)
