@@ -67,6 +67,13 @@ impl TextBuffer {
         self.octets.pop();
     }
 
+    /// Lets the text go.
+    pub fn clear(&mut self)
+        ensures { self.new ≡ [] }
+    {
+        self.octets.clear();
+    }
+
     /// Makes room for `count` octets more: where they may not fit, what is gathered is written.
     ///
     /// Where the writer fails, a beginning of that was written.
@@ -83,7 +90,7 @@ impl TextBuffer {
     {
         if self.octets.remaining_capacity() < count {
             sink.write_all(self.octets.as_slice())?;
-            self.octets.clear();
+            self.clear();
         }
         Ok(())
     }

@@ -1,5 +1,5 @@
 -- A record's line goes out in four parts, and the records of a list one after another.
-use Rattle.std.proofs.Common.{◌≡◌, ℕ, suc, ◌+◌, ◌<◌, Bool, true, false, cond, Option, List, ◌∷◌, ◌++◌, length, drop, get_or, sym, subst, ap, ap₂, ◌∙◌, filter, flat_map, append_assoc, codes, decimal, add-one}
+use Rattle.std.proofs.Common.{◌≡◌, ℕ, suc, ◌+◌, ◌<◌, Bool, true, false, cond, Option, List, ◌∷◌, ◌++◌, length, drop, get_or, sym, subst, ap, ◌∙◌, filter, flat_map, append_assoc, codes, decimal, add-one}
 use Rattle.std.proofs.Math.Seq.{drop-cons}
 use Rattle.dns_spec.specs.Names.{Octets}
 use Rattle.dns_spec.specs.NameText.{name_text}
@@ -11,20 +11,19 @@ use Rattle.dns_name.specs.Counted.{AppendsAllBut}
 use Rattle.dns_name.proofs.WritesLemmas.{held_before}
 use Rattle.dns_zone.specs.ZoneForm.{AreOrdered}
 
--- what stands in a line up to the data, after a text
-abbrev pub after_front : Octets → ResourceRecord → Octets
-after_front t r = ((((t ++ name_text r.owner) ++ codes " ") ++ decimal r.ttl) ++ codes " IN ") ++ type_text r.rtype ++ codes " "
+-- what stands in a line up to the type
+abbrev pub front_text : ResourceRecord → Octets
+front_text r = ((name_text r.owner ++ codes " ") ++ decimal r.ttl) ++ codes " IN "
 
-regroup : (t a b c d e f g h : Octets) → t ++ (a ++ b ++ c ++ d ++ e ++ f ++ g ++ h) ≡ ((((((t ++ a) ++ b) ++ c) ++ d) ++ e ++ f) ++ g) ++ h
+regroup : (t a b c d e f g h : Octets) → t ++ (a ++ b ++ c ++ d ++ e ++ f ++ g ++ h) ≡ ((((t ++ (((a ++ b) ++ c) ++ d)) ++ e) ++ f) ++ g) ++ h
 regroup t a b c d e f g h = simp append_assoc
 
--- the line of a record is to come after what is held, of which its front is put
-pub line_held : (old new : Option (List ℕ)) (whole held front d : Octets) (r : ResourceRecord) → AppendsAllBut old new whole held → front ≡ after_front held r
-    → d ≡ data_text r.rtype r.rdata → AppendsAllBut old new (whole ++ record_line r) ((front ++ d) ++ codes "\n")
-line_held old new whole held front d r so e f =
+-- the line of a record is to come after what is held, of which its front and its type are put
+pub line_held : (old new : Option (List ℕ)) (whole held start front d : Octets) (r s : ResourceRecord) → AppendsAllBut old new whole held → start ≡ front_text r → s ≡ r
+    → front ≡ ((held ++ start) ++ type_text s.rtype) ++ codes " " → d ≡ r.rdata → AppendsAllBut old new (whole ++ record_line r) ((front ++ data_text s.rtype d) ++ codes "\n")
+line_held old new whole held start front d r s so e same f g =
     let line = regroup held (name_text r.owner) (codes " ") (decimal r.ttl) (codes " IN ") (type_text r.rtype) (codes " ") (data_text r.rtype r.rdata) (codes "\n") in
-    subst (AppendsAllBut old new (whole ++ record_line r)) (line ∙ ap₂ (λ t u. (t ++ u) ++ codes "\n") (sym e) (sym f))
-    (held_before old new whole held (record_line r) so)
+    rw (f, e, g, same) (subst (AppendsAllBut old new (whole ++ record_line r)) line (held_before old new whole held (record_line r) so))
 
 -- a record of a list that is chosen, or is not
 module _ (p : ResourceRecord → Bool) (rs : List ResourceRecord) (r : ResourceRecord) (i : ℕ) (h : i < length rs) (e : r ≡ get_or rs i r) where

@@ -1,12 +1,11 @@
 //! The canonical text of a zone (RFC 1035 5.1).
-ghost use Rattle.std.specs.Prelude.{◌≡◌, ◌+◌, ◌-◌, ◌^◌, ◌<◌, ◌≤◌, ◌++◌, All, length, codes, decimal};
+ghost use Rattle.std.specs.Prelude.{◌≡◌, ◌+◌, ◌-◌, ◌^◌, ◌<◌, ◌≤◌, ◌++◌, All, length, codes, decimal, IfSome};
 ghost use Rattle.std.specs.List.Sorted.{IsPermutation};
 ghost use Rattle.dns_spec.specs.Names.{DomainName};
 ghost use Rattle.dns_spec.specs.ZoneText.{most_octets};
 ghost use Rattle.dns_spec.specs.Meaning.{Means, records};
 ghost use Rattle.std.specs.List.{filter, flat_map};
 ghost use Rattle.dns_spec.specs.NameText.{name_text};
-ghost use Rattle.dns_spec.specs.TypeText.{type_text};
 ghost use Rattle.dns_spec.specs.ZonePrinted.{HasZoneType, record_line, soa_first, printed_records, zone_text};
 ghost use Rattle.dns_name.specs.Counted.{Writes, Fills};
 ghost use Rattle.dns_zone.specs.ZoneForm.{is_chosen};
@@ -99,9 +98,13 @@ fn put_chosen<W: Write>(
     ensures { Fills W.contents sink.old sink.new result
         (text.old ++ flat_map record_line (filter (is_chosen is_soa) records.now)) text.new }
 {
+    let mut front = TextBuffer::new();
+    let mut last = None;
     'records: for entry in records {
         if is_chosen(is_soa, entry) {
-            put_record(entry, text, sink)?;
+            turn_front(&mut front, last, entry);
+            put_record(entry, front.octets(), text, sink)?;
+            last = Some(entry);
         }
     }
     Ok(())
@@ -113,35 +116,48 @@ fn is_chosen(is_soa: bool, entry: &Entry) -> bool
     (entry.rtype == RType::SOA) == is_soa
 }
 
-// A record on a line of its own.
+// A record on a line of its own, whose front is given.
 fn put_record<W: Write>(
     entry: &Entry,
+    front: &[u8],
     text: &mut TextBuffer,
     sink: &mut Tally<W>,
 ) -> Result<(), SinkFailed>
-    requires { sink.old.failures < 2 ^ 64 - 1 }
+    requires front { front.now ≡ ((name_text entry.now.owner ++ codes " ")
+        ++ decimal entry.now.ttl) ++ codes " IN " }
+    requires short { length front.now ≤ 1035 }
+    requires few_failures { sink.old.failures < 2 ^ 64 - 1 }
     ensures { Fills W.contents sink.old sink.new result
         (text.old ++ record_line entry.now) text.new }
 {
     text.make_room(FRONT_ROOM, sink)?;
-    append_front(entry, text);
+    text.append(front);
+    entry.rtype.append_text(text);
+    text.push(b' ');
     Rdata::put_text(entry.rtype, entry.rdata(), text, sink)?;
     text.make_room(1, sink)?;
     text.push(b'\n');
     Ok(())
 }
 
-// A record up to its data: owner, TTL, class and type, with a space after each.
-fn append_front(entry: &Entry, text: &mut TextBuffer)
-    requires { length text.old + 1045 ≤ 4096 }
-    ensures { text.new ≡ ((((text.old ++ name_text entry.now.owner) ++ codes " ")
-        ++ decimal entry.now.ttl) ++ codes " IN ") ++ type_text entry.now.rtype ++ codes " " }
+// Makes the front of the last record that of an entry: owner, TTL and class, with a space after each.
+// A third of records have the same.
+fn turn_front(front: &mut TextBuffer, last: Option<&Entry>, entry: &Entry)
+    requires { IfSome last (λ r. (front.old ≡ ((name_text r.now.owner ++ codes " ")
+        ++ decimal r.now.ttl) ++ codes " IN ") × (length front.old ≤ 1035)) }
+    ensures text { front.new ≡ ((name_text entry.now.owner ++ codes " ")
+        ++ decimal entry.now.ttl) ++ codes " IN " }
+    ensures short { length front.new ≤ 1035 }
 {
+    if let Some(last) = last {
+        if last.ttl == entry.ttl && last.owner() == entry.owner() {
+            return;
+        }
+    }
     let mut digits = Buffer::new();
-    entry.owner().append_text(text);
-    text.push(b' ');
-    text.append(digits.format(entry.ttl).as_bytes());
-    text.append(b" IN ");
-    entry.rtype.append_text(text);
-    text.push(b' ');
+    front.clear();
+    entry.owner().append_text(front);
+    front.push(b' ');
+    front.append(digits.format(entry.ttl).as_bytes());
+    front.append(b" IN ");
 }

@@ -23,9 +23,10 @@ records-preserved g c = elim c.if-is_chosen.branch [
       rw (w.text-is, w.sink-is)
       (record {
         fills = held_less _ _ _ _ _ _ _ (held_more _ _ _ _ _ _ _ c.records.invariant.fills next) w.in_ok-put_record.ensures.ok;
+        front = search rules;
         counted = search rules;
       })
   | else-is_chosen w ↦
       let next = passed_over (is_chosen c.args.is_soa) c.args.records.now c.entry-item.result c.records.entry-index c.records-test.true c.entry-item.is (sym c.is_chosen.ensures ∙ w.if-is_chosen.false) in
-      rw (w.text-is, w.sink-is) (record { fills = subst (AppendsAllBut _ _ _) (ap (λ t. c.records.text ++ t) next) c.records.invariant.fills; counted = c.records.invariant.counted })
+      rw (w.text-is, w.sink-is) (record { fills = subst (AppendsAllBut _ _ _) (ap (λ t. c.records.text ++ t) next) c.records.invariant.fills; front = search rules; counted = c.records.invariant.counted })
 ]
