@@ -89,8 +89,8 @@ fn append_octet(text: &mut TextBuffer, octet: u8)
     }
 }
 
-// Whether each octet is written as it is. All are looked at, so that a processor can do it to many at
-// once.
+// Whether each octet is written as it is. All are looked at, so that a processor can do it to many
+// at once.
 fn are_plain(octets: &[u8]) -> bool
     ensures { result ≡ list_all is_plain octets.now }
 {

@@ -140,8 +140,8 @@ fn put_record<W: Write>(
     Ok(())
 }
 
-// Makes the front of the last record that of an entry: owner, TTL and class, with a space after each.
-// A third of records have the same.
+// Makes the front of the last record that of an entry: owner, TTL and class, with a space after
+// each. A third of records have the same.
 fn turn_front(front: &mut TextBuffer, last: Option<&Entry>, entry: &Entry)
     requires { IfSome last (λ r. (front.old ≡ ((name_text r.now.owner ++ codes " ")
         ++ decimal r.now.ttl) ++ codes " IN ") × (length front.old ≤ 1035)) }
