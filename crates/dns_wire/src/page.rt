@@ -338,7 +338,8 @@ fn extend<const SIZE: usize>(octets: &mut ArrayVec<u8, SIZE>, more: &[u8])
 
 // Counts so many records more in a section.
 fn count_records(counts: &mut Counts, section: Section, count: u16)
-    requires { counts.old.answers + counts.old.authorities + counts.old.additionals + count < 2 ^ 16 }
+    requires { counts.old.answers + counts.old.authorities + counts.old.additionals + count
+        < 2 ^ 16 }
     ensures { counts.new ≡ with_counted counts.old section count }
 {
     match section {
