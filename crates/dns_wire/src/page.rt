@@ -134,9 +134,8 @@ impl<const N: usize, const SIZE: usize> Page<N, SIZE> {
         ensures fits { (q : Option MessageQuestion) (items : List Item)
             → IsDraft (H.numbers hash.old) q items self.old → IsTrue result
             ↔ (size q (with_set items section owner.now ttl (S.set set.now)) ≤ self.old.limit) }
-        ensures put { (q : Option MessageQuestion) (items : List Item)
-            → IsDraft (H.numbers hash.old) q items self.old
-            → OnTrue result (IsDraft (H.numbers hash.old) q
+        ensures put { (q : Option MessageQuestion) (items : List Item) → IsDraft
+            (H.numbers hash.old) q items self.old → OnTrue result (IsDraft (H.numbers hash.old) q
             (with_set items section owner.now ttl (S.set set.now)) self.new) }
         ensures least { (q : Option MessageQuestion) (items : List Item)
             → IsDraft (H.numbers hash.old) q items self.old → self.old.limit ≤ 16384
