@@ -27,7 +27,8 @@ pub(crate) fn own_order(one: &Entry, other: &Entry) -> Ordering
         .then_with(|| one.ttl.cmp(&other.ttl))
 }
 
-// Many records that are compared have one owner, which costs less to see.
+// A fast path: many records that are compared have one owner. A zone of large sets takes a sixteenth
+// less.
 fn owner_order(one: &NameRef<'_>, other: &NameRef<'_>) -> Ordering
     requires one { folded one.now ≡ one.now }
     requires other { folded other.now ≡ other.now }
