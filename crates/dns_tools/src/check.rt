@@ -31,6 +31,8 @@ pub struct Flags {
 /// and serial, or printed in its canonical text. With `quiet` alone nothing is written.
 ///
 /// `Memory` and `Source` come with nothing written, `Sink` with a beginning of the report.
+///
+/// The memory of a zone that passes is not given back: it is for a program that ends then.
 pub fn check_zone<R: Read, W: Write>(
     alloc: Global,
     origin: &Name,
