@@ -12,6 +12,7 @@ mod message;
 mod once;
 mod parts;
 mod peer;
+mod replies;
 mod report;
 mod socket;
 mod waiting;

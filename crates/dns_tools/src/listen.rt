@@ -4,6 +4,7 @@ ghost use Rattle.dns_tools.specs.Turns.{TakesTurns};
 
 use crate::fault::{FaultWord, TurnWord};
 use crate::peer::{Messages, Peer};
+use crate::replies::Replies;
 use crate::socket::Socket;
 use dns_answer::UdpDraft;
 use dns_name::Tally;
@@ -93,7 +94,8 @@ fn say_of_turn(rt: &impl Eprint, are_said: bool, word: TurnWord) -> bool {
 /// taken in time, `S3` where it ended inside a message. Such a turn counts.
 ///
 /// A message has thirty seconds, from its first octet until the last of its reply is taken, and a
-/// silence ten.
+/// silence ten. Replies to messages that came together are sent together, before more is waited
+/// for, and have the time of the last of these.
 ///
 /// `bind` where the address can't be had. The room is lent for one connection after the other.
 pub fn serve_connections<R>(
@@ -154,13 +156,20 @@ impl Connections {
             return Err(TurnWord::NotAccepted);
         };
         let peer = Peer::new(stream, rt);
-        // Questions that come together are read together, where there is memory for that.
-        let Ok(source) = buffered(rt.alloc(), &peer) else {
+        // Questions that come together are read together, and so are their replies sent, where
+        // there is memory for that.
+        let (Ok(source), Ok(replies)) = (
+            buffered(rt.alloc(), &peer),
+            Replies::new(rt.alloc(), &peer),
+        ) else {
             return Err(TurnWord::from(StreamFault::SourceFailed));
         };
-        let mut source = Tally::new(Messages::new(source, &peer));
-        let mut sink = Tally::new(&peer);
-        let served = serve_stream_in(zone, &mut source, &mut sink, MOST_MESSAGES, room);
+        let served = {
+            let mut source = Tally::new(Messages::new(source, &replies));
+            let mut sink = Tally::new(&replies);
+            serve_stream_in(zone, &mut source, &mut sink, MOST_MESSAGES, room)
+        };
+        let served = with_replies_sent(served, replies);
         match served {
             Err(StreamFault::Cut) => {}
             Ok(count) if count < MOST_MESSAGES => {}
@@ -171,6 +180,20 @@ impl Connections {
         served?;
         Ok(())
     }
+}
+
+// What came of a session, of which the last replies are sent now.
+fn with_replies_sent<C: Clock>(
+    served: Result<u32, StreamFault>,
+    replies: Replies<'_, C>,
+) -> Result<u32, StreamFault> {
+    if served.is_ok() {
+        let _sent = replies.send();
+    }
+    if replies.are_left() {
+        return Err(StreamFault::SinkFailed);
+    }
+    served
 }
 
 // A source that reads ahead, or one without a buffer where there is no memory.

@@ -1,8 +1,9 @@
 //! The peer of a connection: a stream whose calls wait as long as a message may take, and no
 //! longer.
 
+use crate::replies::Replies;
 use std::cell::Cell;
-use std::io::{self, ErrorKind, Read, Write};
+use std::io::{self, BufReader, ErrorKind, Read, Write};
 use std::net::{Shutdown, TcpStream};
 use std::time::{Clock, Duration};
 
@@ -219,35 +220,42 @@ impl Place {
     }
 }
 
-/// What a peer says, by a reader of it that may read ahead: tells the peer where each message
-/// begins for who reads them here.
+/// What a peer says, by a reader of it that reads ahead: has the replies sent before it waits for
+/// more, and tells the peer where each message begins for who reads them here.
 #[derive(Drop)]
-pub struct Messages<'a, R, C> {
-    source: R,
-    peer: &'a Peer<'a, C>,
+pub struct Messages<'r, 'a, C: Clock> {
+    source: BufReader<&'a Peer<'a, C>>,
+    replies: &'r Replies<'a, C>,
     place: Place,
 }
 
-impl<'a, R: Read, C: Clock> Messages<'a, R, C> {
+impl<'r, 'a, C: Clock> Messages<'r, 'a, C> {
     /// The messages of a peer, from the first on.
-    pub(crate) fn new(source: R, peer: &'a Peer<'a, C>) -> Messages<'a, R, C> {
+    pub(crate) fn new(
+        source: BufReader<&'a Peer<'a, C>>,
+        replies: &'r Replies<'a, C>,
+    ) -> Messages<'r, 'a, C> {
         Messages {
             source,
-            peer,
+            replies,
             place: Place::Between,
         }
     }
 }
 
-impl<R: Read, C: Clock> Read for Messages<'_, R, C> {
+impl<C: Clock> Read for Messages<'_, '_, C> {
     fn read(&mut self, buf: &mut [u8]) -> io::Result<usize> {
+        if self.source.buffer().is_empty() {
+            self.replies.send()?;
+        }
+        let peer = *self.source.get_ref();
         let begins = matches!(self.place, Place::Between);
         if begins {
-            self.peer.current.set(Current::Awaited);
+            peer.current.set(Current::Awaited);
         }
         let count = self.source.read(buf)?;
         if begins {
-            self.peer.current.set(Current::Begun);
+            peer.current.set(Current::Begun);
         }
         self.place = self.place.after(&buf[..count]);
         Ok(count)
