@@ -148,7 +148,8 @@ fn digits_length(text: &[u8]) -> usize
     if value < 256 { 3 } else { 0 }
 }
 
-/// The text after its spaces and tabs.
+/// The text after its spaces and tabs. Spaces go by eights after the first one, since a line may be
+/// filled up with them.
 pub(crate) fn after_blank(text: &[u8]) -> &[u8]
     ensures { result.now ≡ drop (prefix_len is_blank text.now) text.now }
 {
@@ -157,7 +158,7 @@ pub(crate) fn after_blank(text: &[u8]) -> &[u8]
         if !is_blank(*first) {
             break;
         }
-        rest = others;
+        rest = others.strip_prefix(b"        ").unwrap_or(others);
     }
     rest
 }
