@@ -1,13 +1,15 @@
 -- How far a run goes, octet by octet and escape by escape.
 use Rattle.std.proofs.Common.{eqb-true, get_or, ◌≡◌, ℕ, zero, suc, sym, cond, nat_lt, ◌+◌, ◌≤◌, ◌<◌, Bool, true, false, [], ◌∷◌, length, take, drop, refl, ◌∙◌, ap, arith, Option, None, Some, ◌==◌}
-use Rattle.std.specs.Prelude.{not}
-use Rattle.std.specs.List.{list_all, position, position_or_len}
+use Rattle.std.specs.Prelude.{not, nat_eq, MatchOption}
+use Rattle.std.specs.List.{list_all, position, position_or_len, prefix_len}
+use Rattle.std.specs.Option.{unwrap_or}
+use Rattle.std.specs.Cmp.Lexicographic.{pointwise, same_text}
 use Rattle.std.proofs.lemmas.Bool.{and_parts, false≢true, ltb-false}
 use Rattle.std.proofs.lemmas.Option.{none-some, same_Some}
 use Rattle.std.proofs.lemmas.List.{drop_all, drop-drop, at_drop_more}
 use Rattle.std.proofs.lemmas.List.Sums.{prefix_len-le-length}
 use Rattle.dns_spec.specs.Names.{Octets}
-use Rattle.dns_spec.specs.ZoneText.{escape_left, unit_left, run_length}
+use Rattle.dns_spec.specs.ZoneText.{is_blank, escape_left, unit_left, run_length}
 use Rattle.dns_spec.proofs.NameTexts.Escapes.{counted_escape, escape-counted}
 use Rattle.dns_spec.specs.DataText.{is_word_octet, is_string_octet}
 use Rattle.dns_master.specs.TokenForm.{by_itself}
@@ -130,3 +132,28 @@ run-front run (suc n) (o ∷ text) h e =
     let first = run-itself (by_itself run) o text (no-backslash run o parts.0) parts.0 in
     let more = run-front run n text (omega (arith, h)) parts.1 in
     omega (arith, first, more)
+
+-- what comes after the blanks of a text comes after those that stand behind its first one
+pub blank-first : (o : ℕ) (text : Octets) → is_blank o ≡ true → drop (prefix_len is_blank text) text ≡ drop (prefix_len is_blank (o ∷ text)) (o ∷ text)
+blank-first o text e =
+    let one : suc (prefix_len is_blank text) ≡ 1 + prefix_len is_blank text = omega arith in
+    ap (λ k. drop k (o ∷ text)) (one ∙ ap (λ b. cond b (1 + prefix_len is_blank text) 0) (sym e))
+
+blanks-passed : (n : ℕ) (text : Octets) → list_all is_blank (take n text) ≡ true
+    → drop (prefix_len is_blank (drop n text)) (drop n text) ≡ drop (prefix_len is_blank text) text
+blanks-passed zero text e = refl
+blanks-passed (suc n) [] e = refl
+blanks-passed (suc n) (o ∷ text) e =
+    let parts = and_parts (is_blank o) (list_all is_blank (take n text)) e in
+    blanks-passed n text parts.1 ∙ blank-first o text parts.0
+
+-- spaces in front are passed, where a text begins with so many
+pub spaces-passed : {R : Type 0} (now : R → Octets) (spaces : Octets) → list_all is_blank spaces ≡ true → (found : Option R) (text : R)
+    → MatchOption found (pointwise nat_eq (take (length spaces) (now text)) spaces ≡ false)
+    (λ x. (pointwise nat_eq (take (length spaces) (now text)) spaces ≡ true) × (now x ≡ drop (length spaces) (now text))
+    × (length (now x) + length spaces ≡ length (now text)))
+    → drop (prefix_len is_blank (now (unwrap_or found text))) (now (unwrap_or found text)) ≡ drop (prefix_len is_blank (now text)) (now text)
+spaces-passed now spaces all None text m = refl
+spaces-passed now spaces all (Some x) text m =
+    ap (λ t. drop (prefix_len is_blank t) t) m.1
+    ∙ blanks-passed (length spaces) (now text) (ap (list_all is_blank) (same_text (take (length spaces) (now text)) spaces (sym m.0)) ∙ all)

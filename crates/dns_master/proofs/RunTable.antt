@@ -1,6 +1,6 @@
 -- The table of where each octet stands by itself says what the definitions say of it.
 use Rattle.std.proofs.Common.{◌≡◌, ℕ, zero, suc, ◌<◌, Bool, true, false, ◌&&◌, ◌==◌, not, refl, subst, arith, inl, inr}
-use Rattle.std.specs.Prelude.{slice_index_or}
+use Rattle.std.specs.Prelude.{slice_index_or, nat_le}
 use Rattle.std.proofs.lemmas.Bool.{false≢true, and_parts, eqb-true, cases_Bool, eqb-false}
 use Rattle.dns_spec.specs.DataText.{is_word_octet, is_string_octet}
 use Rattle.dns_master.specs.declared.run.TheConstants.{PLAIN_IN}
@@ -29,8 +29,8 @@ same_test true false h = absurd (false≢true h)
 same_test false true h = absurd (false≢true h)
 same_test false false h = refl
 
-pub in-words : (o : ℕ) → o < 256 → (slice_index_or PLAIN_IN o 0 == 2) ≡ is_word_octet o
-in-words o h = same_test _ _ (every_below (λ x. agree (slice_index_or PLAIN_IN x 0 == 2) (is_word_octet x)) 256 refl o h)
+pub in-words : (o : ℕ) → o < 256 → nat_le 2 (slice_index_or PLAIN_IN o 0) ≡ is_word_octet o
+in-words o h = same_test _ _ (every_below (λ x. agree (nat_le 2 (slice_index_or PLAIN_IN x 0)) (is_word_octet x)) 256 refl o h)
 
-pub in-strings : (o : ℕ) → o < 256 → not (slice_index_or PLAIN_IN o 0 == 0) ≡ is_string_octet o
-in-strings o h = same_test _ _ (every_below (λ x. agree (not (slice_index_or PLAIN_IN x 0 == 0)) (is_string_octet x)) 256 refl o h)
+pub in-strings : (o : ℕ) → o < 256 → nat_le 1 (slice_index_or PLAIN_IN o 0) ≡ is_string_octet o
+in-strings o h = same_test _ _ (every_below (λ x. agree (nat_le 1 (slice_index_or PLAIN_IN x 0)) (is_string_octet x)) 256 refl o h)

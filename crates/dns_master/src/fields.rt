@@ -97,6 +97,7 @@ fn is_ttl_word(word: &Word<'_>) -> bool
 }
 
 // An unquoted word that names a class, or begins as `CLASS1` does (RFC 1035 3.2.4, RFC 3597 5).
+#[inline(always)]
 fn is_class_word(word: &Word<'_>) -> bool
     ensures { result ≡ is_class_word word.now }
 {

@@ -16,7 +16,7 @@ pub(crate) enum Run {
 }
 
 // How many octets of a string are told at once, since a string may be long.
-const GROUP: usize = 32;
+const GROUP: usize = 16;
 
 // Where each octet stands by itself: 2 in words and in strings, 1 in strings alone, 0 in neither.
 const PLAIN_IN: [u8; 256] = [
@@ -73,8 +73,8 @@ impl Run {
         ensures { result ≡ by_itself self octet }
     {
         match self {
-            Run::Word => PLAIN_IN[octet as usize] == 2,
-            Run::String => PLAIN_IN[octet as usize] != 0,
+            Run::Word => PLAIN_IN[octet as usize] >= 2,
+            Run::String => PLAIN_IN[octet as usize] >= 1,
         }
     }
 }
@@ -148,8 +148,20 @@ fn digits_length(text: &[u8]) -> usize
     if value < 256 { 3 } else { 0 }
 }
 
-/// The text after its spaces and tabs.
+/// The text after its spaces and tabs. Spaces go by eights after the first one, since a line may be
+/// filled up with them.
 pub(crate) fn after_blank(text: &[u8]) -> &[u8]
+    ensures { result.now ≡ drop (prefix_len is_blank text.now) text.now }
+{
+    match text.first() {
+        Some(first) if is_blank(*first) => after_run(text),
+        _ => text,
+    }
+}
+
+// The same of a text that begins with one, which is rare: most blanks are one octet.
+#[inline(never)]
+fn after_run(text: &[u8]) -> &[u8]
     ensures { result.now ≡ drop (prefix_len is_blank text.now) text.now }
 {
     let mut rest = text;
@@ -157,7 +169,7 @@ pub(crate) fn after_blank(text: &[u8]) -> &[u8]
         if !is_blank(*first) {
             break;
         }
-        rest = others;
+        rest = others.strip_prefix(b"        ").unwrap_or(others);
     }
     rest
 }

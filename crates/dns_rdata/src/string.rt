@@ -1,5 +1,6 @@
 //! Character-strings in the text of zone files.
 ghost use Rattle.std.specs.Prelude.{◌≡◌, ◌↔◌, ◌≤◌, ◌+◌, ◌*◌, ◌++◌, length, IsNone, IfSome};
+ghost use Rattle.std.specs.Bool.{OnTrue};
 ghost use Rattle.std.specs.List.{list_all, flat_map};
 ghost use Rattle.dns_spec.specs.NameText.{is_printable};
 ghost use Rattle.dns_spec.specs.Names.{Octets};
@@ -21,6 +22,8 @@ pub(crate) const MOST_STRING_TEXT: usize = 1022;
 /// without quotation marks, and its escapes are undone.
 ///
 /// `None` where an escape is bad, or the string has more than 255 octets (RFC 1035 3.3).
+#[cold]
+#[inline(never)]
 pub(crate) fn read_string(word: &[u8]) -> Option<ArrayVec<u8, MOST_STRING_OCTETS>>
     ensures some { IfSome result (λ read. (s : Octets) → SpellsString word.now s
         ↔ (s ≡ read.items)) }
@@ -28,10 +31,6 @@ pub(crate) fn read_string(word: &[u8]) -> Option<ArrayVec<u8, MOST_STRING_OCTETS
     ensures none { IsNone result → (s : Octets) → SpellsString word.now s → length s ≤ 255 → ⊥ }
 {
     let mut octets = ArrayVec::new();
-    if word.len() <= MOST_STRING_OCTETS && !word.contains(&b'\\') {
-        octets.try_extend_from_slice(word).ok()?;
-        return Some(octets);
-    }
     let mut rest = word;
     'octets: while !rest.is_empty() {
         let (octet, others) = first_octet(rest)?;
@@ -42,6 +41,14 @@ pub(crate) fn read_string(word: &[u8]) -> Option<ArrayVec<u8, MOST_STRING_OCTETS
         rest = others;
     }
     Some(octets)
+}
+
+/// Whether a word spells the string of its own octets: at most 255, without a backslash.
+pub(crate) fn is_plain_string(word: &[u8]) -> bool
+    ensures short { OnTrue result (length word.now ≤ 255) }
+    ensures itself { OnTrue result ((s : Octets) → SpellsString word.now s ↔ (s ≡ word.now)) }
+{
+    word.len() <= MOST_STRING_OCTETS && !word.contains(&b'\\')
 }
 
 /// Appends the text of a character-string in quotation marks: `"` and `\` with a backslash before,

@@ -13,7 +13,7 @@ use crate::ipv6::read_ipv6;
 use crate::number::read_number;
 use crate::rdata::MAX_OCTETS;
 use crate::rtype::RType;
-use crate::string::read_string;
+use crate::string::{is_plain_string, read_string};
 use crate::table::{Fixed, NumberSize, Piece, row_of_type};
 use crate::word::{Word, Words};
 use dns_name::Name;
@@ -218,7 +218,11 @@ fn append_number(size: NumberSize, text: &[u8], octets: &mut Vec<u8>) -> Result<
         → SaysNumber (size_of size) text.now d → ⊥) }
 {
     let number = read_number(text, size.most()).ok_or(RdataFault::BadNumber)?;
-    append(octets, &number.to_be_bytes()[4 - size.octets()..])
+    let [a, b, c, d] = number.to_be_bytes();
+    match size {
+        NumberSize::Two => append(octets, &[c, d]),
+        NumberSize::Four => append(octets, &[a, b, c, d]),
+    }
 }
 
 fn append_ipv4(text: &[u8], octets: &mut Vec<u8>) -> Result<(), RdataFault>
@@ -258,13 +262,18 @@ fn append_name(
     append(octets, name.octets())
 }
 
-// A string after its length (RFC 1035 3.3).
+// A string after its length (RFC 1035 3.3). Most have no escape: their octets are taken from the
+// text itself.
 fn append_string(text: &[u8], octets: &mut Vec<u8>) -> Result<(), RdataFault>
     ensures ok { OnOk result (Appends as_it_is (SaysString text.now)
         octets.old.items octets.new.items) }
     ensures fault { IfErr result (λ fault. fault ≢ RdataFault.NoMemory → (d : Octets)
         → SaysString text.now d → ⊥) }
 {
+    if is_plain_string(text) {
+        append(octets, &[text.len() as u8])?;
+        return append(octets, text);
+    }
     let string = read_string(text).ok_or(RdataFault::BadString)?;
     append(octets, &[string.len() as u8])?;
     append(octets, string.as_slice())

@@ -1,7 +1,6 @@
-use Rattle.std.proofs.Common.{rules, ◌≡◌, ℕ, false, ◌==◌, sym, ap, arith, ◌∙◌, length, length-append, ◌∷◌, []}
+use Rattle.std.proofs.Common.{sym, ap, arith, ◌∙◌, length, length-append, ◌∷◌, []}
 use Rattle.std.proofs.lemmas.Bool.{eqb-true, eqb-false}
-use Rattle.std.specs.List.{list_any}
-use Rattle.dns_rdata.proofs.StringLemmas.{StringSoFar-none, StringSoFar-push, StringSoFar-iff, no_string, string_is_long, octet_at-shorter, none_left, plain_string}
+use Rattle.dns_rdata.proofs.StringLemmas.{StringSoFar-none, StringSoFar-push, StringSoFar-iff, no_string, string_is_long, octet_at-shorter, none_left}
 use Rattle.dns_rdata.proofs.string.read_string.Goals as goal
 
 pub octets-init : goal.octets-init
@@ -33,9 +32,3 @@ octets-preserved c = record {
 pub returns-clause-some : goal.returns-clause-some
 returns-clause-some c =
     StringSoFar-iff _ _ _ c.octets.invariant.so_far (none_left _ (eqb-true _ _ (sym c.is_empty.ensures ∙ c.octets-test.false)))
-
-pub returns-then-not-contains-clause-some : goal.returns-then-not-contains-clause-some
-returns-then-not-contains-clause-some c =
-    let all : c.try_extend_from_slice.new.self.items ≡ c.args.word.now = search rules in
-    let plain : list_any (λ (o : ℕ). o == 92) c.args.word.now ≡ false = let no : c.contains.result ≡ false = search rules in sym c.contains.ensures.value ∙ no in
-    rw all (plain_string c.args.word.now plain)
