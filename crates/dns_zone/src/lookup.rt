@@ -51,21 +51,6 @@ fn count_before(records: &[Entry], name: &NameRef<'_>, place: usize) -> Option<u
     Some(records[..place].partition_point(|entry| is_under(entry, name)))
 }
 
-/// Whether the last of the records has an owner at or below the name: then all have, where these
-/// stand in front.
-pub(crate) fn are_all_under(records: &[Entry], name: &NameRef<'_>) -> bool
-    requires in_front { IsPartitionedBy
-        (λ (r : ResourceRecord). at_or_below r.owner name.now) records.now }
-    requires lower { folded name.now ≡ name.now }
-    ensures { OnTrue result (IsFront (λ (r : ResourceRecord). at_or_below r.owner name.now)
-        records.now (length records.now)) }
-{
-    match records.last() {
-        Some(last) => is_under(last, name),
-        None => false,
-    }
-}
-
 /// How many records stand in front whose owner is the name. They are passed one by one.
 pub(crate) fn count_in_front(records: &[Entry], name: &NameRef<'_>) -> usize
     requires { folded name.now ≡ name.now }

@@ -1,11 +1,12 @@
 use Rattle.std.proofs.Common.{◌≡◌, ◌≤◌, ◌<◌, ◌∙◌, ap, sym, subst, List, [], length, drop, arith}
+use Rattle.std.proofs.lemmas.List.{get_or_default}
 use Rattle.dns_spec.specs.Names.{DomainName}
 use Rattle.dns_name.specs.WireForm.{labels_of}
 use Rattle.dns_zone.specs.TreeForm.{row_at, row_name, under}
 use Rattle.dns_zone.specs.TreeSteps.{IsNext, IsKidAt}
 use Rattle.dns_zone.specs.declared.row.Row.{Row}
 use Rattle.dns_zone.proofs.KidRows.{is_under}
-use Rattle.dns_zone.proofs.Spans.{get_or_any, none_past}
+use Rattle.dns_zone.proofs.Spans.{none_past}
 use Rattle.dns_zone.proofs.GrowingKids.{Adding, start, next_is, step, done}
 use Rattle.dns_zone.proofs.tree.add_kids.Goals as goal
 
@@ -15,7 +16,7 @@ kids-init c =
     let rows = c.args.rows.now.items in
     let row = row_at rows c.args.number in
     let same : c.index-row.result.now ≡ row =
-    c.index-row.ensures ∙ get_or_any rows c.args.number _ _ c.requires.number in
+    c.index-row.ensures ∙ get_or_default rows c.args.number _ _ c.requires.number in
     subst (λ (r : Row). Adding rs (row_name rs row) row.own_end rows rows r.own_end) (sym same)
     (start rs c.requires.canonical (row_name rs row) row c.requires.row rows)
 
@@ -25,7 +26,7 @@ kid_at-kid-requires-clause-next c =
     let rows = c.args.rows.now.items in
     let row = row_at rows c.args.number in
     let same : c.index-row.result.now ≡ row =
-    c.index-row.ensures ∙ get_or_any rows c.args.number _ _ c.requires.number in
+    c.index-row.ensures ∙ get_or_default rows c.args.number _ _ c.requires.number in
     let named : labels_of c.octets_of-parent.result.now ≡ row_name rs row =
     c.octets_of-parent.ensures.name ∙ ap (row_name rs) same in
     subst (λ (n : DomainName). IsNext rs n c.kids.next) (sym named)
@@ -38,7 +39,7 @@ kid_at-kid-requires-clause-fits c =
     let rows = c.args.rows.now.items in
     let row = row_at rows c.args.number in
     let same : c.index-row.result.now ≡ row =
-    c.index-row.ensures ∙ get_or_any rows c.args.number _ _ c.requires.number in
+    c.index-row.ensures ∙ get_or_default rows c.args.number _ _ c.requires.number in
     subst (λ (r : Row). r.end ≤ length c.args.records.now) (sym same) c.requires.row.end_fits
 
 pub kid_at-kid-requires-clause-none : goal.kid_at-kid-requires-clause-none
@@ -47,7 +48,7 @@ kid_at-kid-requires-clause-none c =
     let rows = c.args.rows.now.items in
     let row = row_at rows c.args.number in
     let same : c.index-row.result.now ≡ row =
-    c.index-row.ensures ∙ get_or_any rows c.args.number _ _ c.requires.number in
+    c.index-row.ensures ∙ get_or_default rows c.args.number _ _ c.requires.number in
     let named : labels_of c.octets_of-parent.result.now ≡ row_name rs row =
     c.octets_of-parent.ensures.name ∙ ap (row_name rs) same in
     let is_row = c.requires.row in
@@ -63,7 +64,7 @@ kids-preserved c =
     let rows = c.args.rows.now.items in
     let row = row_at rows c.args.number in
     let same : c.index-row.result.now ≡ row =
-    c.index-row.ensures ∙ get_or_any rows c.args.number _ _ c.requires.number in
+    c.index-row.ensures ∙ get_or_default rows c.args.number _ _ c.requires.number in
     let named : labels_of c.octets_of-parent.result.now ≡ row_name rs row =
     c.octets_of-parent.ensures.name ∙ ap (row_name rs) same in
     let kid =
@@ -80,7 +81,7 @@ returns c =
     let rows = c.args.rows.now.items in
     let row = row_at rows c.args.number in
     let same : c.index-row.result.now ≡ row =
-    c.index-row.ensures ∙ get_or_any rows c.args.number _ _ c.requires.number in
+    c.index-row.ensures ∙ get_or_default rows c.args.number _ _ c.requires.number in
     done rs c.requires.canonical (row_name rs row) row c.requires.row rows c.kids.rows.items
     c.kids.next c.kids.invariant
     (subst (λ (r : Row). r.end ≤ c.kids.next) same c.kids-test.false)
