@@ -1,5 +1,7 @@
 -- The owners of a zone, as they are added to the names that are checked, and the origin.
 use Rattle.std.proofs.Common.{◌≡◌, ℕ, zero, suc, true, false, ◌⊎◌, inl, inr, List, [], ◌∷◌, ◌++◌, length, map, take, drop, refl, sym, ap, ◌∙◌, subst, arith, get_or, ◌<◌, is_gt, is_lt, Ordering, Less, Equal, Greater}
+use Rattle.dns_zone.proofs.Spans.{each_push, among_append}
+use Rattle.dns_spec.proofs.ZoneChecks.FaultOrder.{name_tie, name_order_total, one_lower}
 use Rattle.std.proofs.lemmas.Bool.{true≢false}
 use Rattle.std.proofs.lemmas.List.{append_assoc, map_push}
 use Rattle.std.proofs.lemmas.Cmp.{tied_itself}
@@ -17,22 +19,9 @@ use Rattle.dns_zone.specs.ZoneForm.{AreOrdered, IsFront}
 use Rattle.dns_zone.specs.declared.names.CheckedName.{CheckedName}
 use Rattle.dns_zone.proofs.AtName.{owners_in_order}
 use Rattle.dns_zone.proofs.CheckedNames.{among_map, map_among, itself_upto, equal_upto, one_key, cut_among, none_at, upto_parted, upto_among, after_each, in_order, last_checked, last_upto}
-use Rattle.dns_zone.proofs.NameOrder.{name_order_total, tied-same}
 use Rattle.dns_zone.proofs.NameTree.{under-from, under-order}
-use Rattle.dns_zone.proofs.ReportedNames.{one_lower, once_rise, IsName, names_checked}
+use Rattle.dns_zone.proofs.ReportedNames.{once_rise, IsName, names_checked}
 use Rattle.dns_zone.proofs.TopmostCut.{topmost_none}
-
-each_push : {X : Type 0} (P : X → Type 0) (xs : List X) (y : X) → Each P xs → P y
-    → Each P (xs ++ y ∷ [])
-each_push P [] y e p = (p, tt)
-each_push P (x ∷ xs) y e p = (e.0, each_push P xs y e.1 p)
-
-among_append : {X : Type 0} (a : X) (xs ys : List X) → Among a (xs ++ ys)
-    → Among a xs ⊎ Among a ys
-among_append a [] ys m = inr m
-among_append a (x ∷ xs) ys (inl e) = inl (inl e)
-among_append a (x ∷ xs) ys (inr m) =
-    elim (among_append a xs ys m) [ inl k ↦ inl (inr k) | inr k ↦ inr k ]
 
 -- what stands before a name in a list that rises, and after it
 rises_around : (ns ms : List DomainName) (n : DomainName) → Rises name_order (ns ++ n ∷ ms)
@@ -295,7 +284,7 @@ module _ (z : ZoneContents) (low : folded z.origin ≡ z.origin) (ordered : AreO
             by_order Less e h u = refl
             by_order Equal e h u =
                 absurd (f (h.key ∙ ap name_key (one_lower (name_of z c) o h.owner.lower low
-                (tied-same (name_of z c) o e)) ∙ sym key_is))
+                (name_tie (name_of z c) o e)) ∙ sym key_is))
             by_order Greater e h u = absurd (true≢false (sym (ap is_gt e) ∙ u))
 
         go : (d : CheckedName) → (d ≡ c) ⊎ (name_order (name_of z d) (name_of z c) ≡ Less)

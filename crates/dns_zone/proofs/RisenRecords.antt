@@ -1,5 +1,6 @@
 -- Records moved to the front, each of which comes before the next.
 use Rattle.std.proofs.Common.{◌≡◌, ℕ, zero, suc, ◌+◌, ◌<◌, ◌≤◌, ◌⊎◌, inl, inr, List, [], ◌∷◌, length, take, get_or, refl, sym, ap, ap₂, ◌∙◌, arith, All, IsPermutation, is_eq, is_lt, Less, Equal, Greater, true, ◌-◌, subst}
+use Rattle.std.proofs.lemmas.List.{get_or_default}
 use Rattle.std.proofs.lemmas.Bool.{cases_lt, true≢false}
 use Rattle.std.proofs.lemmas.List.Sorted.{IsPermutation-sym}
 use Rattle.std.specs.List.{SwappedAt}
@@ -8,7 +9,6 @@ use Rattle.std.specs.Ordering.{ordering_reverse}
 use Rattle.dns_spec.specs.Records.{ResourceRecord, records_equal, distinct, sort_by, record_order}
 use Rattle.dns_spec.proofs.Records.RecordOrder.{LowerOwner, record_order_total, record_ties, one_record, rises_canonical, each_all, among_permutation}
 use Rattle.dns_spec.proofs.Records.SortedOnce.{Among, Rises, each_weaker, among_sort, sort_among, among_distinct, distinct_among, same_risen}
-use Rattle.dns_zone.proofs.CheckedNames.{get_or_any}
 
 -- Of the records rs those before place `at` are among the first of xs, up to place `last`, each of
 -- which comes before the next. Those after are where they were.
@@ -40,7 +40,7 @@ module _ (rs xs : List ResourceRecord) (last at : ℕ) (h : IsOnce rs xs last at
         rise = h.rise;
         rest = λ i d m. h.rest i d (omega (arith, m));
         kept = λ i d m k. go i d k (cases_lt i at) (omega (arith, m));
-        from = λ d. get_or_any xs last d r inside ∙ sym e ∙ g ∙ f ∙ get_or_any xs at s d l
+        from = λ d. get_or_default xs last d r inside ∙ sym e ∙ g ∙ f ∙ get_or_default xs at s d l
             ∙ h.rest at d (omega arith) ∙ ap (λ i. get_or rs i d) (one_before at);
       }
     where
@@ -53,7 +53,7 @@ module _ (rs xs : List ResourceRecord) (last at : ℕ) (h : IsOnce rs xs last at
             last,
             omega arith,
             sym (h.rest i d m) ∙ ap (λ x. get_or xs x d) same
-                ∙ get_or_any xs at d s l ∙ sym f ∙ sym g ∙ e ∙ get_or_any xs last r d inside,
+                ∙ get_or_default xs at d s l ∙ sym f ∙ sym g ∙ e ∙ get_or_default xs last r d inside,
           )
 
   -- it comes after them, and is moved to their end
@@ -87,8 +87,8 @@ module _ (rs xs : List ResourceRecord) (last at : ℕ) (h : IsOnce rs xs last at
           let is : i ≡ last = omega (arith, m, n) in
           let next : suc i ≡ last + 1 = omega (arith, is) in
           ap₂ record_order
-          (same i d n ∙ ap (λ x. get_or xs x d) is ∙ get_or_any xs last d r inside ∙ sym e)
-          (ap (λ x. get_or ys x d) next ∙ swap.0 d ∙ get_or_any xs at d s l ∙ sym f) ∙ less
+          (same i d n ∙ ap (λ x. get_or xs x d) is ∙ get_or_default xs last d r inside ∙ sym e)
+          (ap (λ x. get_or ys x d) next ∙ swap.0 d ∙ get_or_default xs at d s l ∙ sym f) ∙ less
 
       go : (i : ℕ) (d : ResourceRecord) → i < length rs → (i < at) ⊎ (at ≤ i) → i ≤ at
           → (j : ℕ) × (j ≤ last + 1) × (get_or rs i d ≡ get_or ys j d)
@@ -109,7 +109,7 @@ module _ (rs xs : List ResourceRecord) (last at : ℕ) (h : IsOnce rs xs last at
       true≢false
       (sym (ap is_lt (ap₂ record_order
       (ap (λ i. get_or rs i s) next ∙ sym (h.rest at s (omega arith)) ∙ sym f)
-      (sym (h.from s) ∙ get_or_any xs last s r inside ∙ sym e)
+      (sym (h.from s) ∙ get_or_default xs last s r inside ∙ sym e)
       ∙ record_order_total.antisymm s r ∙ ap ordering_reverse greater))
       ∙ sorted (at - 1) s (omega arith) (omega (arith, next, l, size)))
 
