@@ -21,11 +21,7 @@ pub(crate) fn count_under(records: &[Entry], name: &NameRef<'_>) -> usize
     requires in_front { IsPartitionedBy
         (λ (r : ResourceRecord). at_or_below r.owner name.now) records.now }
     requires lower { folded name.now ≡ name.now }
-    ensures bound { result ≤ length records.now }
-    ensures own { take result records.now
-        ≡ filter (λ (r : ResourceRecord). at_or_below r.owner name.now) records.now }
-    ensures others { drop result records.now
-        ≡ filter (λ (r : ResourceRecord). not (at_or_below r.owner name.now)) records.now }
+    ensures { IsFront (λ (r : ResourceRecord). at_or_below r.owner name.now) records.now result }
 {
     if let Some(count) = count_before(records, name, 0) {
         return count;

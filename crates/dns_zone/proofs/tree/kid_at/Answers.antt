@@ -95,7 +95,7 @@ returns c =
       own_fits,
     ) in
     let below_is : take count (drop own others) ≡ under m (drop own others) =
-    rw (← c.split_at.ensures.back) c.count_under.ensures.own in
+    rw (← c.split_at.ensures.back) c.count_under.ensures.passing in
     let front_is : Each (λ s. is_under m s ≡ true) (take own others) =
     subst (Each (λ s. is_under m s ≡ true)) (sym own_is)
     (each_weaker (λ s. is_at m s ≡ true) (λ s. is_under m s ≡ true) (filter (is_at m) others)
