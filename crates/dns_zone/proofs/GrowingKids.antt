@@ -18,12 +18,13 @@ use Rattle.dns_zone.specs.ZoneForm.{IsCanonical}
 use Rattle.dns_zone.specs.TreeForm.{span, owners, under, first_of, row_octets, row_name, row_label, IsRow, IsKid, AreKids}
 use Rattle.dns_zone.specs.TreeSteps.{IsBetween, IsNext, IsKidAt, AddsKids}
 use Rattle.dns_zone.specs.declared.row.Row.{Row}
-use Rattle.dns_zone.proofs.Pairs.{Pairs, filter_within, filter_none}
-use Rattle.dns_zone.proofs.NameTree.{label-tie, under-trans}
+use Rattle.dns_zone.proofs.Pairs.{Pairs, filter_none}
+use Rattle.dns_zone.proofs.NameTree.{label-tie}
 use Rattle.dns_zone.proofs.AtName.{OwnerNotAfter, owners_in_order, is_at}
 use Rattle.dns_zone.proofs.Existing.{under-lower}
 use Rattle.dns_zone.proofs.Spans.{drop_span, take_span, none_before, none_past, in_span, nothing_each, nothing_there, nothing_further, some_passes, any_there, any_nothing, among_left, among_right, each_drop, each_push}
 use Rattle.dns_zone.proofs.ChildNames.{cons_under, one_above, labels_in_order, other_below, under-longer}
+use Rattle.dns_zone.proofs.BoundedKids.{none_under}
 use Rattle.dns_zone.proofs.KidRows.{is_under, pairs_drop}
 
 pub row_is : (rs : List ResourceRecord) (row : Row) (n : DomainName) → IsRow rs row n
@@ -59,19 +60,13 @@ blank = record { owner = []; ttl = 0; rtype = 0; rdata = [] }
 
 module _ (rs : List ResourceRecord) (canonical : IsCanonical rs) (n : DomainName) (row : Row)
     (is_row : IsRow rs row n) where
-  within : (m : DomainName) → at_or_below m n ≡ true → (xs : List ResourceRecord) → under n xs ≡ []
-      → under m xs ≡ []
-  within m h xs e =
-      sym (filter_within (is_under n) (is_under m) xs (λ r u. under-trans r.owner m n u h))
-      ∙ ap (under m) e
-
   none_own : (m : DomainName) → at_or_below m n ≡ true → length m ≡ suc (length n)
       → under m (take row.own_end rs) ≡ []
   none_own m h len =
       let order : row.first ≤ row.end = let a = is_row.first_own in let b = is_row.own_end in
       omega arith in
       let before : under m (take row.first rs) ≡ [] =
-      within m h (take row.first rs)
+      none_under m n (take row.first rs) h
       (none_before (is_under n) rs row.first row.end order is_row.below) in
       let own : under m (span rs row.first row.own_end) ≡ [] =
       filter_none (is_under m) (span rs row.first row.own_end)
@@ -344,7 +339,7 @@ module _ (rs : List ResourceRecord) (canonical : IsCanonical rs) (n : DomainName
 
       none : (l : Octets) → under (l ∷ n) (drop k rs) ≡ []
       none l =
-          within (l ∷ n) (cons_under l n) (drop k rs)
+          none_under (l ∷ n) n (drop k rs) (cons_under l n)
           (nothing_further (is_under n) rs row.end k h
           (none_past (is_under n) rs row.first row.end order is_row.below))
 

@@ -1,10 +1,10 @@
 -- The row of a child, among records in canonical order.
-use Rattle.std.proofs.Common.{◌≡◌, ℕ, zero, suc, ◌+◌, ◌-◌, ◌<◌, ◌≤◌, Bool, true, false, not, cond, ◌⊎◌, inl, inr, List, [], ◌∷◌, ◌++◌, length, take, drop, get_or, map, refl, sym, ap, ap₂, ◌∙◌, arith, subst, filter, is_gt, is_lt, Ordering, Less, Equal, Greater, length-take, length-drop}
+use Rattle.std.proofs.Common.{◌≡◌, ℕ, zero, suc, ◌+◌, ◌-◌, ◌<◌, ◌≤◌, Bool, true, false, not, cond, ◌⊎◌, inl, inr, List, [], ◌∷◌, ◌++◌, length, take, drop, get_or, map, refl, sym, ap, ap₂, ◌∙◌, arith, subst, filter, is_gt, is_lt, Ordering, Less, Equal, Greater, length-drop}
 use Rattle.dns_spec.proofs.Records.RecordOrder.{record_order_total}
 use Rattle.dns_spec.proofs.ZoneChecks.FaultOrder.{name_order_total}
 use Rattle.std.proofs.lemmas.Bool.{false≢true, true≢false}
 use Rattle.std.proofs.lemmas.Cmp.{upto}
-use Rattle.std.proofs.lemmas.List.{take-append-drop, get_or-map, get_or-drop, drop_more}
+use Rattle.std.proofs.lemmas.List.{length-take-le, take-append-drop, get_or-map, get_or-drop, drop_more}
 use Rattle.std.proofs.lemmas.List.Prefix.{end_rest}
 use Rattle.std.proofs.Math.Seq.{take-add}
 use Rattle.std.proofs.lemmas.List.Elements.{filter-append}
@@ -74,10 +74,6 @@ module _ (m : DomainName) (r : ResourceRecord) (xs : List ResourceRecord)
   at_in_front o =
       subst (IsPartitionedBy (is_at m))
       (filter_all (λ s. not (is_before m s)) (r ∷ xs) each_not_before) (at_parted m (r ∷ xs) o)
-
-pub length-take-of : {X : Type 0} (k : ℕ) (xs ys : List X) → k ≤ length xs → take k xs ≡ ys
-    → length ys ≡ k
-length-take-of k xs ys h e = let l = ap length e in omega (arith, length-take k xs)
 
 pub owner_at : (rs : List ResourceRecord) (k : ℕ) (r : ResourceRecord) → k < length rs
     → r ≡ get_or rs k r → get_or (owners rs) k [] ≡ r.owner
@@ -203,9 +199,9 @@ module _ (rs : List ResourceRecord) (canonical : IsCanonical rs) (n : DomainName
     made name own count place label key own_fits fits own_is under_is p long is_key =
         let sizes : length (drop next rs) ≡ length rs - next = length-drop next rs in
         let in_bounds = is_next.fits in
-        let count_is = length-take-of count (drop next rs) (under m (drop next rs)) fits under_is in
+        let count_is = sym (ap length under_is) ∙ length-take-le count (drop next rs) fits in
         let own_count =
-        length-take-of own (drop next rs) (filter (is_at m) (drop next rs)) own_fits own_is in
+        sym (ap length own_is) ∙ length-take-le own (drop next rs) own_fits in
         let fewer : length (filter (is_at m) (drop next rs)) ≤ length (under m (drop next rs)) =
         omega (
           arith,
