@@ -1,7 +1,9 @@
 -- The records of a name among records in canonical order.
 use Rattle.std.proofs.Common.{◌≡◌, Bool, true, false, not, cond, List, [], ◌∷◌, refl, ap, ◌∙◌, subst, filter, is_gt, is_lt, Ordering, Less, Equal, Greater}
+use Rattle.dns_spec.proofs.Records.RecordOrder.{record_order_total}
+use Rattle.dns_spec.proofs.ZoneChecks.FaultOrder.{name_tie, name_order_total}
 use Rattle.std.proofs.lemmas.Bool.{false≢true, not-true}
-use Rattle.std.proofs.lemmas.Cmp.{nat_cmp_total, nat_list_cmp_total, on_total, then_total, upto}
+use Rattle.std.proofs.lemmas.Cmp.{nat_list_cmp_total, on_total, upto}
 use Rattle.std.specs.Cmp.{IsTotalOrder}
 use Rattle.std.specs.Ordering.{ordering_reverse, ordering_then}
 use Rattle.std.specs.List.Sorted.{IsPartitionedBy}
@@ -10,7 +12,7 @@ use Rattle.dns_spec.specs.Records.{ResourceRecord, insert_by, sort_by, data_orde
 use Rattle.dns_spec.proofs.Records.SortedOnce.{Each, each_weaker, filter_each}
 use Rattle.dns_zone.specs.ZoneForm.{AreOrdered}
 use Rattle.dns_zone.proofs.Pairs.{Pairs, pairs_weaker, pairs_of, pairs_filter, parted}
-use Rattle.dns_zone.proofs.NameOrder.{name_order_total, same-tied, tied-same, not_greater}
+use Rattle.dns_zone.proofs.NameOrder.{same-tied, not_greater}
 
 -- a sorted list is in order, each element with each after it
 module _ {X : Type 0} (cmp : X → X → Ordering) (total : IsTotalOrder cmp) where
@@ -60,12 +62,6 @@ module _ {X : Type 0} (cmp : X → X → Ordering) (total : IsTotalOrder cmp) wh
 pub data_order_total : IsTotalOrder data_order
 data_order_total = on_total (λ (r : ResourceRecord). r.rdata) nat_list_cmp_total
 
-pub record_order_total : IsTotalOrder record_order
-record_order_total =
-    then_total (on_total (λ (r : ResourceRecord). r.owner) name_order_total)
-    (then_total (on_total (λ (r : ResourceRecord). r.rtype) nat_cmp_total)
-    (then_total data_order_total (on_total (λ (r : ResourceRecord). r.ttl) nat_cmp_total)))
-
 -- owners in order, and types in order where the owner is one
 abbrev pub OwnerNotAfter : ResourceRecord → ResourceRecord → Type 0
 OwnerNotAfter r s = is_gt (name_order r.owner s.owner) ≡ false
@@ -94,7 +90,7 @@ module _ (n : DomainName) where
   at_more r s p q e f =
       let tied = same-tied s.owner n f in
       let upper : is_gt (name_order r.owner n) ≡ false = upto name_order_total r.owner s.owner n e (ap is_gt tied) in
-      tied-same r.owner n (not_greater (name_order r.owner n) upper (not-true _ p))
+      name_tie r.owner n (not_greater (name_order r.owner n) upper (not-true _ p))
 
   -- what stands at the name or after it
   pub at_parted : (rs : List ResourceRecord) → AreOrdered rs → IsPartitionedBy is_at (filter (λ r. not (is_before r)) rs)

@@ -1,8 +1,9 @@
 -- The names that are checked, as a list: what a search among them by keys finds.
 use Rattle.std.proofs.Common.{◌≡◌, ℕ, ◌+◌, suc, ◌<◌, ◌≤◌, Bool, true, false, ◌&&◌, not, cond, ◌==◌, nat_lt, ◌⊎◌, inl, inr, List, get_or, zero, drop, length-take, [], ◌∷◌, map, length, take, refl, sym, ap, ap₂, ◌∙◌, subst, arith, filter, is_gt, nat_cmp, Ordering, Less, Equal, Greater}
+use Rattle.dns_spec.proofs.ZoneChecks.FaultOrder.{name_tie, name_order_total, one_lower, Lower}
 use Rattle.std.proofs.lemmas.Bool.{false≢true, true≢false, not-true, and_parts, or_cases, false_from_ne_true, cases_lt}
 use Rattle.std.proofs.lemmas.Cmp.{nat_list_cmp_total, tied_itself, upto}
-use Rattle.std.proofs.lemmas.List.{get_or-take}
+use Rattle.std.proofs.lemmas.List.{get_or-take, get_or_default}
 use Rattle.std.proofs.Math.Nat.{min-eq_left}
 use Rattle.std.specs.Cmp.Lexicographic.{slice_cmp}
 use Rattle.std.specs.List.{list_any, starts_with}
@@ -20,10 +21,10 @@ use Rattle.dns_zone.specs.ReportedForm.{owners_once}
 use Rattle.dns_zone.specs.ZoneForm.{IsFront}
 use Rattle.dns_zone.specs.declared.names.CheckedName.{CheckedName}
 use Rattle.dns_zone.proofs.KeyOrder.{key_order}
-use Rattle.dns_zone.proofs.NameOrder.{name_order_total, same-is, tied-same}
+use Rattle.dns_zone.proofs.NameOrder.{same-is}
 use Rattle.dns_zone.proofs.NameTree.{under-order}
 use Rattle.dns_zone.proofs.Pairs.{Pairs, halves, pairs_of, each_both, each_get, parted, filter_none}
-use Rattle.dns_zone.proofs.ReportedNames.{Lower, one_lower, owners, among_once, among_checked}
+use Rattle.dns_zone.proofs.ReportedNames.{owners, among_once, among_checked}
 use Rattle.dns_zone.proofs.TopmostCut.{at_cut, covers, covered, uncovered}
 
 pub among_map : {X Y : Type 0} (f : X → Y) (y : Y) (xs : List X) → Among y (map f xs)
@@ -58,12 +59,6 @@ last_at R (x ∷ xs) zero d h l = (inl refl, tt)
 last_at R (x ∷ xs) (suc i) d h l =
     (inr (each_get (R x) xs i d h.0 (omega arith)), last_at R xs i d h.1 (omega arith))
 
-pub get_or_any : {X : Type 0} (xs : List X) (i : ℕ) (d e : X) → i < length xs
-    → get_or xs i d ≡ get_or xs i e
-get_or_any [] i d e l = absurd (omega (arith, l))
-get_or_any (x ∷ xs) zero d e l = refl
-get_or_any (x ∷ xs) (suc i) d e l = get_or_any xs i d e (omega arith)
-
 pub last_front : {X : Type 0} (p : X → Bool) (xs : List X) (i : ℕ) → IsPartitionedBy p xs
     → IsLastAt p xs i → IsFront p xs (i + 1)
 last_front p xs i parts h =
@@ -90,12 +85,12 @@ between_both n m p q f g = go (name_order n m) refl f
     go : (c : Ordering) → name_order n m ≡ c → is_gt c ≡ false → n ≡ m
     go Less e h =
         absurd (true≢false (sym (ap is_gt (name_order_total.antisymm m n ∙ ap ordering_reverse e)) ∙ g))
-    go Equal e h = one_lower n m p q (tied-same n m e)
+    go Equal e h = one_lower n m p q (name_tie n m e)
     go Greater e h = absurd (true≢false h)
 
 pub one_key : (n m : DomainName) → Lower n → Lower m → name_key n ≡ name_key m → n ≡ m
 one_key n m p q e =
-    one_lower n m p q (tied-same n m (sym (key_order n m p q)
+    one_lower n m p q (name_tie n m (sym (key_order n m p q)
     ∙ ap (slice_cmp nat_cmp (name_key n)) (sym e) ∙ tied_itself nat_list_cmp_total (name_key n)))
 
 module _ (z : ZoneContents) where
@@ -263,7 +258,7 @@ module _ (z : ZoneContents) where
         found_there i next d =
             let bound = front.bound in
             found_last i next (get_or names i d)
-            (get_or_any names i d (get_or names i d) (omega (arith, bound, next)))
+            (get_or_default names i d (get_or names i d) (omega (arith, bound, next)))
 
   -- what the last name that is not after one tells of that one
   module _ (m : DomainName) (low : Lower m) where
@@ -276,6 +271,16 @@ module _ (z : ZoneContents) where
     none_cut : (b : Bool) → b ≡ false → IsTopmost z m (cond b (length (name_key m)) 0)
         → at_or_below_cut z m ≡ false
     none_cut b e t = at_cut z m low 0 (subst (λ c. IsTopmost z m (cond c (length (name_key m)) 0)) e t)
+
+    -- the name itself is the last of those
+    pub found_itself : (c : CheckedName) → IsChecked z (name c) c → c.key.now ≡ name_key m
+        → IsLastUpto z m c
+    found_itself c h e =
+        let is = one_key (name c) m h.owner.lower low (sym h.key ∙ e) in record {
+          checked = h;
+          upto = equal_upto (name c) m is;
+          last = λ n a g. subst (λ k. is_gt (name_order n k) ≡ false) (sym is) g;
+        }
 
     module _ (c : CheckedName) (h : IsLastUpto z m c) where
       abbrev last : DomainName

@@ -1,5 +1,6 @@
 -- Names one label below a name.
-use Rattle.std.proofs.Common.{◌≡◌, ℕ, ◌+◌, ◌-◌, ◌<◌, ◌≤◌, Bool, true, false, nat_lt, nat_le, if◌then◌else◌, ◌⊎◌, inl, inr, List, [], ◌∷◌, ◌++◌, map, reverse, length, drop, refl, sym, ap, ap₂, ◌∙◌, arith, is_gt, Ordering, Less, Equal, Greater}
+use Rattle.std.proofs.Common.{◌≡◌, ℕ, ◌+◌, ◌-◌, ◌<◌, ◌≤◌, Bool, true, false, nat_lt, nat_le, if◌then◌else◌, ◌⊎◌, inl, inr, List, [], ◌∷◌, ◌++◌, map, reverse, length, drop, refl, sym, ap, ap₂, ◌∙◌, arith, is_gt}
+use Rattle.dns_zone.proofs.AtName.{first_part}
 use Rattle.std.proofs.lemmas.Bool.{false≢true, and_parts, and_from, leb-true, lt-ltb, ltb-true, ltb-false, cases_lt}
 use Rattle.std.proofs.lemmas.Cmp.{nat_list_cmp_total, tied_itself}
 use Rattle.std.proofs.lemmas.List.{reverse-append, append_assoc}
@@ -106,11 +107,6 @@ common_front (z ∷ zs) xs ys =
     ap (λ c. ordering_then c (slice_cmp label_order (zs ++ xs) (zs ++ ys)))
     (tied_itself nat_list_cmp_total z) ∙ common_front zs xs ys
 
-first_gt : (c d : Ordering) → is_gt (ordering_then c d) ≡ false → is_gt c ≡ false
-first_gt Less d h = refl
-first_gt Equal d h = refl
-first_gt Greater d h = h
-
 turned : (r n : DomainName) (k : Octets) → folded n ≡ n → map to_ascii_lowercase k ≡ k
     → at_or_below r (k ∷ n) ≡ true
     → (xs : List Octets) × (reverse (folded r) ≡ reverse n ++ (k ∷ xs))
@@ -134,7 +130,7 @@ pub labels_in_order : (r s n : DomainName) (k l : Octets) → folded n ≡ n
 labels_in_order r s n k l low lowk lowl p q h =
     let a = turned r n k low lowk p in
     let b = turned s n l low lowl q in
-    first_gt (label_order k l) (slice_cmp label_order a.0 b.0)
+    first_part (label_order k l) (slice_cmp label_order a.0 b.0)
     (sym (ap₂ (λ (xs ys : List Octets). is_gt (slice_cmp label_order xs ys)) a.1 b.1
     ∙ ap is_gt (common_front (reverse n) (k ∷ a.0) (l ∷ b.0))) ∙ h)
 

@@ -1,26 +1,26 @@
 -- Which names exist in a built zone.
-use Rattle.std.proofs.Common.{◌≡◌, ℕ, ◌-◌, ◌≤◌, ◌<◌, Bool, true, false, ◌&&◌, ◌||◌, not, ◌==◌, nat_le, List, [], ◌∷◌, map, length, drop, refl, sym, ap, ap₂, ◌∙◌, arith}
+use Rattle.std.proofs.Common.{◌≡◌, ℕ, ◌-◌, ◌<◌, Bool, true, false, ◌&&◌, ◌||◌, not, ◌==◌, nat_le, List, [], ◌∷◌, map, length, drop, refl, sym, ap, ap₂, ◌∙◌, arith}
+use Rattle.dns_spec.proofs.ZoneChecks.FaultOrder.{folded_folded}
 use Rattle.std.proofs.lemmas.Bool.{and_parts, false≢true, or_right, lt-ltb}
 use Rattle.std.proofs.lemmas.List.{length-map}
 use Rattle.std.specs.Char.{to_ascii_lowercase}
 use Rattle.std.specs.List.{list_any}
-use Rattle.dns_spec.specs.Names.{Octets, DomainName, wire, folded, names_equal, same, at_or_below}
+use Rattle.dns_spec.specs.Names.{Octets, DomainName, folded, names_equal, same, at_or_below}
 use Rattle.dns_spec.specs.Data.{type_soa}
 use Rattle.dns_spec.specs.Records.{ResourceRecord, ZoneContents, at, owns}
 use Rattle.dns_spec.specs.Checks.{is_owner}
 use Rattle.dns_spec.specs.Tree.{exists}
 use Rattle.dns_spec.specs.ZonePrinted.{IsReadRecord}
-use Rattle.dns_spec.proofs.DomainNames.NameLaws.{IsName-is_name, at_or_below-length-wire}
 use Rattle.dns_spec.proofs.Records.SortedOnce.{Each, Among, each_weaker, filter_among}
 use Rattle.dns_spec.proofs.Records.RecordOrder.{each_all}
 use Rattle.dns_spec.proofs.ZoneChecks.PassedChecks.{checks_of_origin, checks_at}
 use Rattle.dns_spec.proofs.Replies.ItemSets.{each_among}
 use Rattle.dns_zone.specs.Nodes.{IsNode}
 use Rattle.dns_zone.specs.ZoneForm.{IsBuilt}
-use Rattle.dns_zone.proofs.NameOrder.{same-from, lower_twice}
+use Rattle.dns_zone.proofs.NameOrder.{same-from}
 use Rattle.dns_zone.proofs.NameTree.{itself-under}
 
-any_more : {X : Type 0} (p q : X → Bool) (xs : List X) → ((x : X) → p x ≡ true → q x ≡ true)
+pub any_more : {X : Type 0} (p q : X → Bool) (xs : List X) → ((x : X) → p x ≡ true → q x ≡ true)
     → list_any p xs ≡ true → list_any q xs ≡ true
 any_more p q [] f e = absurd (false≢true e)
 any_more p q (x ∷ xs) f e = go (p x) refl e (any_more p q xs f)
@@ -46,25 +46,6 @@ exists-lower z a b e l = go z.records
         ≡ list_any (λ (r : ResourceRecord). at_or_below r.owner b) rs
     go [] = refl
     go (r ∷ rs) = ap₂ ◌||◌ (under-lower r.owner a b e l) (go rs)
-
--- what exists is a name
-pub exists-fits : (z : ZoneContents) (n : DomainName) → IsBuilt z → exists z n ≡ true
-    → length (wire n) ≤ 255
-exists-fits z n kept e = go z.records (each_all IsReadRecord z.records kept.each) e
-  where
-    go : (rs : List ResourceRecord) → Each IsReadRecord rs
-        → list_any (λ (r : ResourceRecord). at_or_below r.owner n) rs ≡ true → length (wire n) ≤ 255
-    go [] h e = absurd (false≢true e)
-    go (r ∷ rs) h e = here (at_or_below r.owner n) refl e (go rs h.1)
-      where
-        here : (t : Bool) → at_or_below r.owner n ≡ t
-            → (t || list_any (λ (s : ResourceRecord). at_or_below s.owner n) rs) ≡ true
-            → (list_any (λ (s : ResourceRecord). at_or_below s.owner n) rs ≡ true
-            → length (wire n) ≤ 255) → length (wire n) ≤ 255
-        here true a b f =
-            let name = IsName-is_name r.owner h.0.owner in
-            omega (arith, at_or_below-length-wire r.owner n a)
-        here false a b f = f b
 
 -- the origin owns an SOA, so that it exists
 pub origin-soa : (z : ZoneContents) → IsBuilt z → owns z z.origin type_soa ≡ true
@@ -119,5 +100,5 @@ pub child-exists : (z : ZoneContents) (l : Octets) (n : DomainName) → folded n
     → exists z (map to_ascii_lowercase l ∷ n) ≡ exists z (l ∷ n)
 child-exists z l n low =
     ap (λ (m : DomainName). exists z (map to_ascii_lowercase l ∷ m)) (sym low)
-    ∙ exists-lower z (folded (l ∷ n)) (l ∷ n) (lower_twice (l ∷ n))
+    ∙ exists-lower z (folded (l ∷ n)) (l ∷ n) (folded_folded (l ∷ n))
     (length-map (l ∷ n) (map to_ascii_lowercase))

@@ -2,7 +2,7 @@
 use Rattle.std.proofs.Common.{◌≡◌, ℕ, zero, suc, ◌+◌, ◌-◌, ◌/◌, ◌<◌, ◌≤◌, ◌⊎◌, inl, inr, List, [], ◌∷◌, map, length, get_or, sym, ap, ◌∙◌, add-one, arith, subst, is_lt, is_gt, Less, Equal, Greater}
 use Rattle.std.proofs.lemmas.Bool.{cases_lt, false≢true}
 use Rattle.std.proofs.lemmas.Cmp.{nat_list_cmp_total, tied_itself}
-use Rattle.std.proofs.lemmas.List.{get_or-map, length-map}
+use Rattle.std.proofs.lemmas.List.{get_or-map, length-map, get_or_default}
 use Rattle.std.specs.Ordering.{ordering_reverse}
 use Rattle.dns_spec.specs.Names.{Octets, label_order}
 use Rattle.dns_spec.specs.Records.{ResourceRecord}
@@ -11,7 +11,6 @@ use Rattle.dns_spec.proofs.Records.RecordOrder.{among_contains}
 use Rattle.dns_zone.specs.TreeForm.{row_label, row_at, room_after}
 use Rattle.dns_zone.specs.declared.row.Row.{Row}
 use Rattle.dns_zone.proofs.Pairs.{each_get}
-use Rattle.dns_zone.proofs.Spans.{get_or_any}
 
 rises_at : (ls : List Octets) (i j : ℕ) → Rises label_order ls → i < j → j < length ls
     → label_order (get_or ls i []) (get_or ls j []) ≡ Less
@@ -138,7 +137,7 @@ module _ (rs : List ResourceRecord) (kids : List Row) (label : Octets) where
         let l = c.1 in
         let fits : c.0 < length kids = omega (arith, length-map kids (row_label rs)) in
         let is : row_label rs (row_at kids c.0) ≡ label =
-        sym (label_at c.0 fits) ∙ get_or_any (map (row_label rs) kids) c.0 [] label c.1 ∙ c.2 in
+        sym (label_at c.0 fits) ∙ get_or_default (map (row_label rs) kids) c.0 [] label c.1 ∙ c.2 in
         go c.0 fits is (cases_lt c.0 at)
       where
         tied : label_order label label ≡ Equal

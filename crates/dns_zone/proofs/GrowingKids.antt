@@ -1,5 +1,8 @@
 -- The rows of a name's children, added one by one.
 use Rattle.std.proofs.Common.{◌≡◌, ℕ, suc, ◌+◌, ◌-◌, ◌<◌, ◌≤◌, Bool, true, false, ◌⊎◌, inl, inr, List, [], ◌∷◌, ◌++◌, map, length, take, drop, get_or, refl, sym, ap, ap₂, ◌∙◌, arith, subst, filter, is_gt, Ordering, Less, Equal, Greater, length-append}
+use Rattle.dns_spec.proofs.ZoneChecks.FaultOrder.{folded_folded}
+use Rattle.std.proofs.lemmas.List.Folds.{list_any-append}
+use Rattle.std.proofs.Math.Seq.{drop-drop}
 use Rattle.std.proofs.lemmas.Bool.{false≢true, true≢false, false_from_ne_true, or_cases, or_right}
 use Rattle.std.proofs.lemmas.List.{take-append-drop, get_or-map, drop_more, append-nil, append_assoc, take_at, drop_at, map-append}
 use Rattle.std.proofs.lemmas.List.Elements.{filter-append}
@@ -15,13 +18,13 @@ use Rattle.dns_zone.specs.ZoneForm.{IsCanonical}
 use Rattle.dns_zone.specs.TreeForm.{span, owners, under, first_of, row_octets, row_name, row_label, IsRow, IsKid, AreKids}
 use Rattle.dns_zone.specs.TreeSteps.{IsBetween, IsNext, IsKidAt, AddsKids}
 use Rattle.dns_zone.specs.declared.row.Row.{Row}
-use Rattle.dns_zone.proofs.Pairs.{Pairs, filter_within}
-use Rattle.dns_zone.proofs.NameOrder.{lower_twice}
-use Rattle.dns_zone.proofs.NameTree.{label-tie, under-trans}
+use Rattle.dns_zone.proofs.Pairs.{Pairs, filter_none}
+use Rattle.dns_zone.proofs.NameTree.{label-tie}
 use Rattle.dns_zone.proofs.AtName.{OwnerNotAfter, owners_in_order, is_at}
 use Rattle.dns_zone.proofs.Existing.{under-lower}
-use Rattle.dns_zone.proofs.Spans.{drop_again, drop_span, take_span, none_before, none_past, in_span, nothing_each, each_nothing, nothing_there, nothing_further, some_passes, any_there, any_append, any_nothing, among_left, among_right, each_drop, each_push}
+use Rattle.dns_zone.proofs.Spans.{drop_span, take_span, none_before, none_past, in_span, nothing_each, nothing_there, nothing_further, some_passes, any_there, any_nothing, among_left, among_right, each_drop, each_push}
 use Rattle.dns_zone.proofs.ChildNames.{cons_under, one_above, labels_in_order, other_below, under-longer}
+use Rattle.dns_zone.proofs.BoundedKids.{none_under}
 use Rattle.dns_zone.proofs.KidRows.{is_under, pairs_drop}
 
 pub row_is : (rs : List ResourceRecord) (row : Row) (n : DomainName) → IsRow rs row n
@@ -57,22 +60,16 @@ blank = record { owner = []; ttl = 0; rtype = 0; rdata = [] }
 
 module _ (rs : List ResourceRecord) (canonical : IsCanonical rs) (n : DomainName) (row : Row)
     (is_row : IsRow rs row n) where
-  within : (m : DomainName) → at_or_below m n ≡ true → (xs : List ResourceRecord) → under n xs ≡ []
-      → under m xs ≡ []
-  within m h xs e =
-      sym (filter_within (is_under n) (is_under m) xs (λ r u. under-trans r.owner m n u h))
-      ∙ ap (under m) e
-
   none_own : (m : DomainName) → at_or_below m n ≡ true → length m ≡ suc (length n)
       → under m (take row.own_end rs) ≡ []
   none_own m h len =
       let order : row.first ≤ row.end = let a = is_row.first_own in let b = is_row.own_end in
       omega arith in
       let before : under m (take row.first rs) ≡ [] =
-      within m h (take row.first rs)
+      none_under m n (take row.first rs) h
       (none_before (is_under n) rs row.first row.end order is_row.below) in
       let own : under m (span rs row.first row.own_end) ≡ [] =
-      each_nothing (is_under m) (span rs row.first row.own_end)
+      filter_none (is_under m) (span rs row.first row.own_end)
       (subst (Each (λ r. is_under m r ≡ false)) (sym is_row.own)
       (each_weaker (λ (r : ResourceRecord). same r.owner n ≡ true) (λ r. is_under m r ≡ false)
       (filter (is_at n) rs)
@@ -182,7 +179,7 @@ module _ (rs : List ResourceRecord) (canonical : IsCanonical rs) (n : DomainName
         → list_any p (drop k rs) ≡ true
     any_later p e =
         ap (list_any p) (drop_span k kid.end rs order)
-        ∙ any_append p (span rs k kid.end) (drop kid.end rs)
+        ∙ list_any-append p (span rs k kid.end) (drop kid.end rs)
         ∙ or_right (list_any p (span rs k kid.end)) _ e
 
     after_first : Each (OwnerNotAfter first) (drop kid.end rs)
@@ -193,7 +190,7 @@ module _ (rs : List ResourceRecord) (canonical : IsCanonical rs) (n : DomainName
         let b = h.more in
         let at : (k + 1) + (kid.end - (k + 1)) ≡ kid.end = omega arith in
         subst (Each (OwnerNotAfter first))
-        (drop_again (k + 1) (kid.end - (k + 1)) rs ∙ ap (λ i. drop i rs) at)
+        (drop-drop (kid.end - (k + 1)) (k + 1) rs ∙ ap (λ i. drop i rs) at)
         (each_drop (OwnerNotAfter first) (kid.end - (k + 1)) (drop (k + 1) rs) all)
 
     -- the same name in lower case
@@ -201,7 +198,7 @@ module _ (rs : List ResourceRecord) (canonical : IsCanonical rs) (n : DomainName
         → is_under (map to_ascii_lowercase l ∷ n) s ≡ true
     lower_child s l u =
         sym (under-lower s.owner (l ∷ n) (map to_ascii_lowercase l ∷ n)
-        (ap (λ (x : DomainName). x ++ folded n) (sym (lower_twice (l ∷ [])))) refl) ∙ u
+        (ap (λ (x : DomainName). x ++ folded n) (sym (folded_folded (l ∷ [])))) refl) ∙ u
 
     labels_now : map (row_label rs) (a.kids ++ kid ∷ []) ≡ map (row_label rs) a.kids
         ++ row_label rs kid ∷ []
@@ -214,7 +211,7 @@ module _ (rs : List ResourceRecord) (canonical : IsCanonical rs) (n : DomainName
         let s = some_passes (is_under (l ∷ n)) (drop kid.end rs) e in
         let l' = map to_ascii_lowercase l in
         let under_l = lower_child s.0 l s.2 in
-        let lower_l : map to_ascii_lowercase l' ≡ l' = ap first_of (lower_twice (l ∷ [])) in
+        let lower_l : map to_ascii_lowercase l' ≡ l' = ap first_of (folded_folded (l ∷ [])) in
         let not_gt =
         labels_in_order first.owner s.0.owner n h.kid.label l' is_row.lower label_lower lower_l
         first_under under_l
@@ -251,7 +248,7 @@ module _ (rs : List ResourceRecord) (canonical : IsCanonical rs) (n : DomainName
         let p = is_under (l ∷ n) in
         subst (Among (map to_ascii_lowercase l)) (sym labels_now)
         (go (or_cases (list_any p (take k rs)) (list_any p (under m rs))
-        (sym (any_append p (take k rs) (under m rs)) ∙ ap (list_any p) (sym take_now) ∙ e)))
+        (sym (list_any-append p (take k rs) (under m rs)) ∙ ap (list_any p) (sym take_now) ∙ e)))
       where
         go : (list_any (is_under (l ∷ n)) (take k rs) ≡ true)
             ⊎ (list_any (is_under (l ∷ n)) (under m rs) ≡ true)
@@ -264,7 +261,7 @@ module _ (rs : List ResourceRecord) (canonical : IsCanonical rs) (n : DomainName
             let one : m ≡ map to_ascii_lowercase l ∷ n =
             one_above s.0.owner m (map to_ascii_lowercase l ∷ n)
             (filter_test (is_under m) s.0 rs s.1) (lower_child s.0 l s.2) refl is_kid.lower
-            (ap₂ (λ (x : Octets) (y : DomainName). x ∷ y) (ap first_of (lower_twice (l ∷ [])))
+            (ap₂ (λ (x : Octets) (y : DomainName). x ∷ y) (ap first_of (folded_folded (l ∷ [])))
             is_row.lower)
             in
             among_right (map to_ascii_lowercase l) (map (row_label rs) a.kids)
@@ -276,7 +273,7 @@ module _ (rs : List ResourceRecord) (canonical : IsCanonical rs) (n : DomainName
       where
         other : (names_equal m' m ≡ false) → under m' (under m rs) ≡ []
         other q =
-            each_nothing (is_under m') (under m rs)
+            filter_none (is_under m') (under m rs)
             (each_weaker (λ r. is_under m r ≡ true) (λ r. is_under m' r ≡ false) (under m rs)
             (λ r u. false_from_ne_true _
             (λ v. false≢true
@@ -342,7 +339,7 @@ module _ (rs : List ResourceRecord) (canonical : IsCanonical rs) (n : DomainName
 
       none : (l : Octets) → under (l ∷ n) (drop k rs) ≡ []
       none l =
-          within (l ∷ n) (cons_under l n) (drop k rs)
+          none_under (l ∷ n) n (drop k rs) (cons_under l n)
           (nothing_further (is_under n) rs row.end k h
           (none_past (is_under n) rs row.first row.end order is_row.below))
 
@@ -351,7 +348,7 @@ module _ (rs : List ResourceRecord) (canonical : IsCanonical rs) (n : DomainName
       found l e =
           go (or_cases (list_any (is_under (l ∷ n)) (take k rs))
           (list_any (is_under (l ∷ n)) (drop k rs))
-          (sym (any_append (is_under (l ∷ n)) (take k rs) (drop k rs))
+          (sym (list_any-append (is_under (l ∷ n)) (take k rs) (drop k rs))
           ∙ ap (list_any (is_under (l ∷ n))) (take-append-drop k rs) ∙ e))
         where
           go : (list_any (is_under (l ∷ n)) (take k rs) ≡ true)

@@ -1,5 +1,8 @@
 -- The owners of a zone, as they are added to the names that are checked, and the origin.
-use Rattle.std.proofs.Common.{◌≡◌, ℕ, zero, suc, true, false, ◌⊎◌, inl, inr, List, [], ◌∷◌, ◌++◌, length, map, take, drop, refl, sym, ap, ◌∙◌, subst, arith, get_or, ◌<◌, is_gt, is_lt, Ordering, Less, Equal, Greater}
+use Rattle.std.proofs.Common.{append-nil, ◌≡◌, ℕ, zero, suc, true, false, ◌⊎◌, inl, inr, List, [], ◌∷◌, ◌++◌, length, map, take, drop, refl, sym, ap, ◌∙◌, subst, arith, get_or, ◌<◌, is_gt, is_lt, Ordering, Less, Equal, Greater}
+use Rattle.dns_zone.proofs.SetTests.{each_map}
+use Rattle.dns_zone.proofs.Spans.{each_push, among_append}
+use Rattle.dns_spec.proofs.ZoneChecks.FaultOrder.{name_tie, name_order_total, one_lower}
 use Rattle.std.proofs.lemmas.Bool.{true≢false}
 use Rattle.std.proofs.lemmas.List.{append_assoc, map_push}
 use Rattle.std.proofs.lemmas.Cmp.{tied_itself}
@@ -17,22 +20,9 @@ use Rattle.dns_zone.specs.ZoneForm.{AreOrdered, IsFront}
 use Rattle.dns_zone.specs.declared.names.CheckedName.{CheckedName}
 use Rattle.dns_zone.proofs.AtName.{owners_in_order}
 use Rattle.dns_zone.proofs.CheckedNames.{among_map, map_among, itself_upto, equal_upto, one_key, cut_among, none_at, upto_parted, upto_among, after_each, in_order, last_checked, last_upto}
-use Rattle.dns_zone.proofs.NameOrder.{name_order_total, tied-same}
 use Rattle.dns_zone.proofs.NameTree.{under-from, under-order}
-use Rattle.dns_zone.proofs.ReportedNames.{one_lower, once_rise, IsName, names_checked}
+use Rattle.dns_zone.proofs.ReportedNames.{once_rise, IsName, names_checked}
 use Rattle.dns_zone.proofs.TopmostCut.{topmost_none}
-
-each_push : {X : Type 0} (P : X → Type 0) (xs : List X) (y : X) → Each P xs → P y
-    → Each P (xs ++ y ∷ [])
-each_push P [] y e p = (p, tt)
-each_push P (x ∷ xs) y e p = (e.0, each_push P xs y e.1 p)
-
-among_append : {X : Type 0} (a : X) (xs ys : List X) → Among a (xs ++ ys)
-    → Among a xs ⊎ Among a ys
-among_append a [] ys m = inr m
-among_append a (x ∷ xs) ys (inl e) = inl (inl e)
-among_append a (x ∷ xs) ys (inr m) =
-    elim (among_append a xs ys m) [ inl k ↦ inl (inr k) | inr k ↦ inr k ]
 
 -- what stands before a name in a list that rises, and after it
 rises_around : (ns ms : List DomainName) (n : DomainName) → Rises name_order (ns ++ n ∷ ms)
@@ -70,10 +60,6 @@ root_first z ns = record {
     all [] = tt
     all (m ∷ ms) =
         (under-order m [] (under-from m [] (folded m, sym (append-nil (folded m)))), all ms)
-      where
-        append-nil : (xs : DomainName) → xs ++ [] ≡ xs
-        append-nil [] = refl
-        append-nil (x ∷ xs) = ap (λ ys. x ∷ ys) (append-nil xs)
 
 -- one owner more
 module _ (z : ZoneContents) (ordered : AreOrdered z.records) (ns ms : List DomainName)
@@ -148,10 +134,6 @@ each_insert P [] (suc i) x e p = (p, tt)
 each_insert P (y ∷ ys) (suc i) x e p = (e.0, each_insert P ys i x e.1 p)
 
 module _ {X Y : Type 0} (f : X → Y) where
-  each_map : (P : Y → Type 0) (xs : List X) → Each (λ x. P (f x)) xs → Each P (map f xs)
-  each_map P [] e = tt
-  each_map P (x ∷ xs) e = (e.0, each_map P xs e.1)
-
   map_each : (P : Y → Type 0) (xs : List X) → Each P (map f xs) → Each (λ x. P (f x)) xs
   map_each P [] e = tt
   map_each P (x ∷ xs) e = (e.0, map_each P xs e.1)
@@ -176,10 +158,10 @@ insert_rises : {X : Type 0} (f : X → DomainName) (xs : List X) (i : ℕ) (x : 
     → Rises name_order (map f xs) → Each (λ y. name_order (f y) (f x) ≡ Less) (take i xs)
     → Each (λ y. name_order (f x) (f y) ≡ Less) (drop i xs)
     → Rises name_order (map f (take i xs ++ x ∷ drop i xs))
-insert_rises f xs zero x h e g = (each_map f (λ n. name_order (f x) n ≡ Less) xs g, h)
+insert_rises f xs zero x h e g = (each_map (λ n. name_order (f x) n ≡ Less) f xs g, h)
 insert_rises f [] (suc i) x h e g = (tt, tt)
 insert_rises f (y ∷ ys) (suc i) x h e g = (
-  each_map f (λ n. name_order (f y) n ≡ Less) (take i ys ++ x ∷ drop i ys)
+  each_map (λ n. name_order (f y) n ≡ Less) f (take i ys ++ x ∷ drop i ys)
       (each_insert (λ z. name_order (f y) (f z) ≡ Less) ys i x
       (map_each f (λ n. name_order (f y) n ≡ Less) ys h.0) e.0),
   insert_rises f ys i x h.1 e.1 g,
@@ -295,7 +277,7 @@ module _ (z : ZoneContents) (low : folded z.origin ≡ z.origin) (ordered : AreO
             by_order Less e h u = refl
             by_order Equal e h u =
                 absurd (f (h.key ∙ ap name_key (one_lower (name_of z c) o h.owner.lower low
-                (tied-same (name_of z c) o e)) ∙ sym key_is))
+                (name_tie (name_of z c) o e)) ∙ sym key_is))
             by_order Greater e h u = absurd (true≢false (sym (ap is_gt e) ∙ u))
 
         go : (d : CheckedName) → (d ≡ c) ⊎ (name_order (name_of z d) (name_of z c) ≡ Less)

@@ -1,8 +1,10 @@
 -- The row of a child, among records in canonical order.
-use Rattle.std.proofs.Common.{◌≡◌, ℕ, zero, suc, ◌+◌, ◌-◌, ◌<◌, ◌≤◌, max, Bool, true, false, not, cond, ◌⊎◌, inl, inr, List, [], ◌∷◌, ◌++◌, length, take, drop, get_or, map, refl, sym, ap, ap₂, ◌∙◌, arith, subst, filter, is_gt, is_lt, Ordering, Less, Equal, Greater, length-take, length-drop}
+use Rattle.std.proofs.Common.{◌≡◌, ℕ, zero, suc, ◌+◌, ◌-◌, ◌<◌, ◌≤◌, Bool, true, false, not, cond, ◌⊎◌, inl, inr, List, [], ◌∷◌, ◌++◌, length, take, drop, get_or, map, refl, sym, ap, ap₂, ◌∙◌, arith, subst, filter, is_gt, is_lt, Ordering, Less, Equal, Greater, length-drop}
+use Rattle.dns_spec.proofs.Records.RecordOrder.{record_order_total}
+use Rattle.dns_spec.proofs.ZoneChecks.FaultOrder.{name_order_total}
 use Rattle.std.proofs.lemmas.Bool.{false≢true, true≢false}
 use Rattle.std.proofs.lemmas.Cmp.{upto}
-use Rattle.std.proofs.lemmas.List.{take-append-drop, get_or-map, get_or-drop, drop_more}
+use Rattle.std.proofs.lemmas.List.{length-take-le, take-append-drop, get_or-map, get_or-drop, drop_more}
 use Rattle.std.proofs.lemmas.List.Prefix.{end_rest}
 use Rattle.std.proofs.Math.Seq.{take-add}
 use Rattle.std.proofs.lemmas.List.Elements.{filter-append}
@@ -11,7 +13,7 @@ use Rattle.std.specs.List.Sorted.{IsPartitionedBy}
 use Rattle.std.specs.Ordering.{ordering_reverse}
 use Rattle.dns_spec.specs.Names.{Octets, DomainName, wire, is_name, folded, at_or_below, below, name_order}
 use Rattle.dns_spec.specs.Records.{ResourceRecord, record_order}
-use Rattle.dns_spec.proofs.Records.SortedOnce.{Each, each_weaker, filter_each}
+use Rattle.dns_spec.proofs.Records.SortedOnce.{Each, each_weaker}
 use Rattle.dns_zone.specs.LabelKey.{IsKey}
 use Rattle.dns_zone.specs.NameEnd.{ending}
 use Rattle.dns_zone.specs.ZoneForm.{AreOrdered, IsCanonical}
@@ -19,12 +21,11 @@ use Rattle.dns_zone.specs.TreeForm.{owners, under, row_octets, first_of, IsRow}
 use Rattle.dns_zone.specs.declared.row.Row.{Row}
 use Rattle.dns_zone.specs.TreeSteps.{IsNext, IsKidAt}
 use Rattle.dns_zone.proofs.Pairs.{Pairs, pairs_of, parted, filter_all, filter_within}
-use Rattle.dns_zone.proofs.NameOrder.{name_order_total}
 use Rattle.dns_zone.proofs.NameTree.{itself-under, under-order, between}
 use Rattle.dns_zone.proofs.ChildNames.{IsChildOf, cons_under, child_end}
 use Rattle.dns_zone.proofs.Spans.{nothing_each, length-filter-le}
 use Rattle.dns_spec.specs.ZonePrinted.{IsReadRecord}
-use Rattle.dns_zone.proofs.AtName.{unmoved, record_order_total, ordered_records, OwnerNotAfter, owners_in_order, is_at, is_before, at_parted}
+use Rattle.dns_zone.proofs.AtName.{unmoved, ordered_records, OwnerNotAfter, owners_in_order, is_at, is_before, at_parted}
 
 abbrev pub is_under : DomainName → ResourceRecord → Bool
 is_under m r = at_or_below r.owner m
@@ -73,10 +74,6 @@ module _ (m : DomainName) (r : ResourceRecord) (xs : List ResourceRecord)
   at_in_front o =
       subst (IsPartitionedBy (is_at m))
       (filter_all (λ s. not (is_before m s)) (r ∷ xs) each_not_before) (at_parted m (r ∷ xs) o)
-
-pub length-take-of : {X : Type 0} (k : ℕ) (xs ys : List X) → k ≤ length xs → take k xs ≡ ys
-    → length ys ≡ k
-length-take-of k xs ys h e = let l = ap length e in omega (arith, length-take k xs)
 
 pub owner_at : (rs : List ResourceRecord) (k : ℕ) (r : ResourceRecord) → k < length rs
     → r ≡ get_or rs k r → get_or (owners rs) k [] ≡ r.owner
@@ -184,23 +181,6 @@ module _ (rs : List ResourceRecord) (canonical : IsCanonical rs) (n : DomainName
         let size = ap length first in
         omega arith
 
-    -- its records, or the next one where it has none, are at or below it
-    pub known_under : (count own : ℕ) → 0 < count
-        → take own (take count (drop next rs)) ≡ filter (is_at m) (take count (drop next rs))
-        → Each (λ s. is_under m s ≡ true) (take (max own 1) (take count (drop next rs)))
-    known_under zero own some e = absurd (omega arith)
-    known_under (suc count) zero some e =
-        subst (λ xs. Each (λ s. is_under m s ≡ true) (take 1 (take (suc count) xs))) (sym rest_is)
-        (child.above, tt)
-    known_under (suc count) (suc own) some e =
-        let most : max (suc own) 1 ≡ suc own = omega arith in
-        subst (λ k. Each (λ s. is_under m s ≡ true) (take k (take (suc count) (drop next rs))))
-        (sym most)
-        (subst (Each (λ s. is_under m s ≡ true)) (sym e)
-        (each_weaker (λ s. is_at m s ≡ true) (λ s. is_under m s ≡ true) _
-        (λ s h. itself-under s.owner m h)
-        (filter_each (is_at m) (take (suc count) (drop next rs)))))
-
     pub made : is_name m ≡ true → (own count place label key : ℕ)
         → own ≤ length (drop next rs) → count ≤ length (drop next rs)
         → take own (drop next rs) ≡ filter (is_at m) (drop next rs)
@@ -219,9 +199,9 @@ module _ (rs : List ResourceRecord) (canonical : IsCanonical rs) (n : DomainName
     made name own count place label key own_fits fits own_is under_is p long is_key =
         let sizes : length (drop next rs) ≡ length rs - next = length-drop next rs in
         let in_bounds = is_next.fits in
-        let count_is = length-take-of count (drop next rs) (under m (drop next rs)) fits under_is in
+        let count_is = sym (ap length under_is) ∙ length-take-le count (drop next rs) fits in
         let own_count =
-        length-take-of own (drop next rs) (filter (is_at m) (drop next rs)) own_fits own_is in
+        sym (ap length own_is) ∙ length-take-le own (drop next rs) own_fits in
         let fewer : length (filter (is_at m) (drop next rs)) ≤ length (under m (drop next rs)) =
         omega (
           arith,

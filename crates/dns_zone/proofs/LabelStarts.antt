@@ -1,19 +1,16 @@
 -- Where the labels of a name begin, one label after the other.
-use Rattle.std.proofs.Common.{◌≡◌, ◌⊎◌, inl, inr, ℕ, ◌+◌, ◌<◌, ◌≢◌, List, [], ◌∷◌}
+use Rattle.std.proofs.Common.{◌≡◌, ◌⊎◌, inl, inr, ℕ, ◌+◌, ◌<◌, ◌≢◌, List, ◌∷◌}
+use Rattle.dns_zone.proofs.CommonEnds.{some as some-octet}
 use Rattle.std.proofs.Common.{length, drop, length-drop, get_or, set, subst, arith}
 use Rattle.std.proofs.Common.{refl, sym, ap, ◌∙◌}
 use Rattle.std.proofs.lemmas.List.{drop_more, drop-drop, get_or-set_same, get_or-set_other}
 use Rattle.dns_spec.specs.Names.{Octets, DomainName}
 use Rattle.dns_spec.proofs.DomainNames.NameLaws.{IsName-is_name}
 use Rattle.dns_name.specs.WireForm.{labels_of, IsWireForm}
-use Rattle.dns_name.proofs.WireLemmas.{BeginsWithLabel-IsWireForm, labels_of-zero, IsWireForm-nil}
+use Rattle.dns_name.proofs.WireLemmas.{BeginsWithLabel-IsWireForm, labels_of-zero}
 use Rattle.dns_zone.specs.Starts.{BeginsAt, AreStarts}
 
 -- a wire form has its length octet
-some-octet : (xs : Octets) → IsWireForm xs → 0 < length xs
-some-octet [] form = absurd (IsWireForm-nil [] form refl)
-some-octet (x ∷ xs) form = omega arith
-
 -- the first label begins at once
 pub begins-first : (octets : Octets) → IsWireForm octets → BeginsAt octets 0 0
 begins-first octets form = record { inside = some-octet octets form; form = form; labels = refl }

@@ -1,5 +1,6 @@
 -- The rows on the way from the origin to a target.
 use Rattle.std.proofs.Common.{◌≡◌, ◌⊎◌, inl, inr, ℕ, ◌<◌, ◌≤◌, true, false, List, [], ◌∷◌, ◌++◌, map, length, length-append, get_or, None, refl, sym, ap, ◌∙◌, subst, arith}
+use Rattle.dns_zone.proofs.ChildNames.{cons_under}
 use Rattle.std.specs.Char.{to_ascii_lowercase}
 use Rattle.std.specs.Option.{is_some}
 use Rattle.std.proofs.lemmas.Bool.{cases_lt}
@@ -17,7 +18,7 @@ use Rattle.dns_zone.proofs.NameTree.{itself-under, under-trans, below-cons}
 use Rattle.dns_zone.proofs.NameOrder.{same-from}
 use Rattle.dns_zone.proofs.NodeRows.{node_is, is_row}
 use Rattle.dns_zone.proofs.GrowingKids.{row_is}
-use Rattle.dns_zone.proofs.WayLaws.{cut-none, cut-by_set, no_cut-at_origin, one_under}
+use Rattle.dns_zone.proofs.WayLaws.{cut-none, cut-by_set, no_cut-at_origin}
 
 -- the name of a row
 abbrev pub name_at : Tree → ℕ → DomainName
@@ -62,7 +63,7 @@ goes_on t rtype k j l way at named servers =
     record {
       at = at;
       inside = ap (λ m. at_or_below m t.zone.origin) named
-          ∙ under-trans (kid ∷ n) n t.zone.origin (one_under kid n) way.inside;
+          ∙ under-trans (kid ∷ n) n t.zone.origin (cons_under kid n) way.inside;
       longer = inr (omega (arith, size, way.long));
       long = omega (arith, size, way.long);
       uncut = λ e. ap (cut_of z) named ∙ cut-none z kid n (way.uncut e)

@@ -1,6 +1,6 @@
 -- The nodes of a zone by their rows.
 use Rattle.std.proofs.Common.{◌≡◌, ℕ, ◌+◌, ◌-◌, ◌<◌, ◌≤◌, true, List, [], ◌∷◌, length, drop, get_or, sym, ap, ◌∙◌, arith, subst, length-take}
-use Rattle.std.proofs.lemmas.List.{get_or-take, get_or-drop}
+use Rattle.std.proofs.lemmas.List.{get_or-take, get_or-drop, get_or_default}
 use Rattle.std.specs.List.{list_any}
 use Rattle.dns_spec.specs.Names.{Octets, DomainName, at_or_below}
 use Rattle.dns_spec.specs.Records.{ResourceRecord}
@@ -13,7 +13,7 @@ use Rattle.dns_zone.specs.TreeForm.{first_of, row_name, row_label, row_at, kids_
 use Rattle.dns_zone.specs.declared.row.Row.{Row}
 use Rattle.dns_zone.specs.declared.tree.Tree.{Tree}
 use Rattle.dns_zone.proofs.Pairs.{each_get}
-use Rattle.dns_zone.proofs.Spans.{in_span, any_there, get_or_any}
+use Rattle.dns_zone.proofs.Spans.{in_span, any_there}
 use Rattle.dns_zone.proofs.KidRows.{is_under}
 use Rattle.dns_zone.proofs.GrowingKids.{row_is}
 use Rattle.dns_zone.proofs.GrowingTree.{own_name}
@@ -29,7 +29,7 @@ row_exists rs row n h =
     h.end_fits in
     any_there (is_under n) rs (get_or rs row.first d)
     (contains_among (get_or rs row.first d) rs
-    (row.first, h.some, get_or_any rs row.first (get_or rs row.first d) d h.some)) here
+    (row.first, h.some, get_or_default rs row.first (get_or rs row.first d) d h.some)) here
 
 module _ (t : Tree) (k : ℕ) (at : IsNodeAt t k) where
   abbrev rs : List ResourceRecord

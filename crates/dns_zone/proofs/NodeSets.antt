@@ -44,35 +44,26 @@ datas : (t : ℕ) (rs : List ResourceRecord)
 datas t [] e = tt
 datas t (r ∷ rs) e = (subst (λ u. Valid u r.rdata) e.0.1 e.0.0.rdata, datas t rs e.1)
 
-types : (t : ℕ) (rs : List ResourceRecord)
-    → Each (λ (r : ResourceRecord). IsReadRecord r × (r.rtype ≡ t)) rs
-    → Each (λ (r : ResourceRecord). r.rtype ≡ t) rs
-types t [] e = tt
-types t (r ∷ rs) e = (e.0.1, types t rs e.1)
-
 of_one_type : (t : ℕ) (rs : List ResourceRecord)
     → Each (λ (r : ResourceRecord). IsReadRecord r × (r.rtype ≡ t)) rs → AreOfType rs
 of_one_type t [] e = tt
 of_one_type t (r ∷ rs) e =
     subst (λ u. IsLent u (r ∷ rs)) (sym e.0.1) (record {
       valid = all_each (Valid t) (data_of (r ∷ rs)) (datas t (r ∷ rs) e);
-      typed = all_each (λ (q : ResourceRecord). q.rtype ≡ t) (r ∷ rs) (types t (r ∷ rs) e);
+      typed = all_each (λ (q : ResourceRecord). q.rtype ≡ t) (r ∷ rs) (each_weaker
+          (λ (q : ResourceRecord). IsReadRecord q × (q.rtype ≡ t)) (λ (q : ResourceRecord). q.rtype ≡ t)
+          (r ∷ rs) (λ q h. h.1) e);
     })
 
 -- the lowest type is that of the first record
-rising_first : (t : ℕ) (ts : List ℕ) → Each (λ u. t ≤ u) ts
-    → Each (λ u. is_gt (nat_cmp t u) ≡ false) ts
-rising_first t [] e = tt
-rising_first t (u ∷ us) e = (not_above t u e.0, rising_first t us e.1)
+not_above : (t u : ℕ) → t ≤ u → is_gt (nat_cmp t u) ≡ false
+not_above t u h = go (cases_lt t u)
   where
-    not_above : (t u : ℕ) → t ≤ u → is_gt (nat_cmp t u) ≡ false
-    not_above t u h = go (cases_lt t u)
-      where
-        go : (t < u) ⊎ (u ≤ t) → is_gt (nat_cmp t u) ≡ false
-        go (inl l) = ap (λ b. is_gt (cond b Less (cond (t == u) Equal Greater))) (lt-ltb t u l)
-        go (inr l) =
-            ap (λ b. is_gt (cond b Less (cond (t == u) Equal Greater))) (le-ltb t u l)
-            ∙ ap (λ b. is_gt (cond b Equal Greater)) (eq-eqb t u (omega arith))
+    go : (t < u) ⊎ (u ≤ t) → is_gt (nat_cmp t u) ≡ false
+    go (inl l) = ap (λ b. is_gt (cond b Less (cond (t == u) Equal Greater))) (lt-ltb t u l)
+    go (inr l) =
+        ap (λ b. is_gt (cond b Less (cond (t == u) Equal Greater))) (le-ltb t u l)
+        ∙ ap (λ b. is_gt (cond b Equal Greater)) (eq-eqb t u (omega arith))
 
 lowest_first : (r : ResourceRecord) (rs : List ResourceRecord)
     → IsNonDecreasingBy (λ (q : ResourceRecord). q.rtype) (r ∷ rs)
@@ -85,7 +76,8 @@ lowest_first r rs h =
     filter (λ u. not (r.rtype == u)) (distinct ◌==◌ (map (λ (q : ResourceRecord). q.rtype) rs))
     in
     first_in nat_cmp nat_cmp_total r.rtype (sort_by nat_cmp others)
-    (rising_first r.rtype (sort_by nat_cmp others)
+    (each_weaker (λ u. r.rtype ≤ u) (λ u. is_gt (nat_cmp r.rtype u) ≡ false)
+    (sort_by nat_cmp others) (not_above r.rtype)
     (each_sort nat_cmp (λ u. r.rtype ≤ u) others
     (each_filter (λ u. r.rtype ≤ u) (λ u. not (r.rtype == u))
     (distinct ◌==◌ (map (λ (q : ResourceRecord). q.rtype) rs))

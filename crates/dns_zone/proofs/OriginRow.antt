@@ -1,7 +1,7 @@
 -- The row of the origin of a built zone.
 use Rattle.std.proofs.Common.{◌≡◌, ℕ, ◌-◌, ◌<◌, ◌≤◌, true, ◌&&◌, ◌==◌, List, [], ◌∷◌, length, take, get_or, map, refl, sym, ap, ◌∙◌, arith, subst, filter}
 use Rattle.std.proofs.lemmas.Bool.{and_parts}
-use Rattle.std.proofs.lemmas.List.{get_or-map, take_all}
+use Rattle.std.proofs.lemmas.List.{get_or-map, take_all, get_or_default}
 use Rattle.std.specs.Char.{to_ascii_lowercase}
 use Rattle.std.specs.List.Sorted.{IsPartitionedBy}
 use Rattle.dns_spec.specs.Names.{DomainName, wire, is_name, same, at_or_below}
@@ -16,7 +16,7 @@ use Rattle.dns_zone.proofs.Pairs.{filter_all}
 use Rattle.dns_zone.proofs.NameOrder.{same-is}
 use Rattle.dns_zone.proofs.AtName.{is_at, owners_in_order}
 use Rattle.dns_zone.proofs.Existing.{origin-soa, all-inside}
-use Rattle.dns_zone.proofs.Spans.{some_passes, get_or_any}
+use Rattle.dns_zone.proofs.Spans.{some_passes}
 use Rattle.dns_zone.proofs.KidRows.{is_under, at_in_front}
 
 module _ (o : DomainName) (rs : List ResourceRecord)
@@ -47,7 +47,7 @@ module _ (o : DomainName) (rs : List ResourceRecord)
   first_own d =
       let c = among_contains own_soa.0 rs own_soa.1 in
       let its = (and_parts (same own_soa.0.owner o) (own_soa.0.rtype == type_soa) own_soa.2).0 in
-      let there : get_or rs c.0 d ≡ own_soa.0 = get_or_any rs c.0 d own_soa.0 c.1 ∙ c.2 in
+      let there : get_or rs c.0 d ≡ own_soa.0 = get_or_default rs c.0 d own_soa.0 c.1 ∙ c.2 in
       own_in_front 0 c.0 d (omega arith) c.1
       (subst (λ (r : ResourceRecord). same r.owner o ≡ true) (sym there) its)
 

@@ -1,5 +1,6 @@
 -- A walk over records of a zone in canonical order, owner by owner.
 use Rattle.std.proofs.Common.{◌≡◌, ℕ, ◌+◌, Bool, true, false, not, cond, List, [], ◌∷◌, ◌++◌, ◌<◌, length, take, drop, refl, sym, ap, ap₂, ◌∙◌, arith, subst, filter, is_gt, is_lt, Ordering, Less, Equal, Greater}
+use Rattle.dns_spec.proofs.ZoneChecks.FaultOrder.{name_order_total}
 use Rattle.std.proofs.lemmas.Bool.{false≢true, true≢false, false_from_ne_true}
 use Rattle.std.proofs.lemmas.List.Filters.{length-filter_both}
 use Rattle.std.proofs.lemmas.List.Elements.{All-head}
@@ -9,15 +10,15 @@ use Rattle.std.specs.List.Sorted.{IsPartitionedBy}
 use Rattle.std.specs.Ordering.{ordering_reverse}
 use Rattle.dns_spec.specs.Names.{DomainName, folded, same, names_equal, name_order}
 use Rattle.dns_spec.specs.Records.{ResourceRecord, ZoneContents, at, record_order}
-use Rattle.dns_spec.proofs.Records.RecordOrder.{each_all, all_each}
+use Rattle.dns_spec.proofs.Records.RecordOrder.{each_all, all_each, record_order_total}
 use Rattle.dns_spec.proofs.Records.SortedOnce.{Each, each_filter, filter_each, each_weaker}
 use Rattle.dns_zone.specs.ZoneForm.{AreOrdered}
 use Rattle.dns_zone.specs.OwnerForm.{IsOwner}
 use Rattle.dns_zone.specs.NamesForm.{first_owner}
 use Rattle.dns_zone.specs.ReportedForm.{HasOwners, begins_with_owner, owners_once}
 use Rattle.dns_zone.proofs.Pairs.{Pairs, pairs_filter, each_both, filter_all, filter_within, halves}
-use Rattle.dns_zone.proofs.NameOrder.{name_order_total, same-is, same-from, same-tied}
-use Rattle.dns_zone.proofs.AtName.{unmoved, record_order_total, is_before, is_at, OwnerNotAfter, ordered_records, owners_in_order, at_parted}
+use Rattle.dns_zone.proofs.NameOrder.{same-is, same-from, same-tied}
+use Rattle.dns_zone.proofs.AtName.{unmoved, is_before, is_at, OwnerNotAfter, ordered_records, owners_in_order, at_parted}
 use Rattle.dns_zone.proofs.OwnRecords.{own_types}
 use Rattle.dns_zone.proofs.ReportedNames.{greater_after}
 

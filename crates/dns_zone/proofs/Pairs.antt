@@ -1,5 +1,5 @@
 -- Lists whose elements are in order, each with each after it, and what a binary search finds in them.
-use Rattle.std.proofs.Common.{◌≡◌, ℕ, zero, suc, ◌-◌, ◌<◌, ◌≤◌, Bool, true, false, not, cond, ◌⊎◌, inl, inr, List, [], ◌∷◌, length, take, drop, get_or, refl, sym, ap, ◌∙◌, subst, arith, filter}
+use Rattle.std.proofs.Common.{◌≡◌, ℕ, zero, suc, ◌<◌, ◌≤◌, Bool, true, false, not, cond, ◌⊎◌, inl, inr, List, [], ◌∷◌, length, take, drop, get_or, refl, sym, ap, ◌∙◌, subst, arith, filter}
 use Rattle.std.proofs.lemmas.Bool.{false≢true, false_from_ne_true, cases_lt}
 use Rattle.std.proofs.lemmas.List.{length-take, get_or-take}
 use Rattle.std.proofs.Math.Nat.{min-eq_left}
@@ -98,15 +98,6 @@ halves p (x ∷ xs) (suc i) l h =
     let rest = halves p xs i (omega arith) (λ k d a b. h.0 (suc k) d (omega arith) (omega arith), λ k d a b. h.1 (suc k) d (omega arith) (omega arith)) in (
       ap (λ ys. x ∷ ys) rest.0 ∙ sym (ap (λ t. cond t (x ∷ filter p xs) (filter p xs)) here),
       rest.1 ∙ sym (ap (λ t. cond (not t) (x ∷ filter (λ y. not (p y)) xs) (filter (λ y. not (p y)) xs)) here),
-    )
-
--- where the last one passes, all do
-pub all_parted : {X : Type 0} (p : X → Bool) (xs : List X) → ((d : X) → length xs - 1 < length xs → p (get_or xs (length xs - 1) d) ≡ true) → IsPartitionedBy p xs
-    → (take (length xs) xs ≡ filter p xs) × (drop (length xs) xs ≡ filter (λ x. not (p x)) xs)
-all_parted p xs passes parts =
-    halves p xs (length xs) (omega arith) (
-      λ k d a b. parts k (length xs - 1) d (omega arith) (omega arith) (passes d (omega arith)),
-      λ k d a b. absurd (omega arith),
     )
 
 -- where the element at n does not pass, a search among those before it finds where all end that pass

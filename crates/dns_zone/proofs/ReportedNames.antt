@@ -1,5 +1,6 @@
 -- The names that faults are reported of: the origin, and each owner once.
 use Rattle.std.proofs.Common.{◌≡◌, ℕ, suc, Bool, true, false, cond, ◌⊎◌, inl, inr, List, [], ◌∷◌, ◌++◌, map, refl, sym, ap₂, ◌∙◌, ◌==◌, ◌&&◌, filter, is_gt, Ordering, Less, Equal, Greater}
+use Rattle.dns_spec.proofs.ZoneChecks.FaultOrder.{folded_folded, name_tie, name_order_total, one_lower, Lower}
 use Rattle.std.proofs.lemmas.Bool.{false≢true, true≢false, and_parts, eqb-true}
 use Rattle.std.proofs.lemmas.Cmp.{tied_back, alike_right}
 use Rattle.std.specs.Prelude.{if◌then◌else◌}
@@ -9,7 +10,7 @@ use Rattle.dns_spec.specs.Checks.{Check, checks, checked_names}
 use Rattle.dns_spec.proofs.Records.SortedOnce.{Each, Among, Rises, each_weaker, sort_rises, apart_distinct, distinct_among, sort_among, among_sort, among_distinct, same_risen}
 use Rattle.dns_zone.specs.ReportedForm.{failed_from, begins_with_owner, owners_once, reported_at}
 use Rattle.dns_zone.proofs.Pairs.{Pairs}
-use Rattle.dns_zone.proofs.NameOrder.{name_order_total, same-is, same-from, same-tied, tied-same, lower_twice}
+use Rattle.dns_zone.proofs.NameOrder.{same-is, same-from, same-tied}
 use Rattle.dns_zone.proofs.AtName.{OwnerNotAfter}
 
 -- the codes of checks rise by one
@@ -44,8 +45,8 @@ each_once P (r ∷ rs) e = go (begins_with_owner r.owner rs) (each_once P rs e.1
 
 lower_order : (n m : DomainName) → name_order (folded n) (folded m) ≡ name_order n m
 lower_order n m =
-    name_order_total.congr (folded n) n (folded m) (same-tied (folded n) n (same-from (folded n) n (lower_twice n)))
-    ∙ alike_right name_order_total (folded m) m n (same-tied (folded m) m (same-from (folded m) m (lower_twice m)))
+    name_order_total.congr (folded n) n (folded m) (same-tied (folded n) n (same-from (folded n) n (folded_folded n)))
+    ∙ alike_right name_order_total (folded m) m n (same-tied (folded m) m (same-from (folded m) m (folded_folded m)))
 
 less_then : (n m k : DomainName) → name_order n m ≡ Less → is_gt (name_order m k) ≡ false → name_order n k ≡ Less
 less_then n m k e h = go (name_order m k) refl h
@@ -60,7 +61,7 @@ less_other n m h s = go (name_order n m) refl h
   where
     go : (c : Ordering) → name_order n m ≡ c → is_gt c ≡ false → name_order n m ≡ Less
     go Less e g = e
-    go Equal e g = absurd (false≢true (sym s ∙ tied-same m n (tied_back name_order_total n m e)))
+    go Equal e g = absurd (false≢true (sym s ∙ name_tie m n (tied_back name_order_total n m e)))
     go Greater e g = absurd (true≢false g)
 
 -- after an owner that is not that of the next record, all owners are greater
@@ -107,22 +108,16 @@ among_once a (r ∷ rs) m = go (begins_with_owner r.owner rs) refl m (among_once
     go false h (inl e) f = inl e
     go false h (inr k) f = inr (f k)
 
-abbrev pub Lower : DomainName → Type 0
-Lower n = folded n ≡ n
-
-pub one_lower : (n m : DomainName) → Lower n → Lower m → same n m ≡ true → n ≡ m
-one_lower n m d e t = sym d ∙ same-is n m t ∙ e
-
 module _ (z : ZoneContents) where
   abbrev names : List DomainName
   names = folded z.origin ∷ owners z.records
 
   names_lower : Each Lower names
-  names_lower = (lower_twice z.origin, all z.records)
+  names_lower = (folded_folded z.origin, all z.records)
     where
       all : (rs : List ResourceRecord) → Each Lower (owners rs)
       all [] = tt
-      all (r ∷ rs) = (lower_twice r.owner, all rs)
+      all (r ∷ rs) = (folded_folded r.owner, all rs)
 
   -- the origin, or an owner
   abbrev pub IsName : DomainName → Type 0
@@ -130,7 +125,7 @@ module _ (z : ZoneContents) where
 
   pub checked_rise : Rises name_order (checked_names z)
   checked_rise =
-      sort_rises name_order name_order_total same tied-same Lower one_lower
+      sort_rises name_order name_order_total same name_tie Lower one_lower
       (distinct same names) (apart_distinct same names)
 
   pub checked_among : (a : DomainName) → Among a (checked_names z) → IsName a
@@ -144,7 +139,7 @@ module _ (z : ZoneContents) where
   pub among_checked : (a : DomainName) → IsName a → Among a (checked_names z)
   among_checked a m =
       among_sort name_order a (distinct same names)
-      (among_distinct name_order name_order_total same tied-same Lower one_lower a names
+      (among_distinct name_order name_order_total same name_tie Lower one_lower a names
       names_lower (go m))
     where
       go : IsName a → (a ≡ folded z.origin) ⊎ Among a (owners z.records)
@@ -156,5 +151,5 @@ module _ (z : ZoneContents) where
       → ((a : DomainName) → Among a ns → IsName a) → ((a : DomainName) → IsName a → Among a ns)
       → ns ≡ checked_names z
   names_checked ns rise f g =
-      same_risen name_order name_order_total same tied-same Lower one_lower ns (checked_names z)
+      same_risen name_order name_order_total same name_tie Lower one_lower ns (checked_names z)
       rise checked_rise (λ a m. among_checked a (f a m)) (λ a m. g a (checked_among a m))

@@ -1,35 +1,182 @@
--- Records each of which comes before the next.
-use Rattle.std.proofs.Common.{◌≡◌, true, List, [], ◌∷◌, refl, ap, ◌∙◌, All, IsPermutation, is_eq, is_lt, Ordering, Less, Equal, Greater}
-use Rattle.std.proofs.lemmas.Bool.{false≢true, and_parts}
+-- Records moved to the front, each of which comes before the next.
+use Rattle.std.proofs.Common.{◌≡◌, ℕ, zero, suc, ◌+◌, ◌<◌, ◌≤◌, ◌⊎◌, inl, inr, List, [], ◌∷◌, length, take, get_or, refl, sym, ap, ap₂, ◌∙◌, arith, All, IsPermutation, is_eq, is_lt, Less, Equal, Greater, true, ◌-◌, subst}
+use Rattle.std.proofs.lemmas.List.{get_or_default}
+use Rattle.std.proofs.lemmas.Bool.{cases_lt, true≢false}
 use Rattle.std.proofs.lemmas.List.Sorted.{IsPermutation-sym}
+use Rattle.std.specs.List.{SwappedAt}
+use Rattle.std.specs.List.Sorted.{IsSorted}
+use Rattle.std.specs.Ordering.{ordering_reverse}
 use Rattle.dns_spec.specs.Records.{ResourceRecord, records_equal, distinct, sort_by, record_order}
 use Rattle.dns_spec.proofs.Records.RecordOrder.{LowerOwner, record_order_total, record_ties, one_record, rises_canonical, each_all, among_permutation}
-use Rattle.dns_zone.specs.ZoneForm.{neighbours_rise}
-use Rattle.dns_spec.proofs.Records.SortedOnce.{Rises, each_weaker, among_sort, sort_among, among_distinct, distinct_among, same_risen}
+use Rattle.dns_spec.proofs.Records.SortedOnce.{Among, Rises, each_weaker, among_sort, sort_among, among_distinct, distinct_among, same_risen}
 
-less_from : (o : Ordering) → is_lt o ≡ true → o ≡ Less
-less_from Less t = refl
-less_from Equal t = absurd (false≢true t)
-less_from Greater t = absurd (false≢true t)
+-- Of the records rs those before place `at` are among the first of xs, up to place `last`, each of
+-- which comes before the next. Those after are where they were.
+pub record IsOnce (rs xs : List ResourceRecord) (last at : ℕ) : Type 0 where
+  pub before : last < at
+  pub inside : 0 < length xs → last < length xs
+  pub size : length xs ≡ length rs
+  pub rise : (i : ℕ) (d : ResourceRecord) → i < last
+      → record_order (get_or xs i d) (get_or xs (suc i) d) ≡ Less
+  pub rest : (i : ℕ) (d : ResourceRecord) → at ≤ i → get_or xs i d ≡ get_or rs i d
+  pub kept : (i : ℕ) (d : ResourceRecord) → i < at → i < length rs
+      → (j : ℕ) × (j ≤ last) × (get_or rs i d ≡ get_or xs j d)
+  pub from : (d : ResourceRecord) → get_or xs last d ≡ get_or rs (at - 1) d
 
--- where neighbours rise, all do
-pub rises_neighbours : (rs : List ResourceRecord) → neighbours_rise rs ≡ true → Rises record_order rs
-rises_neighbours [] t = tt
-rises_neighbours (r ∷ []) t = (tt, tt)
-rises_neighbours (r ∷ s ∷ rs) t =
-    let both = and_parts (is_lt (record_order r s)) (neighbours_rise (s ∷ rs)) t in
-    let rises = rises_neighbours (s ∷ rs) both.1 in
-    let p = less_from (record_order r s) both.0 in
-    ((p, each_weaker (λ z. record_order s z ≡ Less) (λ z. record_order r z ≡ Less) rs (λ z q. record_order_total.trans r s z p q) rises.0), rises)
+one_before : (k : ℕ) → k ≡ k + 1 - 1
+one_before k = omega arith
 
--- records that rise are in canonical order, each once
-pub risen_records : (rs xs : List ResourceRecord) → All LowerOwner rs → IsPermutation rs xs → neighbours_rise xs ≡ true
-    → xs ≡ sort_by record_order (distinct records_equal rs)
-risen_records rs xs low moved t =
-    let tie : (r s : ResourceRecord) → record_order r s ≡ Equal → records_equal r s ≡ true = λ r s e. record_ties r s ∙ ap is_eq e in
-    same_risen record_order record_order_total records_equal tie LowerOwner one_record xs (sort_by record_order (distinct records_equal rs)) (rises_neighbours xs t)
-    (rises_canonical rs)
-    (λ a m. among_sort record_order a (distinct records_equal rs)
-    (among_distinct record_order record_order_total records_equal tie LowerOwner one_record a rs (each_all LowerOwner rs low)
-    (among_permutation a xs rs (IsPermutation-sym rs xs moved) m)))
-    (λ a m. among_permutation a rs xs moved (distinct_among records_equal a rs (sort_among record_order a (distinct records_equal rs) m)))
+module _ (rs xs : List ResourceRecord) (last at : ℕ) (h : IsOnce rs xs last at) where
+  -- the next record is the last of those
+  pub once_equal : (r s : ResourceRecord) → r ≡ get_or xs last r → s ≡ get_or xs at s → r ≡ s
+      → at < length xs → IsOnce rs xs last (at + 1)
+  once_equal r s e f g l =
+      let before = h.before in
+      let inside = h.inside (omega (arith, l)) in
+      record {
+        before = omega (arith, before);
+        inside = h.inside;
+        size = h.size;
+        rise = h.rise;
+        rest = λ i d m. h.rest i d (omega (arith, m));
+        kept = λ i d m k. go i d k (cases_lt i at) (omega (arith, m));
+        from = λ d. get_or_default xs last d r inside ∙ sym e ∙ g ∙ f ∙ get_or_default xs at s d l
+            ∙ h.rest at d (omega arith) ∙ ap (λ i. get_or rs i d) (one_before at);
+      }
+    where
+      go : (i : ℕ) (d : ResourceRecord) → i < length rs → (i < at) ⊎ (at ≤ i) → i ≤ at
+          → (j : ℕ) × (j ≤ last) × (get_or rs i d ≡ get_or xs j d)
+      go i d k (inl m) n = h.kept i d m k
+      go i d k (inr m) n =
+          let inside = h.inside (omega (arith, l)) in
+          let same : i ≡ at = omega (arith, m, n) in (
+            last,
+            omega arith,
+            sym (h.rest i d m) ∙ ap (λ x. get_or xs x d) same
+                ∙ get_or_default xs at d s l ∙ sym f ∙ sym g ∙ e ∙ get_or_default xs last r d inside,
+          )
+
+  -- it comes after them, and is moved to their end
+  pub once_less : (r s : ResourceRecord) → r ≡ get_or xs last r → s ≡ get_or xs at s
+      → record_order r s ≡ Less → at < length xs → (ys : List ResourceRecord)
+      → SwappedAt xs ys (last + 1) at → length ys ≡ length xs → IsOnce rs ys (last + 1) (at + 1)
+  once_less r s e f less l ys swap size =
+      let before = h.before in
+      record {
+        before = omega (arith, before);
+        inside = λ _. omega (arith, before, l, size);
+        size = size ∙ h.size;
+        rise = λ i d m. rises i d (cases_lt i last) (omega (arith, m));
+        rest = λ i d m. swap.2 i d (λ g. absurd (omega (arith, g, m, before)))
+            (λ g. absurd (omega (arith, g, m))) ∙ h.rest i d (omega (arith, m));
+        kept = λ i d m k. go i d k (cases_lt i at) (omega (arith, m));
+        from = λ d. swap.0 d ∙ h.rest at d (omega arith) ∙ ap (λ i. get_or rs i d) (one_before at);
+      }
+    where
+      same : (i : ℕ) (d : ResourceRecord) → i ≤ last → get_or ys i d ≡ get_or xs i d
+      same i d m =
+          let before = h.before in
+          swap.2 i d (λ g. absurd (omega (arith, g, m))) (λ g. absurd (omega (arith, g, m, before)))
+
+      rises : (i : ℕ) (d : ResourceRecord) → (i < last) ⊎ (last ≤ i) → i ≤ last
+          → record_order (get_or ys i d) (get_or ys (suc i) d) ≡ Less
+      rises i d (inl m) n =
+          ap₂ record_order (same i d n) (same (suc i) d (omega (arith, m))) ∙ h.rise i d m
+      rises i d (inr m) n =
+          let inside = h.inside (omega (arith, l)) in
+          let is : i ≡ last = omega (arith, m, n) in
+          let next : suc i ≡ last + 1 = omega (arith, is) in
+          ap₂ record_order
+          (same i d n ∙ ap (λ x. get_or xs x d) is ∙ get_or_default xs last d r inside ∙ sym e)
+          (ap (λ x. get_or ys x d) next ∙ swap.0 d ∙ get_or_default xs at d s l ∙ sym f) ∙ less
+
+      go : (i : ℕ) (d : ResourceRecord) → i < length rs → (i < at) ⊎ (at ≤ i) → i ≤ at
+          → (j : ℕ) × (j ≤ last + 1) × (get_or rs i d ≡ get_or ys j d)
+      go i d k (inl m) n =
+          let (j, b, g) = h.kept i d m k in (j, omega (arith, b), g ∙ sym (same j d b))
+      go i d k (inr m) n =
+          let is : i ≡ at = omega (arith, m, n) in
+          (last + 1, omega arith, sym (h.rest i d m) ∙ ap (λ x. get_or xs x d) is ∙ sym (swap.0 d))
+
+  -- it does not come before them, where the records are in order
+  pub once_sorted : (r s : ResourceRecord) → r ≡ get_or xs last r → s ≡ get_or xs at s
+      → record_order r s ≡ Greater → at < length xs → IsSorted record_order rs → ⊥
+  once_sorted r s e f greater l sorted =
+      let before = h.before in
+      let size = h.size in
+      let inside = h.inside (omega (arith, l)) in
+      let next : at - 1 + 1 ≡ at = omega (arith, before) in
+      true≢false
+      (sym (ap is_lt (ap₂ record_order
+      (ap (λ i. get_or rs i s) next ∙ sym (h.rest at s (omega arith)) ∙ sym f)
+      (sym (h.from s) ∙ get_or_default xs last s r inside ∙ sym e)
+      ∙ record_order_total.antisymm s r ∙ ap ordering_reverse greater))
+      ∙ sorted (at - 1) s (omega arith) (omega (arith, next, l, size)))
+
+rises_front : (xs : List ResourceRecord) (k : ℕ)
+    → ((i : ℕ) (d : ResourceRecord) → i < k
+    → record_order (get_or xs i d) (get_or xs (suc i) d) ≡ Less)
+    → Rises record_order (take (suc k) xs)
+rises_front [] k h = tt
+rises_front (x ∷ xs) zero h = (tt, tt)
+rises_front (x ∷ []) (suc k) h = (tt, tt)
+rises_front (x ∷ y ∷ xs) (suc k) h =
+    let rest = rises_front (y ∷ xs) k (λ i d l. h (suc i) d (omega (arith, l))) in (
+      (
+        h 0 x (omega arith),
+        each_weaker (λ z. record_order y z ≡ Less)
+            (λ z. record_order x z ≡ Less) (take k xs)
+            (λ z q. record_order_total.trans x y z (h 0 x (omega arith)) q) rest.0,
+      ),
+      rest,
+    )
+
+place_of : (a : ResourceRecord) (xs : List ResourceRecord) → Among a xs
+    → (i : ℕ) × (i < length xs) × (get_or xs i a ≡ a)
+place_of a [] m = absurd m
+place_of a (x ∷ xs) (inl e) = (0, omega arith, sym e)
+place_of a (x ∷ xs) (inr m) =
+    let (i, l, e) = place_of a xs m in (suc i, omega (arith, l), e)
+
+among_front : (a : ResourceRecord) (xs : List ResourceRecord) (i k : ℕ) → i ≤ k → i < length xs
+    → Among (get_or xs i a) (take (suc k) xs)
+among_front a [] i k l m = absurd (omega (arith, m))
+among_front a (x ∷ xs) zero k l m = inl refl
+among_front a (x ∷ xs) (suc i) zero l m = absurd (omega (arith, l))
+among_front a (x ∷ xs) (suc i) (suc k) l m =
+    inr (among_front a xs i k (omega (arith, l)) (omega (arith, m)))
+
+front_among : (a : ResourceRecord) (xs : List ResourceRecord) (k : ℕ) → Among a (take k xs) → Among a xs
+front_among a xs zero m = absurd m
+front_among a [] (suc k) m = m
+front_among a (x ∷ xs) (suc k) (inl e) = inl e
+front_among a (x ∷ xs) (suc k) (inr m) = inr (front_among a xs k m)
+
+-- once all are among the first, these are the records in canonical order, each once
+pub once_canonical : (all rs xs : List ResourceRecord) (last at : ℕ) → All LowerOwner all
+    → IsPermutation all rs → IsPermutation rs xs → IsOnce rs xs last at → length xs ≤ at
+    → take (last + 1) xs ≡ sort_by record_order (distinct records_equal all)
+once_canonical all rs xs last at low given moved h l =
+    let tie : (r s : ResourceRecord) → record_order r s ≡ Equal → records_equal r s ≡ true =
+    λ r s e. record_ties r s ∙ ap is_eq e in
+    let next : suc last ≡ last + 1 = omega arith in
+    ap (λ k. take k xs) (sym next)
+    ∙ same_risen record_order record_order_total records_equal tie LowerOwner one_record
+    (take (suc last) xs) (sort_by record_order (distinct records_equal all))
+    (rises_front xs last h.rise) (rises_canonical all)
+    (λ a m. among_sort record_order a (distinct records_equal all)
+    (among_distinct record_order record_order_total records_equal tie LowerOwner one_record a all
+    (each_all LowerOwner all low)
+    (among_permutation a rs all (IsPermutation-sym all rs given)
+    (among_permutation a xs rs (IsPermutation-sym rs xs moved) (front_among a xs (suc last) m)))))
+    (λ a m. there a (among_permutation a all rs given
+    (distinct_among records_equal a all (sort_among record_order a (distinct records_equal all) m))))
+  where
+    there : (a : ResourceRecord) → Among a rs → Among a (take (suc last) xs)
+    there a m =
+        let (i, b, e) = place_of a rs m in
+        let size = h.size in
+        let (j, c, f) = h.kept i a (omega (arith, b, size, l)) b in
+        let inside = h.inside (omega (arith, b, size)) in
+        subst (λ x. Among x (take (suc last) xs)) (sym f ∙ e)
+        (among_front a xs j last c (omega (arith, c, inside)))

@@ -1,10 +1,10 @@
 -- What walks over records that stand by their types report of the RRsets of an owner.
 use Rattle.std.proofs.Common.{◌≡◌, ℕ, zero, suc, ◌+◌, ◌<◌, ◌≤◌, Bool, true, false, ◌&&◌, ◌||◌, not, cond, nat_lt, eqb, ◌==◌, ◌⊎◌, inl, inr, List, [], ◌∷◌, map, length, drop, refl, sym, ap, ap₂, ◌∙◌, arith, filter}
-use Rattle.std.proofs.Math.ListN.{drop_of_length-le}
-use Rattle.std.proofs.lemmas.Bool.{cases_Bool, ltb-false, eqb-true, ne_eqb, eqb-false, eq-eqb, cases_lt, lt-ltb, le-ltb, or_right, or_parts, true≢false}
+use Rattle.dns_zone.proofs.Spans.{filter_again}
+use Rattle.std.proofs.lemmas.Bool.{ltb-false, eqb-true, ne_eqb, eqb-false, eq-eqb, cases_lt, lt-ltb, le-ltb, or_right, or_parts, true≢false}
 use Rattle.std.specs.List.{list_any}
 use Rattle.dns_spec.specs.Records.{ResourceRecord, distinct}
-use Rattle.dns_spec.proofs.Records.SortedOnce.{Each, each_weaker, each_filter, filter_each}
+use Rattle.dns_spec.proofs.Records.SortedOnce.{Each, each_weaker, each_distinct}
 use Rattle.dns_zone.specs.SetWalks.{begins_with_type, next_differs, neighbours_differ, repeats_after, sets_ended}
 use Rattle.dns_zone.proofs.Pairs.{Pairs, filter_all}
 
@@ -178,16 +178,9 @@ large-walk k (r ∷ rs) h = go (is_large k (r ∷ rs) r) refl (large-walk k rs h
         ∙ sym (ap (λ b. b || repeats_after k rs) (sym (first_run k r rs h) ∙ e))
 
 -- how many types
-each_distinct : {X : Type 0} (P : X → Type 0) (eq : X → X → Bool) (xs : List X) → Each P xs → Each P (distinct eq xs)
-each_distinct P eq [] e = tt
-each_distinct P eq (x ∷ xs) e = (e.0, each_filter P (λ y. not (eq x y)) (distinct eq xs) (each_distinct P eq xs e.1))
-
 pub each_map : {X Y : Type 0} (P : Y → Type 0) (f : X → Y) (xs : List X) → Each (λ x. P (f x)) xs → Each P (map f xs)
 each_map P f [] e = tt
 each_map P f (x ∷ xs) e = (e.0, each_map P f xs e.1)
-
-filter_again : {X : Type 0} (p : X → Bool) (xs : List X) → filter p (filter p xs) ≡ filter p xs
-filter_again p xs = filter_all p (filter p xs) (filter_each p xs)
 
 abbrev number_types : List ResourceRecord → ℕ
 number_types rs = length (distinct ◌==◌ (map (λ (r : ResourceRecord). r.rtype) rs))
@@ -222,18 +215,3 @@ types-walk (r ∷ s ∷ rs) h = go (eqb s.rtype r.rtype) refl (types-walk (s ∷
         (each_distinct (λ t. r.rtype < t) ◌==◌ (map (λ (q : ResourceRecord). q.rtype) (s ∷ rs)) others))
         in
         omega (arith, ap length kept)
-
--- no more RRsets than records
-pub sets_upto : (rs : List ResourceRecord) → sets_ended rs ≤ length rs
-sets_upto [] = omega arith
-sets_upto (r ∷ rs) = elim (cases_Bool (begins_with_type r.rtype rs)) [
-  | inl more ↦ rw more (omega (arith, sets_upto rs))
-  | inr last ↦ rw last (omega (arith, sets_upto rs))
-]
-
--- no record stands so many after another
-pub few_repeated : (k : ℕ) (rs : List ResourceRecord) → length rs ≤ k + 1 → repeats_after k rs ≡ false
-few_repeated k [] few = refl
-few_repeated k (r ∷ rs) few =
-    rw (drop_of_length-le rs {i = k} (omega (arith, few)))
-    (few_repeated k rs (omega (arith, few)))

@@ -4,38 +4,23 @@ use Rattle.std.proofs.lemmas.Bool.{false≢true, or_right}
 use Rattle.std.proofs.lemmas.List.{take-append-drop, take-append-le, get_or-take, get_or-drop, nil_from_length}
 use Rattle.std.proofs.lemmas.List.Elements.{filter-append}
 use Rattle.std.proofs.lemmas.List.Filters.{length-filter_both}
-use Rattle.std.proofs.Math.Seq.{drop-nil}
+use Rattle.std.proofs.Math.Seq.{drop-drop, take-add}
 use Rattle.std.specs.List.{list_any}
 use Rattle.dns_spec.proofs.Records.SortedOnce.{Each, Among, filter_each}
 use Rattle.dns_zone.specs.TreeForm.{span}
 use Rattle.dns_zone.proofs.Pairs.{each_get, filter_all}
-
-pub drop_again : {X : Type 0} (a b : ℕ) (xs : List X) → drop b (drop a xs) ≡ drop (a + b) xs
-drop_again zero b xs = ap (λ k. drop k xs) (let e : b ≡ 0 + b = omega arith in e)
-drop_again (suc a) b [] = drop-nil b ∙ sym (drop-nil (suc a + b))
-drop_again (suc a) b (x ∷ xs) =
-    drop_again a b xs
-    ∙ ap (λ k. drop k (x ∷ xs)) (let e : suc (a + b) ≡ suc a + b = omega arith in e)
 
 pub drop_span : {X : Type 0} (a b : ℕ) (xs : List X) → a ≤ b → drop a xs ≡ span xs a b ++ drop b xs
 drop_span a b xs h =
     let e : a + (b - a) ≡ b = omega arith in
     sym (take-append-drop (b - a) (drop a xs))
     ∙ ap (λ ys. take (b - a) (drop a xs) ++ ys)
-    (drop_again a (b - a) xs ∙ ap (λ k. drop k xs) e)
-
-take-nil : {X : Type 0} (k : ℕ) → ◌≡◌ {A = List X} (take k []) []
-take-nil zero = refl
-take-nil (suc k) = refl
+    (drop-drop (b - a) a xs ∙ ap (λ k. drop k xs) e)
 
 pub take_span : {X : Type 0} (a b : ℕ) (xs : List X) → a ≤ b → take b xs ≡ take a xs ++ span xs a b
-take_span zero b xs h = ap (λ k. take k xs) (let e : b ≡ b - 0 = omega arith in e)
-take_span (suc a) zero xs h = absurd (omega arith)
-take_span (suc a) (suc b) [] h = sym (take-nil (suc b - suc a))
-take_span (suc a) (suc b) (x ∷ xs) h =
-    let less : a ≤ b = omega arith in
-    let e : b - a ≡ suc b - suc a = omega arith in
-    ap (λ ys. x ∷ ys) (take_span a b xs less ∙ ap (λ k. take a xs ++ take k (drop a xs)) e)
+take_span a b xs h =
+    let e : b ≡ a + (b - a) = omega arith in
+    ap (λ k. take k xs) e ∙ take-add a (b - a) xs
 
 pub filter_again : {X : Type 0} (p : X → Bool) (xs : List X) → filter p (filter p xs) ≡ filter p xs
 filter_again p xs = filter_all p (filter p xs) (filter_each p xs)
@@ -98,12 +83,6 @@ nothing_each p (x ∷ xs) e = go (p x) refl e (nothing_each p xs)
     go true q f r = absurd (none f)
     go false q f r = (q, r f)
 
-pub each_nothing : {X : Type 0} (p : X → Bool) (xs : List X) → Each (λ x. p x ≡ false) xs
-    → filter p xs ≡ []
-each_nothing p [] e = refl
-each_nothing p (x ∷ xs) e =
-    ap (λ t. cond t (x ∷ filter p xs) (filter p xs)) e.0 ∙ each_nothing p xs e.1
-
 pub nothing_there : {X : Type 0} (p : X → Bool) (xs : List X) (k : ℕ) (d : X)
     → filter p (drop k xs) ≡ [] → k < length xs → p (get_or xs k d) ≡ false
 nothing_there p xs k d e h =
@@ -129,16 +108,6 @@ pub any_there : {X : Type 0} (p : X → Bool) (xs : List X) (x : X) → Among x 
 any_there p [] x m e = absurd m
 any_there p (y ∷ xs) x (inl q) e = ap (λ t. t || list_any p xs) (ap p (sym q) ∙ e)
 any_there p (y ∷ xs) x (inr m) e = or_right (p y) (list_any p xs) (any_there p xs x m e)
-
-pub any_append : {X : Type 0} (p : X → Bool) (xs ys : List X)
-    → list_any p (xs ++ ys) ≡ (list_any p xs || list_any p ys)
-any_append p [] ys = refl
-any_append p (x ∷ xs) ys =
-    ap (λ t. p x || t) (any_append p xs ys) ∙ assoc (p x) (list_any p xs) (list_any p ys)
-  where
-    assoc : (a b c : Bool) → (a || (b || c)) ≡ ((a || b) || c)
-    assoc true b c = refl
-    assoc false b c = refl
 
 pub any_nothing : {X : Type 0} (p : X → Bool) (xs : List X) → filter p xs ≡ []
     → list_any p xs ≡ false
@@ -192,13 +161,6 @@ pub each_push : {X : Type 0} (P : X → Type 0) (xs : List X) (x : X) → Each P
     → Each P (xs ++ x ∷ [])
 each_push P [] x e p = (p, tt)
 each_push P (y ∷ xs) x e p = (e.0, each_push P xs x e.1 p)
-
--- an element of a list, whatever stands for none
-pub get_or_any : {X : Type 0} (xs : List X) (k : ℕ) (d e : X) → k < length xs
-    → get_or xs k d ≡ get_or xs k e
-get_or_any [] k d e h = absurd (omega arith)
-get_or_any (x ∷ xs) zero d e h = refl
-get_or_any (x ∷ xs) (suc k) d e h = get_or_any xs k d e (omega arith)
 
 -- a part of a beginning
 pub span_front : {X : Type 0} (xs ys : List X) (a b : ℕ) → b ≤ length xs

@@ -1,6 +1,8 @@
 -- How the way down to a name goes on from the name above it.
-use Rattle.std.proofs.Common.{◌≡◌, ℕ, suc, ◌+◌, ◌-◌, ◌≤◌, Bool, true, false, cond, ◌||◌, ◌&&◌, ◌⊎◌, inl, inr, List, [], ◌∷◌, map, reverse, length, drop, None, Some, refl, sym, ap, ◌∙◌, arith}
-use Rattle.std.proofs.lemmas.Bool.{false≢true, and_parts, or_cases, or_left, or_right, ltb-true, false_from_ne_true}
+use Rattle.std.proofs.Common.{◌≡◌, ℕ, suc, ◌+◌, ◌-◌, ◌≤◌, Bool, true, false, cond, ◌||◌, ◌&&◌, List, [], ◌∷◌, map, reverse, length, drop, None, Some, refl, sym, ap, ◌∙◌, arith}
+use Rattle.dns_zone.proofs.ChildNames.{cons_under}
+use Rattle.dns_spec.proofs.ZoneChecks.FaultOrder.{folded_folded}
+use Rattle.std.proofs.lemmas.Bool.{false≢true, and_parts, ltb-true, false_from_ne_true}
 use Rattle.std.proofs.lemmas.List.{length-map, reverse-append}
 use Rattle.std.proofs.lemmas.List.Folds.{find-append}
 use Rattle.std.specs.Prelude.{nat_lt, nat_le, ◌==◌}
@@ -14,21 +16,10 @@ use Rattle.dns_spec.specs.Records.{ResourceRecord, ZoneContents, at, owns, rrset
 use Rattle.dns_spec.specs.Sets.{set_of}
 use Rattle.dns_spec.specs.Tree.{exists, is_cut, cut_of, closest_encloser, without_first}
 use Rattle.dns_spec.proofs.DomainNames.NameLaws.{at_or_below-cons, same-length}
-use Rattle.dns_zone.proofs.NameOrder.{same-from, lower_twice}
+use Rattle.dns_zone.proofs.NameOrder.{same-from}
 use Rattle.dns_zone.proofs.NameTree.{under-trans, itself-under}
 use Rattle.dns_zone.proofs.OwnRecords.{own-owns}
-use Rattle.dns_zone.proofs.Existing.{exists-lower}
-
--- what some pass they pass by a weaker test
-pub any_weaker : {X : Type 0} (p q : X → Bool) (xs : List X) → ((x : X) → p x ≡ true → q x ≡ true)
-    → list_any p xs ≡ true → list_any q xs ≡ true
-any_weaker p q [] f h = h
-any_weaker p q (x ∷ xs) f h = go (or_cases (p x) (list_any p xs) h) (any_weaker p q xs f)
-  where
-    go : (p x ≡ true) ⊎ (list_any p xs ≡ true) → (list_any p xs ≡ true → list_any q xs ≡ true)
-        → (q x || list_any q xs) ≡ true
-    go (inl e) r = or_left (q x) (list_any q xs) (f x e)
-    go (inr e) r = or_right (q x) (list_any q xs) (r e)
+use Rattle.dns_zone.proofs.Existing.{exists-lower, any_more}
 
 -- names above and below
 pub above_under : (l : Octets) (n a : DomainName) (k : ℕ) → at_or_below (l ∷ n) a ≡ true → length (l ∷ n) ≡ length a + suc k → at_or_below n a ≡ true
@@ -89,22 +80,15 @@ cut-by_set z n h = ap (λ b. b && owns z n type_ns) h ∙ sym (set-owned z n typ
 
 -- names that exist
 pub exists-folded : (z : ZoneContents) (n : DomainName) → exists z (folded n) ≡ exists z n
-exists-folded z n = exists-lower z (folded n) n (lower_twice n) (length-map n (map to_ascii_lowercase))
+exists-folded z n = exists-lower z (folded n) n (folded_folded n) (length-map n (map to_ascii_lowercase))
 
 itself : (n : DomainName) → at_or_below n n ≡ true
 itself n = itself-under n n (same-from n n refl)
 
-pub one_under : (l : Octets) (n : DomainName) → at_or_below (l ∷ n) n ≡ true
-one_under l n = at_or_below-cons l n n ∙ ap (λ b. same (l ∷ n) n || b) (itself n) ∙ or_true (same (l ∷ n) n)
-  where
-    or_true : (b : Bool) → (b || true) ≡ true
-    or_true true = refl
-    or_true false = refl
-
 pub exists-up : (z : ZoneContents) (l : Octets) (n : DomainName) → exists z n ≡ false → exists z (l ∷ n) ≡ false
 exists-up z l n e = false_from_ne_true (exists z (l ∷ n)) (λ h.
-    false≢true (sym e ∙ any_weaker (λ (r : ResourceRecord). at_or_below r.owner (l ∷ n)) (λ (r : ResourceRecord). at_or_below r.owner n) z.records
-    (λ r under. under-trans r.owner (l ∷ n) n under (one_under l n)) h))
+    false≢true (sym e ∙ any_more (λ (r : ResourceRecord). at_or_below r.owner (l ∷ n)) (λ (r : ResourceRecord). at_or_below r.owner n) z.records
+    (λ r under. under-trans r.owner (l ∷ n) n under (cons_under l n)) h))
 
 -- the closest encloser
 first_suffix : (z : ZoneContents) (n : DomainName) → find (exists z) (suffixes n) ≡ cond (exists z n) (Some n) (find (exists z) (without_first (suffixes n)))
@@ -131,4 +115,4 @@ no_cut-at_origin z (l ∷ n) h = cut-none z l n (no_cut-at_origin z n (omega ari
 
 -- the records at a name, by its lower case
 pub at-folded : (z : ZoneContents) (n : DomainName) → at z (folded n) ≡ at z n
-at-folded z n = ap (λ f. filter (λ (r : ResourceRecord). names_equal (folded r.owner) f) z.records) (lower_twice n)
+at-folded z n = ap (λ f. filter (λ (r : ResourceRecord). names_equal (folded r.owner) f) z.records) (folded_folded n)

@@ -1,7 +1,6 @@
 -- What a reader learns here: how records are kept for a zone, and what every built zone keeps.
-use Rattle.std.specs.Prelude.{⊤, ◌≡◌, ◌≢◌, ◌≤◌, ℕ, List, [], ◌∷◌, All, length, take, drop, Bool, true, not, ◌&&◌, if◌then◌else◌}
+use Rattle.std.specs.Prelude.{⊤, ◌≡◌, ◌≢◌, ◌≤◌, ℕ, List, [], All, length, take, drop, Bool, not, if◌then◌else◌}
 use Rattle.std.specs.List.{filter}
-use Rattle.std.specs.Ordering.{is_lt}
 use Rattle.dns_spec.specs.Names.{folded}
 use Rattle.dns_spec.specs.Records.{ResourceRecord, ZoneContents, sort_by, record_order}
 use Rattle.dns_spec.specs.Checks.{faults, Passes}
@@ -13,16 +12,6 @@ use Rattle.dns_zone.specs.declared.fault.BuildFault.TheVariants.{Faults, NoMemor
 -- in canonical order: sorting them changes nothing
 abbrev pub AreOrdered : List ResourceRecord → Type 0
 AreOrdered rs = sort_by record_order rs ≡ rs
-
--- the record comes before the next
-abbrev pub comes_first : ResourceRecord → List ResourceRecord → Bool
-comes_first r [] = true
-comes_first r (s ∷ rs) = is_lt (record_order r s)
-
--- each record comes before the next
-abbrev pub neighbours_rise : List ResourceRecord → Bool
-neighbours_rise [] = true
-neighbours_rise (r ∷ rs) = comes_first r rs && neighbours_rise rs
 
 -- records that were read, in canonical order, no more than a zone may have
 pub record IsCanonical (rs : List ResourceRecord) : Type 0 where

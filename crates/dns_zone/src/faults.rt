@@ -76,9 +76,6 @@ fn add_failed(
     requires { length failed.now ≤ 254 }
     ensures { OnOk result (found.new.items ≡ found.old.items ++ failed_from name.now 1 failed.now) }
 {
-    if !failed.contains(&true) {
-        return Ok(());
-    }
     let mut rest = failed;
     let mut code = 1;
     'checks: while let Some((fails, others)) = rest.split_first() {

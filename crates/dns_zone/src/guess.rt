@@ -22,33 +22,39 @@ pub(crate) fn shared_octets(
     let mut shared = Vec::new(alloc);
     if octets / FEW_OCTETS > names.len() {
         shared.resize(names.len(), [0, 0])?;
-        put_shared(names, 0, names.len(), shared.as_mut_slice());
+        put_shared(names, 0, names.len(), 0, shared.as_mut_slice());
     }
     Ok(shared)
 }
 
-// Puts those of names from one place up to another, and answers how many octets the names before
-// and after them share: these are in order, so as many as all between them share.
-fn put_shared(names: &[CheckedName<'_>], low: usize, high: usize, shared: &mut [[u8; 2]]) -> u8
+// Puts those of names from one place up to another, which share so many octets with each other and
+// with those before and after them.
+fn put_shared(names: &[CheckedName<'_>], low: usize, high: usize, known: u8, shared: &mut [[u8; 2]])
     requires order { low ≤ high }
     requires within { high ≤ length names.now }
     requires count { length shared.old ≡ length names.now }
     ensures { length shared.new ≡ length shared.old }
 {
     if low == high {
-        return match (names.get(low.wrapping_sub(1)), names.get(low)) {
-            (Some(one), Some(other)) => {
-                let (rest, _) = rests(one.key, other.key, 0);
-                (one.key.len() - rest.len()).min(255) as u8
-            }
-            _ => 0,
-        };
+        return;
     }
     let middle = low + (high - low) / 2;
-    let before = put_shared(names, low, middle, shared);
-    let after = put_shared(names, middle + 1, high, shared);
+    let before = shared_of(names, low.wrapping_sub(1), middle, known);
+    let after = shared_of(names, high, middle, known);
     shared[middle] = [before, after];
-    before.min(after)
+    put_shared(names, low, middle, before, shared);
+    put_shared(names, middle + 1, high, after, shared);
+}
+
+// How many octets the keys of names at two places share, of which so many are known.
+fn shared_of(names: &[CheckedName<'_>], one: usize, other: usize, known: u8) -> u8 {
+    match (names.get(one), names.get(other)) {
+        (Some(one), Some(other)) => {
+            let (rest, _) = rests(one.key, other.key, known as usize);
+            (one.key.len() - rest.len()).min(255) as u8
+        }
+        _ => 0,
+    }
 }
 
 /// The place of the last name that is probably not after the one whose key this is. None without a

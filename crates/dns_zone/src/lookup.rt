@@ -21,11 +21,7 @@ pub(crate) fn count_under(records: &[Entry], name: &NameRef<'_>) -> usize
     requires in_front { IsPartitionedBy
         (λ (r : ResourceRecord). at_or_below r.owner name.now) records.now }
     requires lower { folded name.now ≡ name.now }
-    ensures bound { result ≤ length records.now }
-    ensures own { take result records.now
-        ≡ filter (λ (r : ResourceRecord). at_or_below r.owner name.now) records.now }
-    ensures others { drop result records.now
-        ≡ filter (λ (r : ResourceRecord). not (at_or_below r.owner name.now)) records.now }
+    ensures { IsFront (λ (r : ResourceRecord). at_or_below r.owner name.now) records.now result }
 {
     if let Some(count) = count_before(records, name, 0) {
         return count;
@@ -49,21 +45,6 @@ fn count_before(records: &[Entry], name: &NameRef<'_>, place: usize) -> Option<u
         return None;
     }
     Some(records[..place].partition_point(|entry| is_under(entry, name)))
-}
-
-/// Whether the last of the records has an owner at or below the name: then all have, where these
-/// stand in front.
-pub(crate) fn are_all_under(records: &[Entry], name: &NameRef<'_>) -> bool
-    requires in_front { IsPartitionedBy
-        (λ (r : ResourceRecord). at_or_below r.owner name.now) records.now }
-    requires lower { folded name.now ≡ name.now }
-    ensures { OnTrue result (IsFront (λ (r : ResourceRecord). at_or_below r.owner name.now)
-        records.now (length records.now)) }
-{
-    match records.last() {
-        Some(last) => is_under(last, name),
-        None => false,
-    }
 }
 
 /// How many records stand in front whose owner is the name. They are passed one by one.

@@ -178,7 +178,7 @@ impl<'z> Node<'z> {
     {
         let own = self.own();
         let first = own.first()?;
-        lent_set(of_type(own, first.rtype))
+        self.set(first.rtype)
     }
 
     // The records of the name, by their types.

@@ -1,18 +1,18 @@
 //! The canonical order of records (RFC 4034 6.1, 6.3).
 ghost use Rattle.std.specs.Prelude.{◌≡◌};
-ghost use Rattle.dns_spec.specs.Names.{folded, name_order};
 ghost use Rattle.std.specs.Ordering.{nat_cmp, ordering_then};
 ghost use Rattle.dns_spec.specs.Records.{data_order, record_order};
 
 use crate::entry::Entry;
-use dns_name::NameRef;
 use std::cmp::Ordering;
 
 // Which of two records comes first: by owner, type and data, and those that agree in these by TTL.
 pub(crate) fn record_order(one: &Entry, other: &Entry) -> Ordering
     ensures { result ≡ record_order one.now other.now }
 {
-    owner_order(&one.owner(), &other.owner()).then_with(|| own_order(one, other))
+    one.owner()
+        .order_in_lower_case(&other.owner())
+        .then_with(|| own_order(one, other))
 }
 
 // The same of two records of one owner.
@@ -25,17 +25,4 @@ pub(crate) fn own_order(one: &Entry, other: &Entry) -> Ordering
         .cmp(&other.rtype.0)
         .then_with(|| one.rdata().cmp(other.rdata()))
         .then_with(|| one.ttl.cmp(&other.ttl))
-}
-
-// A fast path: many records that are compared have one owner. A zone of large sets takes a sixteenth
-// less.
-fn owner_order(one: &NameRef<'_>, other: &NameRef<'_>) -> Ordering
-    requires one { folded one.now ≡ one.now }
-    requires other { folded other.now ≡ other.now }
-    ensures { result ≡ name_order one.now other.now }
-{
-    if one == other {
-        return Ordering::Equal;
-    }
-    one.order_in_lower_case(other)
 }

@@ -13,7 +13,7 @@ use crate::above::shortest_end;
 use crate::entry::Entry;
 use crate::kept::Kept;
 use crate::label_key::{first_octets, label_key};
-use crate::lookup::{are_all_under, count_in_front, count_under};
+use crate::lookup::{count_in_front, count_under};
 use crate::row::Row;
 use crate::zone::CheckedZone;
 use dns_name::NameRef;
@@ -126,29 +126,14 @@ fn kid_at(records: &[Entry], parent: &[u8], next: usize, end: usize) -> Row
     let name = shortest_end(&owner, parent.len() + 1);
     let others = &records[next..end];
     let own = count_in_front(others, &name);
-    let known = own.max(1);
-    let (_, after) = others.split_at(known);
+    let (_, after) = others.split_at(own);
     let label = first_octets(&name);
     Row {
         first: next as u32,
         own_end: (next + own) as u32,
-        end: (next + (known + count_more_under(own, after, &name))) as u32,
+        end: (next + (own + count_under(after, &name))) as u32,
         place: (owner.octets().len() - name.octets().len()) as u8,
         label_octets: label.len() as u8,
         key: label_key(label),
     }
-}
-
-// How many of the records after those that are known to be at or below a name are so too. On a way
-// of labels that no record owns they mostly all are.
-fn count_more_under(own: usize, after: &[Entry], name: &NameRef<'_>) -> usize
-    requires in_front { IsPartitionedBy
-        (λ (r : ResourceRecord). at_or_below r.owner name.now) after.now }
-    requires lower { folded name.now ≡ name.now }
-    ensures { IsFront (λ (r : ResourceRecord). at_or_below r.owner name.now) after.now result }
-{
-    if own == 0 && are_all_under(after, name) {
-        return after.len();
-    }
-    count_under(after, name)
 }

@@ -10,8 +10,8 @@ use Rattle.dns_zone.proofs.ordered.owner_order.Goals as goal
 abbrev Low : DomainName → Type 0
 Low n = folded n ≡ n
 
-pub returns-then-octets : goal.returns-then-octets
-returns-then-octets c =
+pub returns-then-octets-clause-value : goal.returns-then-octets-clause-value
+returns-then-octets-clause-value c =
     let n = c.args.one.now.owner in
     let m = c.args.next.now.owner in
     let size = sym (ap wire c.owner.ensures.value) ∙ sym c.octets.ensures.value in
@@ -27,8 +27,8 @@ returns-then-octets c =
     let next_low = subst Low c.owner-then-start-after.ensures.value c.owner-then-start-after.ensures.lower in
     sym (same-tied n m (same-from n m (ap folded (one_key n m low next_low keys))))
 
-pub returns : goal.returns
-returns c =
+pub returns-clause-value : goal.returns-clause-value
+returns-clause-value c =
     c.cmp.ensures
     ∙ ap₂ (slice_cmp nat_cmp) (c.key_at.ensures.value ∙ c.requires.one)
     (c.key_at-2.ensures.value ∙ c.requires.next)

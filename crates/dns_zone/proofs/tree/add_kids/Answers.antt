@@ -1,21 +1,24 @@
-use Rattle.std.proofs.Common.{◌≡◌, ◌≤◌, ◌<◌, ◌∙◌, ap, sym, subst, List, [], length, drop, arith}
+use Rattle.std.proofs.Common.{◌≡◌, ℕ, ◌≤◌, ◌<◌, ◌∙◌, ap, sym, subst, List, [], length, drop, get_or, arith}
+use Rattle.std.proofs.lemmas.List.{get_or_default}
 use Rattle.dns_spec.specs.Names.{DomainName}
-use Rattle.dns_name.specs.WireForm.{labels_of}
 use Rattle.dns_zone.specs.TreeForm.{row_at, row_name, under}
 use Rattle.dns_zone.specs.TreeSteps.{IsNext, IsKidAt}
 use Rattle.dns_zone.specs.declared.row.Row.{Row}
 use Rattle.dns_zone.proofs.KidRows.{is_under}
-use Rattle.dns_zone.proofs.Spans.{get_or_any, none_past}
+use Rattle.dns_zone.proofs.Spans.{none_past}
 use Rattle.dns_zone.proofs.GrowingKids.{Adding, start, next_is, step, done}
 use Rattle.dns_zone.proofs.tree.add_kids.Goals as goal
+
+same_row : (rows : List Row) (k : ℕ) (r d : Row) → r ≡ get_or rows k d → k < length rows
+    → r ≡ row_at rows k
+same_row rows k r d e h = e ∙ get_or_default rows k d _ h
 
 pub kids-init : goal.kids-init
 kids-init c =
     let rs = c.args.records.now in
     let rows = c.args.rows.now.items in
     let row = row_at rows c.args.number in
-    let same : c.index-row.result.now ≡ row =
-    c.index-row.ensures ∙ get_or_any rows c.args.number _ _ c.requires.number in
+    let same = same_row rows c.args.number _ _ c.index-row.ensures c.requires.number in
     subst (λ (r : Row). Adding rs (row_name rs row) row.own_end rows rows r.own_end) (sym same)
     (start rs c.requires.canonical (row_name rs row) row c.requires.row rows)
 
@@ -24,10 +27,8 @@ kid_at-kid-requires-clause-next c =
     let rs = c.args.records.now in
     let rows = c.args.rows.now.items in
     let row = row_at rows c.args.number in
-    let same : c.index-row.result.now ≡ row =
-    c.index-row.ensures ∙ get_or_any rows c.args.number _ _ c.requires.number in
-    let named : labels_of c.octets_of-parent.result.now ≡ row_name rs row =
-    c.octets_of-parent.ensures.name ∙ ap (row_name rs) same in
+    let same = same_row rows c.args.number _ _ c.index-row.ensures c.requires.number in
+    let named = c.octets_of-parent.ensures.name ∙ ap (row_name rs) same in
     subst (λ (n : DomainName). IsNext rs n c.kids.next) (sym named)
     (next_is rs c.requires.canonical (row_name rs row) row c.requires.row rows c.kids.rows.items
     c.kids.next c.kids.invariant
@@ -37,8 +38,7 @@ pub kid_at-kid-requires-clause-fits : goal.kid_at-kid-requires-clause-fits
 kid_at-kid-requires-clause-fits c =
     let rows = c.args.rows.now.items in
     let row = row_at rows c.args.number in
-    let same : c.index-row.result.now ≡ row =
-    c.index-row.ensures ∙ get_or_any rows c.args.number _ _ c.requires.number in
+    let same = same_row rows c.args.number _ _ c.index-row.ensures c.requires.number in
     subst (λ (r : Row). r.end ≤ length c.args.records.now) (sym same) c.requires.row.end_fits
 
 pub kid_at-kid-requires-clause-none : goal.kid_at-kid-requires-clause-none
@@ -46,10 +46,8 @@ kid_at-kid-requires-clause-none c =
     let rs = c.args.records.now in
     let rows = c.args.rows.now.items in
     let row = row_at rows c.args.number in
-    let same : c.index-row.result.now ≡ row =
-    c.index-row.ensures ∙ get_or_any rows c.args.number _ _ c.requires.number in
-    let named : labels_of c.octets_of-parent.result.now ≡ row_name rs row =
-    c.octets_of-parent.ensures.name ∙ ap (row_name rs) same in
+    let same = same_row rows c.args.number _ _ c.index-row.ensures c.requires.number in
+    let named = c.octets_of-parent.ensures.name ∙ ap (row_name rs) same in
     let is_row = c.requires.row in
     let order : row.first ≤ row.end = let a = is_row.first_own in let b = is_row.own_end in
     omega arith in
@@ -62,10 +60,8 @@ kids-preserved c =
     let rs = c.args.records.now in
     let rows = c.args.rows.now.items in
     let row = row_at rows c.args.number in
-    let same : c.index-row.result.now ≡ row =
-    c.index-row.ensures ∙ get_or_any rows c.args.number _ _ c.requires.number in
-    let named : labels_of c.octets_of-parent.result.now ≡ row_name rs row =
-    c.octets_of-parent.ensures.name ∙ ap (row_name rs) same in
+    let same = same_row rows c.args.number _ _ c.index-row.ensures c.requires.number in
+    let named = c.octets_of-parent.ensures.name ∙ ap (row_name rs) same in
     let kid =
     subst (λ (n : DomainName). IsKidAt rs n c.kids.next c.kid_at-kid.result) named
     c.kid_at-kid.ensures in
@@ -79,8 +75,7 @@ returns c =
     let rs = c.args.records.now in
     let rows = c.args.rows.now.items in
     let row = row_at rows c.args.number in
-    let same : c.index-row.result.now ≡ row =
-    c.index-row.ensures ∙ get_or_any rows c.args.number _ _ c.requires.number in
+    let same = same_row rows c.args.number _ _ c.index-row.ensures c.requires.number in
     done rs c.requires.canonical (row_name rs row) row c.requires.row rows c.kids.rows.items
     c.kids.next c.kids.invariant
     (subst (λ (r : Row). r.end ≤ c.kids.next) same c.kids-test.false)

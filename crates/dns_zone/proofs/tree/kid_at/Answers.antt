@@ -1,16 +1,17 @@
-use Rattle.std.proofs.Common.{◌≡◌, ◌+◌, ◌-◌, ◌≤◌, true, ap, ap₂, sym, ◌∙◌, subst, length, take, drop, map, filter, arith, length-append, length-drop, length-take, List}
+use Rattle.std.proofs.Common.{◌≡◌, ◌+◌, ◌-◌, ◌≤◌, true, List, ap, ap₂, sym, ◌∙◌, subst, length, take, drop, map, filter, arith, length-append, length-drop, length-take}
 use Rattle.std.specs.Char.{to_ascii_lowercase}
 use Rattle.std.specs.List.Sorted.{IsPartitionedBy}
 use Rattle.dns_spec.specs.Names.{DomainName, Octets, wire, at_or_below}
 use Rattle.dns_spec.specs.Records.{ResourceRecord}
-use Rattle.dns_spec.proofs.Records.SortedOnce.{Each}
+use Rattle.dns_spec.proofs.Records.SortedOnce.{Each, each_weaker, filter_each}
 use Rattle.dns_name.specs.WireForm.{labels_of}
 use Rattle.dns_zone.specs.LabelKey.{IsKey}
 use Rattle.dns_zone.specs.TreeForm.{span, under}
 use Rattle.dns_zone.proofs.AtName.{is_at}
 use Rattle.dns_zone.proofs.BoundedKids.{none_at, none_under, widened}
 use Rattle.dns_zone.proofs.ChildNames.{cons_under}
-use Rattle.dns_zone.proofs.KidRows.{is_under, child_there, under_front, own_front, known_under, parted_drop, both_fronts, made}
+use Rattle.dns_zone.proofs.KidRows.{is_under, child_there, under_front, own_front, parted_drop, both_fronts, made}
+use Rattle.dns_zone.proofs.NameTree.{itself-under}
 use Rattle.dns_zone.proofs.OwnersWalk.{front}
 use Rattle.dns_zone.proofs.Pairs.{parted_take}
 use Rattle.dns_zone.proofs.tree.kid_at.Goals as goal
@@ -21,8 +22,8 @@ count_in_front-own-requires c =
     c.requires.next c.index-records-next.result c.index-records-next.is c.args.parent.now _ _
     c.requires.parent.wire_is c.owner-owner.ensures.value c.shortest_end-name.ensures).lower
 
-pub count_more_under-requires-clause-in_front : goal.count_more_under-requires-clause-in_front
-count_more_under-requires-clause-in_front c =
+pub count_under-requires-clause-in_front : goal.count_under-requires-clause-in_front
+count_under-requires-clause-in_front c =
     let rs = c.args.records.now in
     let n = labels_of c.args.parent.now in
     let next = c.args.next in
@@ -34,12 +35,12 @@ count_more_under-requires-clause-in_front c =
     c.shortest_end-name.ensures in
     subst (λ (ys : List ResourceRecord). IsPartitionedBy (is_under m) ys)
     (sym c.split_at.ensures.back)
-    (parted_drop (is_under m) (span rs next c.args.end) c.max-known.result
+    (parted_drop (is_under m) (span rs next c.args.end) c.count_in_front-own.result
     (parted_take (is_under m) (drop next rs) (c.args.end - next)
     (under_front rs c.requires.canonical n next c.requires.next r c.index-records-next.is m child)))
 
-pub count_more_under-requires-clause-lower : goal.count_more_under-requires-clause-lower
-count_more_under-requires-clause-lower c =
+pub count_under-requires-clause-lower : goal.count_under-requires-clause-lower
+count_under-requires-clause-lower c =
     (child_there c.args.records.now c.requires.canonical (labels_of c.args.parent.now) c.args.next
     c.requires.next c.index-records-next.result c.index-records-next.is c.args.parent.now _ _
     c.requires.parent.wire_is c.owner-owner.ensures.value c.shortest_end-name.ensures).lower
@@ -74,8 +75,7 @@ returns c =
     (cons_under child.label n) in
     let others = span rs next end in
     let own = c.count_in_front-own.result in
-    let known = c.max-known.result in
-    let count = c.count_more_under.result in
+    let count = c.count_under.result in
     let before : next ≤ end = let b = c.requires.before in omega arith in
     let own_is : take own others ≡ filter (is_at m) others =
     ap (λ k. take k others) c.count_in_front-own.ensures.value
@@ -83,36 +83,31 @@ returns c =
     (parted_take (is_at m) (drop next rs) (end - next)
     (own_front rs c.requires.canonical n next c.requires.next r c.index-records-next.is m child))).0
     in
-    let below_is : take count (drop known others) ≡ under m (drop known others) =
-    rw (← c.split_at.ensures.back) c.count_more_under.ensures.passing in
     let size : length others ≤ length (drop next rs) =
     omega (arith, length-take (end - next) (drop next rs)) in
     let own_fits : own ≤ length others = c.count_in_front-own.ensures.bound in
-    let fits : known + count ≤ length others =
+    let fits : own + count ≤ length others =
     omega (
       arith,
-      c.count_more_under.ensures.bound,
+      c.count_under.ensures.bound,
       ap length c.split_at.ensures.back,
-      length-drop known others,
-      c.max-known.ensures,
+      length-drop own others,
       own_fits,
-      length-take (end - next) (drop next rs),
-      length-drop next rs,
-      c.requires.before,
-      c.requires.next.fits,
     ) in
-    let front_is : Each (λ s. is_under m s ≡ true) (take known others) =
-    subst (λ k. Each (λ s. is_under m s ≡ true) (take k others)) (sym c.max-known.ensures)
-    (known_under rs c.requires.canonical n next c.requires.next r c.index-records-next.is m child
-    (end - next) own (omega (arith, c.requires.before)) own_is) in
+    let below_is : take count (drop own others) ≡ under m (drop own others) =
+    rw (← c.split_at.ensures.back) c.count_under.ensures.passing in
+    let front_is : Each (λ s. is_under m s ≡ true) (take own others) =
+    subst (Each (λ s. is_under m s ≡ true)) (sym own_is)
+    (each_weaker (λ s. is_at m s ≡ true) (λ s. is_under m s ≡ true) (filter (is_at m) others)
+    (λ s h. itself-under s.owner m h) (filter_each (is_at m) others)) in
     made rs c.requires.canonical n next c.requires.next r c.index-records-next.is m child
-    c.octets-2.ensures.is_name own (known + count) _ _ _
+    c.octets-2.ensures.is_name own (own + count) _ _ _
     (omega (arith, own_fits, size)) (omega (arith, fits, size))
     (widened (is_at m) rs next end before (none_at m n (drop end rs) kid_under c.requires.none) own
     own_fits own_is)
     (widened (is_under m) rs next end before
-    (none_under m n (drop end rs) kid_under c.requires.none) (known + count) fits
-    (both_fronts (is_under m) others known count front_is below_is))
+    (none_under m n (drop end rs) kid_under c.requires.none) (own + count) fits
+    (both_fronts (is_under m) others own count front_is below_is))
     (ap₂ (λ (xs ys : Octets). length xs - length ys)
     (c.octets.ensures.value ∙ ap wire c.owner-owner.ensures.value) c.octets-2.ensures.value)
     (ap length c.first_octets-label.ensures.value)
