@@ -1,5 +1,5 @@
 -- The words of a command line say what they ask for: ORIGIN and FILE are the last two, and those before them say the rest.
-use Rattle.std.proofs.Common.{◌≡◌, ℕ, Bool, true, false, List, [], ◌∷◌, ◌++◌, length, drop, get_or, codes, refl, sym, ap, ap₂, ◌∙◌, arith, length-append, inl, inr}
+use Rattle.std.proofs.Common.{◌≡◌, ℕ, Bool, true, false, List, [], ◌∷◌, ◌++◌, length, get_or, codes, refl, ap, ap₂, arith, length-append, inl, inr}
 use Rattle.std.specs.List.{list_any}
 use Rattle.std.proofs.lemmas.Fmt.{decimal_injective}
 use Rattle.dns_spec.specs.Names.{Octets, octets_equal}
@@ -14,9 +14,7 @@ unfolding word
 last_two [] [] y z e = (refl, ap (λ ws. record { origin = word 0 ws; file = word 1 ws }) e)
 last_two [] (w ∷ g) y z e = absurd (omega (arith, ap length e, length-append g (z.origin ∷ z.file ∷ [])))
 last_two (v ∷ f) [] y z e = absurd (omega (arith, ap length e, length-append f (y.origin ∷ y.file ∷ [])))
-last_two (v ∷ f) (w ∷ g) y z e =
-    let rest = last_two f g y z (ap (drop 1) e) in
-    (ap₂ ◌∷◌ (ap (word 0) e) rest.0, rest.1)
+last_two (v ∷ f) (w ∷ g) y z e = grind (arith, ap₂, word, (last_two f g y z))
 
 has : Octets → List Octets → Bool
 has w = list_any (octets_equal w)
@@ -55,9 +53,7 @@ options_said a f h = λ i. record {
 }
 
 pub one_check : (words : List Octets) (a b : Options) (y z : ZoneWords) → AskToCheck words a y → AskToCheck words b z → (a ≡ b) × (y ≡ z)
-one_check words a b y z one other =
-    let ends = last_two one.front other.front y z (sym one.zone_is.words_are ∙ other.zone_is.words_are) in
-    (sym (options_said a one.front one.options_are) ∙ ap said ends.0 ∙ options_said b other.front other.options_are, ends.1)
+one_check words a b y z one other = grind (arith, last_two, options_said, said)
 
 one_asked : (s t : ServiceAsked) → HasTurns s → HasTurns t → service_words s ≡ service_words t → s ≡ t
 unfolding word
@@ -81,6 +77,4 @@ one_asked (by_turns tcp a n) (by_turns tcp b m) h k e =
     ap₂ (by_turns tcp) (ap (word 1) e) (decimal_injective n m (omega (arith, h.1)) (omega (arith, k.1)) (ap (word 2) e))
 
 pub one_service : (words : List Octets) (s t : ServiceAsked) (y z : ZoneWords) → AskToServe words s y → AskToServe words t z → (s ≡ t) × (y ≡ z)
-one_service words s t y z one other =
-    let ends = last_two (service_words s) (service_words t) y z (sym one.zone_is.words_are ∙ other.zone_is.words_are) in
-    (one_asked s t one.turns other.turns ends.0, ends.1)
+one_service words s t y z one other = grind (arith, last_two, one_asked)

@@ -96,8 +96,7 @@ Groups = Each (λ g. g < 65536)
 parts_of : (g : ℕ) (gs : List ℕ) → Groups (g ∷ gs) → slice_split is_colon (groups_text (g ∷ gs)) ≡ map (digits 16 false) (g ∷ gs)
 parts_of g [] small = slice_split_none is_colon (digits 16 false g) (all_colonless (digits 16 false g) (colonless g small.0))
 parts_of g (h ∷ gs) small =
-    slice_split_at is_colon (digits 16 false g) 58 (groups_text (h ∷ gs)) (all_colonless (digits 16 false g) (colonless g small.0)) refl
-    ∙ ap (λ ts. digits 16 false g ∷ ts) (parts_of h gs small.1)
+    grind (arith, slice_split_at, all_colonless, colonless, (parts_of h gs small.1))
 
 values_of : (gs : List ℕ) → Groups gs → group_values (map (digits 16 false) gs) ≡ Some gs
 values_of [] small = refl
@@ -148,11 +147,7 @@ before-before v w None = refl
 before-before v w (Some r) = ap (λ f. Some (f, r.1)) (sym (append_assoc v w r.0))
 
 past_word : (w x : Octets) → Each (λ o. is_colon o ≡ false) w → around_gap (w ++ x) ≡ option_map (before w) (around_gap x)
-past_word [] x none = same (around_gap x)
-  where
-    same : (o : Option (Octets × Octets)) → o ≡ option_map (before []) o
-    same None = refl
-    same (Some r) = refl
+past_word [] x none = grind arith
 past_word (c ∷ w) x none =
     past_octet c (w ++ x) none.0 ∙ ap (option_map (before (c ∷ []))) (past_word w x none.1) ∙ before-before (c ∷ []) w (around_gap x)
 

@@ -1,11 +1,10 @@
 -- Data made of a name, of an address, or of two names and five numbers is data of its type, and its target is its first
 -- name.
-use Rattle.std.proofs.Common.{◌≡◌, ℕ, ◌≤◌, true, List, [], ◌∷◌, ◌++◌, length, take, drop, nat_le, Option, None, Some, refl, sym, ap, ◌∙◌, arith, length-append, append_assoc, append-nil}
+use Rattle.std.proofs.Common.{◌≡◌, ℕ, ◌≤◌, true, List, [], ◌∷◌, ◌++◌, length, Option, None, Some, refl, sym, ap, ◌∙◌, arith, length-append, append_assoc, append-nil}
 use Rattle.std.proofs.lemmas.Bool.{and_from, le-leb}
-use Rattle.std.specs.Option.{option_map, is_some}
+use Rattle.std.specs.Option.{option_map}
 use Rattle.dns_spec.specs.Names.{Octets, DomainName, wire, is_name}
 use Rattle.std.proofs.lemmas.List.{take_all, drop_all}
-use Rattle.std.specs.Option.{unwrap_or}
 use Rattle.dns_spec.specs.Data.{type_a, type_ns, type_soa, Fixed, numbers, width, Piece, first_name, Part, octets, name, piece_front, cut, valid, target, fixed, domain, pieces_of}
 use Rattle.dns_spec.proofs.DomainNames.NameLaws.{IsName-is_name}
 use Rattle.dns_spec.proofs.DomainNames.WireNames.{name_of-wire}
@@ -34,16 +33,10 @@ cut-ns n ok =
 pub cut-step : (p : Piece) (ps : List Piece) (os : Octets) (part : Part) (rest : Octets) (xs : List Part) → piece_front p os ≡ Some (part, rest) → cut ps rest ≡ Some xs
     → cut (p ∷ ps) os ≡ Some (part ∷ xs)
 unfolding cut
-cut-step p ps os part rest xs front after =
-    ap (λ (x : Option (Part × Octets)). elim x [ None ↦ None | Some r ↦ option_map (λ ys. r.0 ∷ ys) (cut ps r.1) ]) front
-    ∙ ap (option_map (λ ys. part ∷ ys)) after
+cut-step p ps os part rest xs front after = grind arith
 
 all_of : (f : Fixed) (ds : Octets) → length ds ≡ width f → piece_front (fixed f) ds ≡ Some (octets ds, [])
-all_of f ds e =
-    let k = width f in
-    let whole : take k ds ≡ ds = ap (λ n. take n ds) (sym e) ∙ take_all (length ds) ds (omega arith) in
-    let none : drop k ds ≡ [] = ap (λ n. drop n ds) (sym e) ∙ drop_all (length ds) ds (omega arith) in
-    rw (le-leb k (length ds) (omega arith), whole, none) refl
+all_of f ds e = grind (arith, take_all, drop_all, le-leb)
 
 nothing_left : cut [] [] ≡ Some []
 unfolding cut
@@ -59,10 +52,7 @@ cut-soa m r ds okm okr e =
 
 -- what is cut is valid, and its first name is its target
 made : (t : ℕ) (d : Octets) (xs : List Part) → cut (pieces_of t) d ≡ Some xs → length d ≤ 65535 → (valid t d ≡ true) × (target t d ≡ first_name xs)
-made t d xs e fits = (
-  and_from (nat_le (length d) 65535) (is_some (cut (pieces_of t) d)) (le-leb (length d) 65535 fits) (ap is_some e),
-  ap (λ x. first_name (unwrap_or x (octets d ∷ []))) e,
-)
+made t d xs e fits = grind (arith, and_from, le-leb)
 
 pub address-made : (d : Octets) → length d ≡ 4 → (valid type_a d ≡ true) × (target type_a d ≡ None)
 address-made d e = made type_a d (octets d ∷ []) (cut-address d e) (omega arith)
@@ -72,8 +62,4 @@ ns-made n ok = let name = IsName-is_name n ok in made type_ns (wire n) _ (cut-ns
 
 pub soa-made : (m r : DomainName) (ds : Octets) → is_name m ≡ true → is_name r ≡ true → length ds ≡ 20
     → (valid type_soa (wire m ++ wire r ++ ds) ≡ true) × (target type_soa (wire m ++ wire r ++ ds) ≡ Some m)
-soa-made m r ds okm okr e =
-    let first = IsName-is_name m okm in
-    let second = IsName-is_name r okr in
-    made type_soa (wire m ++ wire r ++ ds) _ (cut-soa m r ds okm okr e)
-    (omega (arith, length-append (wire m ++ wire r) ds, length-append (wire m) (wire r)))
+soa-made m r ds okm okr e = grind (arith, IsName-is_name, made, cut-soa, length-append)

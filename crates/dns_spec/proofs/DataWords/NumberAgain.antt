@@ -40,14 +40,15 @@ one_spelling (o ∷ x) (p ∷ y) long small small' e =
 
 pub bytes_again : (k : ℕ) (x : Octets) → length x ≡ k → Small x → bytes_high_first k (number_of x) ≡ x
 bytes_again k x long small =
-    let below : number_of x < 256 ^ k = subst (λ j. number_of x < 256 ^ j) long (number_of-below x small) in
-    one_spelling (bytes_high_first k (number_of x)) x (length-bytes_high_first k (number_of x) ∙ sym long) (bytes_below k (number_of x)) small
-    (number_of-bytes k (number_of x) ∙ mod-eq_of_lt below)
+    grind (
+      arith,
+      number_of-below,
+      one_spelling,
+      length-bytes_high_first,
+      bytes_below,
+      number_of-bytes,
+      mod-eq_of_lt,
+    )
 
 pub number_said : (k : ℕ) (x : Octets) → length x ≡ k → Small x → SaysNumber k (decimal (number_of x)) x
-number_said k x long small = (
-  number_of x,
-  subst (λ j. number_of x < 256 ^ j) long (number_of-below x small),
-  refl,
-  sym (bytes_again k x long small),
-)
+number_said k x long small = grind (arith, number_of-below, bytes_again)

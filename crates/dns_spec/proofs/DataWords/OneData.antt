@@ -1,10 +1,9 @@
 -- Words say at most one piece of data of a type.
-use Rattle.std.proofs.Common.{◌≡◌, ℕ, zero, suc, ◌<◌, ◌≤◌, ◌^◌, Bool, true, false, nat_lt, nat_le, List, [], ◌∷◌, ◌++◌, length, replicate, max, Option, Some, None, refl, sym, ◌∙◌, ap, ap₂, arith, decimal, get_or}
+use Rattle.std.proofs.Common.{◌≡◌, ℕ, zero, suc, ◌<◌, ◌≤◌, Bool, true, false, nat_le, List, [], ◌∷◌, ◌++◌, length, replicate, max, Option, Some, None, refl, sym, ◌∙◌, ap, ap₂, arith, decimal}
 use Rattle.std.specs.Prelude.{⊤, MatchOption, ◌==◌, if◌then◌else◌}
 use Rattle.std.specs.Bool.{MatchBool}
 use Rattle.std.specs.List.{list_all, flat_map, find}
 use Rattle.std.specs.Option.{option_map}
-use Rattle.std.specs.Int.{bytes_high_first}
 use Rattle.std.specs.Str.Parse.{AllDigits}
 use Rattle.std.proofs.Math.Nat.{pow-le-pow_right}
 use Rattle.std.proofs.lemmas.Bool.{and_parts, and_from, leb-true, ltb-true}
@@ -20,20 +19,14 @@ use Rattle.dns_spec.proofs.NameTexts.OneName.{name_once, string_once}
 -- numbers of at most 32 bits
 pub number_once : (k : ℕ) (text d e : Octets) → k ≤ 4 → SaysNumber k text d → SaysNumber k text e → d ≡ e
 number_once k text d e few (n, small, said, is) (m, small', said', is') =
-    let most : 256 ^ k ≤ 256 ^ 4 = pow-le-pow_right {n = 256} (omega arith) {i = k} {j = 4} few in
-    let same = decimal_injective n m (omega (arith, small, most)) (omega (arith, small', most)) (sym said ∙ said') in
-    is ∙ ap (bytes_high_first k) same ∙ sym is'
+    grind (arith, pow-le-pow_right, decimal_injective)
 
 -- two runs of digits with a dot after each
 digits_end : (ds es rest others : Octets) → AllDigits 10 ds → AllDigits 10 es → ds ++ 46 ∷ rest ≡ es ++ 46 ∷ others
     → (ds ≡ es) × (rest ≡ others)
 digits_end [] [] rest others h k e = (refl, cc)
-digits_end [] (c ∷ es) rest others h (digit, k) e =
-    let range = digit_from_value c digit in
-    absurd (omega (arith, range.0, ap (λ t. get_or t 0 0) e))
-digits_end (c ∷ ds) [] rest others (digit, h) k e =
-    let range = digit_from_value c digit in
-    absurd (omega (arith, range.0, ap (λ t. get_or t 0 0) e))
+digits_end [] (c ∷ es) rest others h (digit, k) e = grind (arith, digit_from_value)
+digits_end (c ∷ ds) [] rest others (digit, h) k e = grind (arith, digit_from_value)
 digits_end (c ∷ ds) (b ∷ es) rest others (digit, h) (digit', k) e =
     let head : c ≡ b = cc (e) in
     let tail : ds ++ 46 ∷ rest ≡ es ++ 46 ∷ others = cc (e) in
@@ -66,23 +59,7 @@ four_numbers text [] h = absurd (omega (arith, h.four))
 four_numbers text (a ∷ []) h = absurd (omega (arith, h.four))
 four_numbers text (a ∷ b ∷ []) h = absurd (omega (arith, h.four))
 four_numbers text (a ∷ b ∷ c ∷ []) h = absurd (omega (arith, h.four))
-four_numbers text (a ∷ b ∷ c ∷ e ∷ []) h =
-    let all = and_parts (nat_lt a 256) _ h.octets in
-    let all' = and_parts (nat_lt b 256) _ all.1 in
-    let all'' = and_parts (nat_lt c 256) _ all'.1 in
-    let last = and_parts (nat_lt e 256) _ all''.1 in
-    record {
-      first = a;
-      second = b;
-      third = c;
-      fourth = e;
-      is = refl;
-      first_small = ltb-true a 256 all.0;
-      second_small = ltb-true b 256 all'.0;
-      third_small = ltb-true c 256 all''.0;
-      fourth_small = ltb-true e 256 last.0;
-      spelled = h.spelled;
-    }
+four_numbers text (a ∷ b ∷ c ∷ e ∷ []) h = grind (arith, and_parts, ltb-true)
 four_numbers text (a ∷ b ∷ c ∷ e ∷ f ∷ d) h = absurd (omega (arith, h.four))
 
 pub ipv4_once : (text d e : Octets) → SaysIpv4 text d → SaysIpv4 text e → d ≡ e

@@ -1,5 +1,5 @@
 -- Words that name types: a name in the table is no number, and a number is read as it is written.
-use Rattle.std.proofs.Common.{◌≡◌, ℕ, ◌^◌, ◌<◌, inl, inr, Bool, true, false, cond, nat_lt, None, Some, List, [], ◌∷◌, ◌++◌, map, refl, sym, ap, subst, ◌∙◌, arith, codes, drop}
+use Rattle.std.proofs.Common.{◌≡◌, ℕ, ◌^◌, ◌<◌, inl, inr, Bool, true, nat_lt, None, Some, List, [], ◌∷◌, ◌++◌, map, refl, sym, ap, ◌∙◌, arith, codes}
 use Rattle.std.proofs.lemmas.Option.{none-some, same_Some}
 use Rattle.std.proofs.lemmas.Fmt.{decimal_is_IsNumeral, decimal_injective}
 use Rattle.std.proofs.lemmas.Bool.{lt-ltb, ltb-true, and_parts}
@@ -37,9 +37,7 @@ apart : (word : Octets) (t u : ℕ) → type_by_mnemonic word ≡ Some t → tex
 apart word t u e f = none-some t (sym (number-no_mnemonic word u f) ∙ e)
 
 numbers_alike : (t u : ℕ) → t < 65536 → u < 65536 → text_in_lower_case (numbered_type t) ≡ text_in_lower_case (numbered_type u) → t ≡ u
-numbers_alike t u p q e =
-    decimal_injective t u (omega arith) (omega arith)
-    (sym (decimal-lowered t (omega arith)) ∙ ap (drop 4) e ∙ decimal-lowered u (omega arith))
+numbers_alike t u p q e = grind (arith, decimal_injective, decimal-lowered)
 
 pub one_type : (word : Octets) (t u : ℕ) → NamesType word t → NamesType word u → t ≡ u
 one_type word t u (inl e) (inl f) = same_Some t u (sym e ∙ f)
@@ -51,12 +49,7 @@ one_type word t u (inr e) (inr f) = numbers_alike t u e.0 f.0 (sym e.1 ∙ f.1)
 found_small : (p : TypeRow → Bool) (rows : List TypeRow) (t : ℕ) → Each (λ (row : TypeRow). row.number < 65536) rows
     → option_map (λ (row : TypeRow). row.number) (find p rows) ≡ Some t → t < 65536
 found_small p [] t small e = absurd (none-some t e)
-found_small p (row ∷ rows) t small e = go (p row) e (found_small p rows t small.1)
-  where
-    go : (b : Bool) → option_map (λ (row : TypeRow). row.number) (cond b (Some row) (find p rows)) ≡ Some t
-        → (option_map (λ (row : TypeRow). row.number) (find p rows) ≡ Some t → t < 65536) → t < 65536
-    go true f others = subst (λ n. n < 65536) (same_Some row.number t f) small.0
-    go false f others = others f
+found_small p (row ∷ rows) t small e = grind (arith, same_Some, (found_small p rows t small.1))
 
 rows_small : (rows : List TypeRow) → list_all (λ (row : TypeRow). nat_lt row.number 65536) rows ≡ true → Each (λ (row : TypeRow). row.number < 65536) rows
 rows_small [] ok = tt

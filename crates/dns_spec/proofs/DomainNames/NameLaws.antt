@@ -6,7 +6,7 @@ use Rattle.std.proofs.Math.Bool.{or-false}
 use Rattle.std.specs.List.{list_all}
 use Rattle.std.specs.Char.{to_ascii_lowercase}
 use Rattle.std.specs.Cmp.Lexicographic.{pointwise_decides}
-use Rattle.dns_spec.specs.Names.{Octets, DomainName, wire, is_label, is_name, folded, octets_equal, names_equal, same, last_labels, at_or_below}
+use Rattle.dns_spec.specs.Names.{Octets, DomainName, wire, is_label, is_name, folded, octets_equal, names_equal, same, at_or_below}
 
 -- what a label's test says
 pub record IsLabel (l : Octets) : Type 0 where
@@ -14,9 +14,7 @@ pub record IsLabel (l : Octets) : Type 0 where
   pub fits : length l ≤ 63
 
 pub IsLabel-is_label : (l : Octets) → is_label l ≡ true → IsLabel l
-IsLabel-is_label l ok =
-    let parts = and_parts _ _ ok in
-    record { some = ltb-true _ _ parts.0; fits = leb-true _ _ parts.1 }
+IsLabel-is_label l ok = grind (arith, and_parts, ltb-true, leb-true)
 
 pub is_label-IsLabel : (l : Octets) → 0 < length l → length l ≤ 63 → is_label l ≡ true
 is_label-IsLabel l some fits = and_from _ _ (lt-ltb _ _ some) (le-leb _ _ fits)
@@ -27,18 +25,14 @@ pub record IsName (n : DomainName) : Type 0 where
   pub fits : length (wire n) ≤ 255
 
 pub IsName-is_name : (n : DomainName) → is_name n ≡ true → IsName n
-IsName-is_name n ok =
-    let parts = and_parts (list_all is_label n) _ ok in
-    record { labels = parts.0; fits = leb-true _ _ parts.1 }
+IsName-is_name n ok = grind (arith, and_parts, leb-true)
 
 pub is_name-IsName : (n : DomainName) → list_all is_label n ≡ true → length (wire n) ≤ 255 → is_name n ≡ true
 is_name-IsName n labels fits = and_from _ _ labels (le-leb _ _ fits)
 
 -- a name without its first label is a name
 pub is_name-tail : (l : Octets) (n : DomainName) → is_name (l ∷ n) ≡ true → is_name n ≡ true
-is_name-tail l n ok =
-    let name = IsName-is_name (l ∷ n) ok in
-    is_name-IsName n (and_parts (is_label l) _ name.labels).1 (omega (arith, length-append l (wire n)))
+is_name-tail l n ok = grind (arith, IsName-is_name, is_name-IsName, and_parts, length-append)
 
 -- its first label is a label
 pub is_label-head : (l : Octets) (n : DomainName) → is_name (l ∷ n) ≡ true → is_label l ≡ true
@@ -62,14 +56,8 @@ is_name-push n l ok is_l fits = is_name-IsName (n ++ l ∷ []) (all_push n l (Is
 -- the wire forms of names tell them apart
 pub wire-injective : (n m : DomainName) → is_name n ≡ true → is_name m ≡ true → wire n ≡ wire m → n ≡ m
 wire-injective [] [] p q e = refl
-wire-injective [] (k ∷ m) p q e =
-    let is_l = IsLabel-is_label k (is_label-head k m q) in
-    let none : 0 ≡ length k = cc in
-    absurd (omega arith)
-wire-injective (l ∷ n) [] p q e =
-    let is_l = IsLabel-is_label l (is_label-head l n p) in
-    let none : length l ≡ 0 = cc in
-    absurd (omega arith)
+wire-injective [] (k ∷ m) p q e = grind (arith, IsLabel-is_label, is_label-head)
+wire-injective (l ∷ n) [] p q e = grind (arith, IsLabel-is_label, is_label-head)
 wire-injective (l ∷ n) (k ∷ m) p q e =
     let as_long : length l ≡ length k = cc in
     let after : l ++ wire n ≡ k ++ wire m = cc in
@@ -121,24 +109,22 @@ all_folded (l ∷ n) ok =
 
 -- a name folded is a name
 pub is_name-folded : (n : DomainName) → is_name n ≡ true → is_name (folded n) ≡ true
-is_name-folded n ok =
-    let name = IsName-is_name n ok in
-    is_name-IsName (folded n) (all_folded n name.labels) (omega (arith, length-wire-folded n))
+is_name-folded n ok = grind (arith, IsName-is_name, is_name-IsName, all_folded, length-wire-folded)
 
 -- two names are the same where their wire forms are, folded
 pub same-wire : (n m : DomainName) → is_name n ≡ true → is_name m ≡ true → (same n m ≡ true → map to_ascii_lowercase (wire n) ≡ map to_ascii_lowercase (wire m)) × (map to_ascii_lowercase (wire n) ≡ map to_ascii_lowercase (wire m) → same n m ≡ true)
 same-wire n m p q =
-    let e = map-lowercase-wire n (IsName-is_name n p).labels in
-    let f = map-lowercase-wire m (IsName-is_name m q).labels in
-    let decides = names_equal-decides (folded n) (folded m) in (
-      λ h. e ∙ ap wire (decides.0 h) ∙ sym f,
-      λ h. decides.1 (wire-injective (folded n) (folded m) (is_name-folded n p) (is_name-folded m q) (sym e ∙ h ∙ f)),
+    grind (
+      arith,
+      map-lowercase-wire,
+      IsName-is_name,
+      names_equal-decides,
+      wire-injective,
+      is_name-folded,
     )
 
 pub same-length : (n m : DomainName) → same n m ≡ true → length n ≡ length m
-same-length n m h =
-    let e = ap length ((names_equal-decides (folded n) (folded m)).0 h) in
-    omega (arith, length-map n (map to_ascii_lowercase), length-map m (map to_ascii_lowercase))
+same-length n m h = grind (arith, names_equal-decides, length-map)
 
 pub same-length-wire : (n m : DomainName) → same n m ≡ true → length (wire n) ≡ length (wire m)
 same-length-wire n m h =
@@ -177,9 +163,7 @@ length-wire-drop (suc k) (l ∷ n) = omega (arith, length-wire-drop k n, length-
 
 -- a name is as long on the wire as those that it is at or below, or longer
 pub at_or_below-length-wire : (n a : DomainName) → at_or_below n a ≡ true → length (wire a) ≤ length (wire n)
-at_or_below-length-wire n a h =
-    let e = same-length-wire (last_labels (length a) n) a (and_parts (nat_le (length a) (length n)) _ h).1 in
-    omega (arith, length-wire-drop (length n - length a) n)
+at_or_below-length-wire n a h = grind (arith, same-length-wire, and_parts, length-wire-drop)
 
 -- where n is no longer on the wire than a, it is at or below a only if it is the same
 pub at_or_below-short : (n a : DomainName) → length (wire n) ≤ length (wire a) → at_or_below n a ≡ same n a

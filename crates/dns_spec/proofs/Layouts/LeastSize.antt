@@ -43,9 +43,7 @@ unplaced-data_names ms p (octets o ∷ ps) = unplaced-data_names ms (p + length 
 unplaced-data_names ms p (name n ∷ ps) = ap (λ z. n ∷ z) (unplaced-data_names (ms ++ (n, p) ∷ []) (p + cost ms n) ps)
 
 unplaced-record_names : (ms : List Placed) (p : ℕ) (r : ResourceRecord) → unplaced (ms ++ record_names ms p r) ≡ unplaced ms ++ names_of r
-unplaced-record_names ms p r =
-    map-append (λ (m : Placed). m.0) ms (record_names ms p r)
-    ∙ ap (λ z. unplaced ms ++ r.owner ∷ z) (unplaced-data_names (ms ++ (r.owner, p) ∷ []) (p + cost ms r.owner + 10) (parts_of r))
+unplaced-record_names ms p r = grind (arith, map-append, unplaced, unplaced-data_names)
 
 records_possible : (ms : List Placed) (p : ℕ) (rs : List ResourceRecord) → RecordsSize (unplaced ms) rs (records_size ms p rs)
 unfolding records_size

@@ -1,5 +1,5 @@
 -- Header, question and sections of a layout, read back where they stand.
-use Rattle.std.proofs.Common.{◌≡◌, ℕ, ◌+◌, ◌^◌, ◌<◌, Bool, true, false, cond, nat_le, List, [], ◌∷◌, ◌++◌, length, Option, None, Some, IfSome, filter, refl, sym, ap, ◌∙◌, subst, arith, append_assoc, length-append}
+use Rattle.std.proofs.Common.{◌≡◌, ℕ, ◌+◌, ◌^◌, ◌<◌, Bool, true, false, cond, nat_le, List, [], ◌∷◌, ◌++◌, length, Option, None, Some, IfSome, refl, sym, ap, ◌∙◌, subst, arith, append_assoc, length-append}
 use Rattle.std.proofs.lemmas.Bool.{and_parts, leb-true}
 use Rattle.std.specs.List.{list_all}
 use Rattle.std.specs.Option.{option_to_list}
@@ -23,11 +23,7 @@ other_section additional additional h = absurd (omega arith)
 
 pub section_with : (s : Section) (i : Item) (is : List Item) (t : Bool) → is_section s i.section ≡ t
     → in_section s (i ∷ is) ≡ cond t (i.records ++ in_section s is) (in_section s is)
-section_with s i is t e = ap (λ x. records_of (cond x (i ∷ filter (λ (j : Item). is_section s j.section) is) (filter (λ (j : Item). is_section s j.section) is))) e ∙ go t
-  where
-    go : (x : Bool) → records_of (cond x (i ∷ filter (λ (j : Item). is_section s j.section) is) (filter (λ (j : Item). is_section s j.section) is)) ≡ cond x (i.records ++ in_section s is) (in_section s is)
-    go true = refl
-    go false = refl
+section_with s i is t e = grind arith
 
 section_empty : (s : Section) (n : ℕ) (is : List Item) → section_rank s < n
     → list_all (λ (j : Item). nat_le n (section_rank j.section)) is ≡ true → in_section s is ≡ []

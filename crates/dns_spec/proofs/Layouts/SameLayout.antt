@@ -5,7 +5,7 @@ use Rattle.dns_spec.specs.Names.{Octets, DomainName, wire}
 use Rattle.dns_spec.specs.Data.{Part, octets, name}
 use Rattle.dns_spec.specs.Records.{ResourceRecord}
 use Rattle.dns_spec.specs.Reading.{Header, MessageQuestion}
-use Rattle.dns_spec.specs.Layout.{reach, Item, records_of, pointer, Placed, has_suffix, suffix_place, place_of, shared_place, shared_octets, Laid, laid_front, data_laid, record_laid, parts_of, record_tail, records_octets, asked_octets, asked_placed, reply_header, layout}
+use Rattle.dns_spec.specs.Layout.{reach, Item, records_of, Placed, has_suffix, suffix_place, place_of, shared_place, shared_octets, Laid, laid_front, data_laid, record_laid, parts_of, record_tail, records_octets, asked_octets, asked_placed, reply_header, layout}
 use Rattle.dns_spec.specs.LayoutSize.{size}
 use Rattle.dns_spec.specs.UnboundedLayout.{unbounded_octets, unbounded_data, unbounded_record, unbounded_records, unbounded_layout, unbounded_size}
 use Rattle.dns_spec.proofs.Layouts.LayoutSize.{length-layout, length-record_tail}
@@ -18,18 +18,12 @@ abbrev Low : List Placed → Type 0
 Low ms = (l : Octets) (n : DomainName) (p : ℕ) → place_of ms (l ∷ n) ≡ Some p → p < reach
 
 same_place : (ms : List Placed) → Low ms → (l : Octets) (n : DomainName) → shared_place ms (l ∷ n) ≡ place_of ms (l ∷ n)
-same_place ms low l n = go (place_of ms (l ∷ n)) refl
-  where
-    go : (x : Option ℕ) → place_of ms (l ∷ n) ≡ x → shared_place ms (l ∷ n) ≡ place_of ms (l ∷ n)
-    go None e = shared_none ms (l ∷ n) e ∙ sym e
-    go (Some p) e = shared_to ms (l ∷ n) p e (low l n p e) ∙ sym e
+same_place ms low l n = grind (arith, shared_none, shared_to)
 
 same_octets : (ms : List Placed) → Low ms → (n : DomainName) → shared_octets ms n ≡ unbounded_octets ms n
 unfolding shared_octets unbounded_octets
 same_octets ms low [] = refl
-same_octets ms low (l ∷ n) =
-    ap (λ (x : Option ℕ). elim x as (λ _. Octets) [ None ↦ length l ∷ (l ++ shared_octets ms n) | Some p ↦ pointer p ]) (same_place ms low l n)
-    ∙ ap (λ w. elim (place_of ms (l ∷ n)) as (λ _. Octets) [ None ↦ length l ∷ (l ++ w) | Some p ↦ pointer p ]) (same_octets ms low n)
+same_octets ms low (l ∷ n) = grind (arith, same_place, (same_octets ms low n))
 
 -- a suffix that is new begins among the octets laid out
 pub begins_inside : (ms : List Placed) (n front : DomainName) (l : Octets) (t : DomainName) → n ≡ front ++ l ∷ t → place_of ms (l ∷ t) ≡ None

@@ -9,7 +9,7 @@ use Rattle.dns_spec.specs.Names.{Octets, wire, is_label, labels_from}
 use Rattle.dns_spec.specs.Data.{class_in, Fixed, width, Piece, fixed, domain, string, strings, anything, pieces_of, compresses, Part, octets, octets_front, piece_front, cut, valid, parts, laid_parts}
 use Rattle.dns_spec.specs.Records.{ResourceRecord}
 use Rattle.dns_spec.specs.Reading.{Header, MessageQuestion, MessageRecord, OctetsAt, NumberAt, PiecesAt, DataAt, RecordsAt, Spells}
-use Rattle.dns_spec.specs.Layout.{octets16, octets32, answer, authority, additional, Item, records_of, in_section, Placed, shared_octets, data_laid, parts_of, record_tail, records_octets, question_octets, asked_octets, asked_placed, reply_header, layout, is_section, Section, message_record, message_of}
+use Rattle.dns_spec.specs.Layout.{octets16, octets32, answer, authority, additional, Item, records_of, in_section, Placed, shared_octets, data_laid, parts_of, record_tail, records_octets, question_octets, asked_octets, asked_placed, reply_header, layout, Section, message_record, message_of}
 use Rattle.dns_spec.specs.LayoutSize.{record_size, record_names, records_size, size}
 use Rattle.dns_spec.specs.Laws.{IsWritable, IsAskable, HasRoom}
 use Rattle.dns_spec.proofs.Records.SortedOnce.{Each}
@@ -359,18 +359,10 @@ spells_where b h q items room ok counts writable whole =
 -- there are no more records than octets
 section_bound : (s : Section) (is : List Item) → length (in_section s is) ≤ length (records_of is)
 section_bound s [] = omega arith
-section_bound s (i ∷ is) = go (is_section s i.section) refl (section_bound s is)
-  where
-    go : (t : Bool) → is_section s i.section ≡ t → length (in_section s is) ≤ length (records_of is) → length (in_section s (i ∷ is)) ≤ length (i.records ++ records_of is)
-    go true e h = let q = ap length (section_with s i is true e) in omega (arith, h, q, length-append i.records (in_section s is), length-append i.records (records_of is))
-    go false e h = let q = ap length (section_with s i is false e) in omega (arith, h, q, length-append i.records (records_of is))
+section_bound s (i ∷ is) = grind (arith, section_with, length-append, (section_bound s is))
 
 counted : (is : List Item) → length (records_of is) < 2 ^ 16 → HasCounts is
-counted is few = record {
-  answers = omega (arith, section_bound answer is);
-  authorities = omega (arith, section_bound authority is);
-  additionals = omega (arith, section_bound additional is);
-}
+counted is few = grind (arith, section_bound)
 
 shared_bound : (ms : List Placed) (p : ℕ) (rs : List ResourceRecord) → length rs ≤ records_size ms p rs
 unfolding records_size

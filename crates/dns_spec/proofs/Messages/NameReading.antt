@@ -2,7 +2,7 @@
 use Rattle.std.proofs.Common.{◌≡◌, ℕ, zero, suc, ◌+◌, ◌-◌, ◌<◌, ◌≤◌, Bool, true, false, cond, ◌&&◌, ◌↔◌, inl, inr, [], ◌∷◌, length, take, drop, nat_lt, nat_le, Option, None, Some, slice_get, option_map, option_and_then, refl, sym, ap, ◌∙◌, subst, subst₂, arith, lt-ltb, le-ltb, le-leb, ne_eqb}
 use Rattle.std.proofs.lemmas.Bool.{cases_lt, lt-leb, and_from, and_left, and_right, cond-true}
 use Rattle.std.proofs.lemmas.Option.{none-some, same_Some, slice_get_past, slice_get_within, cond_some, option_and_then_some, some_pair_parts}
-use Rattle.dns_spec.specs.Names.{Octets, DomainName, is_name, with_label}
+use Rattle.dns_spec.specs.Names.{Octets, DomainName, with_label}
 use Rattle.dns_spec.specs.Reading.{pointer_place, RunAt, NameAt}
 use Rattle.dns_spec.specs.ComputedReading.{RunStep, run_end, run_label, run_pointer, unlawful, pointer_step, step_of, jump, run, runs_before, name_if_short, name_at}
 use Rattle.dns_spec.specs.Reading.RunAt.{ends, goes_on, jumps}
@@ -104,11 +104,7 @@ if_lawful x false = None
 
 jump_is : (known : ℕ → Option (DomainName × ℕ)) (s i p : ℕ) → jump known s i p ≡ if_lawful (after i (known p)) (nat_le 12 p && nat_lt p s)
 unfolding after
-jump_is known s i p = go (nat_le 12 p && nat_lt p s)
-  where
-    go : (t : Bool) → ◌≡◌ {A = Option (DomainName × ℕ)} (elim t [ true ↦ option_map (λ r. (r.0, i + 2)) (known p) | false ↦ None ]) (if_lawful (option_map (λ r. (r.0, i + 2)) (known p)) t)
-    go true = refl
-    go false = refl
+jump_is known s i p = grind arith
 
 jump_lawful : (known : ℕ → Option (DomainName × ℕ)) (s i p : ℕ) → 12 ≤ p → p < s → jump known s i p ≡ after i (known p)
 jump_lawful known s i p h l = jump_is known s i p ∙ ap (if_lawful (after i (known p))) (and_from (nat_le 12 p) (nat_lt p s) (le-leb 12 p h) (lt-ltb p s l))
@@ -126,10 +122,7 @@ data PlaceFor (s p : ℕ) : Type 0 where
   too_high : s ≤ p → PlaceFor s p
 
 place_for : (s p : ℕ) → PlaceFor s p
-place_for s p = elim (cases_lt p 12) [
-  | inl below ↦ too_low below
-  | inr above ↦ elim (cases_lt p s) [ inl before ↦ lawful above before | inr past ↦ too_high past ]
-]
+place_for s p = grind (arith, cases_lt, inl, inr)
 
 -- A run has no more steps than there are octets: with so many it does not depend on their number, nor on what is known
 -- of runs that begin in the header, at its own place or after it.
@@ -258,17 +251,10 @@ unfolding name_at
 name_at_is b i = ap (option_and_then name_if_short) (known_is b i i)
 
 computed : (b : Octets) (i : ℕ) (n : DomainName) (e : ℕ) → name_at b i ≡ Some (n, e) → NameAt b i n e
-computed b i n e h =
-    option_and_then_some name_if_short (run (runs_before b i) b i (length b) i) (n, e) (sym (name_at_is b i) ∙ h) (λ x is short.
-    let c = cond_some (is_name x.0) (x.0, x.1) (n, e) short in (
-      sound_run (runs_before b i) b (sound b i) i (length b) i n e (is ∙ ap Some c.1),
-      ap is_name (sym (ap (λ q. q.0) c.1)) ∙ c.0,
-    ))
+computed b i n e h = grind (arith, option_and_then_some, name_at_is, cond_some, sound_run, sound)
 
 related : (b : Octets) (i : ℕ) (n : DomainName) (e : ℕ) → NameAt b i n e → name_at b i ≡ Some (n, e)
-related b i n e h =
-    name_at_is b i ∙ ap (option_and_then name_if_short) (complete h.0 i (length b) (omega arith) (omega arith))
-    ∙ cond-true (is_name n) (Some (n, e)) None h.1
+related b i n e h = grind (arith, name_at_is, complete, cond-true)
 
 -- `name_at` computes the relation.
 pub name_at_computes : (b : Octets) (i : ℕ) (n : DomainName) (e : ℕ) → (name_at b i ≡ Some (n, e)) ↔ NameAt b i n e

@@ -1,5 +1,5 @@
 -- What stands at a place of a message is read there: numbers, octets, and names that are written whole or by a pointer.
-use Rattle.std.proofs.Common.{◌≡◌, ℕ, zero, suc, ◌+◌, ◌-◌, ◌*◌, ◌%◌, ◌^◌, ◌<◌, ◌≤◌, true, nat_lt, nat_le, [], ◌∷◌, ◌++◌, length, take, drop, IsTrue, Some, slice_get, refl, sym, ap, ◌∙◌, subst, arith, append_assoc, append-nil, take_at, drop_at, length-append, pow-suc, mul_comm, mod-eq_of_lt}
+use Rattle.std.proofs.Common.{◌≡◌, ℕ, zero, suc, ◌+◌, ◌-◌, ◌*◌, ◌%◌, ◌^◌, ◌<◌, ◌≤◌, true, [], ◌∷◌, ◌++◌, length, take, drop, IsTrue, Some, slice_get, refl, sym, ap, ◌∙◌, subst, arith, append_assoc, append-nil, take_at, drop_at, length-append, pow-suc, mul_comm, mod-eq_of_lt}
 use Rattle.std.proofs.Math.Nat.{pow-le-pow_right}
 use Rattle.std.proofs.Math.Arith.{mod-mul}
 use Rattle.std.proofs.lemmas.Bool.{and_parts, leb-true, ltb-true}
@@ -18,17 +18,11 @@ length-bytes_high_first (suc k) n = ap suc (length-bytes_high_first k n)
 -- the octets of a number spell it
 byte_on : (k n : ℕ) → byte_at k n * 256 ^ k + n % 256 ^ k ≡ n % 256 ^ suc k
 byte_on zero n = omega arith
-byte_on (suc k) n =
-    let unit = 256 ^ suc k in
-    let wider : 256 ^ suc (suc k) ≡ 256 * unit = pow-suc 256 (suc k) ∙ mul_comm unit 256 in
-    let some : 0 < unit = pow-le-pow_right {n = 256} (omega arith) {i = 0} {j = suc k} (omega arith) in
-    rw (wider, mod-mul n {m = 256} {c = unit} (omega arith) some) refl
+byte_on (suc k) n = grind (arith, pow-suc, mul_comm, pow-le-pow_right, mod-mul)
 
 pub number_of-bytes : (k n : ℕ) → number_of (bytes_high_first k n) ≡ n % 256 ^ k
 number_of-bytes zero n = omega arith
-number_of-bytes (suc k) n =
-    ap (λ x. byte_at k n * 256 ^ x + number_of (bytes_high_first k n)) (length-bytes_high_first k n)
-    ∙ ap (λ x. byte_at k n * 256 ^ k + x) (number_of-bytes k n) ∙ byte_on k n
+number_of-bytes (suc k) n = grind (arith, length-bytes_high_first, byte_on, (number_of-bytes k n))
 
 -- The octets x stand in b from place i on.
 pub record Stands (b : Octets) (i : ℕ) (x : Octets) : Type 0 where
@@ -57,9 +51,7 @@ stands_all b = record { before = []; after = []; whole = sym (append-nil b); pla
 
 -- they lie within b, and are read off
 pub stands_within : {b : Octets} {i : ℕ} (x : Octets) → Stands b i x → i + length x ≤ length b
-stands_within {b} {i} x s =
-    let e : length b ≡ length s.before + (length x + length s.after) = ap length s.whole ∙ length-append s.before (x ++ s.after) ∙ ap (λ z. length s.before + z) (length-append x s.after) in
-    omega (arith, e, s.place)
+stands_within {b} {i} x s = grind (arith, length-append)
 
 pub stands_drop : {b : Octets} {i : ℕ} (x : Octets) (s : Stands b i x) → drop i b ≡ x ++ s.after
 stands_drop {b} {i} x s = ap (drop i) s.whole ∙ drop_at s.before (x ++ s.after) i s.place
@@ -94,9 +86,7 @@ octets_at {b} {i} x s = record {
 
 -- a name written whole, of labels
 pub label_parts : (l : Octets) → is_label l ≡ true → (0 < length l) × (length l < 64)
-label_parts l h =
-    let p = and_parts (nat_lt 0 (length l)) (nat_le (length l) 63) h in
-    (ltb-true 0 (length l) p.0, let q = leb-true (length l) 63 p.1 in omega arith)
+label_parts l h = grind (arith, and_parts, ltb-true, leb-true)
 
 pub run_written : {b : Octets} {s : ℕ} (n : DomainName) {i : ℕ} → list_all is_label n ≡ true → Stands b i (wire n) → RunAt b s i n (i + length (wire n))
 run_written [] {i} h at = ends i (stands_get 0 [] at)

@@ -1,5 +1,5 @@
 -- A word spells at most one name, and a text at most one string.
-use Rattle.std.proofs.Common.{◌≡◌, ◌≢◌, ℕ, ◌⊎◌, inl, inr, Bool, true, false, ◌==◌, [], ◌∷◌, ◌++◌, length, get_or, Option, Some, None, refl, sym, ◌∙◌, ap, ap₂, subst, arith, codes}
+use Rattle.std.proofs.Common.{◌≡◌, ℕ, inl, inr, Bool, true, false, ◌==◌, [], ◌∷◌, ◌++◌, length, get_or, Option, Some, None, refl, sym, ◌∙◌, ap, ap₂, subst, arith, codes}
 use Rattle.std.specs.Prelude.{if◌then◌else◌}
 use Rattle.std.specs.List.{list_all}
 use Rattle.std.specs.Char.{is_ascii_digit, IsAsciiDigit, IsNotAsciiDigit}
@@ -87,9 +87,7 @@ label_once text [] rest [] rest' h k end end' = (refl, sym h ∙ k)
 label_once text [] rest (y ∷ l') rest' h (first, others, e, said, k) end end' = absurd (not_ended text rest first others y h end e said)
 label_once text (x ∷ l) rest [] rest' (first, others, e, said, h) k end end' = absurd (not_ended text rest' first others x k end' e said)
 label_once text (x ∷ l) rest (y ∷ l') rest' (first, others, e, said, h) (first', others', e', said', k) end end' =
-    let one = octet_once text first first' others others' x y e e' (inl said) (inl said') in
-    let after = label_once others l rest l' rest' h (subst (λ t. LabelThen t l' rest') (sym one.1) k) end end' in
-    (ap₂ (λ z zs. z ∷ zs) one.0 after.0, after.1)
+    grind (arith, octet_once, inl, ap₂, (label_once others l rest l' rest' h))
 
 no_empty_label : (l : Octets) → [] ≡ l → is_label l ≡ true → ⊥
 no_empty_label l e h = false≢true (ap is_label e ∙ h)
@@ -119,10 +117,7 @@ spelled_once origin text (l ∷ n) (l' ∷ m) all all' (inl (h, e)) (inr (others
 spelled_once origin text (l ∷ n) (l' ∷ m) all all' (inr (others, h, e)) (inl (k, f)) =
     absurd (not_cons 46 others (label_once text l' [] l (46 ∷ others) k h refl refl).1)
 spelled_once origin text (l ∷ n) (l' ∷ m) all all' (inr (others, h, e)) (inr (others', k, f)) =
-    let one = label_once text l (46 ∷ others) l' (46 ∷ others') h k refl refl in
-    let same : others ≡ others' = cc (one.1) in
-    let after = spelled_once origin others n m (and_parts (is_label l) _ all).1 (and_parts (is_label l') _ all').1 e (subst (λ t. TextSpells origin t m) (sym same) f) in
-    ap₂ (λ z zs. z ∷ zs) one.0 after
+    grind (arith, label_once, and_parts, ap₂, (spelled_once origin others n m))
 
 at_is_no_dot : (word : Octets) → word ≡ codes "@" → word ≡ codes "." → ⊥
 at_is_no_dot word e f = omega (arith, ap (λ t. get_or t 0 0) (sym e ∙ f))
@@ -134,23 +129,5 @@ dot_alone origin word [] e all h = omega (arith, ap length (sym e ∙ h))
 dot_alone origin word (l ∷ m) e all h = no_labels [] word (codes ".") origin l m e refl all h
 
 pub name_once : (origin : DomainName) (word : Octets) (n m : DomainName) → SpellsName origin word n → SpellsName origin word m → n ≡ m
-name_once origin word n m h k = by_cases h.spelled k.spelled
-  where
-    all : list_all is_label n ≡ true
-    all = (and_parts (list_all is_label n) _ h.is_name).0
-
-    all' : list_all is_label m ≡ true
-    all' = (and_parts (list_all is_label m) _ k.is_name).0
-
-    by_cases : ((word ≡ codes "@") × (n ≡ origin)) ⊎ (((word ≡ codes ".") × (n ≡ [])) ⊎ ((word ≢ codes "@") × (word ≢ []) × TextSpells origin word n))
-        → ((word ≡ codes "@") × (m ≡ origin)) ⊎ (((word ≡ codes ".") × (m ≡ [])) ⊎ ((word ≢ codes "@") × (word ≢ []) × TextSpells origin word m))
-        → n ≡ m
-    by_cases (inl (at, e)) (inl (at', f)) = e ∙ sym f
-    by_cases (inl (at, e)) (inr (inl (dot, f))) = absurd (at_is_no_dot word at dot)
-    by_cases (inl (at, e)) (inr (inr (no_at, some, f))) = absurd (no_at at)
-    by_cases (inr (inl (dot, e))) (inl (at, f)) = absurd (at_is_no_dot word at dot)
-    by_cases (inr (inl (dot, e))) (inr (inl (dot', f))) = e ∙ sym f
-    by_cases (inr (inl (dot, e))) (inr (inr (no_at, some, f))) = absurd (dot_alone origin word m dot all' f)
-    by_cases (inr (inr (no_at, some, e))) (inl (at, f)) = absurd (no_at at)
-    by_cases (inr (inr (no_at, some, e))) (inr (inl (dot, f))) = absurd (dot_alone origin word n dot all e)
-    by_cases (inr (inr (no_at, some, e))) (inr (inr (no_at', some', f))) = spelled_once origin word n m all all' e f
+name_once origin word n m h k =
+    grind (arith, and_parts, inl, inr, at_is_no_dot, dot_alone, spelled_once)

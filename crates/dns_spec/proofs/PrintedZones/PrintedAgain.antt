@@ -1,5 +1,5 @@
 -- The canonical text of a zone is its own canonical text, and zones with one such text hold the same records.
-use Rattle.std.proofs.Common.{◌≡◌, ◌≤◌, ◌↔◌, ◌<◌, IsTrue, Bool, true, false, not, cond, All, List, [], ◌∷◌, length, refl, sym, ap, ◌∙◌, subst, arith, is_eq, filter, inl, inr}
+use Rattle.std.proofs.Common.{◌≡◌, ◌≤◌, ◌↔◌, ◌<◌, IsTrue, Bool, not, cond, All, List, [], ◌∷◌, length, refl, sym, ap, ◌∙◌, subst, arith, is_eq, filter, inl, inr}
 use Rattle.std.proofs.lemmas.Bool.{false≢true}
 use Rattle.std.proofs.lemmas.List.Sorted.{IsPermutation-trans, IsPermutation-sym, Contains-permutation}
 use Rattle.std.specs.List.{Contains}
@@ -24,11 +24,7 @@ all_distinct P rs all = all_each P (distinct records_equal rs) (each_distinct P 
 
 length_filter : {X : Type 0} (p : X → Bool) (xs : List X) → length (filter p xs) ≤ length xs
 length_filter p [] = omega arith
-length_filter p (x ∷ xs) = go (p x) (length_filter p xs)
-  where
-    go : (t : Bool) → length (filter p xs) ≤ length xs → length (cond t (x ∷ filter p xs) (filter p xs)) ≤ length (x ∷ xs)
-    go true h = omega (arith, h)
-    go false h = omega (arith, h)
+length_filter p (x ∷ xs) = grind (arith, (length_filter p xs))
 
 length_distinct : {X : Type 0} (eq : X → X → Bool) (xs : List X) → length (distinct eq xs) ≤ length xs
 length_distinct eq [] = omega arith

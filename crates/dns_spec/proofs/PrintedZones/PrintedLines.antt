@@ -10,7 +10,7 @@ use Rattle.dns_spec.specs.TypeText.{numbered_type, type_text}
 use Rattle.dns_spec.specs.DataText.{Word, is_word_octet}
 use Rattle.dns_spec.specs.WrittenText.{plain, word_text, written_words, data_text, stands_alone}
 use Rattle.dns_spec.specs.Records.{ResourceRecord}
-use Rattle.dns_spec.specs.ZoneText.{Token, blank, word, quoted_string, line_end, is_blank, TokensThen, parenthesis, before_first, cut_entries, parentheses, word_of}
+use Rattle.dns_spec.specs.ZoneText.{Token, blank, line_end, is_blank, TokensThen, parenthesis, before_first, cut_entries, parentheses, word_of}
 use Rattle.dns_spec.specs.ZonePrinted.{IsReadRecord, record_line}
 use Rattle.dns_spec.proofs.Records.SortedOnce.{Each}
 use Rattle.dns_spec.proofs.DataWords.BareWords.{Bare, bare_append, bare_decimal}
@@ -131,34 +131,19 @@ line_pieces_read r rest h = (line_read r rest h).tokens
 
 -- a word's token is no parenthesis, and gives the word
 no_parenthesis : (w : Word) → parenthesis (word_token w) ≡ None
-no_parenthesis w = by w.raw w.is_quoted
-  where
-    by : (raw : Octets) (q : Bool) → parenthesis (word_token (record { raw = raw; is_quoted = q })) ≡ None
-    by raw true = refl
-    by raw false = refl
+no_parenthesis w = grind (arith, word_token)
 
 token_word : (w : Word) → word_of (word_token w) ≡ Some w
-token_word w = by w.raw w.is_quoted
-  where
-    by : (raw : Octets) (q : Bool) → word_of (word_token (record { raw = raw; is_quoted = q })) ≡ Some (record { raw = raw; is_quoted = q })
-    by raw true = refl
-    by raw false = refl
+token_word w = grind (arith, word_token)
 
 -- what the tokens after a line's words give
 cut_word : (w : Word) (ps e : List Token) (es : List (List Token)) → cut_entries false ps ≡ e ∷ es → cut_entries false (word_token w ∷ ps) ≡ (word_token w ∷ e) ∷ es
-cut_word w ps e es cut = by w.raw w.is_quoted
-  where
-    by : (raw : Octets) (q : Bool)
-        → cut_entries false (word_token (record { raw = raw; is_quoted = q }) ∷ ps) ≡ (word_token (record { raw = raw; is_quoted = q }) ∷ e) ∷ es
-    by raw true = ap (before_first (quoted_string raw)) cut
-    by raw false = ap (before_first (word raw)) cut
+cut_word w ps e es cut = grind (arith, word_token)
 
 cut_words : (ws : List Word) (ps : List Token) → cut_entries false (words_tokens ws ++ ps) ≡ words_tokens ws ∷ cut_entries false ps
 cut_words [] ps = refl
 cut_words (w ∷ []) ps = cut_word w (line_end ∷ ps) (line_end ∷ []) (cut_entries false ps) refl
-cut_words (w ∷ v ∷ ws) ps =
-    cut_word w (blank ∷ (words_tokens (v ∷ ws) ++ ps)) (blank ∷ words_tokens (v ∷ ws)) (cut_entries false ps)
-    (ap (before_first blank) (cut_words (v ∷ ws) ps))
+cut_words (w ∷ v ∷ ws) ps = grind (arith, cut_word, (cut_words (v ∷ ws) ps))
 
 cut_led : (ws : List Word) (qs ps : List Token) → cut_entries false (qs ++ ps) ≡ qs ∷ cut_entries false ps
     → cut_entries false (led ws qs ++ ps) ≡ led ws qs ∷ cut_entries false ps
@@ -167,9 +152,7 @@ cut_led (w ∷ ws) qs ps cut =
     cut_word w (blank ∷ (led ws qs ++ ps)) (blank ∷ led ws qs) (cut_entries false ps) (ap (before_first blank) (cut_led ws qs ps cut))
 
 pub line_cut : (r : ResourceRecord) (ps : List Token) → cut_entries false (line_tokens r ++ ps) ≡ line_tokens r ∷ cut_entries false ps
-line_cut r ps =
-    let qs = words_tokens (written_words r.rtype r.rdata) in
-    cut_led (first_words r) qs ps (cut_words (written_words r.rtype r.rdata) ps)
+line_cut r ps = grind (arith, cut_led, cut_words)
 
 words_parentheses : (ws : List Word) → parentheses (words_tokens ws) ≡ []
 words_parentheses [] = refl

@@ -1,4 +1,5 @@
 -- Lists that hold the same records make one zone, with one canonical text and one report.
+use Rattle.std.proofs.Common.{arith}
 use Rattle.std.proofs.Common.{◌≡◌, ◌↔◌, All, List, ap, sym, ◌∙◌, is_eq}
 use Rattle.std.proofs.lemmas.List.Elements.{All-contains, All-weaker}
 use Rattle.std.specs.List.{Contains}
@@ -36,8 +37,7 @@ pub read_once : (options : Options) (o : DomainName) (rs ss : List ResourceRecor
     → (ordered_zone o rs ≡ ordered_zone o ss) × (zone_text (zone_of o rs) ≡ zone_text (zone_of o ss))
     × (zone_report options (zone_of o rs) ≡ zone_report options (zone_of o ss))
 read_once options o rs ss all held =
-    let low = All-weaker IsReadRecord LowerOwner (λ r read. read.lower_owner) rs all in
-    (same_zone rs ss low held o, same_text rs ss low held o, same_report rs ss low held o options)
+    grind (arith, All-weaker, LowerOwner, same_zone, same_text, same_report)
 
 reported_once : (o : DomainName) (t u : Octets) (rs ss : List ResourceRecord) → Means (folded o) t (records rs) → Means (folded o) u (records ss) → HoldSameRecords rs ss
     → (options : Options) (report : Report) → Reports o t options report → Reports o u options report

@@ -1,18 +1,18 @@
 -- The sets of an answer stand in the order of their sections, and their records fit a message where those of the zone do.
-use Rattle.std.proofs.Common.{◌≡◌, ℕ, zero, suc, ◌<◌, ◌≤◌, min, append_assoc, append-nil, Bool, true, false, ◌&&◌, not, cond, nat_le, ◌==◌, List, [], ◌∷◌, ◌++◌, map, reverse, take, Option, None, Some, is_some, option_map, unwrap_or, All, find, filter, flat_map, refl, sym, ap, subst, arith}
+use Rattle.std.proofs.Common.{◌≡◌, ℕ, zero, suc, ◌<◌, ◌≤◌, min, append_assoc, append-nil, Bool, true, false, ◌&&◌, cond, nat_le, ◌==◌, List, [], ◌∷◌, ◌++◌, map, reverse, take, Option, None, Some, All, find, filter, flat_map, refl, sym, ap, subst, arith}
 use mathlib.Core.List.{reverse_aux}
 use Rattle.std.proofs.lemmas.Bool.{and_from, le-leb}
 use Rattle.std.proofs.lemmas.Option.{none-some, same_Some, cond_some, option_and_then_some}
 use Rattle.std.proofs.lemmas.List.Elements.{All-nil, All-cons, All-head, All-tail}
-use Rattle.std.specs.List.{list_all, list_any}
-use Rattle.dns_spec.specs.Names.{Octets, DomainName, is_name, folded, same, at_or_below, suffixes}
-use Rattle.dns_spec.specs.Data.{type_a, type_ns, type_cname, type_soa, type_aaaa, qtype_any, width, Piece, fixed, domain, string, strings, anything, pieces_of, Part, octets, name, piece_front, cut, first_name, target, soa_minimum}
+use Rattle.std.specs.List.{list_all}
+use Rattle.dns_spec.specs.Names.{Octets, DomainName, is_name, folded, same, suffixes}
+use Rattle.dns_spec.specs.Data.{type_a, type_ns, type_cname, type_soa, type_aaaa, width, Piece, fixed, domain, string, strings, anything, Part, octets, name, piece_front, cut, first_name, target, soa_minimum}
 use Rattle.dns_spec.specs.Records.{ResourceRecord, ZoneContents, data_order, at, of_type, rrset, with_owner}
-use Rattle.dns_spec.specs.Sets.{rising_types, of_first_type, of_lowest_type}
-use Rattle.dns_spec.specs.Tree.{exists, is_cut, cut_of, source_of_synthesis, found}
+use Rattle.dns_spec.specs.Sets.{of_lowest_type}
+use Rattle.dns_spec.specs.Tree.{is_cut, cut_of, found}
 use Rattle.dns_spec.specs.Layout.{Section, answer, authority, additional, Item, records_of}
 use Rattle.dns_spec.specs.Reading.{name_error, no_error}
-use Rattle.dns_spec.specs.Answer.{most_aliases, item, follows_alias, alias_set, first_target, next_sought, chain_from, chain, last_of, last_sought, alias_items, Outcome, asked_records, negative, positive, has_any, outcome_by, outcome_at, outcome, targets, stands, address_set, address_sets, extra, main_items, items}
+use Rattle.dns_spec.specs.Answer.{item, follows_alias, alias_set, first_target, next_sought, chain_from, chain, last_of, last_sought, alias_items, Outcome, asked_records, negative, positive, has_any, outcome_by, outcome_at, outcome, targets, address_set, address_sets, extra, main_items, items}
 use Rattle.dns_spec.specs.Laws.{section_rank, sections_in_order, IsWritable}
 use Rattle.dns_spec.proofs.DomainNames.NameLaws.{is_name-tail, is_name-folded}
 use Rattle.dns_spec.proofs.Records.SortedOnce.{Each, each_filter, each_sort}
@@ -48,11 +48,7 @@ each_reverse P xs e = each_reverse_onto P xs [] e tt
 
 found_each : {X : Type 0} (P : X → Type 0) (test : X → Bool) (xs : List X) (y : X) → Each P xs → find test xs ≡ Some y → P y
 found_each P test [] y e h = absurd (none-some y h)
-found_each P test (x ∷ xs) y e h = go (test x) h (found_each P test xs y e.1)
-  where
-    go : (t : Bool) → cond t (Some x) (find test xs) ≡ Some y → (find test xs ≡ Some y → P y) → P y
-    go true q f = subst P (same_Some x y q) e.0
-    go false q f = f q
+found_each P test (x ∷ xs) y e h = grind (arith, same_Some, (found_each P test xs y e.1))
 
 -- names above a name, and in lower case
 abbrev pub Named : DomainName → Type 0
@@ -95,11 +91,7 @@ named_first (octets o ∷ xs) m e h = named_first xs m e.1 h
 named_first (name n ∷ xs) m e h = subst Named (same_Some n m h) e.0
 
 pub named_target : (t : ℕ) (d : Octets) (m : DomainName) → target t d ≡ Some m → Named m
-named_target t d m h = go (cut (pieces_of t) d) refl h
-  where
-    go : (y : Option (List Part)) → cut (pieces_of t) d ≡ y → first_name (unwrap_or y (octets d ∷ [])) ≡ Some m → Named m
-    go None e f = absurd (none-some m f)
-    go (Some xs) e f = named_first xs m (named_parts (pieces_of t) d xs e) f
+named_target t d m h = grind (arith, none-some, named_first, named_parts)
 
 -- records taken from those of a zone
 abbrev Writable : List ResourceRecord → Type 0
@@ -123,10 +115,7 @@ module _ (z : ZoneContents) where
   first_target_named (r ∷ rs) m e = named_target r.rtype r.rdata m e
 
   next_named : (sought : List DomainName) (s m : DomainName) → next_sought z sought s ≡ Some m → Named m
-  next_named sought s m e =
-      option_and_then_some (λ m. cond (at_or_below m z.origin && not (list_any (same m) sought)) (Some m) None) (first_target (alias_set z s)) m e (λ x p q.
-      let c = cond_some (at_or_below x z.origin && not (list_any (same x) sought)) x m q in
-      subst Named c.1 (first_target_named (alias_set z s) x p))
+  next_named sought s m e = grind (arith, option_and_then_some, cond_some, first_target_named)
 
   chain_from_named : (k : ℕ) (sought : List DomainName) (s : DomainName) → Named s → Each Named (chain_from z k sought s)
   unfolding chain_from
@@ -140,39 +129,14 @@ module _ (z : ZoneContents) where
 
   pub chain_named : (q : DomainName) (t : ℕ) → Named q → Each Named (chain z q t)
   unfolding chain
-  chain_named q t h = go (follows_alias t) (chain_from_named most_aliases [] q h)
-    where
-      go : (b : Bool) → Each Named (chain_from z most_aliases [] q) → Each Named (cond b (chain_from z most_aliases [] q) (q ∷ []))
-      go true e = e
-      go false e = (h, tt)
+  chain_named q t h = grind (arith, chain_from_named, Each)
 
--- Over a zone whose records fit a message.
 module _ (z : ZoneContents) (w : Writable z.records) where
   found_writable : (q : DomainName) (rs : List ResourceRecord) → Named q → found z q ≡ Some rs → Writable rs
-  found_writable q rs h e = go (exists z q) e
-    where
-      own : Writable (with_owner q (at z q))
-      own = with_owner_writable q (at z q) h (at_writable z q w)
-
-      wild : (y : Option DomainName) → option_map (λ n. with_owner q (at z n)) y ≡ Some rs → Writable rs
-      wild None e = absurd (none-some rs e)
-      wild (Some n) e = subst Writable (same_Some (with_owner q (at z n)) rs e) (with_owner_writable q (at z n) h (at_writable z n w))
-
-      go : (t : Bool) → cond t (Some (with_owner q (at z q))) (option_map (λ n. with_owner q (at z n)) (source_of_synthesis z q)) ≡ Some rs → Writable rs
-      go true e = subst Writable (same_Some (with_owner q (at z q)) rs e) own
-      go false e = wild (source_of_synthesis z q) e
+  found_writable q rs h e = grind (arith, with_owner_writable, at_writable, none-some, same_Some)
 
   alias_set_writable : (s : DomainName) → Named s → Writable (alias_set z s)
-  alias_set_writable s h = go (is_some (cut_of z s)) (some (found z s) refl)
-    where
-      some : (y : Option (List ResourceRecord)) → found z s ≡ y → Writable (unwrap_or (option_map (of_type type_cname) y) [])
-      some None e = tt
-      some (Some rs) e = of_type_writable type_cname rs (found_writable s rs h e)
-
-      go : (t : Bool) → Writable (unwrap_or (option_map (of_type type_cname) (found z s)) [])
-          → Writable (cond t [] (unwrap_or (option_map (of_type type_cname) (found z s)) []))
-      go true e = tt
-      go false e = e
+  alias_set_writable s h = grind (arith, of_type_writable, found_writable)
 
   last_named : (s : DomainName) (ms : List DomainName) → Named s → Each Named ms → Named (last_of s ms)
   last_named s [] h e = h
@@ -212,18 +176,10 @@ module _ (z : ZoneContents) (w : Writable z.records) where
   }
 
   lowest_writable : (rs : List ResourceRecord) → Writable rs → Writable (of_lowest_type rs)
-  lowest_writable rs v = go (rising_types rs)
-    where
-      go : (ts : List ℕ) → Writable (of_first_type ts rs)
-      go [] = tt
-      go (t ∷ ts) = of_type_writable t rs v
+  lowest_writable rs v = grind (arith, of_type_writable)
 
   asked_stood : (t : ℕ) (rs : List ResourceRecord) → Writable rs → Each (Stood answer) (item answer (asked_records t rs))
-  asked_stood t rs v = go (t == qtype_any)
-    where
-      go : (b : Bool) → Each (Stood answer) (item answer (cond b (of_lowest_type rs) (of_type t rs)))
-      go true = item_stood answer (of_lowest_type rs) (lowest_writable rs v)
-      go false = item_stood answer (of_type t rs) (of_type_writable t rs v)
+  asked_stood t rs v = grind (arith, Each, item_stood, lowest_writable, of_type_writable)
 
   answer_from_right : (t : ℕ) (rs : List ResourceRecord) → Writable rs → Right (outcome_by z t None (Some rs))
   answer_from_right t rs v = go (follows_alias t && has_any (of_type type_cname rs)) (has_any (asked_records t rs))
@@ -265,11 +221,7 @@ module _ (z : ZoneContents) (w : Writable z.records) where
       }
 
   address_set_stood : (earlier : List Item) (n : DomainName) (t : ℕ) → Each (Stood additional) (address_set z earlier n t)
-  address_set_stood earlier n t = go (stands n t earlier)
-    where
-      go : (b : Bool) → Each (Stood additional) (cond b [] (item additional (rrset z n t)))
-      go true = tt
-      go false = item_stood additional (rrset z n t) (rrset_writable n t)
+  address_set_stood earlier n t = grind (arith, Each, item_stood, rrset_writable)
 
   extra_stood : (earlier : List Item) (ms : List DomainName) → Each (Stood additional) (extra z earlier ms)
   unfolding extra
@@ -309,9 +261,7 @@ ordered_one s is e = subst Ordered (append-nil is) (ordered_front s is [] e tt t
 tested : (i : Item) (is : List Item) → Each (λ (j : Item). section_rank i.section ≤ section_rank j.section) is
     → list_all (λ (j : Item). nat_le (section_rank i.section) (section_rank j.section)) is ≡ true
 tested i [] e = refl
-tested i (j ∷ js) e =
-    and_from (nat_le (section_rank i.section) (section_rank j.section)) (list_all (λ (j : Item). nat_le (section_rank i.section) (section_rank j.section)) js)
-    (le-leb (section_rank i.section) (section_rank j.section) e.0) (tested i js e.1)
+tested i (j ∷ js) e = grind (arith, and_from, le-leb, (tested i js e.1))
 
 in_order : (is : List Item) → Ordered is → sections_in_order is ≡ true
 in_order [] o = refl

@@ -115,13 +115,7 @@ rest_cut (suc k) x low h = go (first_frame x) refl h (rest_cut k)
 -- frames of messages are read as these
 first_again : (m z : Octets) → length m < 2 ^ 16 → first_frame (frame m ++ z) ≡ Some (m, z)
 unfolding first_frame
-first_again m z h =
-    let value = two_again (length m) (m ++ z) h in
-    let whole : has_frame (frame m ++ z) ≡ true =
-    le-leb (2 + field16 (frame m ++ z) 0) (length (frame m ++ z)) (omega (arith, value, length-append m z)) in
-    let found : (take (field16 (frame m ++ z) 0) (m ++ z), drop (field16 (frame m ++ z) 0) (m ++ z)) ≡ (m, z) =
-    ap (λ n. (take n (m ++ z), drop n (m ++ z))) value ∙ ap₂ (λ u v. (u, v)) (take_at m z (length m) refl) (drop_at m z (length m) refl) in
-    (λ i. cond (whole i) (Some (found i)) None)
+first_again m z h = grind (arith, two_again, le-leb, length-append, ap₂, take_at, drop_at)
 
 pub frames_again : (k : ℕ) (ms : List Octets) (x : Octets) → All (λ m. length m < 2 ^ 16) ms → frames (length ms + k) (flat_map frame ms ++ x) ≡ ms ++ frames k x
 unfolding frames

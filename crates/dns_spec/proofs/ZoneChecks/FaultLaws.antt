@@ -1,6 +1,6 @@
 -- A fault stands among those of a zone exactly where its condition holds, once, by the order of owners and then of codes.
-use Rattle.std.proofs.Common.{◌≡◌, ℕ, ◌↔◌, Bool, true, false, ◌&&◌, ◌||◌, not, cond, ◌⊎◌, inl, inr, List, [], ◌∷◌, ◌++◌, map, length, nat_lt, ◌==◌, filter, refl, sym, ap, ◌∙◌, subst, arith, Ordering, Less, Equal, Greater, nat_cmp, is_lt}
-use Rattle.std.specs.List.{Contains, AllByRecursion, list_any, list_all, flat_map}
+use Rattle.std.proofs.Common.{◌≡◌, ℕ, ◌↔◌, Bool, true, false, ◌&&◌, ◌||◌, not, ◌⊎◌, inl, inr, List, [], ◌∷◌, ◌++◌, map, length, nat_lt, ◌==◌, filter, refl, sym, ap, ◌∙◌, subst, arith, Ordering, Less, Equal, Greater, nat_cmp, is_lt}
+use Rattle.std.specs.List.{Contains, list_any, list_all, flat_map}
 use Rattle.std.specs.List.Sorted.{IsStrictlySortedBy}
 use Rattle.std.specs.Ordering.{ordering_then}
 use Rattle.std.specs.Option.{option_map_or}
@@ -57,21 +57,12 @@ mapped_among f a (y ∷ ys) (inr m) = let r = mapped_among f a ys m in (r.0, inr
 
 any_among : {X : Type 0} (p : X → Bool) (xs : List X) → list_any p xs ≡ true → (x : X) × Among x xs × (p x ≡ true)
 any_among {X} p [] e = absurd (false≢true e)
-any_among {X} p (x ∷ xs) e = go (p x) refl e (any_among p xs)
-  where
-    go : (t : Bool) → p x ≡ t → (t || list_any p xs) ≡ true
-        → (list_any p xs ≡ true → (y : X) × Among y xs × (p y ≡ true)) → (y : X) × ((y ≡ x) ⊎ Among y xs) × (p y ≡ true)
-    go true q h again = (x, inl refl, q)
-    go false q h again = let r = again h in (r.0, inr r.1, r.2)
+any_among {X} p (x ∷ xs) e = grind (arith, Among, inl, inr, (any_among p xs))
 
 among_any : {X : Type 0} (p : X → Bool) (x : X) (xs : List X) → Among x xs → p x ≡ true → list_any p xs ≡ true
 among_any p x [] m e = absurd m
 among_any p x (y ∷ ys) (inl q) e = ap (λ t. t || list_any p ys) (sym (ap p q) ∙ e)
-among_any p x (y ∷ ys) (inr m) e = go (p y) (among_any p x ys m e)
-  where
-    go : (t : Bool) → list_any p ys ≡ true → (t || list_any p ys) ≡ true
-    go true k = refl
-    go false k = k
+among_any p x (y ∷ ys) (inr m) e = grind (arith, (among_any p x ys m e))
 
 -- A name is checked where it is the origin or an owner.
 abbrev IsChecked : ZoneContents → DomainName → Type 0
@@ -86,9 +77,7 @@ owner_if z n p none some = go (at z n) some
     go (r ∷ rs) e = lt-ltb _ _ (omega arith)
 
 any_of_both : {X : Type 0} (p q : X → Bool) (xs : List X) → list_any (λ x. p x && q x) xs ≡ true → list_any p xs ≡ true
-any_of_both p q xs e =
-    let r = any_among (λ x. p x && q x) xs e in
-    among_any p r.0 xs r.1 (and_parts (p r.0) (q r.0) r.2).0
+any_of_both p q xs e = grind (arith, any_among, among_any, and_parts)
 
 owner_if_owns : (z : ZoneContents) (n : DomainName) (t : ℕ) → owns z n t ≡ true → is_owner z n ≡ true
 owner_if_owns z n t e =
@@ -214,11 +203,8 @@ rises_from {X} cmp (x ∷ xs) e =
 
 rises_filtered : {X : Type 0} (cmp : X → X → Ordering) (p : X → Bool) (xs : List X) → Rises cmp xs → Rises cmp (filter p xs)
 rises_filtered cmp p [] r = tt
-rises_filtered {X} cmp p (x ∷ xs) r = go (p x) (rises_filtered cmp p xs r.1)
-  where
-    go : (t : Bool) → Rises cmp (filter p xs) → Rises cmp (cond t (x ∷ filter p xs) (filter p xs))
-    go true f = (each_filter (λ y. cmp x y ≡ Less) p xs r.0, f)
-    go false f = f
+rises_filtered {X} cmp p (x ∷ xs) r =
+    grind (arith, Rises, each_filter, (rises_filtered cmp p xs r.1))
 
 rises_mapped : {X Y : Type 0} (cmp : X → X → Ordering) (order : Y → Y → Ordering) (f : X → Y)
     → ((x y : X) → cmp x y ≡ Less → order (f x) (f y) ≡ Less) → (xs : List X) → Rises cmp xs → Rises order (map f xs)
@@ -275,11 +261,7 @@ faults_rise z (n ∷ names) r =
 strictly_sorted : {X : Type 0} (cmp : X → X → Ordering) (xs : List X) → Rises cmp xs → IsStrictlySortedBy cmp xs
 unfolding IsStrictlySortedBy
 strictly_sorted cmp [] r = tt
-strictly_sorted {X} cmp (x ∷ xs) r = (each xs r.0, strictly_sorted cmp xs r.1)
-  where
-    each : (ys : List X) → Each (λ y. cmp x y ≡ Less) ys → AllByRecursion (λ y. cmp x y ≡ Less) ys
-    each [] e = tt
-    each (y ∷ ys) e = (e.0, each ys e.1)
+strictly_sorted {X} cmp (x ∷ xs) r = grind (arith, Each)
 
 -- The faults stand each once, by owners and then by codes.
 pub faults_are_sorted : (z : ZoneContents) → IsStrictlySortedBy fault_order (faults z)

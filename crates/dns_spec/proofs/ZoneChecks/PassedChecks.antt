@@ -1,5 +1,5 @@
 -- A zone that passes has no fault at its origin.
-use Rattle.std.proofs.Common.{◌≡◌, ℕ, ◌≤◌, Bool, true, false, cond, ◌⊎◌, inl, inr, List, [], ◌∷◌, ◌++◌, map, length, nat_lt, refl, sym, ap, subst, ◌∙◌, filter, flat_map, ◌==◌, ◌&&◌, Ordering, arith}
+use Rattle.std.proofs.Common.{◌≡◌, ℕ, ◌≤◌, Bool, true, false, ◌⊎◌, inl, inr, List, [], ◌∷◌, ◌++◌, map, length, nat_lt, refl, sym, ap, subst, ◌∙◌, filter, flat_map, ◌==◌, ◌&&◌, Ordering, arith}
 use Rattle.std.proofs.lemmas.Bool.{ltb-false}
 use Rattle.dns_spec.specs.Names.{folded, same, name_order}
 use Rattle.dns_spec.specs.Data.{type_soa}
@@ -21,14 +21,7 @@ flat_nothing {Y = Y} f (x ∷ xs) a e m = go (f x) refl e m (flat_nothing f xs a
 
 filter_nothing : {X : Type 0} (p : X → Bool) (xs : List X) → filter p xs ≡ [] → Each (λ x. p x ≡ false) xs
 filter_nothing p [] e = tt
-filter_nothing p (x ∷ xs) e = go (p x) refl e (filter_nothing p xs)
-  where
-    go : (t : Bool) → p x ≡ t → cond t (x ∷ filter p xs) (filter p xs) ≡ [] → (filter p xs ≡ [] → Each (λ x. p x ≡ false) xs) → (p x ≡ false) × Each (λ x. p x ≡ false) xs
-    go true q f r = absurd (some_is_none x (filter p xs) f)
-      where
-        some_is_none : {X : Type 0} (x : X) (xs : List X) → x ∷ xs ≡ [] → ⊥
-        some_is_none x xs e = cc
-    go false q f r = (q, r f)
+filter_nothing p (x ∷ xs) e = grind (arith, Each, (filter_nothing p xs))
 
 map_nothing : {X Y : Type 0} (f : X → Y) (xs : List X) → map f xs ≡ [] → xs ≡ []
 map_nothing f [] e = refl

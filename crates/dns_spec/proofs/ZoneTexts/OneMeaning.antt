@@ -1,15 +1,15 @@
 -- A text means one thing.
-use Rattle.std.proofs.Common.{◌≡◌, ℕ, inl, inr, Bool, true, false, List, [], ◌∷◌, drop, take, Option, Some, None, refl, sym, ◌∙◌, ap, ap₂, subst, subst₂, arith, codes}
+use Rattle.std.proofs.Common.{◌≡◌, ℕ, inl, inr, Bool, true, false, List, [], ◌∷◌, drop, Option, Some, None, refl, sym, ◌∙◌, ap, ap₂, subst, subst₂, arith, codes}
 use Rattle.std.specs.Prelude.{MatchOption}
 use Rattle.std.specs.Bool.{MatchBool}
 use Rattle.std.proofs.lemmas.Option.{none-some, some_pair_parts}
 use Rattle.std.proofs.lemmas.Fmt.{decimal_injective}
-use Rattle.dns_spec.specs.Names.{Octets, DomainName, folded, octets_equal}
+use Rattle.dns_spec.specs.Names.{Octets, DomainName, folded}
 use Rattle.dns_spec.specs.NameText.{SpellsName}
 use Rattle.dns_spec.specs.DataText.{Word, Says}
 use Rattle.dns_spec.specs.Records.{ResourceRecord}
-use Rattle.dns_spec.specs.ZoneText.{Token, most_octets, token_front, TokensThen, cut_entries, with_end, extent_of, Entry, Entries, lexical_fault}
-use Rattle.dns_spec.specs.FileFaults.{FileFault, unknown_directive, directive_words, bad_owner, no_owner}
+use Rattle.dns_spec.specs.ZoneText.{Token, token_front, TokensThen, Entry, Entries, lexical_fault}
+use Rattle.dns_spec.specs.FileFaults.{FileFault, directive_words, bad_owner, no_owner}
 use Rattle.dns_spec.specs.Meaning.{EntryMeaning, faulty, gives, Nothing, Lowest, EntryKind, no_words, directive, owned, unowned, kind_of, directive_word, owner_word, OriginIs, NameIs, OwnerBefore, TtlSays, ttl_in_force, TtlIs, TypeIs, DataIs, IsRecord, Fields, fields, record_faults, RecordGives, OneWord, DirectiveSays, DirectiveGives, KindGives, EntryGives, Meaning, fault_at, after, line_after, EntriesMean, Means}
 use Rattle.dns_spec.proofs.NameTexts.OneName.{name_once}
 use Rattle.dns_spec.proofs.DataWords.OneData.{data_once}
@@ -96,12 +96,7 @@ says_once {A} P ws =
     lowest_once ((directive_words, Nothing (λ (v : A). OneWord (P v) ws)) ∷ []) (λ given. given ≡ gives []) (given (gives []))
 
 directive_gives_once : (o : DomainName) (earlier : List Entry) (name : Octets) (ws : List Word) → Once (DirectiveGives o earlier name ws)
-directive_gives_once o earlier name ws a b =
-    by_bool (octets_equal name (codes "$origin")) a b
-    (says_once (λ n w. NameIs o earlier w n) ws a b)
-    (by_bool (octets_equal name (codes "$ttl")) a b
-    (says_once (λ n w. TtlSays w n) ws a b)
-    (given (faulty unknown_directive) a b))
+directive_gives_once o earlier name ws a b = grind (arith, by_bool, says_once, given)
 
 kind_gives_once : (o : DomainName) (earlier : List Entry) (s : EntryKind) → Once (KindGives o earlier s)
 kind_gives_once o earlier no_words = given (gives [])
@@ -142,14 +137,10 @@ tokens_once text [] (q ∷ qs) rest others h (after, e, k) end end' =
 tokens_once text (p ∷ ps) [] rest others (after, e, h) k end end' =
     absurd (none-some (p, after) (sym end' ∙ ap token_front (sym k) ∙ e))
 tokens_once text (p ∷ ps) (q ∷ qs) rest others (x, e, h) (y, f, k) end end' =
-    let one = some_pair_parts p q x y (sym e ∙ f) in
-    let more = tokens_once x ps qs rest others h (subst (λ t. TokensThen t qs others) (sym one.1) k) end end' in
-    (ap₂ (λ z zs. z ∷ zs) one.0 more.0, more.1)
+    grind (arith, some_pair_parts, ap₂, (tokens_once x ps qs rest others h))
 
 one_cut : (text : Octets) (es fs : List Entry) → Entries text es → Entries text fs → es ≡ fs
-one_cut text es fs h k =
-    let same = tokens_once (take most_octets text) h.tokens k.tokens h.rest k.rest h.spelled k.spelled h.at_end k.at_end in
-    h.entries ∙ ap₂ (λ rest ps. with_end (extent_of text) rest (cut_entries false ps)) same.1 same.0 ∙ sym k.entries
+one_cut text es fs h k = grind (arith, tokens_once, ap₂)
 
 pub meaning_once : (o : DomainName) (text : Octets) (m n : Meaning) → Means o text m → Means o text n → m ≡ n
 meaning_once o text m n (es, h, is) (fs, k, is') =

@@ -1,7 +1,8 @@
 -- No text is without a meaning.
 --
 -- What is shown of a question is that it can't be without an answer; so which answer it has need not be found.
-use Rattle.std.proofs.Common.{◌≡◌, ℕ, ◌⊎◌, inl, inr, Bool, true, false, List, [], ◌∷◌, Option, Some, None, refl, sym, ◌∙◌, ap, subst, codes, IsTrue, take}
+use Rattle.std.proofs.Common.{arith}
+use Rattle.std.proofs.Common.{◌≡◌, ℕ, ◌⊎◌, inl, inr, Bool, true, false, List, [], ◌∷◌, Option, Some, None, refl, ap, subst, codes, IsTrue, take}
 use Rattle.std.specs.Prelude.{MatchOption, if◌then◌else◌}
 use Rattle.std.specs.Bool.{MatchBool}
 use Rattle.std.specs.Option.{is_none, option_or}
@@ -90,20 +91,21 @@ module _ (o : DomainName) (earlier : List Entry) where
 
   directive_says : (rs : List ResourceRecord) (name : Octets) (v : Word) (ws : List Word) → DirectiveGives o earlier name (v ∷ ws) (gives rs)
       → EachSays (if octets_equal name (codes "$ttl") then Some v else None)
-  directive_says rs name v ws h w = go (octets_equal name (codes "$origin")) (octets_equal name (codes "$ttl")) refl refl h
-    where
-      go : (a b : Bool) → octets_equal name (codes "$origin") ≡ a → octets_equal name (codes "$ttl") ≡ b
-          → MatchBool a (DirectiveSays (λ n w. NameIs o earlier w n) (v ∷ ws) (gives rs))
-          (MatchBool b (DirectiveSays (λ n w. TtlSays w n) (v ∷ ws) (gives rs)) (gives rs ≡ faulty unknown_directive))
-          → (if b then Some v else None) ≡ Some w → SaysTtl w
-      go a false one two h e = absurd (none-some w e)
-      go true true one two h e =
-          let origin = (octets_equal-decides name (codes "$origin")).0 one in
-          let ttl = (octets_equal-decides name (codes "$ttl")).0 two in
-          absurd (false≢true ((octets_equal-decides (codes "$origin") (codes "$ttl")).1 (sym origin ∙ ttl)))
-      go false true one two (inl (none, is)) e = absurd (faultless rs directive_words is)
-      go false true one two (inr (some, is)) e =
-          subst SaysTtl (same_Some v w e) (and_so (some_there some) (λ found. sure (found.0, one_says v ws found.0 found.1)))
+  directive_says rs name v ws h w =
+      grind (
+        arith,
+        none-some,
+        octets_equal-decides,
+        false≢true,
+        inl,
+        faultless,
+        inr,
+        same_Some,
+        and_so,
+        some_there,
+        sure,
+        one_says,
+      )
 
   -- what an entry without fault says of TTLs
   default_says : (rs : List ResourceRecord) (s : EntryKind) → KindGives o earlier s (gives rs) → EachSays (directive_word (codes "$ttl") s)
@@ -132,12 +134,7 @@ module _ (o : DomainName) (earlier : List Entry) where
   }
 
   sort_given : (rs : List ResourceRecord) (e : Entry) → EntryGives o earlier e (gives rs) → KindGives o earlier (kind_of e) (gives rs)
-  sort_given rs e = go (lexical_fault e)
-    where
-      go : (fault : Option FileFault) → MatchOption fault (KindGives o earlier (kind_of e) (gives rs)) (λ f. gives rs ≡ faulty f)
-          → KindGives o earlier (kind_of e) (gives rs)
-      go None h = h
-      go (Some f) h = absurd (faultless rs f h)
+  sort_given rs e = grind (arith, faultless)
 
   -- a record has a TTL, since one is known
   ttl_sure : (stated : Option Word) → EachSays stated → (IsTrue (is_none stated) → ⊥) → Sure ((n : ℕ) × MatchOption stated ⊥ (λ w. TtlSays w n))

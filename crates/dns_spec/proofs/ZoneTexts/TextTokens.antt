@@ -1,11 +1,10 @@
 -- Every text is made of tokens, up to a place where none begins.
-use Rattle.std.proofs.Common.{◌≡◌, ℕ, zero, suc, ◌-◌, ◌<◌, Bool, true, false, not, List, [], ◌∷◌, length, drop, take, refl, sym, subst, arith, Option, Some, None, ◌==◌}
+use Rattle.std.proofs.Common.{◌≡◌, ℕ, zero, suc, ◌-◌, ◌<◌, Bool, true, false, List, [], ◌∷◌, length, drop, take, refl, sym, subst, arith, Option, Some, None, ◌==◌}
 use Rattle.std.specs.Prelude.{⊤, if◌then◌else◌, MatchOption}
 use Rattle.std.proofs.lemmas.List.{length-drop}
 use Rattle.std.proofs.lemmas.Bool.{eqb-true, false_from_ne_true}
-use Rattle.std.specs.List.{prefix_len}
 use Rattle.dns_spec.specs.Names.{Octets}
-use Rattle.dns_spec.specs.ZoneText.{Token, blank, comment, word, quoted_string, opening, closing, line_end, is_blank, string_length, word_length, closed, quoted_front, line_feed_front, token_front, TokensThen}
+use Rattle.dns_spec.specs.ZoneText.{Token, word, quoted_string, line_end, closed, line_feed_front, token_front, TokensThen}
 
 -- what comes after the token is shorter than so many octets
 Shorter : ℕ → Option (Token × Octets) → Type 0
@@ -41,17 +40,7 @@ word-shorter (suc k) o text = rw (not_zero k) (dropped k (length (o ∷ text)) t
 shorter : (text : Octets) → Shorter (length text) (token_front text)
 unfolding Shorter
 shorter [] = tt
-shorter (o ∷ text) =
-    let n = length (o ∷ text) in
-    let less : length text < n = omega arith in
-    either (is_blank o) n (Some (blank, drop (prefix_len is_blank text) text)) _ (dropped (prefix_len is_blank text) n text less)
-    (either (o == 59) n (Some (comment, drop (prefix_len (λ x. not (x == 10)) text) text)) _ (dropped (prefix_len (λ x. not (x == 10)) text) n text less)
-    (either (o == 34) n (quoted_front text) _ (closed-shorter n (take (string_length text) text) (drop (string_length text) text) (dropped (string_length text) n text less))
-    (either (o == 40) n (Some (opening, text)) _ less
-    (either (o == 41) n (Some (closing, text)) _ less
-    (either (o == 10) n (Some (line_end, text)) _ less
-    (either (o == 13) n (line_feed_front text) _ (line_feed-shorter n text less)
-    (word-shorter (word_length (o ∷ text)) o text)))))))
+shorter (o ∷ text) = grind (arith, either, dropped, closed-shorter, line_feed-shorter, word-shorter)
 
 -- a token has an octet or more
 pub front-shorter : (text : Octets) (p : Token) (others : Octets) → token_front text ≡ Some (p, others) → length others < length text
