@@ -4,7 +4,7 @@ use Rattle.std.specs.List.{list_any}
 use Rattle.std.proofs.lemmas.Fmt.{decimal_injective}
 use Rattle.dns_spec.specs.Names.{Octets, octets_equal}
 use Rattle.dns_spec.specs.Report.{Options}
-use Rattle.dns_spec.specs.CommandWords.{ZoneWords, AreOptions, AskToCheck, udp, tcp, ServiceAsked, by_lines, by_turns, service_words, HasTurns, AskToServe}
+use Rattle.dns_spec.specs.CommandWords.{ZoneWords, AreOptions, AskToCheck, ServiceAsked, service_words, HasTurns, AskToServe}
 
 word : ℕ → List Octets → Octets
 word k ws = get_or ws k []
@@ -57,24 +57,7 @@ one_check words a b y z one other = grind (arith, last_two, options_said, said)
 
 one_asked : (s t : ServiceAsked) → HasTurns s → HasTurns t → service_words s ≡ service_words t → s ≡ t
 unfolding word
-one_asked (by_lines udp) (by_lines udp) h k e = refl
-one_asked (by_lines tcp) (by_lines tcp) h k e = refl
-one_asked (by_lines udp) (by_lines tcp) h k e = absurd (omega (arith, ap length e))
-one_asked (by_lines tcp) (by_lines udp) h k e = absurd (omega (arith, ap length e))
-one_asked (by_lines udp) (by_turns udp a n) h k e = absurd (omega (arith, ap length e))
-one_asked (by_lines udp) (by_turns tcp a n) h k e = absurd (omega (arith, ap length e))
-one_asked (by_lines tcp) (by_turns udp a n) h k e = absurd (omega (arith, ap length e))
-one_asked (by_lines tcp) (by_turns tcp a n) h k e = absurd (omega (arith, ap length e))
-one_asked (by_turns udp a n) (by_lines udp) h k e = absurd (omega (arith, ap length e))
-one_asked (by_turns udp a n) (by_lines tcp) h k e = absurd (omega (arith, ap length e))
-one_asked (by_turns tcp a n) (by_lines udp) h k e = absurd (omega (arith, ap length e))
-one_asked (by_turns tcp a n) (by_lines tcp) h k e = absurd (omega (arith, ap length e))
-one_asked (by_turns udp a n) (by_turns tcp b m) h k e = absurd (omega (arith, ap (λ ws. get_or (word 0 ws) 0 0) e))
-one_asked (by_turns tcp a n) (by_turns udp b m) h k e = absurd (omega (arith, ap (λ ws. get_or (word 0 ws) 0 0) e))
-one_asked (by_turns udp a n) (by_turns udp b m) h k e =
-    ap₂ (by_turns udp) (ap (word 1) e) (decimal_injective n m (omega (arith, h.1)) (omega (arith, k.1)) (ap (word 2) e))
-one_asked (by_turns tcp a n) (by_turns tcp b m) h k e =
-    ap₂ (by_turns tcp) (ap (word 1) e) (decimal_injective n m (omega (arith, h.1)) (omega (arith, k.1)) (ap (word 2) e))
+one_asked s t h h1 h2 = grind (arith, ap₂, decimal_injective)
 
 pub one_service : (words : List Octets) (s t : ServiceAsked) (y z : ZoneWords) → AskToServe words s y → AskToServe words t z → (s ≡ t) × (y ≡ z)
 one_service words s t y z one other = grind (arith, last_two, one_asked)

@@ -1,6 +1,6 @@
 -- What is written for numbers, addresses, names and strings has no octet that ends the word.
-use Rattle.std.proofs.Common.{◌≡◌, ℕ, ◌+◌, ◌<◌, ◌^◌, ◌⊎◌, inl, inr, Bool, true, false, ◌&&◌, ◌||◌, not, ◌==◌, List, [], ◌∷◌, ◌++◌, map, nat_le, refl, ◌∙◌, ap, arith, append_assoc, decimal}
-use Rattle.std.proofs.lemmas.Bool.{agree_below_at, and_from, cases_Bool, eqb-true, true≢false, false≢true}
+use Rattle.std.proofs.Common.{◌≡◌, ℕ, ◌+◌, ◌<◌, ◌^◌, inl, inr, Bool, true, false, ◌||◌, not, ◌==◌, List, [], ◌∷◌, ◌++◌, map, refl, ◌∙◌, ap, arith, append_assoc, decimal, rules}
+use Rattle.std.proofs.lemmas.Bool.{agree_below_at, and_from, cases_Bool, eqb-true, true≢false}
 use Rattle.std.proofs.lemmas.Fmt.{decimal_is_IsNumeral}
 use Rattle.std.proofs.lemmas.Str.Parse.{digit_from_value}
 use Rattle.std.specs.List.{flat_map, join_with_byte}
@@ -51,8 +51,7 @@ bare_hex (d ∷ ds) below = (agree_below_at (λ e. is_word_octet (digit_char e))
 
 -- octet by octet
 plain_octet : (p : ℕ → Bool) (c : ℕ) (rest : Octets) → p c ≡ true → (c == 92) ≡ false → is_unbroken p rest ≡ true → is_unbroken p (c ∷ rest) ≡ true
-plain_octet p c [] h other after = h
-plain_octet p c (d ∷ rest) h other after = rw (other, is_unbroken) (and_from _ _ h after)
+plain_octet p c rest h h1 h2 = grind arith
 
 escaped_octet : (p : ℕ → Bool) (x : ℕ) (rest : Octets) → is_ascii_graphic x ≡ true → is_unbroken p rest ≡ true → is_unbroken p (92 ∷ x ∷ rest) ≡ true
 escaped_octet p x rest h after = and_from _ _ h after
@@ -74,8 +73,7 @@ graphic_digit d small = agree_below_at (λ e. is_ascii_graphic (48 + e)) (λ e. 
 
 digits_octet : (p : ℕ → Bool) (x : ℕ) (rest : Octets) → ((e : ℕ) → e < 10 → p (48 + e) ≡ true) → p 92 ≡ false → x < 256 → is_unbroken p rest ≡ true
     → is_unbroken p (92 ∷ three_digits x ++ rest) ≡ true
-digits_octet p x rest digit none small after =
-    grind (arith, escaped_octet, graphic_digit, digit_octet)
+digits_octet p x rest digit none small after = grind arith
 
 bare_below_10 : (e : ℕ) → e < 10 → is_word_octet (48 + e) ≡ true
 bare_below_10 e small = agree_below_at (λ d. is_word_octet (48 + d)) (λ d. true) 10 e refl small
@@ -85,26 +83,21 @@ quotable_below_10 e small = agree_below_at (λ d. is_quotable (48 + d)) (λ d. t
 
 -- a test that follows from another
 pub follows : (a b : Bool) → (not a || b) ≡ true → a ≡ true → b ≡ true
-follows true b h e = h
-follows false b h e = absurd (false≢true e)
+follows a b h h1 = grind arith
 
 pub graphic_bare : (x : ℕ) → x < 256 → is_special x ≡ false → is_ascii_graphic x ≡ true → is_word_octet x ≡ true
 graphic_bare x small other graphic = grind (arith, follows, agree_below_at, and_from)
 
 special_graphic : (x : ℕ) → x < 256 → is_special x ≡ true → is_ascii_graphic x ≡ true
-special_graphic x small special =
-    follows (is_special x) (is_ascii_graphic x) (agree_below_at (λ o. not (is_special o) || is_ascii_graphic o) (λ o. true) 256 x refl small) special
+special_graphic x small special = grind arith
 
 octet_unbroken : (x : ℕ) (rest : Octets) → x < 256 → is_unbroken is_word_octet rest ≡ true → is_unbroken is_word_octet (octet_text x ++ rest) ≡ true
 unfolding octet_text
 octet_unbroken x rest small after =
     grind (
       arith,
-      cases_Bool,
-      inl,
       escaped_octet,
       special_graphic,
-      inr,
       graphic_bare,
       plain_octet,
       no_backslash,
@@ -125,21 +118,18 @@ labels_unbroken (l ∷ n) small =
 
 string_octet_unbroken : (o : ℕ) (rest : Octets) → o < 256 → is_unbroken is_quotable rest ≡ true
     → is_unbroken is_quotable (string_octet_text o ++ rest) ≡ true
-string_octet_unbroken o rest small after = by_cases (cases_Bool (o == 34 || o == 92)) (cases_Bool (nat_le 32 o && nat_le o 126))
-  where
-    by_cases : ((o == 34 || o == 92) ≡ true) ⊎ ((o == 34 || o == 92) ≡ false) → ((nat_le 32 o && nat_le o 126) ≡ true) ⊎ ((nat_le 32 o && nat_le o 126) ≡ false)
-        → is_unbroken is_quotable (string_octet_text o ++ rest) ≡ true
-    by_cases (inl special) shown =
-        let graphic = follows (o == 34 || o == 92) (is_ascii_graphic o) (agree_below_at (λ x. not (x == 34 || x == 92) || is_ascii_graphic x) (λ x. true) 256 o refl small) special in
-        rw special (escaped_octet is_quotable o rest graphic after)
-    by_cases (inr other) (inl shown) =
-        let test : is_quotable o ≡ true =
-        follows (not (o == 34 || o == 92) && (nat_le 32 o && nat_le o 126)) (is_quotable o)
-        (agree_below_at (λ x. not (not (x == 34 || x == 92) && (nat_le 32 x && nat_le x 126)) || is_quotable x) (λ x. true) 256 o refl small)
-        (and_from _ _ (ap not other) shown)
-        in
-        rw (other, shown) (plain_octet is_quotable o rest test (no_backslash is_quotable o refl test) after)
-    by_cases (inr other) (inr none) = rw (other, none) (digits_octet is_quotable o rest quotable_below_10 refl small after)
+string_octet_unbroken o rest small after =
+    search (
+      rules,
+      follows,
+      agree_below_at,
+      escaped_octet,
+      and_from,
+      plain_octet,
+      no_backslash,
+      digits_octet,
+      quotable_below_10,
+    )
 
 pub string_unbroken : (s : Octets) → Small s → is_unbroken is_quotable (flat_map string_octet_text s) ≡ true
 string_unbroken [] small = refl

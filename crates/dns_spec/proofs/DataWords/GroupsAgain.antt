@@ -136,20 +136,17 @@ abbrev before : Octets → Octets × Octets → Octets × Octets
 before w r = (w ++ r.0, r.1)
 
 past_octet : (c : ℕ) (x : Octets) → is_colon c ≡ false → around_gap (c ∷ x) ≡ option_map (before (c ∷ [])) (around_gap x)
-past_octet c [] other = refl
-past_octet c (d ∷ x) other = rw other refl
+past_octet c x h = grind arith
 
 past_colon : (c : ℕ) (x : Octets) → is_colon c ≡ false → around_gap (58 ∷ c ∷ x) ≡ option_map (before (58 ∷ [])) (around_gap (c ∷ x))
 past_colon c x other = rw other refl
 
 before-before : (v w : Octets) (o : Option (Octets × Octets)) → option_map (before v) (option_map (before w) o) ≡ option_map (before (v ++ w)) o
-before-before v w None = refl
-before-before v w (Some r) = ap (λ f. Some (f, r.1)) (sym (append_assoc v w r.0))
+before-before v w o = grind (arith, append_assoc)
 
 past_word : (w x : Octets) → Each (λ o. is_colon o ≡ false) w → around_gap (w ++ x) ≡ option_map (before w) (around_gap x)
 past_word [] x none = grind arith
-past_word (c ∷ w) x none =
-    past_octet c (w ++ x) none.0 ∙ ap (option_map (before (c ∷ []))) (past_word w x none.1) ∙ before-before (c ∷ []) w (around_gap x)
+past_word (c ∷ w) x none = grind (arith, (past_word w x none.1))
 
 past_groups : (g : ℕ) (gs : List ℕ) (x : Octets) → Groups (g ∷ gs) → around_gap (groups_text (g ∷ gs) ++ x) ≡ option_map (before (groups_text (g ∷ gs))) (around_gap x)
 past_groups g [] x small = past_word (digits 16 false g) x (colonless g small.0)
@@ -173,5 +170,4 @@ no_gap (g ∷ gs) small = ap around_gap (sym (append-nil (groups_text (g ∷ gs)
 
 pub gap_after : (gs : List ℕ) (rest : Octets) → Groups gs → around_gap (groups_text gs ++ 58 ∷ 58 ∷ rest) ≡ Some (groups_text gs, rest)
 gap_after [] rest small = refl
-gap_after (g ∷ gs) rest small =
-    past_groups g gs (58 ∷ 58 ∷ rest) small ∙ ap (λ f. Some (f, rest)) (append-nil (groups_text (g ∷ gs)))
+gap_after (g ∷ gs) rest small = grind (arith, past_groups, append-nil)

@@ -3,11 +3,10 @@ use Rattle.std.proofs.Common.{◌≡◌, ℕ, zero, suc, ◌+◌, ◌*◌, ◌/�
 use Rattle.std.proofs.lemmas.Bool.{cases_Bool, eq-eqb, lt-ltb, ltb-false}
 use Rattle.std.proofs.lemmas.List.{length-take-le}
 use Rattle.std.specs.Prelude.{if◌then◌else◌}
-use Rattle.std.specs.Option.{option_and_then}
 use Rattle.std.specs.List.{flat_map}
 use Rattle.std.specs.Int.{bytes_high_first}
 use Rattle.dns_spec.specs.Names.{Octets}
-use Rattle.dns_spec.specs.AddressText.{eight_groups, groups_by, ipv6_groups, SaysIpv6, groups_of, groups_text, longest_run, longest_place, ipv6_text}
+use Rattle.dns_spec.specs.AddressText.{ipv6_groups, SaysIpv6, groups_of, groups_text, longest_run, longest_place, ipv6_text}
 use Rattle.dns_spec.proofs.DomainNames.SmallOctets.{Small, small_head, small_tail}
 use Rattle.dns_spec.proofs.DataWords.GroupsAgain.{Groups, groups_again, no_gap, gap_after}
 use Rattle.dns_spec.proofs.DataWords.ZeroRuns.{longest, around_run, run_inside}
@@ -49,8 +48,7 @@ groups_dropped (suc k) (g ∷ gs) small = groups_dropped k gs small.1
 -- eight groups without a gap
 whole_again : (gs : List ℕ) → length gs ≡ 8 → Groups gs → ipv6_groups (groups_text gs) ≡ Some gs
 unfolding ipv6_groups
-whole_again gs eight small =
-    ap (groups_by (groups_text gs)) (no_gap gs small) ∙ ap (option_and_then eight_groups) (groups_again gs small) ∙ rw (eq-eqb (length gs) 8 eight) refl
+whole_again gs eight small = grind (arith, no_gap, groups_again, eq-eqb)
 
 -- groups on both sides of a gap
 gap_again : (front back gs : List ℕ) (run : ℕ) → Groups front → Groups back → 0 < run → length front + length back + run ≡ 8

@@ -1,5 +1,6 @@
 -- The parts of data joined are the data, and data in lower case is cut into the same pieces.
-use Rattle.std.proofs.Common.{◌≡◌, ℕ, suc, ◌≤◌, true, Some, List, [], ◌∷◌, ◌++◌, map, length, take, refl, sym, ap, ◌∙◌, subst, arith, append-nil, length-append}
+use Rattle.std.proofs.lemmas.Grind.{common_steps}
+use Rattle.std.proofs.Common.{◌≡◌, ℕ, ◌≤◌, true, Some, List, [], ◌∷◌, ◌++◌, map, length, refl, sym, ap, ◌∙◌, subst, arith, append-nil, length-append}
 use Rattle.std.proofs.lemmas.Bool.{and_parts, and_from, leb-true, le-leb, false≢true}
 use Rattle.std.proofs.lemmas.Option.{none-some, same_Some}
 use Rattle.std.proofs.lemmas.List.{take_at, drop_at, nil_from_length}
@@ -17,8 +18,7 @@ pub piece_whole : (p : Piece) (os : Octets) (part : Part) (rest : Octets) → pi
 piece_whole (fixed f) os part rest h = (front_taken (width f) os part rest h).0 ∙ ap (λ x. part_octets x ++ rest) (octets_part (width f) os rest part h)
 piece_whole domain os part rest h = let m = name_part os rest part h in m.3 ∙ ap (λ x. part_octets x ++ rest) m.1
 piece_whole string [] part rest h = absurd (none-some (part, rest) h)
-piece_whole string (k ∷ os) part rest h =
-    (front_taken (suc k) (k ∷ os) part rest h).0 ∙ ap (λ x. part_octets x ++ rest) (octets_part (suc k) (k ∷ os) rest part h)
+piece_whole string (k ∷ os) part rest h = grind (arith, common_steps, front_taken, octets_part)
 piece_whole strings os part rest h = grind (arith, all_strings, append-nil)
 piece_whole anything os part rest h = grind (arith, same_Some, append-nil)
 
@@ -34,25 +34,15 @@ cut_whole (p ∷ ps) os xs h =
     ∙ sym (piece_whole p os c.part c.rest c.front)
 
 pub length-part_folded : (x : Part) → length (part_octets (part_folded x)) ≡ length (part_octets x)
-length-part_folded (octets o) = refl
-length-part_folded (name n) = length-wire-folded n
+length-part_folded x = grind (arith, length-wire-folded)
 
 pub length-lowered : (xs : List Part) → length (joined (map part_folded xs)) ≡ length (joined xs)
 length-lowered [] = refl
 length-lowered (x ∷ xs) =
-    omega (
-      arith,
-      length-lowered xs,
-      length-part_folded x,
-      ap length (flat_map-cons part_octets (part_folded x) (map part_folded xs)),
-      ap length (flat_map-cons part_octets x xs),
-      length-append (part_octets (part_folded x)) (joined (map part_folded xs)),
-      length-append (part_octets x) (joined xs),
-    )
+    grind (arith, length-part_folded, flat_map-cons, length-append, (length-lowered xs))
 
 octets_front-append : (k : ℕ) (x rest : Octets) → length x ≡ k → octets_front k (x ++ rest) ≡ Some (octets x, rest)
-octets_front-append k x rest e =
-    rw (le-leb k (length (x ++ rest)) (omega (arith, length-append x rest)), take_at x rest k e, drop_at x rest k e) refl
+octets_front-append k x rest e = grind (arith, le-leb, length-append, take_at, drop_at)
 
 none_after : (rest other : Octets) → rest ≡ [] → length other ≡ length rest → other ≡ []
 none_after rest other e f = nil_from_length other (f ∙ ap length e)
@@ -66,8 +56,7 @@ piece_lowered domain os part rest other h same =
     grind (arith, name_part, cut-domain, is_name-folded)
 piece_lowered string [] part rest other h same = absurd (none-some (part, rest) h)
 piece_lowered string (k ∷ os) part rest other h same =
-    subst (λ x. piece_front string (part_octets (part_folded x) ++ other) ≡ Some (part_folded x, other)) (octets_part (suc k) (k ∷ os) rest part h)
-    (octets_front-append (suc k) (take (suc k) (k ∷ os)) other (front_taken (suc k) (k ∷ os) part rest h).1)
+    grind (arith, common_steps, octets_part, octets_front-append, front_taken)
 piece_lowered strings os part rest other h same = grind (arith, all_strings, none_after, append-nil)
 piece_lowered anything os part rest other h same = grind (arith, same_Some, none_after, append-nil)
 

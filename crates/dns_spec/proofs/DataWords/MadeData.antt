@@ -12,12 +12,7 @@ use Rattle.dns_spec.proofs.DomainNames.WireNames.{name_of-wire}
 -- an address
 pub cut-address : (d : Octets) → length d ≡ 4 → cut (pieces_of type_a) d ≡ Some (octets d ∷ [])
 unfolding cut
-cut-address (a ∷ b ∷ c ∷ d ∷ []) e = refl
-cut-address [] e = absurd (omega arith)
-cut-address (a ∷ []) e = absurd (omega arith)
-cut-address (a ∷ b ∷ []) e = absurd (omega arith)
-cut-address (a ∷ b ∷ c ∷ []) e = absurd (omega arith)
-cut-address (a ∷ b ∷ c ∷ d ∷ x ∷ xs) e = absurd (omega arith)
+cut-address d h = grind arith
 
 -- a name
 pub cut-domain : (n : DomainName) (rest : Octets) → is_name n ≡ true → piece_front domain (wire n ++ rest) ≡ Some (name n, rest)

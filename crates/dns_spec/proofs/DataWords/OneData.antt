@@ -1,5 +1,5 @@
 -- Words say at most one piece of data of a type.
-use Rattle.std.proofs.Common.{◌≡◌, ℕ, zero, suc, ◌<◌, ◌≤◌, Bool, true, false, nat_le, List, [], ◌∷◌, ◌++◌, length, replicate, max, Option, Some, None, refl, sym, ◌∙◌, ap, ap₂, arith, decimal}
+use Rattle.std.proofs.Common.{◌≡◌, ℕ, zero, suc, ◌<◌, ◌≤◌, Bool, true, false, nat_le, List, [], ◌∷◌, ◌++◌, length, replicate, Option, Some, None, refl, sym, ◌∙◌, ap, ap₂, arith, decimal}
 use Rattle.std.specs.Prelude.{⊤, MatchOption, ◌==◌, if◌then◌else◌}
 use Rattle.std.specs.Bool.{MatchBool}
 use Rattle.std.specs.List.{list_all, flat_map, find}
@@ -11,7 +11,7 @@ use Rattle.std.proofs.lemmas.Option.{same_Some}
 use Rattle.std.proofs.lemmas.Fmt.{decimal_is_IsNumeral, decimal_injective}
 use Rattle.std.proofs.lemmas.Str.Parse.{digit_from_value}
 use Rattle.dns_spec.specs.Names.{Octets, DomainName, wire}
-use Rattle.dns_spec.specs.Data.{Piece, fixed, domain, string, strings, anything, numbers, ipv4, ipv6, TypeRow, type_table, row_of, lower_case}
+use Rattle.dns_spec.specs.Data.{Piece, fixed, domain, string, strings, anything, numbers, ipv4, ipv6, TypeRow, type_table, row_of}
 use Rattle.dns_spec.specs.AddressText.{SaysIpv4, SaysIpv6}
 use Rattle.dns_spec.specs.DataText.{Word, WordForm, number_word, ipv4_word, ipv6_word, name_word, string_word, SaysNumber, SaysString, SaysForm, SaysForms, forms_in, SaysTyped, SaysUnknown, SaysAsSpelled, is_unknown_mark, Says}
 use Rattle.dns_spec.proofs.NameTexts.OneName.{name_once, string_once}
@@ -125,13 +125,7 @@ is_narrow_piece anything = true
 
 narrow_in : (k : ℕ) (p : Piece) → is_narrow_piece p ≡ true → list_all is_narrow (forms_in k p) ≡ true
 unfolding is_narrow is_narrow_piece
-narrow_in k (fixed (numbers m o)) h = all_alike is_narrow m (number_word o) h
-narrow_in k (fixed ipv4) h = refl
-narrow_in k (fixed ipv6) h = refl
-narrow_in k domain h = refl
-narrow_in k string h = refl
-narrow_in k strings h = all_alike is_narrow (max 1 k) string_word refl
-narrow_in k anything h = refl
+narrow_in k p h = grind (arith, all_alike)
 
 narrow_forms : (k : ℕ) (ps : List Piece) → list_all is_narrow_piece ps ≡ true → list_all is_narrow (flat_map (forms_in k) ps) ≡ true
 narrow_forms k [] h = refl
@@ -165,8 +159,7 @@ typed_once t origin ws d e h k = by_row (row_of t) (found_row (λ (row : TypeRow
     by_row (Some row) narrow h k = forms_once (flat_map (forms_in (length ws)) row.pieces) origin ws d e (narrow_forms (length ws) row.pieces narrow) h k
 
 unknown_once : (ws : List Word) (d e : Octets) → SaysUnknown ws d → SaysUnknown ws e → d ≡ e
-unknown_once [] d e h k = absurd h
-unknown_once (w ∷ ws) d e h k = same_Some d e (sym h.2.1 ∙ k.2.1)
+unknown_once ws d e h h1 = grind arith
 
 as_spelled_once : (t : ℕ) (origin : DomainName) (ws : List Word) (d e : Octets) → SaysAsSpelled t origin ws d → SaysAsSpelled t origin ws e → d ≡ e
 as_spelled_once t origin [] d e h k = typed_once t origin [] d e h k
@@ -180,5 +173,4 @@ as_spelled_once t origin (w ∷ ws) d e h k = by_mark (is_unknown_mark w) h k
     by_mark false h k = typed_once t origin (w ∷ ws) d e h k
 
 pub data_once : (t : ℕ) (ws : List Word) (origin : DomainName) (d e : Octets) → Says t ws origin d → Says t ws origin e → d ≡ e
-data_once t ws origin d e h k =
-    sym h.lower ∙ ap (lower_case t) (as_spelled_once t origin ws h.as_spelled k.as_spelled h.said k.said) ∙ k.lower
+data_once t ws origin d e h k = grind (arith, as_spelled_once)

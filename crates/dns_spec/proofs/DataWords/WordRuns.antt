@@ -1,6 +1,6 @@
 -- How much of what is written a reader takes into a word or a string: all of it.
-use Rattle.std.proofs.Common.{◌≡◌, ℕ, ◌+◌, ◌<◌, inl, inr, Bool, true, false, ◌||◌, not, ◌==◌, Some, None, [], ◌∷◌, ◌++◌, length, nat_lt, refl, ◌∙◌, ap, arith, append_assoc, length-append}
-use Rattle.std.proofs.lemmas.Bool.{agree_below_at, cases_Bool, lt-ltb, not-true, eqb-true}
+use Rattle.std.proofs.Common.{◌≡◌, ℕ, ◌+◌, ◌<◌, Bool, true, false, ◌==◌, Some, None, [], ◌∷◌, ◌++◌, length, nat_lt, refl, ap, arith, append_assoc, length-append, rules}
+use Rattle.std.proofs.lemmas.Bool.{agree_below_at, lt-ltb, not-true, eqb-true}
 use Rattle.std.specs.Char.{is_ascii_digit}
 use Rattle.std.specs.List.{flat_map}
 use Rattle.dns_spec.specs.Names.{Octets, DomainName}
@@ -21,8 +21,7 @@ runs_none : (p : ℕ → Bool) → Runs p []
 runs_none p rest = omega arith
 
 pub runs_append : (p : ℕ → Bool) (x y : Octets) → Runs p x → Runs p y → Runs p (x ++ y)
-runs_append p x y h k rest =
-    ap (run_length p 0) (append_assoc x y rest) ∙ h (y ++ rest) ∙ omega (arith, k rest, length-append x y)
+runs_append p x y h k rest = grind (arith, append_assoc, length-append)
 
 run_step : (p : ℕ → Bool) (o k : ℕ) (text : Octets) → unit_left p o text ≡ Some k → run_length p 0 (o ∷ text) ≡ 1 + run_length p k text
 unfolding run_length
@@ -51,29 +50,15 @@ runs_digits p x small = grind (arith, runs_code, digit, lt-ltb)
 -- octets that end no word by themselves
 pub runs_bare : (x : Octets) → Bare x → Runs is_word_octet x
 runs_bare [] bare = runs_none is_word_octet
-runs_bare (o ∷ x) bare =
-    runs_append is_word_octet (o ∷ []) x (runs_octet is_word_octet o bare.0 (no_backslash is_word_octet o refl bare.0)) (runs_bare x bare.1)
+runs_bare (o ∷ x) bare = grind (arith, runs_append, runs_octet, no_backslash, (runs_bare x bare.1))
 
 special_escaped : (x : ℕ) → x < 256 → is_special x ≡ true → Runs is_word_octet (92 ∷ x ∷ [])
-special_escaped x small special =
-    runs_escaped is_word_octet x
-    (not-true (is_ascii_digit x) (follows (is_special x) (not (is_ascii_digit x)) (agree_below_at (λ o. not (is_special o) || not (is_ascii_digit o)) (λ o. true) 256 x refl small) special))
-    (follows (is_special x) (is_printable x) (agree_below_at (λ o. not (is_special o) || is_printable o) (λ o. true) 256 x refl small) special)
+special_escaped x small special = search (rules, runs_escaped, not-true, follows, agree_below_at)
 
 octet_runs : (x : ℕ) → x < 256 → Runs is_word_octet (octet_text x)
 unfolding octet_text
 octet_runs x small =
-    grind (
-      arith,
-      cases_Bool,
-      inl,
-      special_escaped,
-      inr,
-      graphic_bare,
-      runs_octet,
-      no_backslash,
-      runs_digits,
-    )
+    grind (arith, special_escaped, graphic_bare, runs_octet, no_backslash, runs_digits)
 
 label_runs : (l : Octets) → Small l → Runs is_word_octet (label_text l)
 label_runs [] small = runs_none is_word_octet
@@ -82,16 +67,14 @@ label_runs (x ∷ l) small = runs_append is_word_octet (octet_text x) (label_tex
 labels_runs : (n : DomainName) → Each Small n → Runs is_word_octet (labels_text n)
 labels_runs [] small = runs_none is_word_octet
 labels_runs (l ∷ n) small =
-    runs_append is_word_octet (label_text l ++ 46 ∷ []) (labels_text n)
-    (runs_append is_word_octet (label_text l) (46 ∷ []) (label_runs l small.0) (runs_bare (46 ∷ []) (refl, tt))) (labels_runs n small.1)
+    search (rules, runs_append, label_runs, runs_bare, (labels_runs n small.1))
 
 pub name_runs : (n : DomainName) → Each Small n → Runs is_word_octet (name_text n)
 name_runs [] small = runs_bare (46 ∷ []) (refl, tt)
 name_runs (l ∷ n) small = labels_runs (l ∷ n) small
 
 string_octet_runs : (o : ℕ) → o < 256 → Runs is_string_octet (string_octet_text o)
-string_octet_runs o small =
-    grind (arith, cases_Bool, inl, eqb-true, runs_escaped, inr, runs_octet, runs_digits)
+string_octet_runs o small = grind (arith, eqb-true, runs_escaped, runs_octet, runs_digits)
 
 pub string_runs : (s : Octets) → Small s → Runs is_string_octet (flat_map string_octet_text s)
 string_runs [] small = runs_none is_string_octet

@@ -1,10 +1,11 @@
 -- Data of a type, written without compression, is read back as data of that type.
-use Rattle.std.proofs.Common.{◌≡◌, ℕ, suc, ◌+◌, ◌<◌, true, nat_le, List, [], ◌∷◌, ◌++◌, length, take, drop, Option, None, Some, is_some, refl, sym, ap, ◌∙◌, subst, arith, append-nil, length-append, take-append-drop, add-zero}
+use Rattle.std.proofs.lemmas.Grind.{common_steps}
+use Rattle.std.proofs.Common.{◌≡◌, ℕ, suc, ◌+◌, ◌<◌, true, nat_le, List, [], ◌∷◌, ◌++◌, length, take, drop, Some, refl, sym, ap, ◌∙◌, subst, arith, append-nil, length-append, take-append-drop, add-zero}
 use Rattle.std.proofs.lemmas.Bool.{and_parts, leb-true, not-true, eqb-false, false≢true}
 use Rattle.std.proofs.lemmas.Option.{none-some, same_Some, cond_some, some_pair_parts}
 use Rattle.std.proofs.lemmas.List.{length-take-le}
 use Rattle.dns_spec.specs.Names.{Octets, DomainName, wire, is_name}
-use Rattle.dns_spec.specs.Data.{class_in, width, Piece, fixed, domain, string, strings, anything, pieces_of, Part, octets, name, are_strings, octets_front, strings_front, piece_front, cut, valid}
+use Rattle.dns_spec.specs.Data.{class_in, width, Piece, fixed, domain, string, strings, anything, Part, octets, name, are_strings, octets_front, strings_front, piece_front, cut, valid}
 use Rattle.dns_spec.specs.Reading.{OctetsAt, PiecesAt, DataAt}
 use Rattle.dns_spec.proofs.DomainNames.WireNames.{name_read}
 use Rattle.dns_spec.proofs.Messages.Places.{Stands, stands_front, stands_rest, stands_within, stands_get, octets_at, name_written}
@@ -128,8 +129,4 @@ pieces_written {b} (anything ∷ ps) os xs i h at =
 -- Valid data of class IN, written as it is, is read back.
 pub data_written : {b : Octets} {i : ℕ} (t : ℕ) (d : Octets) → valid t d ≡ true → Stands b i d → DataAt b t class_in i (i + length d) d
 data_written {b} {i} t d h at =
-    (omega arith, stands_within d at, go (cut (pieces_of t) d) refl (and_parts (nat_le (length d) 65535) (is_some (cut (pieces_of t) d)) h).1)
-  where
-    go : (y : Option (List Part)) → cut (pieces_of t) d ≡ y → is_some y ≡ true → PiecesAt b (pieces_of t) i (i + length d) d
-    go None e s = absurd (false≢true s)
-    go (Some xs) e s = pieces_written (pieces_of t) d xs i e at
+    grind (arith, common_steps, stands_within, and_parts, false≢true, pieces_written)

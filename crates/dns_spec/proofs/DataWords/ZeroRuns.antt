@@ -83,5 +83,4 @@ around_run gs r =
     ∙ take-append-drop place gs
 
 pub run_inside : (gs : List ℕ) (r : LongestRun gs) → longest_place gs + longest_run gs ≤ length gs
-run_inside gs r =
-    omega (arith, r.long, r.inside, prefix_len-le-length is_zero (drop (longest_place gs) gs), length-drop (longest_place gs) gs)
+run_inside gs r = grind (arith, prefix_len-le-length, length-drop)

@@ -1,7 +1,8 @@
 -- Laws of names: their wire forms tell them apart, folding keeps lengths, and at or below goes label by label.
-use Rattle.std.proofs.Common.{◌≡◌, ℕ, zero, suc, ◌+◌, ◌*◌, ◌-◌, ◌<◌, ◌≤◌, Bool, true, false, ◌||◌, ◌⊎◌, [], ◌∷◌, ◌++◌, length, take, drop, map, nat_lt, nat_le, refl, sym, ◌∙◌, ap, arith, inl, inr, length-append}
+use Rattle.std.proofs.lemmas.Grind.{common_steps}
+use Rattle.std.proofs.Common.{◌≡◌, ℕ, zero, suc, ◌+◌, ◌*◌, ◌-◌, ◌<◌, ◌≤◌, Bool, true, false, ◌||◌, ◌⊎◌, [], ◌∷◌, ◌++◌, length, take, drop, map, nat_lt, nat_le, refl, sym, ◌∙◌, ap, arith, inl, inr, length-append, rules}
 use Rattle.std.proofs.lemmas.List.{take_at, drop_at, length-map, map-append}
-use Rattle.std.proofs.lemmas.Bool.{and_parts, and_from, and_left, leb-true, le-leb, lt-leb, ltb-true, lt-ltb, eqb-true, eq-eqb, cond-true, cases_order, false_from_ne_true, false≢true}
+use Rattle.std.proofs.lemmas.Bool.{and_parts, and_from, and_left, leb-true, le-leb, lt-leb, ltb-true, lt-ltb, eqb-true, eq-eqb, cond-true, cases_order, false_from_ne_true}
 use Rattle.std.proofs.Math.Bool.{or-false}
 use Rattle.std.specs.List.{list_all}
 use Rattle.std.specs.Char.{to_ascii_lowercase}
@@ -40,18 +41,12 @@ is_label-head l n ok = (and_parts (is_label l) _ (IsName-is_name (l ∷ n) ok).l
 
 pub length-wire-push : (n : DomainName) (l : Octets) → length (wire (n ++ l ∷ [])) ≡ length (wire n) + 1 + length l
 length-wire-push [] l = omega (arith, length-append l (0 ∷ []))
-length-wire-push (k ∷ n) l =
-    omega (arith, length-wire-push n l, length-append k (wire n), length-append k (wire (n ++ l ∷ [])))
+length-wire-push (k ∷ n) l = grind (arith, length-append, (length-wire-push n l))
 
 -- a label more is a name, where there is room
 pub is_name-push : (n : DomainName) (l : Octets) → is_name n ≡ true → is_label l ≡ true → length (wire (n ++ l ∷ [])) ≤ 255 → is_name (n ++ l ∷ []) ≡ true
-is_name-push n l ok is_l fits = is_name-IsName (n ++ l ∷ []) (all_push n l (IsName-is_name n ok).labels is_l) fits
-  where
-    all_push : (n : DomainName) (l : Octets) → list_all is_label n ≡ true → is_label l ≡ true → list_all is_label (n ++ l ∷ []) ≡ true
-    all_push [] l ok is_l = and_from _ _ is_l refl
-    all_push (k ∷ n) l ok is_l =
-        let parts = and_parts (is_label k) _ ok in
-        and_from _ _ parts.0 (all_push n l parts.1 is_l)
+is_name-push n l ok is_l fits =
+    grind (arith, common_steps, is_name-IsName, IsName-is_name, and_from, and_parts)
 
 -- the wire forms of names tell them apart
 pub wire-injective : (n m : DomainName) → is_name n ≡ true → is_name m ≡ true → wire n ≡ wire m → n ≡ m
@@ -75,9 +70,7 @@ names_equal-decides = pointwise_decides octets_equal-decides
 
 -- a test is another where each implies the other
 pub same_tests : (a b : Bool) → (a ≡ true → b ≡ true) → (b ≡ true → a ≡ true) → a ≡ b
-same_tests true b f g = sym (f refl)
-same_tests false true f g = absurd (false≢true (g refl))
-same_tests false false f g = refl
+same_tests a b h h1 = grind arith
 
 -- lengths on the wire are no letters, so folding leaves them alone
 lowercase_below : (x : ℕ) → x < 65 → to_ascii_lowercase x ≡ x
@@ -96,8 +89,7 @@ map-lowercase-wire (l ∷ n) ok =
 
 pub length-wire-folded : (n : DomainName) → length (wire (folded n)) ≡ length (wire n)
 length-wire-folded [] = refl
-length-wire-folded (l ∷ n) =
-    omega (arith, length-wire-folded n, length-map l to_ascii_lowercase, length-append l (wire n), length-append (map to_ascii_lowercase l) (wire (folded n)))
+length-wire-folded (l ∷ n) = grind (arith, length-map, length-append, (length-wire-folded n))
 
 all_folded : (n : DomainName) → list_all is_label n ≡ true → list_all is_label (folded n) ≡ true
 all_folded [] ok = refl
@@ -175,9 +167,7 @@ at_or_below-short (l ∷ n) a h =
 
 -- where n is longer, its first label doesn't matter
 pub at_or_below-long : (l : Octets) (n a : DomainName) → length (wire a) < length (wire (l ∷ n)) → at_or_below (l ∷ n) a ≡ at_or_below n a
-at_or_below-long l n a h =
-    let differ : same (l ∷ n) a ≡ false = false_from_ne_true _ (λ e. absurd (omega (arith, same-length-wire (l ∷ n) a e))) in
-    at_or_below-cons l n a ∙ rw differ refl
+at_or_below-long l n a h = search (rules, false_from_ne_true, same-length-wire, at_or_below-cons)
 
 -- RFC 1035 2.3.4: a name has at most 127 labels besides the root
 pub length-is_name : (n : DomainName) → is_name n ≡ true → length n ≤ 127
@@ -195,16 +185,9 @@ length-is_name n ok =
 -- the labels of two names, one after another
 pub length-wire-append : (n m : DomainName) → length (wire (n ++ m)) + 1 ≡ length (wire n) + length (wire m)
 length-wire-append [] m = omega arith
-length-wire-append (l ∷ n) m =
-    omega (arith, length-wire-append n m, length-append l (wire n), length-append l (wire (n ++ m)))
+length-wire-append (l ∷ n) m = grind (arith, length-append, (length-wire-append n m))
 
 -- they are a name, where there is room
 pub is_name-append : (n m : DomainName) → is_name n ≡ true → is_name m ≡ true → length (wire (n ++ m)) ≤ 255 → is_name (n ++ m) ≡ true
 is_name-append n m p q fits =
-    is_name-IsName (n ++ m) (all_append n (IsName-is_name n p).labels) fits
-  where
-    all_append : (n : DomainName) → list_all is_label n ≡ true → list_all is_label (n ++ m) ≡ true
-    all_append [] ok = (IsName-is_name m q).labels
-    all_append (l ∷ n) ok =
-        let parts = and_parts (is_label l) _ ok in
-        and_from _ _ parts.0 (all_append n parts.1)
+    grind (arith, common_steps, is_name-IsName, IsName-is_name, and_parts, and_from)

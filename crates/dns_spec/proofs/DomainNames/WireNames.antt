@@ -23,8 +23,7 @@ labels_taken (suc k) ((x ∷ l) ∷ n) rest ok few =
       append_assoc,
       take_at,
       drop_at,
-      (labels_taken k
-          n rest),
+      (labels_taken k n rest),
     )
 
 -- a label takes two octets or more

@@ -59,8 +59,7 @@ records_possible ms p (r ∷ rs) =
     (subst (λ z. RecordsSize z rs rest) (unplaced-record_names ms p r) (records_possible later (p + record_size ms p r) rs))
 
 unplaced-asked : (q : Option MessageQuestion) → unplaced (asked_placed q) ≡ asked_names q
-unplaced-asked None = refl
-unplaced-asked (Some q) = refl
+unplaced-asked q = grind arith
 
 pub size_possible : (q : Option MessageQuestion) (items : List Item) → Sharing q items (size q items)
 unfolding size

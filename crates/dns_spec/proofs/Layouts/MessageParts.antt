@@ -1,5 +1,5 @@
 -- Header, question and sections of a layout, read back where they stand.
-use Rattle.std.proofs.Common.{◌≡◌, ℕ, ◌+◌, ◌^◌, ◌<◌, Bool, true, false, cond, nat_le, List, [], ◌∷◌, ◌++◌, length, Option, None, Some, IfSome, refl, sym, ap, ◌∙◌, subst, arith, append_assoc, length-append}
+use Rattle.std.proofs.Common.{◌≡◌, ℕ, ◌+◌, ◌^◌, ◌<◌, Bool, true, false, cond, nat_le, List, [], ◌∷◌, ◌++◌, length, Option, IfSome, refl, sym, ap, ◌∙◌, subst, arith, append_assoc, length-append}
 use Rattle.std.proofs.lemmas.Bool.{and_parts, leb-true}
 use Rattle.std.specs.List.{list_all}
 use Rattle.std.specs.Option.{option_to_list}
@@ -11,15 +11,7 @@ use Rattle.dns_spec.proofs.Messages.Places.{Stands, stands_front, stands_rest, s
 
 -- sets in the order of their sections are those of the answer, of authority, and additional
 other_section : (s s' : Section) → section_rank s < section_rank s' → is_section s s' ≡ false
-other_section answer answer h = absurd (omega arith)
-other_section answer authority h = refl
-other_section answer additional h = refl
-other_section authority answer h = absurd (omega arith)
-other_section authority authority h = absurd (omega arith)
-other_section authority additional h = refl
-other_section additional answer h = absurd (omega arith)
-other_section additional authority h = absurd (omega arith)
-other_section additional additional h = absurd (omega arith)
+other_section s s' h = grind arith
 
 pub section_with : (s : Section) (i : Item) (is : List Item) (t : Bool) → is_section s i.section ≡ t
     → in_section s (i ∷ is) ≡ cond t (i.records ++ in_section s is) (in_section s is)
@@ -87,8 +79,7 @@ header_at {b} h qd an ns ar id flags qd-low an-low ns-low ar-low at =
     )
 
 pub length-question_octets : (q : MessageQuestion) → length (question_octets q) ≡ length (wire q.qname) + 4
-length-question_octets q =
-    length-append (wire q.qname ++ octets16 q.qtype) (octets16 q.qclass) ∙ omega (arith, length-append (wire q.qname) (octets16 q.qtype))
+length-question_octets q = grind (arith, length-append)
 
 -- the question after the header
 pub question_at_12 : {b : Octets} (q : MessageQuestion) → is_name q.qname ≡ true → q.qtype < 2 ^ 16 → q.qclass < 2 ^ 16
@@ -109,10 +100,8 @@ question_at_12 {b} q name qtype qclass at =
 
 -- the question section
 pub one_question : (q : Option MessageQuestion) → length (option_to_list q) < 2 ^ 16
-one_question None = omega arith
-one_question (Some q) = omega arith
+one_question q = grind arith
 
 pub asked_at_12 : {b : Octets} (q : Option MessageQuestion) → IfSome q IsAskable → Stands b 12 (asked_octets q)
     → QuestionsAt b 12 (option_to_list q) (12 + length (asked_octets q))
-asked_at_12 None ok at = refl
-asked_at_12 (Some q) ok at = question_at_12 q ok.qname ok.qtype ok.qclass at
+asked_at_12 q h h1 = grind (arith, question_at_12)

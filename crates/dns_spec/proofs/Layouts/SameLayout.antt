@@ -55,12 +55,10 @@ Ends p x y = (p + length x ≤ reach) ⊎ (p + length y ≤ reach)
 
 -- what ends after octets and others, ends after the octets; what is after both, too
 ends_front : (p : ℕ) (w x y : Octets) → Ends p (w ++ x) (w ++ y) → p + length w ≤ reach
-ends_front p w x y (inl h) = omega (arith, h, length-append w x)
-ends_front p w x y (inr h) = omega (arith, h, length-append w y)
+ends_front p w x y h = grind (arith, length-append)
 
 ends_rest : (p k : ℕ) (w x y : Octets) → p + length w ≡ k → Ends p (w ++ x) (w ++ y) → Ends k x y
-ends_rest p k w x y e (inl h) = inl (omega (arith, h, e, length-append w x))
-ends_rest p k w x y e (inr h) = inr (omega (arith, h, e, length-append w y))
+ends_rest p k w x y h h1 = grind (arith, length-append)
 
 record SameData (ms : List Placed) (a b : Laid) : Type 0 where
   same : a ≡ b
@@ -152,9 +150,7 @@ same_records ms p (r ∷ rs) low ends =
 
 -- the question's name begins in reach
 asked_low : (q : Option MessageQuestion) → 12 + length (asked_octets q) ≤ reach → Low (asked_placed q)
-asked_low None room = λ l n p e. absurd (none-some p e)
-asked_low (Some q) room = low_more [] (λ l n p e. absurd (none-some p e)) q.qname 12
-    (omega (arith, room, ap length (shared_alone q.qname), length-question_octets q))
+asked_low q h = grind (arith, none-some, low_more, shared_alone, length-question_octets)
 
 pub same_layout : (h : Header) (q : Option MessageQuestion) (items : List Item) → (size q items ≤ reach) ⊎ (unbounded_size q items ≤ reach)
     → layout h q items ≡ unbounded_layout h q items

@@ -20,8 +20,7 @@ unplaced = map (λ (m : Placed). m.0)
 
 placed_else : (m : Placed) (ms : List Placed) (s : DomainName) (t : Bool) → is_some (place_of ms s) ≡ list_any (λ x. has_suffix x s) (unplaced ms)
     → is_some (cond t (Some (suffix_place m s)) (place_of ms s)) ≡ (t || list_any (λ x. has_suffix x s) (unplaced ms))
-placed_else m ms s true h = refl
-placed_else m ms s false h = h
+placed_else m ms s t h = grind arith
 
 pub placed : (ms : List Placed) (s : DomainName) → is_some (place_of ms s) ≡ list_any (λ x. has_suffix x s) (unplaced ms)
 placed [] s = refl
@@ -85,8 +84,7 @@ length-unbounded_records ms p (r ∷ rs) =
     (length-unbounded_records (ms ++ l.names) (p + length l.written) rs ∙ ap (λ z. unbounded_records_size z rs) (unplaced-unbounded_record ms p r))
 
 unplaced-asked : (q : Option MessageQuestion) → unplaced (asked_placed q) ≡ asked_names q
-unplaced-asked None = refl
-unplaced-asked (Some q) = refl
+unplaced-asked q = grind arith
 
 pub length-unbounded_layout : (h : Header) (q : Option MessageQuestion) (items : List Item) → length (unbounded_layout h q items) ≡ unbounded_size q items
 unfolding unbounded_layout unbounded_size
@@ -129,8 +127,7 @@ cost_before ms (k ∷ front) l n e =
     grind (arith, cost_shared, cost_labelled, (cost_before ms front l n e))
 
 cost_least : {ms : List DomainName} {n : DomainName} {k : ℕ} → NameSize ms n k → unbounded_cost ms n ≤ k
-cost_least {ms} (whole n) = cost_whole ms n
-cost_least {ms} (shared front l n h) = cost_before ms front l n h
+cost_least h = grind (arith, cost_whole, cost_before)
 
 -- so it is for data and records
 data_least : {ms : List DomainName} {ps : List Part} {k : ℕ} → DataSize ms ps k → unbounded_data_size ms ps ≤ k

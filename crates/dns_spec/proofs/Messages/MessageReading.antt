@@ -1,5 +1,5 @@
 -- The computed message is what octets spell.
-use Rattle.std.proofs.Common.{◌≡◌, ℕ, zero, suc, ◌+◌, ◌<◌, ◌≤◌, Bool, true, false, cond, nat_lt, nat_le, ◌==◌, ◌↔◌, List, [], ◌∷◌, ◌++◌, length, Option, None, Some, slice_get, option_map, option_and_then, refl, sym, ap, ◌∙◌, subst, arith}
+use Rattle.std.proofs.Common.{◌≡◌, ℕ, zero, suc, ◌+◌, ◌<◌, ◌≤◌, Bool, true, false, cond, nat_lt, nat_le, ◌==◌, ◌↔◌, List, [], ◌∷◌, ◌++◌, length, Option, None, Some, slice_get, option_map, option_and_then, refl, sym, ap, ◌∙◌, subst, arith, rules}
 use Rattle.std.proofs.lemmas.Bool.{and_parts, and_from, leb-true, le-leb, ltb-true, lt-ltb, eqb-true, eq-eqb}
 use Rattle.std.proofs.lemmas.Option.{none-some, same_Some, cond_some, option_and_then_some, some_pair_parts}
 use Rattle.dns_spec.specs.Names.{Octets, DomainName, wire}
@@ -95,8 +95,7 @@ module _ (b : Octets) where
   pieces_given (domain ∷ ps) i e d h =
       piece_given domain ps i e h.1 (wire h.0) h.2 d (ap (option_map (λ r. (wire r.0, r.1))) ((name_at_computes b i h.0 h.1).1 h.3)) (pieces_given ps h.1 e h.2 h.5) h.4
   pieces_given (string ∷ ps) i e d h =
-      piece_given string ps i e (i + 1 + h.0) h.1 h.2 d (then_is (λ k. octets_upto b i (i + 1 + k)) (slice_get b i) h.0 (h.1, i + 1 + h.0) h.3 (octets_given i (i + 1 + h.0) h.1 h.4))
-      (pieces_given ps (i + 1 + h.0) e h.2 h.6) h.5
+      search (rules, piece_given, then_is, octets_given, (pieces_given ps (i + 1 + h.0) e h.2 h.6))
   pieces_given (strings ∷ ps) i e d h =
       let whole = octets_given i e h.0 (subst (λ z. OctetsAt b i z h.0) h.7 h.3) in
       let test = and_from (nat_lt 0 (length h.0)) (are_strings 0 h.0) (lt-ltb 0 (length h.0) h.4) h.5 in

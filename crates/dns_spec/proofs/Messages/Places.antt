@@ -1,5 +1,6 @@
 -- What stands at a place of a message is read there: numbers, octets, and names that are written whole or by a pointer.
-use Rattle.std.proofs.Common.{◌≡◌, ℕ, zero, suc, ◌+◌, ◌-◌, ◌*◌, ◌%◌, ◌^◌, ◌<◌, ◌≤◌, true, [], ◌∷◌, ◌++◌, length, take, drop, IsTrue, Some, slice_get, refl, sym, ap, ◌∙◌, subst, arith, append_assoc, append-nil, take_at, drop_at, length-append, pow-suc, mul_comm, mod-eq_of_lt}
+use Rattle.std.proofs.lemmas.Grind.{common_steps}
+use Rattle.std.proofs.Common.{◌≡◌, ℕ, zero, suc, ◌+◌, ◌*◌, ◌%◌, ◌^◌, ◌<◌, ◌≤◌, true, [], ◌∷◌, ◌++◌, length, take, drop, IsTrue, Some, slice_get, refl, sym, ap, ◌∙◌, subst, arith, append_assoc, append-nil, take_at, drop_at, length-append, pow-suc, mul_comm, mod-eq_of_lt}
 use Rattle.std.proofs.Math.Nat.{pow-le-pow_right}
 use Rattle.std.proofs.Math.Arith.{mod-mul}
 use Rattle.std.proofs.lemmas.Bool.{and_parts, leb-true, ltb-true}
@@ -17,8 +18,7 @@ length-bytes_high_first (suc k) n = ap suc (length-bytes_high_first k n)
 
 -- the octets of a number spell it
 byte_on : (k n : ℕ) → byte_at k n * 256 ^ k + n % 256 ^ k ≡ n % 256 ^ suc k
-byte_on zero n = omega arith
-byte_on (suc k) n = grind (arith, pow-suc, mul_comm, pow-le-pow_right, mod-mul)
+byte_on k n = grind (arith, pow-suc, mul_comm, pow-le-pow_right, mod-mul)
 
 pub number_of-bytes : (k n : ℕ) → number_of (bytes_high_first k n) ≡ n % 256 ^ k
 number_of-bytes zero n = omega arith
@@ -78,11 +78,7 @@ number_at {b} {i} k v low s =
     }
 
 pub octets_at : {b : Octets} {i : ℕ} (x : Octets) → Stands b i x → OctetsAt b i (i + length x) x
-octets_at {b} {i} x s = record {
-  ordered = omega arith;
-  within = stands_within x s;
-  are = let e : i + length x - i ≡ length x = omega arith in ap (λ z. take z (drop i b)) e ∙ stands_take x s;
-}
+octets_at {b} {i} x s = grind (arith, common_steps, stands_within, stands_take)
 
 -- a name written whole, of labels
 pub label_parts : (l : Octets) → is_label l ≡ true → (0 < length l) × (length l < 64)

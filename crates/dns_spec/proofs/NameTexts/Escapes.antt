@@ -1,5 +1,5 @@
 -- Escapes: what one stands for is what it spells in a name, and how long one is.
-use Rattle.std.proofs.Common.{◌≡◌, ℕ, ◌-◌, ◌<◌, inl, inr, Bool, true, false, cond, ◌&&◌, nat_le, nat_lt, Option, Some, None, [], ◌∷◌, ◌++◌, length, refl, ◌∙◌, ap, subst, arith}
+use Rattle.std.proofs.Common.{◌≡◌, ℕ, ◌-◌, ◌<◌, inl, inr, Bool, true, false, cond, ◌&&◌, nat_le, nat_lt, Option, Some, None, [], ◌∷◌, ◌++◌, length, refl, ap, subst, arith}
 use Rattle.std.specs.Prelude.{◌↔◌, ◌==◌, if◌then◌else◌}
 use Rattle.std.specs.Option.{option_map}
 use Rattle.std.proofs.lemmas.Bool.{and_parts, and_from, leb-true, le-leb, ltb-true, lt-ltb, cases_lt, cases_Bool, false≢true}
@@ -32,14 +32,10 @@ abbrev front_left : Octets → Option (ℕ × Octets) → Option ℕ
 front_left text = option_map (λ r. length text - length r.1)
 
 digits-counted : (text : Octets) → front_left text (digits_front text) ≡ left_by (counted_digits text)
-digits-counted [] = refl
-digits-counted (a ∷ []) = refl
-digits-counted (a ∷ b ∷ []) = refl
-digits-counted (a ∷ b ∷ c ∷ text) = grind arith
+digits-counted text = grind arith
 
 pub escape-counted : (text : Octets) → escape_left text ≡ left_by (counted_escape text)
-escape-counted [] = refl
-escape-counted (a ∷ text) = grind (arith, digits-counted)
+escape-counted text = grind arith
 
 -- what an escape stands for is what it spells in a name
 abbrev pub Spelled : Octets → ℕ → Octets → Type 0
@@ -88,14 +84,7 @@ escape-spelled (a ∷ text) x rest e = go (is_ascii_digit a) (is_printable a) re
         (a ∷ [], ap (λ t. a ∷ t) same.1, (refl, same.0, leb-true 32 a range.0, leb-true a 126 range.1, not-digit a digit))
 
 spelled-escape : (e : Octets) (x : ℕ) (rest : Octets) → SpellsOctet (92 ∷ e) x → escape_front (e ++ rest) ≡ Some (x, rest)
-spelled-escape [] x rest (is, no_dot, no_slash) = absurd (no_slash refl)
-spelled-escape (a ∷ []) x rest (slash, is, low, high, other) =
-    rw (no-digit a other, le-leb 32 a low, le-leb a 126 high) (ap (λ y. Some (y, rest)) is)
-spelled-escape (a ∷ b ∷ []) x rest h = absurd h
-spelled-escape (a ∷ b ∷ c ∷ []) x rest (slash, h, k, l, is, small) =
-    grind (arith, digit-from, lt-ltb)
-spelled-escape (a ∷ b ∷ c ∷ d ∷ e) x rest h = absurd h
+spelled-escape e x rest h = grind (arith, no-digit, le-leb, digit-from, lt-ltb)
 
 pub escape_spells : (text : Octets) (x : ℕ) (rest : Octets) → (escape_front text ≡ Some (x, rest)) ↔ Spelled text x rest
-escape_spells text x rest =
-    (escape-spelled text x rest, λ h. ap escape_front h.1 ∙ spelled-escape h.0 x rest h.2)
+escape_spells text x rest = grind (arith, escape-spelled, spelled-escape)

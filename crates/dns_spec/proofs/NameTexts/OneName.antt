@@ -3,8 +3,8 @@ use Rattle.std.proofs.Common.{◌≡◌, ℕ, inl, inr, Bool, true, false, ◌==
 use Rattle.std.specs.Prelude.{if◌then◌else◌}
 use Rattle.std.specs.List.{list_all}
 use Rattle.std.specs.Char.{is_ascii_digit, IsAsciiDigit, IsNotAsciiDigit}
-use Rattle.std.proofs.lemmas.Bool.{true≢false, false≢true, and_parts, and_from, and_left, and_right, lt-leb, le-leb, eq-eqb, ne_eqb}
-use Rattle.std.proofs.lemmas.Option.{none-some, some_pair_parts}
+use Rattle.std.proofs.lemmas.Bool.{true≢false, false≢true, and_parts, and_from, le-leb}
+use Rattle.std.proofs.lemmas.Option.{none-some}
 use Rattle.dns_spec.specs.Names.{Octets, DomainName, is_label}
 use Rattle.dns_spec.specs.NameText.{three_digits_value, SpellsOctet, LabelThen, TextSpells, SpellsName}
 use Rattle.dns_spec.specs.DataText.{SpellsStringOctet, SpellsString}
@@ -28,28 +28,20 @@ digit : (a : ℕ) → IsAsciiDigit a → is_ascii_digit a ≡ true
 digit a h = and_from _ _ (le-leb _ _ h.0) (le-leb _ _ h.1)
 
 no_digit : (a : ℕ) → IsNotAsciiDigit a → is_ascii_digit a ≡ false
-no_digit a (inl h) = and_left _ _ (lt-leb _ _ h)
-no_digit a (inr h) = and_right _ _ (lt-leb _ _ h)
+no_digit a h = grind arith
 
 octet_front-is : (first : Octets) (x : ℕ) (others : Octets) → SpellsOctet first x → octet_front (first ++ others) ≡ Some (x, others)
 unfolding octet_front escaped_front digits_front
-octet_front-is [] x others h = absurd h
-octet_front-is (a ∷ []) x others h = rw (ne_eqb a 92 h.2) (ap (λ y. Some (y, others)) h.0)
-octet_front-is (e ∷ a ∷ []) x others h = rw (eq-eqb e 92 h.0, no_digit a h.4) (ap (λ y. Some (y, others)) h.1)
-octet_front-is (e ∷ a ∷ b ∷ []) x others h = absurd h
-octet_front-is (e ∷ a ∷ b ∷ c ∷ []) x others h = rw (eq-eqb e 92 h.0, digit a h.1) (ap (λ y. Some (y, others)) h.4)
-octet_front-is (e ∷ a ∷ b ∷ c ∷ d ∷ more) x others h = absurd h
+octet_front-is first x others h = grind arith
 
 string_front-is : (first : Octets) (x : ℕ) (others : Octets) → SpellsStringOctet first x → octet_front (first ++ others) ≡ Some (x, others)
 unfolding octet_front
-string_front-is first x others (inl h) = octet_front-is first x others h
-string_front-is first x others (inr (dot, is)) = ap (λ t. octet_front (t ++ others)) dot ∙ ap (λ y. Some (y, others)) (sym is)
+string_front-is first x others h = grind (arith, octet_front-is, octet_front)
 
 -- a text begins with the spelling of one octet
 octet_once : (text first first' others others' : Octets) (x y : ℕ) → text ≡ first ++ others → text ≡ first' ++ others' → SpellsStringOctet first x → SpellsStringOctet first' y
     → (x ≡ y) × (others ≡ others')
-octet_once text first first' others others' x y e f h k =
-    some_pair_parts x y others others' (sym (string_front-is first x others h) ∙ ap octet_front (sym e ∙ f) ∙ string_front-is first' y others' k)
+octet_once text first first' others others' x y e f h k = grind arith
 
 no_front : (text first others : Octets) (x : ℕ) → text ≡ [] → text ≡ first ++ others → SpellsStringOctet first x → ⊥
 unfolding octet_front
@@ -70,12 +62,7 @@ ends (o ∷ text) = o == 46
 
 goes_on : (first : Octets) (x : ℕ) (others : Octets) → SpellsOctet first x → ends (first ++ others) ≡ false
 unfolding ends
-goes_on [] x others h = absurd h
-goes_on (a ∷ []) x others h = ne_eqb a 46 h.1
-goes_on (e ∷ a ∷ []) x others h = ne_eqb e 46 (λ f. omega (arith, f, h.0))
-goes_on (e ∷ a ∷ b ∷ []) x others h = absurd h
-goes_on (e ∷ a ∷ b ∷ c ∷ []) x others h = ne_eqb e 46 (λ f. omega (arith, f, h.0))
-goes_on (e ∷ a ∷ b ∷ c ∷ d ∷ more) x others h = absurd h
+goes_on first x others h = grind arith
 
 not_ended : (text rest first others : Octets) (x : ℕ) → text ≡ rest → ends rest ≡ true → text ≡ first ++ others → SpellsOctet first x → ⊥
 not_ended text rest first others x e end f h = true≢false (sym end ∙ ap ends (sym e ∙ f) ∙ goes_on first x others h)
@@ -129,5 +116,4 @@ dot_alone origin word [] e all h = omega (arith, ap length (sym e ∙ h))
 dot_alone origin word (l ∷ m) e all h = no_labels [] word (codes ".") origin l m e refl all h
 
 pub name_once : (origin : DomainName) (word : Octets) (n m : DomainName) → SpellsName origin word n → SpellsName origin word m → n ≡ m
-name_once origin word n m h k =
-    grind (arith, and_parts, inl, inr, at_is_no_dot, dot_alone, spelled_once)
+name_once origin word n m h k = grind (arith, and_parts, at_is_no_dot, dot_alone, spelled_once)

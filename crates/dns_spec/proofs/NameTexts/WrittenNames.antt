@@ -67,8 +67,7 @@ some_octet x = grind (arith, cases_Bool, inl, inr)
 -- the text of a label and its dot has two octets or more
 pub labels_text_long : (l : Octets) (n : DomainName) → 0 < length l → 2 ≤ length (labels_text (l ∷ n))
 labels_text_long [] n h = absurd (omega arith)
-labels_text_long (x ∷ l) n h =
-    omega (arith, some_octet x, length-append (octet_text x) (label_text l), length-append (label_text (x ∷ l)) (codes "."), length-append (label_text (x ∷ l) ++ codes ".") (labels_text n))
+labels_text_long (x ∷ l) n h = grind (arith, some_octet, length-append)
 
 pub name_spelled : (origin n : DomainName) → All (All (λ o. o < 256)) n → is_name n ≡ true → SpellsName origin (name_text n) n
 name_spelled origin [] h ok = record { spelled = inr (inl (refl, refl)); is_name = ok }

@@ -1,5 +1,5 @@
 -- The canonical text of a zone is its own canonical text, and zones with one such text hold the same records.
-use Rattle.std.proofs.Common.{◌≡◌, ◌≤◌, ◌↔◌, ◌<◌, IsTrue, Bool, not, cond, All, List, [], ◌∷◌, length, refl, sym, ap, ◌∙◌, subst, arith, is_eq, filter, inl, inr}
+use Rattle.std.proofs.Common.{◌≡◌, ◌≤◌, ◌↔◌, ◌<◌, IsTrue, Bool, cond, All, List, [], ◌∷◌, length, refl, sym, ap, ◌∙◌, subst, arith, is_eq, filter, inl, inr}
 use Rattle.std.proofs.lemmas.Bool.{false≢true}
 use Rattle.std.proofs.lemmas.List.Sorted.{IsPermutation-trans, IsPermutation-sym, Contains-permutation}
 use Rattle.std.specs.List.{Contains}
@@ -28,8 +28,7 @@ length_filter p (x ∷ xs) = grind (arith, (length_filter p xs))
 
 length_distinct : {X : Type 0} (eq : X → X → Bool) (xs : List X) → length (distinct eq xs) ≤ length xs
 length_distinct eq [] = omega arith
-length_distinct eq (x ∷ xs) =
-    omega (arith, length_filter (λ y. not (eq x y)) (distinct eq xs), length_distinct eq xs)
+length_distinct eq (x ∷ xs) = grind (arith, length_filter, (length_distinct eq xs))
 
 all_contained : (xs ys : List ResourceRecord) → ((a : ResourceRecord) → Among a xs → Among a ys) → All (Contains ys) xs
 all_contained xs ys forth = all_each (Contains ys) xs (each_contained xs forth)

@@ -1,5 +1,5 @@
 -- The line of a record is read as the words of the record, and a line end.
-use Rattle.std.proofs.Common.{◌≡◌, ℕ, ◌<◌, Bool, true, false, ◌&&◌, ◌==◌, Some, None, Option, List, [], ◌∷◌, ◌++◌, map, length, nat_lt, refl, sym, ap, subst, arith, append_assoc, codes, decimal}
+use Rattle.std.proofs.Common.{◌≡◌, ℕ, ◌<◌, Bool, true, false, ◌&&◌, ◌==◌, Some, None, Option, List, [], ◌∷◌, ◌++◌, map, length, nat_lt, refl, sym, ap, subst, arith, append_assoc, codes, decimal, rules}
 use Rattle.std.proofs.lemmas.Bool.{and_parts, ltb-true}
 use Rattle.std.specs.Option.{option_map, unwrap_or}
 use Rattle.std.specs.List.{list_all, prefix_len, filter_map, join_with_byte}
@@ -10,7 +10,7 @@ use Rattle.dns_spec.specs.TypeText.{numbered_type, type_text}
 use Rattle.dns_spec.specs.DataText.{Word, is_word_octet}
 use Rattle.dns_spec.specs.WrittenText.{plain, word_text, written_words, data_text, stands_alone}
 use Rattle.dns_spec.specs.Records.{ResourceRecord}
-use Rattle.dns_spec.specs.ZoneText.{Token, blank, line_end, is_blank, TokensThen, parenthesis, before_first, cut_entries, parentheses, word_of}
+use Rattle.dns_spec.specs.ZoneText.{Token, blank, line_end, is_blank, TokensThen, parenthesis, cut_entries, parentheses, word_of}
 use Rattle.dns_spec.specs.ZonePrinted.{IsReadRecord, record_line}
 use Rattle.dns_spec.proofs.Records.SortedOnce.{Each}
 use Rattle.dns_spec.proofs.DataWords.BareWords.{Bare, bare_append, bare_decimal}
@@ -72,10 +72,7 @@ words_then (w ∷ []) rest reads = record {
   first = no_blank w (10 ∷ rest) reads.0.alone;
 }
 words_then (w ∷ v ∷ ws) rest reads =
-    let more = words_then (v ∷ ws) rest reads.1 in
-    let others = join_with_byte 32 (map word_text (v ∷ ws)) in
-    subst (λ t. Reads t (words_tokens (w ∷ v ∷ ws)) rest) (sym (append_assoc (word_text w) (32 ∷ others) (10 ∷ rest)))
-    (word_then w (words_tokens (v ∷ ws)) (others ++ 10 ∷ rest) rest reads.0 more)
+    search (rules, append_assoc, word_then, (words_then (v ∷ ws) rest reads.1))
 
 -- the first words of a line
 abbrev is_bare_text : Octets → Bool
@@ -148,8 +145,7 @@ cut_words (w ∷ v ∷ ws) ps = grind (arith, cut_word, (cut_words (v ∷ ws) ps
 cut_led : (ws : List Word) (qs ps : List Token) → cut_entries false (qs ++ ps) ≡ qs ∷ cut_entries false ps
     → cut_entries false (led ws qs ++ ps) ≡ led ws qs ∷ cut_entries false ps
 cut_led [] qs ps cut = cut
-cut_led (w ∷ ws) qs ps cut =
-    cut_word w (blank ∷ (led ws qs ++ ps)) (blank ∷ led ws qs) (cut_entries false ps) (ap (before_first blank) (cut_led ws qs ps cut))
+cut_led (w ∷ ws) qs ps cut = grind (arith, (cut_led ws qs ps cut))
 
 pub line_cut : (r : ResourceRecord) (ps : List Token) → cut_entries false (line_tokens r ++ ps) ≡ line_tokens r ∷ cut_entries false ps
 line_cut r ps = grind (arith, cut_led, cut_words)

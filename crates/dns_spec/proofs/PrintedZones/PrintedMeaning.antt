@@ -1,16 +1,15 @@
 -- The text of records means these records.
-use Rattle.std.proofs.Common.{◌≡◌, ℕ, suc, ◌+◌, ◌<◌, ◌≤◌, ◌^◌, inl, inr, Bool, true, false, ◌==◌, All, Some, None, Option, List, [], ◌∷◌, ◌++◌, map, length, take, refl, sym, ◌∙◌, ap, subst, arith, append_assoc, codes, decimal}
-use Rattle.std.proofs.lemmas.Bool.{false≢true, cases_Bool, eqb-true, lt-leb, le-ltb, le-leb, and_from}
+use Rattle.std.proofs.Common.{◌≡◌, ℕ, suc, ◌+◌, ◌<◌, ◌≤◌, ◌^◌, inl, inr, Bool, true, false, ◌==◌, All, Some, None, Option, List, [], ◌∷◌, ◌++◌, map, length, take, refl, sym, ◌∙◌, ap, subst, arith, append_assoc, codes, decimal, rules}
+use Rattle.std.proofs.lemmas.Bool.{false≢true, cases_Bool, eqb-true, lt-leb, le-ltb}
 use Rattle.std.proofs.lemmas.List.{take_all}
 use Rattle.std.proofs.lemmas.Option.{none-some, same_Some}
 use Rattle.std.proofs.lemmas.Fmt.{decimal_is_IsNumeral, decimal_nonempty}
-use Rattle.std.proofs.lemmas.Str.Parse.{digit_from_value}
 use Rattle.std.specs.Prelude.{MatchOption, if◌then◌else◌}
 use Rattle.std.specs.List.{list_any, find, filter, flat_map}
 use Rattle.std.specs.Char.{is_ascii_digit}
 use Rattle.std.specs.Str.Parse.{AllDigits}
 use Rattle.dns_spec.specs.Names.{Octets, DomainName}
-use Rattle.dns_spec.specs.NameText.{SpellsName, is_special, octet_text, name_text}
+use Rattle.dns_spec.specs.NameText.{is_special, octet_text, name_text}
 use Rattle.dns_spec.specs.TypeText.{type_text, NamesType}
 use Rattle.dns_spec.specs.DataText.{Word, Says}
 use Rattle.dns_spec.specs.WrittenText.{plain, written_words}
@@ -38,8 +37,7 @@ lines_read : (rs : List ResourceRecord) → Each IsReadRecord rs → TokensThen 
 unfolding lines_tokens
 lines_read [] h = refl
 lines_read (r ∷ rs) h =
-    let rest = flat_map record_line rs in
-    tokens_then (line_tokens r) (lines_tokens rs) (record_line r ++ rest) rest [] (line_pieces_read r rest h.0) (lines_read rs h.1)
+    search (rules, tokens_then, line_tokens, lines_tokens, line_pieces_read, (lines_read rs h.1))
 
 abbrev line_entry : ResourceRecord → Entry
 line_entry r = ended (line_tokens r)
@@ -92,8 +90,7 @@ line_kind : (r : ResourceRecord) → kind_of (line_entry r) ≡ owned (plain (na
 line_kind r = grind (arith, line_words_again, name_begins)
 
 digits_begin : (x : Octets) → 0 < length x → AllDigits 10 x → list_any is_ascii_digit (take 1 x) ≡ true
-digits_begin [] some digits = absurd (omega (arith, some))
-digits_begin (c ∷ x) some digits = grind (arith, digit_from_value, and_from, le-leb)
+digits_begin x h h1 = grind arith
 
 ttl_begins : (n : ℕ) → n < 2 ^ 64 → is_ttl_word (plain (decimal n)) ≡ true
 ttl_begins n small = digits_begin (decimal n) (decimal_nonempty n small) (decimal_is_IsNumeral n small).0.1
@@ -121,8 +118,7 @@ is_number None n = false
 is_number (Some m) n = m == n
 
 number_is : (o : Option ℕ) (n : ℕ) → is_number o n ≡ true → o ≡ Some n
-number_is None n h = absurd (false≢true h)
-number_is (Some m) n h = ap (λ x. Some x) (eqb-true m n h)
+number_is o n h = grind arith
 
 type_named : (t : ℕ) → t < 65536 → NamesType (type_text t) t
 type_named t small = grind (arith, inr, found_passes, entry_passes, inl, number_is, eqb-true)
@@ -133,8 +129,7 @@ KeepsOrigin e = directive_word (codes "$origin") (kind_of e) ≡ None
 
 origin_stays : (o : DomainName) (earlier : List Entry) → Each KeepsOrigin earlier → OriginIs o earlier o
 origin_stays o [] h = refl
-origin_stays o (e ∷ earlier) h =
-    subst (λ w. MatchOption w (OriginIs o earlier o) (λ v. (m : DomainName) × OriginIs o earlier m × SpellsName m v.raw o)) (sym h.0) (origin_stays o earlier h.1)
+origin_stays o (e ∷ earlier) h = grind (arith, (origin_stays o earlier h.1))
 
 line_record : (o : DomainName) (earlier : List Entry) (r : ResourceRecord) → OriginIs o earlier o → IsReadRecord r → HasZoneType r
     → IsRecord o earlier (NameIs o earlier (plain (name_text r.owner))) (line_fields r) r

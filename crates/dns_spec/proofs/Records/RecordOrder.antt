@@ -1,6 +1,6 @@
 -- The canonical order of records, and lists of records in it.
-use Rattle.std.proofs.Common.{◌≡◌, zero, suc, Bool, true, false, ◌&&◌, cond, eqb, ◌⊎◌, inl, inr, List, [], ◌∷◌, refl, sym, ap, ap₂, ◌∙◌, arith, All, IsPermutation, is_eq, is_gt, nat_cmp, Ordering, Less, Equal, Greater}
-use Rattle.std.proofs.lemmas.Bool.{false≢true, and_parts, eqb-true}
+use Rattle.std.proofs.Common.{◌≡◌, zero, suc, Bool, true, false, ◌&&◌, cond, eqb, ◌⊎◌, inl, inr, List, [], ◌∷◌, refl, sym, ap, ap₂, ◌∙◌, arith, All, IsPermutation, is_eq, is_gt, nat_cmp, Ordering, Less, Equal, rules}
+use Rattle.std.proofs.lemmas.Bool.{and_parts, eqb-true}
 use Rattle.std.proofs.lemmas.Cmp.{nat_cmp_total, nat_list_cmp_total, on_total, then_total, tied_itself}
 use Rattle.std.proofs.lemmas.List.Elements.{All-head, All-tail, All-nil, All-cons}
 use Rattle.std.proofs.lemmas.List.Sorted.{All-permutation, Contains-permutation, IsPermutation-refl, IsPermutation-sym, IsPermutation-cons, IsPermutation-trans, IsPermutation-middle}
@@ -24,9 +24,7 @@ record_order_total =
     (then_total (on_total (λ (r : ResourceRecord). r.rdata) nat_list_cmp_total) (on_total (λ (r : ResourceRecord). r.ttl) nat_cmp_total)))
 
 equal_from : (o : Ordering) → is_eq o ≡ true → o ≡ Equal
-equal_from Less f = absurd (false≢true f)
-equal_from Equal f = refl
-equal_from Greater f = absurd (false≢true f)
+equal_from o h = grind arith
 
 name_ties : (n m : DomainName) → same n m ≡ is_eq (name_order n m)
 name_ties n m =
@@ -41,13 +39,10 @@ name_ties n m =
     )
 
 then_ties : (a b : Ordering) → is_eq (ordering_then a b) ≡ (is_eq a && is_eq b)
-then_ties Less b = refl
-then_ties Equal b = refl
-then_ties Greater b = refl
+then_ties a b = grind arith
 
 four_tests : (a b c d : Bool) → (a && b && c && d) ≡ (a && (b && (c && d)))
-four_tests true b c d = grind arith
-four_tests false b c d = refl
+four_tests a b c d = grind arith
 
 -- records tie just where they are equal
 pub record_ties : (r s : ResourceRecord) → records_equal r s ≡ eq_by_cmp record_order r s
@@ -124,8 +119,7 @@ module _ {X : Type 0} (eq : X → X → Bool) where
 
 rises_sorted : {X : Type 0} (cmp : X → X → Ordering) (xs : List X) → IsStrictlySortedBy cmp xs → Rises cmp xs
 unfolding IsStrictlySortedBy
-rises_sorted cmp [] h = tt
-rises_sorted cmp (x ∷ xs) h = grind (arith, Each)
+rises_sorted cmp xs h = grind arith
 
 -- a list in which each element is before those after it is sorted
 pub sort_risen : {X : Type 0} (cmp : X → X → Ordering) (xs : List X) → Rises cmp xs → sort_by cmp xs ≡ xs
@@ -176,9 +170,7 @@ canonical_records rs xs low moved sorted =
 
 -- what holds of all records holds of those of the canonical list
 pub all_canonical : (P : ResourceRecord → Type 0) (rs : List ResourceRecord) → All P rs → All P (sort_by record_order (distinct records_equal rs))
-all_canonical P rs all =
-    all_each P (sort_by record_order (distinct records_equal rs))
-    (each_sort record_order P (distinct records_equal rs) (each_distinct P records_equal rs (each_all P rs all)))
+all_canonical P rs all = search (rules, all_each, each_sort, each_distinct, each_all)
 
 -- the canonical zone has the faults of the zone as it was read
 pub ordered_faults : (o : DomainName) (rs : List ResourceRecord) → faults (ordered_zone o rs) ≡ faults (zone_of o rs)

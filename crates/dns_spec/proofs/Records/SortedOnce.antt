@@ -1,6 +1,6 @@
 -- A list sorted, with each element once, depends only on which elements there are.
 use Rattle.std.proofs.Common.{arith}
-use Rattle.std.proofs.Common.{◌≡◌, suc, Bool, true, false, not, cond, ◌⊎◌, inl, inr, List, [], ◌∷◌, length, refl, sym, ap, ap₂, ◌∙◌, subst, filter, is_gt, is_lt, Ordering, Less, Equal, Greater}
+use Rattle.std.proofs.Common.{◌≡◌, suc, Bool, true, false, not, cond, ◌⊎◌, inl, inr, List, [], ◌∷◌, length, refl, sym, ap, ap₂, ◌∙◌, subst, filter, is_lt, Ordering, Less, Equal, Greater}
 use Rattle.std.proofs.lemmas.Bool.{false≢true, not-true}
 use Rattle.std.proofs.lemmas.Cmp.{tied_itself}
 use Rattle.std.specs.Ordering.{ordering_reverse}
@@ -27,8 +27,7 @@ each_at P a (x ∷ xs) e (inl p) = subst P (sym p) e.0
 each_at P a (x ∷ xs) e (inr m) = each_at P a xs e.1 m
 
 each_filter_one : {X : Type 0} (P : X → Type 0) (t : Bool) (x : X) (xs : List X) → P x → Each P xs → Each P (cond t (x ∷ xs) xs)
-each_filter_one P true x xs p e = (p, e)
-each_filter_one P false x xs p e = e
+each_filter_one P t x xs h h1 = grind arith
 
 pub each_filter : {X : Type 0} (P : X → Type 0) (p : X → Bool) (xs : List X) → Each P xs → Each P (filter p xs)
 each_filter P p [] e = tt
@@ -114,9 +113,7 @@ module _ {X : Type 0} (cmp : X → X → Ordering) where
   Rises (x ∷ xs) = Each (λ y. cmp x y ≡ Less) xs × Rises xs
 
 turned : (c : Ordering) → ordering_reverse c ≡ Greater → c ≡ Less
-turned Less f = refl
-turned Equal f = absurd (false≢true (ap is_gt f))
-turned Greater f = absurd (false≢true (ap is_gt f))
+turned c h = grind arith
 
 -- An order, and a test that ties pass and that holds of equal elements alone, where D holds of them.
 module _ {X : Type 0} (cmp : X → X → Ordering) (order : IsTotalOrder cmp) (eq : X → X → Bool) (tie : (x y : X) → cmp x y ≡ Equal → eq x y ≡ true)

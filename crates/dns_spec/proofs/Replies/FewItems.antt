@@ -9,12 +9,12 @@ use Rattle.std.proofs.lemmas.List.Filters.{length-filter_both}
 use Rattle.std.specs.List.{filter_map, fold}
 use Rattle.std.specs.Option.{option_to_list}
 use Rattle.dns_spec.specs.Names.{DomainName, is_name, folded, names_equal, same, at_or_below}
-use Rattle.dns_spec.specs.Data.{type_ns, type_a, type_aaaa}
-use Rattle.dns_spec.specs.Records.{ResourceRecord, ZoneContents, data_order, at, of_type, rrset, with_owner}
-use Rattle.dns_spec.specs.Tree.{cut_of, found}
+use Rattle.dns_spec.specs.Data.{type_a, type_aaaa}
+use Rattle.dns_spec.specs.Records.{ResourceRecord, ZoneContents, data_order, at, of_type, with_owner}
+use Rattle.dns_spec.specs.Tree.{found}
 use Rattle.dns_spec.specs.Checks.{most_of_a_set, count, large_set, Passes}
-use Rattle.dns_spec.specs.Layout.{Section, answer, authority, Item, records_of}
-use Rattle.dns_spec.specs.Answer.{most_aliases, item, alias_set, chain, last_sought, alias_items, asked_records, Outcome, outcome_by, outcome_at, outcome, targets_of, targets_inside, targets_outside, targets, address_set, address_sets, extra, main_items, items, nodes_to, targets_in_zone, most_visits, names_looked_up}
+use Rattle.dns_spec.specs.Layout.{Section, answer, Item, records_of}
+use Rattle.dns_spec.specs.Answer.{most_aliases, item, alias_set, last_sought, alias_items, asked_records, Outcome, outcome_by, outcome_at, outcome, targets_of, targets_inside, targets_outside, targets, address_set, address_sets, extra, main_items, items, nodes_to, most_visits, names_looked_up}
 use Rattle.dns_spec.proofs.DomainNames.NameLaws.{names_equal-decides, length-is_name}
 use Rattle.dns_spec.proofs.Records.SortedOnce.{Each, Among, each_filter, among_filter, length-sort_by}
 use Rattle.dns_spec.proofs.Replies.ItemSets.{any_false, filter_test}
@@ -25,8 +25,7 @@ use Rattle.dns_spec.proofs.Replies.ChainLength.{chain_short}
 
 -- the records of items
 pub item_records : (s : Section) (rs : List ResourceRecord) → records_of (item s rs) ≡ rs
-item_records s [] = refl
-item_records s (r ∷ rs) = ap (λ xs. r ∷ xs) (append-nil rs)
+item_records s rs = grind (arith, append-nil)
 
 -- the targets of an answer are those of its last outcome: aliases have none
 pub targets_last : (z : ZoneContents) (q : DomainName) (t : ℕ) → targets (outcome z q t) ≡ targets (outcome_at z t (last_sought z q t))
@@ -94,7 +93,7 @@ module _ (z : ZoneContents) (origin : folded z.origin ≡ z.origin) (low : Each 
   found_few s rs t e = grind (arith, asked_few, none-some, same_Some)
 
   outcome_few : (s : DomainName) (t : ℕ) (x : Option DomainName) (y : Option (List ResourceRecord)) → found z s ≡ y → length (targets (outcome_by z t x y)) ≤ most_of_a_set
-  outcome_few s t (Some c) y e =
+  outcome_few s t x y h =
       grind (
         arith,
         ap₂,
@@ -105,22 +104,18 @@ module _ (z : ZoneContents) (origin : folded z.origin ≡ z.origin) (low : Each 
         length-map,
         length-sort_by,
         count_few,
+        found_few,
       )
-  outcome_few s t None None e = omega arith
-  outcome_few s t None (Some rs) e = grind (arith, append-nil, targets_short, found_few)
 
   targets_few : (q : DomainName) (t : ℕ) → length (targets (outcome z q t)) ≤ most_of_a_set
   unfolding outcome_at
   targets_few q t = grind (arith, targets_last, outcome_few)
 
 item_one : (s : Section) (rs : List ResourceRecord) → length (item s rs) ≤ 1
-item_one s [] = omega arith
-item_one s (r ∷ rs) = omega arith
+item_one s rs = grind arith
 
 main_one : (z : ZoneContents) (t : ℕ) (x : Option DomainName) (y : Option (List ResourceRecord)) → length (main_items (outcome_by z t x y)) ≤ 1
-main_one z t (Some c) y = item_one authority (with_owner c (rrset z c type_ns))
-main_one z t None None = item_one authority _
-main_one z t None (Some rs) = grind (arith, item_one, length-append)
+main_one z t x y = grind arith
 
 aliases_few : (z : ZoneContents) (ns : List DomainName) → length (flat_map (λ n. item answer (alias_set z n)) ns) ≤ length ns
 aliases_few z [] = omega arith
@@ -150,21 +145,8 @@ module _ (z : ZoneContents) (origin : folded z.origin ≡ z.origin) (low : All (
 
   pub few_items : length (items z q t) ≤ 2 + most_aliases + 2 * most_of_a_set
   unfolding items outcome outcome_at
-  few_items =
-      let o = outcome z q t in
-      let s = last_sought z q t in
-      let last = outcome_by z t (cut_of z s) (found z s) in
-      let a = length-append (main_items o) (extra z (main_items o) (targets o)) in
-      let b = length-append (alias_items z q t ++ last.answers) last.authorities in
-      let c = length-append (alias_items z q t) last.answers in
-      let d = length-append last.answers last.authorities in
-      let e = main_one z t (cut_of z s) (found z s) in
-      let f = alias_items_few z q t in
-      let g = extra_few z (main_items o) (targets o) in
-      let h = few_targets in
-      omega (arith, a, b, c, d, e, f, g, h)
+  few_items = grind (arith, length-append, main_one, alias_items_few, extra_few, few_targets)
 
--- nodes
 fold_from : (k : ℕ) (xs : List ℕ) → fold ◌+◌ k xs ≡ k + sum xs
 fold_from k [] = omega arith
 fold_from k (x ∷ xs) = omega (arith, fold_from (k + x) xs, fold_from (0 + x) xs)
@@ -178,8 +160,7 @@ nodes_few z (n ∷ ns) e = grind (arith, length-is_name, sum_cons, (nodes_few z 
 
 targets_named : (rs : List ResourceRecord) → Each Named (filter_map target_of rs)
 targets_named [] = tt
-targets_named (r ∷ rs) =
-    grind (arith, target_of, Named, named_target, none-some, Each, (targets_named rs))
+targets_named (r ∷ rs) = grind (arith, target_of, named_target, none-some, (targets_named rs))
 
 module _ (z : ZoneContents) (q : DomainName) (t : ℕ) (h : is_name q ≡ true) where
   all_named : (o : Outcome) → Each Named (targets o)
@@ -193,9 +174,4 @@ module _ (z : ZoneContents) (q : DomainName) (t : ℕ) (h : is_name q ≡ true) 
       some p (Some c) = subst (Each Named) (sym (append-nil (filter (λ m. p m c) (targets_of o.authorities)))) (each_filter Named (λ m. p m c) (targets_of o.authorities) (targets_named (records_of o.authorities)))
 
   pub few_nodes : most_visits z q t ≤ 128 * names_looked_up z q t
-  few_nodes =
-      let ts = targets (outcome z q t) in
-      let a = nodes_few z (chain z q t) (chain_named z q t h) in
-      let b = nodes_few z (targets_in_zone z ts) (each_filter Named (λ m. at_or_below m z.origin) ts (all_named (outcome z q t))) in
-      let c = filtered_short (λ m. at_or_below m z.origin) ts in
-      omega (arith, a, b, c)
+  few_nodes = grind (arith, nodes_few, chain_named, each_filter, all_named, filtered_short)

@@ -1,10 +1,11 @@
 -- In a zone that passes each item of a reply is the records of a set at an owner, with one TTL.
-use Rattle.std.proofs.Common.{◌≡◌, ℕ, ◌≤◌, min, Bool, true, false, ◌&&◌, not, cond, ◌==◌, ◌⊎◌, inl, inr, List, [], ◌∷◌, ◌++◌, map, length, Option, None, Some, is_some, option_map, unwrap_or, All, filter, flat_map, refl, sym, ap, ap₂, ◌∙◌, subst, arith}
+use Rattle.std.proofs.lemmas.Grind.{common_steps}
+use Rattle.std.proofs.Common.{◌≡◌, ℕ, ◌≤◌, Bool, true, false, ◌&&◌, not, cond, ◌==◌, ◌⊎◌, inl, inr, List, [], ◌∷◌, ◌++◌, map, length, Option, None, Some, is_some, option_map, unwrap_or, All, filter, flat_map, refl, sym, ap, ap₂, ◌∙◌, subst, arith}
 use Rattle.std.proofs.lemmas.Bool.{eqb-true, eq-eqb, false≢true, or_parts}
 use Rattle.std.proofs.lemmas.Option.{none-some, same_Some}
 use Rattle.std.specs.List.{list_any}
 use Rattle.dns_spec.specs.Names.{DomainName, folded, names_equal, same}
-use Rattle.dns_spec.specs.Data.{type_a, type_ns, type_cname, type_soa, type_aaaa, qtype_any, soa_minimum}
+use Rattle.dns_spec.specs.Data.{type_a, type_ns, type_cname, type_aaaa, qtype_any}
 use Rattle.dns_spec.specs.Records.{ResourceRecord, ZoneContents, at, of_type, rrset, with_owner}
 use Rattle.dns_spec.specs.Sets.{records_at, rising_types, of_first_type, of_lowest_type}
 use Rattle.dns_spec.specs.Tree.{cut_of, found}
@@ -40,8 +41,7 @@ abbrev Sets : List Item → Type 0
 Sets = Each (λ (i : Item). IsSetAt i.records)
 
 item_set : (s : Section) (rs : List ResourceRecord) → IsSetAt rs → Sets (item s rs)
-item_set s [] h = tt
-item_set s (r ∷ rs) h = (h, tt)
+item_set s rs h = grind arith
 
 -- the TTL of the first record of a type
 pub first_ttl : ℕ → List ResourceRecord → ℕ
@@ -193,16 +193,7 @@ module _ (z : ZoneContents) (origin : folded z.origin ≡ z.origin) (low : Each 
       go false = item_set answer (of_type t rs) (found_set q rs t s)
 
   negative_set : Sets (negative_soa z)
-  negative_set =
-      let lowered = λ (rs : List ResourceRecord). map (λ (r : ResourceRecord). record r { ttl = min r.ttl (soa_minimum r.rdata) }) rs in
-      let plain = filter (λ (r : ResourceRecord). r.rtype == type_soa) (at z z.origin) in
-      item_set authority (lowered (rrset z z.origin type_soa))
-      (subst (λ rs. IsSetAt (lowered rs)) (sym (one_soa z origin passes)) (short plain (few_soa z origin passes)))
-    where
-      short : (rs : List ResourceRecord) → length rs ≤ 1 → IsSetAt (map (λ (r : ResourceRecord). record r { ttl = min r.ttl (soa_minimum r.rdata) }) rs)
-      short [] h = one_record_set [] (omega arith)
-      short (r ∷ []) h = one_record_set (record r { ttl = min r.ttl (soa_minimum r.rdata) } ∷ []) (omega arith)
-      short (r ∷ s ∷ rs) h = absurd (omega arith)
+  negative_set = grind (arith, common_steps, item_set, one_soa, few_soa, one_record_set)
 
   main_sets : (t : ℕ) (s : DomainName) (x : Option DomainName) (y : Option (List ResourceRecord)) → found z s ≡ y
       → Sets (outcome_by z t x y).answers × Sets (outcome_by z t x y).authorities

@@ -6,7 +6,7 @@ use Rattle.std.proofs.lemmas.List.Elements.{All-nil, All-take, All-drop}
 use Rattle.dns_spec.specs.Names.{Octets, DomainName, is_name}
 use Rattle.dns_spec.specs.Data.{number_of}
 use Rattle.dns_spec.specs.Records.{ZoneContents}
-use Rattle.dns_spec.specs.Reading.{Header, MessageQuestion, format_error, Spells}
+use Rattle.dns_spec.specs.Reading.{Header, MessageQuestion, Spells}
 use Rattle.dns_spec.specs.ComputedReading.{name_at}
 use Rattle.dns_spec.specs.Query.{field16, bit, head_of, reply_head, refusal_head, question_of, question_at, QueryRead, absent, refused_with, query, query_or_error, query_read}
 use Rattle.dns_spec.specs.Layout.{Item, layout, message_of}
@@ -36,8 +36,7 @@ field_bound d i e =
 
 -- the header of a reply fits its fields
 bit_bound : (b : Bool) → bit b ≤ 1
-bit_bound true = omega arith
-bit_bound false = omega arith
+bit_bound b = grind arith
 
 flags_bound : (h : Header) (aa tc : Bool) (rcode : ℕ) → rcode < 16 → (reply_head h aa tc rcode).flags < 2 ^ 16
 flags_bound h aa tc rcode low = grind (arith, mod-lt, bit_bound)
@@ -67,8 +66,7 @@ IsReadAs d (refused_with h) = Refuses d h
 IsReadAs d (query h q) = (question_at d ≡ Some q) × (head_of d ≡ h)
 
 read_or_error : (d : Octets) (y : Option MessageQuestion) → question_at d ≡ y → IsReadAs d (query_or_error (head_of d) y)
-read_or_error d None e = record { rcode = format_error; low = omega arith; head = refl }
-read_or_error d (Some q) e = (e, refl)
+read_or_error d y h = grind arith
 
 read_as : (d : Octets) → IsReadAs d (query_read d)
 unfolding query_read
@@ -85,9 +83,7 @@ refusal_low : (z : ZoneContents) (q : MessageQuestion) (rcode : ℕ) → refusal
 refusal_low z q rcode = grind (arith, same_Some, none-some)
 
 decided_query : (z : ZoneContents) (d : Octets) (x : QueryRead) → IsReadAs d x → Decided d (decide_query z x)
-decided_query z d absent ok = tt
-decided_query z d (refused_with h) ok = ok
-decided_query z d (query h q) ok = grind (arith, refusal_low)
+decided_query z d x h = grind arith
 
 decided : (z : ZoneContents) (d : Octets) → Decided d (decide z d)
 unfolding decide

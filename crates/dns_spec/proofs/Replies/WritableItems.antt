@@ -1,13 +1,13 @@
 -- The sets of an answer stand in the order of their sections, and their records fit a message where those of the zone do.
-use Rattle.std.proofs.Common.{◌≡◌, ℕ, zero, suc, ◌<◌, ◌≤◌, min, append_assoc, append-nil, Bool, true, false, ◌&&◌, cond, nat_le, ◌==◌, List, [], ◌∷◌, ◌++◌, map, reverse, take, Option, None, Some, All, find, filter, flat_map, refl, sym, ap, subst, arith}
+use Rattle.std.proofs.Common.{◌≡◌, ℕ, zero, suc, ◌<◌, ◌≤◌, min, append_assoc, append-nil, Bool, true, false, ◌&&◌, cond, nat_le, List, [], ◌∷◌, ◌++◌, map, reverse, take, Option, None, Some, All, find, flat_map, refl, sym, ap, subst, arith, rules}
 use mathlib.Core.List.{reverse_aux}
 use Rattle.std.proofs.lemmas.Bool.{and_from, le-leb}
 use Rattle.std.proofs.lemmas.Option.{none-some, same_Some, cond_some, option_and_then_some}
 use Rattle.std.proofs.lemmas.List.Elements.{All-nil, All-cons, All-head, All-tail}
 use Rattle.std.specs.List.{list_all}
 use Rattle.dns_spec.specs.Names.{Octets, DomainName, is_name, folded, same, suffixes}
-use Rattle.dns_spec.specs.Data.{type_a, type_ns, type_cname, type_soa, type_aaaa, width, Piece, fixed, domain, string, strings, anything, Part, octets, name, piece_front, cut, first_name, target, soa_minimum}
-use Rattle.dns_spec.specs.Records.{ResourceRecord, ZoneContents, data_order, at, of_type, rrset, with_owner}
+use Rattle.dns_spec.specs.Data.{type_a, type_ns, type_cname, type_aaaa, Piece, Part, octets, name, piece_front, cut, first_name, target, soa_minimum}
+use Rattle.dns_spec.specs.Records.{ResourceRecord, ZoneContents, at, of_type, rrset, with_owner}
 use Rattle.dns_spec.specs.Sets.{of_lowest_type}
 use Rattle.dns_spec.specs.Tree.{is_cut, cut_of, found}
 use Rattle.dns_spec.specs.Layout.{Section, answer, authority, additional, Item, records_of}
@@ -16,7 +16,7 @@ use Rattle.dns_spec.specs.Answer.{item, follows_alias, alias_set, first_target, 
 use Rattle.dns_spec.specs.Laws.{section_rank, sections_in_order, IsWritable}
 use Rattle.dns_spec.proofs.DomainNames.NameLaws.{is_name-tail, is_name-folded}
 use Rattle.dns_spec.proofs.Records.SortedOnce.{Each, each_filter, each_sort}
-use Rattle.dns_spec.proofs.DataWords.WrittenData.{cut_into, name_part, octets_part, all_strings}
+use Rattle.dns_spec.proofs.DataWords.WrittenData.{cut_into}
 
 pub each_append : {X : Type 0} (P : X → Type 0) (xs ys : List X) → Each P xs → Each P ys → Each P (xs ++ ys)
 each_append P [] ys e f = f
@@ -70,12 +70,7 @@ octets_named : (o : Octets) (part : Part) → octets o ≡ part → NamedPart pa
 octets_named o part e = subst NamedPart e tt
 
 named_front : (p : Piece) (os rest : Octets) (part : Part) → piece_front p os ≡ Some (part, rest) → NamedPart part
-named_front (fixed f) os rest part h = octets_named (take (width f) os) part (octets_part (width f) os rest part h)
-named_front domain os rest part h = let m = name_part os rest part h in subst NamedPart m.1 m.2
-named_front string [] rest part h = absurd (none-some (part, rest) h)
-named_front string (k ∷ os) rest part h = octets_named (k ∷ take k os) part (octets_part (suc k) (k ∷ os) rest part h)
-named_front strings os rest part h = octets_named os part (all_strings os rest part h).2
-named_front anything os rest part h = octets_named os part (ap (λ z. z.0) (same_Some (octets os, []) (part, rest) h))
+named_front p os rest part h = grind arith
 
 named_parts : (ps : List Piece) (os : Octets) (xs : List Part) → cut ps os ≡ Some xs → Each NamedPart xs
 unfolding cut
@@ -101,8 +96,7 @@ at_writable : (z : ZoneContents) (n : DomainName) → Writable z.records → Wri
 at_writable z n w = each_filter IsWritable (λ (r : ResourceRecord). same r.owner n) z.records w
 
 of_type_writable : (t : ℕ) (rs : List ResourceRecord) → Writable rs → Writable (of_type t rs)
-of_type_writable t rs w =
-    each_sort data_order IsWritable (filter (λ (r : ResourceRecord). r.rtype == t) rs) (each_filter IsWritable (λ (r : ResourceRecord). r.rtype == t) rs w)
+of_type_writable t rs w = grind (arith, each_sort, each_filter)
 
 with_owner_writable : (n : DomainName) (rs : List ResourceRecord) → Named n → Writable rs → Writable (with_owner n rs)
 with_owner_writable n [] h w = tt
@@ -111,8 +105,7 @@ with_owner_writable n (r ∷ rs) h w = (record { owner = h; rtype = w.0.rtype; t
 -- The names sought are names.
 module _ (z : ZoneContents) where
   first_target_named : (rs : List ResourceRecord) (m : DomainName) → first_target rs ≡ Some m → Named m
-  first_target_named [] m e = absurd (none-some m e)
-  first_target_named (r ∷ rs) m e = named_target r.rtype r.rdata m e
+  first_target_named rs m h = grind (arith, none-some, named_target)
 
   next_named : (sought : List DomainName) (s m : DomainName) → next_sought z sought s ≡ Some m → Named m
   next_named sought s m e = grind (arith, option_and_then_some, cond_some, first_target_named)
@@ -147,16 +140,14 @@ abbrev Stood : Section → Item → Type 0
 Stood s i = (i.section ≡ s) × Writable i.records
 
 item_stood : (s : Section) (rs : List ResourceRecord) → Writable rs → Each (Stood s) (item s rs)
-item_stood s [] w = tt
-item_stood s (r ∷ rs) w = ((refl, w), tt)
+item_stood s rs h = grind arith
 
 abbrev Negative : ResourceRecord → ResourceRecord
 Negative r = record r { ttl = min r.ttl (soa_minimum r.rdata) }
 
 negative_writable : (rs : List ResourceRecord) → Writable rs → Writable (map Negative rs)
 negative_writable [] w = tt
-negative_writable (r ∷ rs) w =
-    (record { owner = w.0.owner; rtype = w.0.rtype; ttl = let low = w.0.ttl in omega (arith, low); rdata = w.0.rdata }, negative_writable rs w.1)
+negative_writable (r ∷ rs) w = grind (arith, (negative_writable rs w.1))
 
 module _ (z : ZoneContents) (w : Writable z.records) where
   rrset_writable : (n : DomainName) (t : ℕ) → Writable (rrset z n t)
@@ -169,11 +160,7 @@ module _ (z : ZoneContents) (w : Writable z.records) where
     authorities : Each (Stood authority) o.authorities
 
   negative_right : (rcode : ℕ) → rcode < 16 → Right (negative z rcode)
-  negative_right rcode low = record {
-    rcode = low;
-    answers = tt;
-    authorities = item_stood authority (map Negative (rrset z z.origin type_soa)) (negative_writable (rrset z z.origin type_soa) (rrset_writable z.origin type_soa));
-  }
+  negative_right rcode low = search (rules, item_stood, negative_writable, rrset_writable)
 
   lowest_writable : (rs : List ResourceRecord) → Writable rs → Writable (of_lowest_type rs)
   lowest_writable rs v = grind (arith, of_type_writable)

@@ -23,8 +23,7 @@ abbrev SameCounts : {X : Type 0} → List X → List X → Type 0
 SameCounts {X} xs ys = (p : X → Bool) → length (filter p xs) ≡ length (filter p ys)
 
 from_permutation : {X : Type 0} (xs ys : List X) → IsPermutation xs ys → SameCounts xs ys
-from_permutation xs ys h p =
-    length-filter p xs ∙ sym (sum_by-IsPermutation (λ x. cond (p x) 1 0) xs ys h) ∙ sym (length-filter p ys)
+from_permutation xs ys h p = grind (arith, length-filter, sum_by-IsPermutation)
 
 pub any_counted : {X : Type 0} (p : X → Bool) (xs : List X) → list_any p xs ≡ nat_lt 0 (length (filter p xs))
 any_counted p [] = refl
@@ -113,8 +112,7 @@ name_tie n m e =
     (names_equal-decides (folded n) (folded m)).1 back
 
 in_rest : {A B C : Type 0} → A ⊎ B → (B → C) → A ⊎ C
-in_rest (inl e) f = inl e
-in_rest (inr m) f = inr (f m)
+in_rest h h1 = grind arith
 
 -- each check, over one origin and two such lists
 module _ (o : DomainName) (xs ys : List ResourceRecord) (c : SameCounts xs ys) where
@@ -216,8 +214,6 @@ module _ (o : DomainName) (xs ys : List ResourceRecord) (c : SameCounts xs ys) w
       grind (
         arith,
         filter_alike,
-        z,
-        z',
         no_soa_kept,
         many_soa_kept,
         soa_elsewhere_kept,

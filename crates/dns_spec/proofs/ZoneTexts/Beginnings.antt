@@ -4,56 +4,33 @@ use Rattle.std.specs.Prelude.{if◌then◌else◌}
 use Rattle.std.proofs.lemmas.Bool.{and_parts, or_cases, eqb-true, true≢false, false≢true}
 use Rattle.std.proofs.lemmas.Option.{none-some}
 use Rattle.std.specs.List.{prefix_len}
-use Rattle.std.specs.Char.{is_ascii_digit}
 use Rattle.dns_spec.specs.Names.{Octets}
-use Rattle.dns_spec.specs.NameText.{is_printable}
-use Rattle.dns_spec.specs.ZoneText.{Token, blank, comment, word, line_end, is_blank, unit_left, run_length, word_length, string_length, quoted_front, unquoted_front, line_feed_front, token_front, parenthesis, is_line_end, is_cut_short}
+use Rattle.dns_spec.specs.ZoneText.{Token, blank, comment, word, is_blank, unit_left, run_length, word_length, string_length, quoted_front, unquoted_front, line_feed_front, token_front, parenthesis, is_line_end, is_cut_short}
 use Rattle.dns_spec.specs.DataText.{is_word_octet}
 use Rattle.dns_spec.proofs.ZoneTexts.ReadWords.{front_taken}
-use Rattle.dns_spec.proofs.NameTexts.Escapes.{counted_digits, counted_escape, left_by, escape-counted}
+use Rattle.dns_spec.proofs.NameTexts.Escapes.{counted_escape, left_by, escape-counted}
 
 first_false : (x y : Bool) → (x || y) ≡ false → x ≡ false
-first_false true y h = h
-first_false false y h = refl
+first_false x y h = grind arith
 
 and_false : (x y : Bool) → x ≡ false → (x && y) ≡ false
-and_false true y h = absurd (true≢false h)
-and_false false y h = refl
+and_false x y h = grind arith
 
 -- what is not cut short is not where the text goes on
 pub uncut : (place more : Octets) → is_cut_short place ≡ false → is_cut_short (place ++ more) ≡ false
-uncut [] more h = absurd (true≢false h)
-uncut (o ∷ []) [] h = h
-uncut (o ∷ []) (c ∷ []) h = and_false (o == 92) (is_ascii_digit c) (first_false (o == 92) (o == 13) h)
-uncut (o ∷ []) (c ∷ d ∷ []) h = grind (arith, and_false, first_false)
-uncut (o ∷ []) (c ∷ d ∷ e ∷ more) h = refl
-uncut (o ∷ a ∷ []) [] h = h
-uncut (o ∷ a ∷ []) (c ∷ []) h = and_false (o == 92 && is_ascii_digit a) (is_ascii_digit c) h
-uncut (o ∷ a ∷ []) (c ∷ d ∷ more) h = refl
-uncut (o ∷ a ∷ b ∷ []) [] h = h
-uncut (o ∷ a ∷ b ∷ []) (c ∷ more) h = refl
-uncut (o ∷ a ∷ b ∷ c ∷ place) more h = refl
+uncut place more h = grind arith
 
 -- an escape, or none, that no more octets can change
 one_digit : (d p : Bool) (n : ℕ) → (cond {A = ℕ} d 0 (cond p 1 0) ≡ 0 → d ≡ false) → cond {A = ℕ} d n (cond p 1 0) ≡ cond d 0 (cond p 1 0)
-one_digit true p n h = absurd (true≢false (h refl))
-one_digit false p n h = refl
+one_digit d p n h = grind arith
 
 two_digits : (d e p x y : Bool) → (cond {A = ℕ} d 0 (cond p 1 0) ≡ 0 → (d && e) ≡ false)
     → cond {A = ℕ} d (cond (d && e && x && y) 3 0) (cond p 1 0) ≡ cond d 0 (cond p 1 0)
-two_digits true true p x y h = absurd (true≢false (h refl))
-two_digits true false p x y h = refl
-two_digits false e p x y h = refl
+two_digits d e p x y h = grind arith
 
 counted_more : (text more : Octets) → (counted_escape text ≡ 0 → is_cut_short (92 ∷ text) ≡ false)
     → counted_escape (text ++ more) ≡ counted_escape text
-counted_more [] more h = absurd (true≢false (h refl))
-counted_more (a ∷ []) [] h = refl
-counted_more (a ∷ []) (b ∷ more) h = one_digit (is_ascii_digit a) (is_printable a) (counted_digits (a ∷ b ∷ more)) h
-counted_more (a ∷ b ∷ []) [] h = refl
-counted_more (a ∷ b ∷ []) (c ∷ more) h =
-    two_digits (is_ascii_digit a) (is_ascii_digit b) (is_printable a) (is_ascii_digit c) _ h
-counted_more (a ∷ b ∷ c ∷ text) more h = refl
+counted_more text more h = grind arith
 
 drop_one : (n o : ℕ) (text : Octets) → drop (1 + n) (o ∷ text) ≡ drop n text
 drop_one n o text = let next : 1 + n ≡ suc n = omega arith in ap (λ m. drop m (o ∷ text)) next
@@ -125,8 +102,7 @@ module _ (more : Octets) where
 
   choose : (place : Octets) (b : Bool) (x y x' y' : Option (Token × Octets)) → (b ≡ true → Keeps place x x') → (b ≡ false → Keeps place y y')
       → Keeps place (if b then x else y) (if b then x' else y')
-  choose place true x y x' y' h k = h refl
-  choose place false x y x' y' h k = k refl
+  choose place b x y x' y' h h1 = grind arith
 
   -- a token up to where octets of its kind end
   up_to : (place : Octets) (t : Token) (p : ℕ → Bool) (text : Octets) → Loose t
@@ -135,41 +111,24 @@ module _ (more : Octets) where
   up_to place t p text loose = grind (arith, Keeps, inr, inl, prefix_more, dropped_more)
 
   pub mark_uncut : (rest : Octets) → is_cut_short (34 ∷ rest) ≡ false
-  mark_uncut [] = refl
-  mark_uncut (a ∷ []) = refl
-  mark_uncut (a ∷ b ∷ []) = refl
-  mark_uncut (a ∷ b ∷ c ∷ rest) = refl
+  mark_uncut rest = grind arith
 
   quoted_keeps : (text : Octets) → Keeps (drop (string_length text) text) (quoted_front text) (quoted_front (text ++ more))
   unfolding Keeps
   quoted_keeps text =
-      grind (
-        arith,
-        run_more,
-        ap₂,
-        taken_more,
-        dropped_more,
-        Keeps,
-        eqb-true,
-        mark_uncut,
-        inl,
-        true≢false,
-      )
+      grind (arith, run_more, ap₂, taken_more, dropped_more, eqb-true, mark_uncut, true≢false)
 
   cr_cut : (o : ℕ) → (o == 13) ≡ true → (o == 92 || o == 13) ≡ true
   cr_cut o e = ap (λ c. c == 92 || c == 13) (eqb-true o 13 e)
 
   line_feed_keeps : (o : ℕ) (text : Octets) → (o == 13) ≡ true → Keeps (o ∷ text) (line_feed_front text) (line_feed_front (text ++ more))
   unfolding Keeps
-  line_feed_keeps o [] e = λ whole. absurd (false≢true (sym whole ∙ cr_cut o e))
-  line_feed_keeps o (c ∷ text) e =
-      choose (o ∷ c ∷ text) (c == 10) (Some (line_end, text)) None (Some (line_end, text ++ more)) None (λ _. inl refl) (λ _ whole. refl)
+  line_feed_keeps o text h = grind arith
 
   taken_keeps : (n : ℕ) (text : Octets) → word_length text ≡ suc n
       → Keeps text (Some (word (take (suc n) text), drop (suc n) text)) (unquoted_front (text ++ more))
   unfolding Keeps
-  taken_keeps n text e =
-      grind (arith, Keeps, inr, false≢true, run_more, inl, front_taken, taken_more, dropped_more)
+  taken_keeps n text e = grind (arith, false≢true, run_more, front_taken, taken_more, dropped_more)
 
   word_keeps : (o : ℕ) (text : Octets) → Keeps (o ∷ text) (unquoted_front (o ∷ text)) (unquoted_front (o ∷ (text ++ more)))
   unfolding Keeps
@@ -224,11 +183,4 @@ at_slash : (o : ℕ) (text : Octets) → (o == 92) ≡ true → counted_escape t
 at_slash o text slash none = ap (λ c. token_front (c ∷ text)) (eqb-true o 92 slash) ∙ slash_none text none
 
 pub cut_none : (text : Octets) → is_cut_short text ≡ true → token_front text ≡ None
-cut_none [] cut = refl
-cut_none (o ∷ []) cut = grind (arith, or_cases, inl, at_slash, inr, eqb-true)
-cut_none (o ∷ a ∷ []) cut = grind (arith, and_parts, at_slash)
-cut_none (o ∷ a ∷ b ∷ []) cut =
-    let p = and_parts (o == 92 && is_ascii_digit a) (is_ascii_digit b) cut in
-    let q = and_parts (o == 92) (is_ascii_digit a) p.0 in
-    at_slash o (a ∷ b ∷ []) q.0 (rw q.1 refl)
-cut_none (o ∷ a ∷ b ∷ c ∷ text) cut = absurd (false≢true cut)
+cut_none text h = grind (arith, or_cases, at_slash, eqb-true, and_parts, false≢true)

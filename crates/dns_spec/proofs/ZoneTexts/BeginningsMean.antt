@@ -7,12 +7,11 @@ use mathlib.Core.Bool.{xor}
 use Rattle.dns_spec.specs.Names.{Octets, DomainName}
 use Rattle.dns_spec.specs.Records.{ResourceRecord}
 use Rattle.dns_spec.specs.FileFaults.{FileFault, bad_parenthesis, too_long}
-use Rattle.dns_spec.specs.ZoneText.{most_octets, extent_of, Token, token_front, TokensThen, parenthesis, parentheses, is_line_end, open_after, before_first, cut_entries, take_turns, is_open_at_end, is_cut_short, begins_line_end, string_length, Extent, whole_text, beginning, EntryStop, text_over, in_string, in_token, stop_at, token_fault, string_fault, stop_fault, Entry, ended, unended, with_end}
+use Rattle.dns_spec.specs.ZoneText.{most_octets, extent_of, Token, token_front, TokensThen, parenthesis, parentheses, is_line_end, open_after, before_first, cut_entries, take_turns, is_open_at_end, is_cut_short, begins_line_end, string_length, Extent, beginning, EntryStop, in_string, in_token, stop_at, token_fault, string_fault, stop_fault, Entry, ended, unended, with_end}
 use Rattle.dns_spec.specs.Meaning.{faulty, gives, Meaning, records, fault_at, after, line_after, EntriesMean, Means}
 use Rattle.dns_spec.specs.Laws.{OctetsMean}
 use Rattle.dns_spec.proofs.ZoneTexts.TextTokens.{has_tokens}
-use Rattle.dns_spec.proofs.ZoneTexts.OneMeaning.{FromHere}
-use Rattle.dns_spec.proofs.ZoneTexts.Beginnings.{mark_uncut, Loose, uncut, run_more, dropped_more, stop_place, front_kept, none_kept, cut_none}
+use Rattle.dns_spec.proofs.ZoneTexts.Beginnings.{Loose, uncut, run_more, dropped_more, stop_place, front_kept, none_kept, cut_none}
 
 -- the tokens that a text begins with, wherever it goes on: all of its beginning, or all but the last
 record Settled (more text : Octets) (ts : List Token) (rest : Octets) : Type 0 where
@@ -113,8 +112,7 @@ fault_of (fault_at fault line) = Some fault
 
 after-fault : (rs : List ResourceRecord) (later : Meaning) (fault : FileFault) (line : ℕ) → fault_at fault line ≡ after rs later → later ≡ fault_at fault line
 unfolding fault_of
-after-fault rs (records more) fault line e = absurd (none-some fault (sym (ap fault_of e)))
-after-fault rs (fault_at f l) fault line e = sym e
+after-fault rs later fault line h = grind arith
 
 line_of : Meaning → ℕ
 line_of (records rs) = 0
@@ -126,8 +124,7 @@ same_fault f g l n e = (same_Some f g (ap fault_of e), ap line_of e)
 
 -- a parenthesis that is misplaced stays so, whatever comes after
 and_later : (x y z : Bool) → (y ≡ false → z ≡ false) → (x && y) ≡ false → (x && z) ≡ false
-and_later true y z later h = later h
-and_later false y z later h = refl
+and_later x y z h h1 = grind arith
 
 turns_fail : (b : Bool) (ts us : List Token) → take_turns b (parentheses ts) ≡ false → take_turns b (parentheses (ts ++ us)) ≡ false
 turns_fail b [] us h = absurd (true≢false h)
@@ -149,40 +146,30 @@ no_end (t ∷ ts) = ap (cons_option (parenthesis t)) (no_end ts)
 
 -- why a beginning can't go on, and why the text can't
 never_none : (is_open : Bool) (stop : EntryStop) → stop_fault beginning is_open stop ≡ None → ⊥
-never_none is_open text_over e = none-some too_long (sym e)
-never_none is_open (in_string place) e = none-some _ (sym e)
-never_none is_open (in_token place) e = none-some _ (sym e)
+never_none is_open stop h = grind arith
 
 uncut_string : (extent : Extent) (is_open : Bool) (place : Octets) → is_cut_short place ≡ false
     → stop_fault extent is_open (in_string place) ≡ Some (string_fault place)
-uncut_string whole_text is_open place whole = refl
-uncut_string beginning is_open place whole = rw whole refl
+uncut_string extent is_open place h = grind arith
 
 uncut_token : (extent : Extent) (is_open : Bool) (place : Octets) → is_cut_short place ≡ false
     → stop_fault extent is_open (in_token place) ≡ Some (token_fault place)
-uncut_token whole_text is_open place whole = refl
-uncut_token beginning is_open place whole = rw whole refl
+uncut_token extent is_open place h = grind arith
 
 no_cr : (x y : Bool) → (x || y) ≡ false → y ≡ false
-no_cr true y h = absurd (true≢false h)
-no_cr false y h = h
+no_cr x y h = grind arith
 
 or_nothing : (x : Bool) → (x || false) ≡ x
-or_nothing true = refl
-or_nothing false = refl
+or_nothing x = grind arith
 
 line_end_more : (place more : Octets) → is_cut_short place ≡ false → begins_line_end (place ++ more) ≡ begins_line_end place
-line_end_more [] more h = absurd (true≢false h)
-line_end_more (o ∷ []) [] h = refl
-line_end_more (o ∷ []) (c ∷ more) h = rw (no_cr (o == 92) (o == 13) h) (or_nothing (o == 10))
-line_end_more (o ∷ p ∷ place) more h = refl
+line_end_more place more h = grind arith
 
 some_octets : (o : ℕ) (text : Octets) → (length (o ∷ text) == 0) ≡ false
 some_octets o text = false_from_ne_true (length (o ∷ text) == 0) (λ h. absurd (omega (arith, eqb-true (length (o ∷ text)) 0 h)))
 
 string_fault_more : (place more : Octets) → is_cut_short place ≡ false → string_fault (place ++ more) ≡ string_fault place
-string_fault_more [] more h = absurd (true≢false h)
-string_fault_more (o ∷ place) more h = grind (arith, some_octets, line_end_more)
+string_fault_more place more h = grind arith
 
 string_stop_more : (text more : Octets) → is_cut_short (drop (string_length text) text) ≡ false
     → drop (string_length (text ++ more)) (text ++ more) ≡ drop (string_length text) text ++ more
@@ -198,8 +185,7 @@ cut_place : (is_open : Bool) (o : ℕ) (text : Octets) → is_cut_short (stop_pl
 cut_place is_open o text = grind arith
 
 cut_rest : (is_open : Bool) (rest : Octets) → is_cut_short rest ≡ true → stop_fault beginning is_open (stop_at rest) ≡ Some too_long
-cut_rest is_open [] cut = refl
-cut_rest is_open (o ∷ text) cut = grind (arith, true≢false, eqb-true, mark_uncut)
+cut_rest is_open rest h = grind arith
 
 tokens_then : (text middle rest : Octets) (ts us : List Token) → TokensThen text ts middle → TokensThen middle us rest → TokensThen text (ts ++ us) rest
 tokens_then text middle rest [] us h k = subst (λ t. TokensThen t us rest) (sym h) k
@@ -224,8 +210,7 @@ module _ (o : DomainName) (fault : FileFault) (line : ℕ) where
 
   last_fault : (earlier : List Entry) (ts : List Token) (rest : Octets) → EntriesMean o earlier (unended beginning rest ts ∷ []) (fault_at fault line)
       → LastFault earlier ts rest
-  last_fault earlier ts rest (given, g, k) =
-      grind (arith, same_fault, FromHere, never_none, inr, inl)
+  last_fault earlier ts rest (given, g, k) = grind arith
 
   -- a first entry with a misplaced parenthesis
   wrong_first : (extent : Extent) (rest : Octets) (earlier : List Entry) (ts : List Token) (others : List (List Token))

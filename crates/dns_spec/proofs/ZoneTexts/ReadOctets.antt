@@ -10,7 +10,7 @@ use Rattle.std.specs.Char.{is_ascii_hexdigit, digit_value, to_ascii_lowercase}
 use Rattle.std.specs.Int.{bytes_high_first}
 use Rattle.dns_spec.specs.Names.{Octets, DomainName, wire, is_label, folded}
 use Rattle.dns_spec.specs.NameText.{SpellsOctet, LabelThen, TextSpells, SpellsName}
-use Rattle.dns_spec.specs.Data.{Part, octets, name, part_octets, joined, part_folded}
+use Rattle.dns_spec.specs.Data.{Part, part_octets, joined, part_folded}
 use Rattle.dns_spec.specs.AddressText.{SaysIpv6, ipv6_groups}
 use Rattle.dns_spec.specs.DataText.{Word, SpellsStringOctet, SpellsString, WordForm, number_word, ipv4_word, ipv6_word, name_word, string_word, SaysForm, SaysForms, forms_of, SaysTyped, hex_octets, SaysUnknown, SaysAsSpelled, Says}
 use Rattle.dns_spec.proofs.Records.SortedOnce.{Each}
@@ -43,12 +43,7 @@ each_back (o ∷ x) y small = each_back x y small.1
 
 -- names
 octet_small : (text : Octets) (x : ℕ) → SpellsOctet text x → Each Octet text → Octet x
-octet_small [] x h small = absurd h
-octet_small (a ∷ []) x h small = subst Octet h.0 small.0
-octet_small (e ∷ a ∷ []) x (slash, is, low, high, other) small = subst Octet is small.1.0
-octet_small (e ∷ a ∷ b ∷ []) x h small = absurd h
-octet_small (e ∷ a ∷ b ∷ c ∷ []) x (slash, p, q, r, is, below) small = below
-octet_small (e ∷ a ∷ b ∷ c ∷ d ∷ text) x h small = absurd h
+octet_small text x h h1 = grind arith
 
 label_small : (text l rest : Octets) → LabelThen text l rest → Each Octet text → Each Octet l × Each Octet rest
 label_small text [] rest h small = (tt, subst (Each Octet) h small)
@@ -88,8 +83,7 @@ wire_small (l ∷ n) ok small =
     (long, each_append l (wire n) small.0 (wire_small n both.1 small.1))
 
 string_octet_small : (text : Octets) (x : ℕ) → SpellsStringOctet text x → Each Octet text → Octet x
-string_octet_small text x (inl spelled) small = octet_small text x spelled small
-string_octet_small text x (inr (dot, is)) small = omega (arith, is)
+string_octet_small text x h h1 = grind arith
 
 string_small : (text s : Octets) → SpellsString text s → Each Octet text → Each Octet s
 string_small text [] h small = tt
@@ -121,8 +115,7 @@ form_small ipv4_word origin text d from small said = tested_small d said.octets
 form_small ipv6_word origin text d from small said = ipv6_small text d said
 form_small name_word origin text d from small (n, spelled, is) =
     subst (Each Octet) (sym is) (wire_small n (IsName-is_name n spelled.is_name).labels (name_small origin text n from small spelled))
-form_small string_word origin text d from small (s, few, spelled, is) =
-    grind (arith, Each, string_small)
+form_small string_word origin text d from small (s, few, spelled, is) = grind (arith, string_small)
 
 forms_small : (fs : List WordForm) (origin : DomainName) (ws : List Word) (d : Octets) → SmallName origin → Each SmallWord ws → SaysForms fs origin ws d → Each Octet d
 forms_small [] origin [] d from small h = subst (Each Octet) (sym h) tt
@@ -165,12 +158,10 @@ raws_small [] small = tt
 raws_small (w ∷ ws) small = each_append w.raw (flat_map (λ (v : Word). v.raw) ws) small.0 (raws_small ws small.1)
 
 unknown_small : (ws : List Word) (d : Octets) → Each SmallWord ws → SaysUnknown ws d → Each Octet d
-unknown_small [] d small said = absurd said
-unknown_small (w ∷ ws) d small (unquoted, long, (hex, said)) = hex_small (flat_map (λ (v : Word). v.raw) ws) d (raws_small ws small.1) said
+unknown_small ws d h h1 = grind (arith, hex_small, raws_small)
 
 spelled_small : (t : ℕ) (origin : DomainName) (ws : List Word) (d : Octets) → SmallName origin → Each SmallWord ws → SaysAsSpelled t origin ws d → Each Octet d
-spelled_small t origin [] d from small said = typed_small t origin [] d from small said
-spelled_small t origin (w ∷ ws) d from small said = grind (arith, Each, unknown_small, typed_small)
+spelled_small t origin ws d h h1 h2 = grind (arith, typed_small, unknown_small)
 
 wire_folded_small : (n : DomainName) → Each Octet (wire n) → Each Octet (wire (folded n))
 wire_folded_small [] small = small
@@ -179,8 +170,7 @@ wire_folded_small (l ∷ n) small =
     (long, each_append (map to_ascii_lowercase l) (wire (folded n)) (label_folded_small l (each_front l (wire n) small.1)) (wire_folded_small n (each_back l (wire n) small.1)))
 
 part_folded_small : (x : Part) → Each Octet (part_octets x) → Each Octet (part_octets (part_folded x))
-part_folded_small (octets o) small = small
-part_folded_small (name n) small = wire_folded_small n small
+part_folded_small x h = grind (arith, wire_folded_small)
 
 parts_folded_small : (xs : List Part) → Each Octet (joined xs) → Each Octet (joined (map part_folded xs))
 parts_folded_small [] small = tt

@@ -1,4 +1,5 @@
 -- A word that is written, and something after it that ends it, begin with that word as a token.
+use Rattle.std.proofs.lemmas.Grind.{common_steps}
 use Rattle.std.proofs.Common.{◌≡◌, ℕ, suc, inl, inr, Bool, true, false, ◌||◌, ◌==◌, Some, None, [], ◌∷◌, ◌++◌, length, take, drop, nat_lt, refl, ◌∙◌, ap, arith, append_assoc}
 use Rattle.std.proofs.Math.Seq.{take-append_seam, drop-append_seam}
 use Rattle.std.proofs.lemmas.Bool.{true≢false, false≢true, cases_Bool, eqb-true, and_parts, false_from_ne_true}
@@ -7,7 +8,7 @@ use Rattle.std.specs.List.{prefix_len}
 use Rattle.dns_spec.specs.Names.{Octets}
 use Rattle.dns_spec.specs.DataText.{Word, is_word_octet, is_string_octet}
 use Rattle.dns_spec.specs.WrittenText.{word_text, is_unbroken, stands_alone}
-use Rattle.dns_spec.specs.ZoneText.{Token, blank, word, quoted_string, is_blank, run_length, word_length, string_length, closed, unquoted_front, token_front}
+use Rattle.dns_spec.specs.ZoneText.{Token, blank, word, quoted_string, is_blank, run_length, word_length, unquoted_front, token_front}
 use Rattle.dns_spec.proofs.DataWords.WordRuns.{Runs}
 use Rattle.dns_spec.proofs.DataWords.StandingWords.{TakenWhole}
 
@@ -19,8 +20,7 @@ apart : (o k : ℕ) → begins_word o ≡ true → begins_word k ≡ false → (
 apart o k begins none = grind (arith, cases_Bool, inl, true≢false, eqb-true, inr)
 
 word_reached : (o : ℕ) (text : Octets) → begins_word o ≡ true → token_front (o ∷ text) ≡ unquoted_front (o ∷ text)
-word_reached o text begins =
-    rw (apart o 32 begins refl, apart o 9 begins refl, apart o 59 begins refl, apart o 34 begins refl, apart o 40 begins refl, apart o 41 begins refl, apart o 10 begins refl, apart o 13 begins refl) refl
+word_reached o text begins = grind arith
 
 not_zero : (k : ℕ) → (suc k == 0) ≡ false
 not_zero k = false_from_ne_true (suc k == 0) (λ h. absurd (omega (arith, eqb-true (suc k) 0 h)))
@@ -33,8 +33,7 @@ abbrev pub word_token : Word → Token
 word_token w = if w.is_quoted then quoted_string w.raw else word w.raw
 
 first_begins : (o : ℕ) (raw : Octets) → is_unbroken is_word_octet (o ∷ raw) ≡ true → begins_word o ≡ true
-first_begins o [] h = grind arith
-first_begins o (d ∷ raw) h = grind (arith, and_parts)
+first_begins o raw h = grind arith
 
 bare_read : (raw : Octets) (c : ℕ) (rest : Octets) → nat_lt 0 (length raw) ≡ true → is_unbroken is_word_octet raw ≡ true → Runs is_word_octet raw
     → word_length (c ∷ rest) ≡ 0 → token_front (raw ++ c ∷ rest) ≡ Some (word raw, c ∷ rest)
@@ -49,22 +48,12 @@ bare_read (o ∷ raw) c rest some unbroken whole ends =
 
 string_read : (raw rest : Octets) → Runs is_string_octet raw → token_front (34 ∷ (raw ++ 34 ∷ rest)) ≡ Some (quoted_string raw, rest)
 unfolding run_length
-string_read raw rest whole =
-    ap (λ k. closed (take k text) (drop k text)) long
-    ∙ ap (λ x. closed x (drop (length raw) text)) (take-append_seam raw (34 ∷ rest))
-    ∙ ap (λ x. closed raw x) (drop-append_seam raw (34 ∷ rest))
-  where
-    text : Octets
-    text = raw ++ 34 ∷ rest
-
-    long : string_length text ≡ length raw
-    long = whole (34 ∷ rest) ∙ omega arith
+string_read raw rest whole = grind (arith, common_steps, take-append_seam, drop-append_seam)
 
 -- the octet c ends a word
 pub word_read : (w : Word) (c : ℕ) (rest : Octets) → stands_alone w ≡ true → TakenWhole w → word_length (c ∷ rest) ≡ 0
     → token_front (word_text w ++ c ∷ rest) ≡ Some (word_token w, c ∷ rest)
-word_read w c rest alone whole ends =
-    grind (arith, TakenWhole, append_assoc, string_read, and_parts, bare_read)
+word_read w c rest alone whole ends = grind (arith, append_assoc, string_read, and_parts, bare_read)
 
 -- a word begins with no blank
 pub no_blank : (w : Word) (rest : Octets) → stands_alone w ≡ true → prefix_len is_blank (word_text w ++ rest) ≡ 0
