@@ -63,14 +63,6 @@ pub bare_text : (x rest : Octets) → Bare x → is_unbroken is_word_octet rest 
 bare_text [] rest h after = after
 bare_text (o ∷ x) rest h after = plain_octet is_word_octet o (x ++ rest) h.0 (no_backslash is_word_octet o refl h.0) (bare_text x rest h.1 after)
 
--- a backslash and three digits
-digit_octet : (p : ℕ → Bool) (d : ℕ) (rest : Octets) → ((e : ℕ) → e < 10 → p (48 + e) ≡ true) → p 92 ≡ false → d < 10 → is_unbroken p rest ≡ true
-    → is_unbroken p ((48 + d) ∷ rest) ≡ true
-digit_octet p d rest digit none small after = plain_octet p (48 + d) rest (digit d small) (no_backslash p (48 + d) none (digit d small)) after
-
-graphic_digit : (d : ℕ) → d < 10 → is_ascii_graphic (48 + d) ≡ true
-graphic_digit d small = agree_below_at (λ e. is_ascii_graphic (48 + e)) (λ e. true) 10 d refl small
-
 digits_octet : (p : ℕ → Bool) (x : ℕ) (rest : Octets) → ((e : ℕ) → e < 10 → p (48 + e) ≡ true) → p 92 ≡ false → x < 256 → is_unbroken p rest ≡ true
     → is_unbroken p (92 ∷ three_digits x ++ rest) ≡ true
 digits_octet p x rest digit none small after = grind arith

@@ -135,9 +135,6 @@ groups_again (g ∷ gs) small =
 abbrev before : Octets → Octets × Octets → Octets × Octets
 before w r = (w ++ r.0, r.1)
 
-past_octet : (c : ℕ) (x : Octets) → is_colon c ≡ false → around_gap (c ∷ x) ≡ option_map (before (c ∷ [])) (around_gap x)
-past_octet c x h = grind arith
-
 past_colon : (c : ℕ) (x : Octets) → is_colon c ≡ false → around_gap (58 ∷ c ∷ x) ≡ option_map (before (58 ∷ [])) (around_gap (c ∷ x))
 past_colon c x other = rw other refl
 

@@ -1,18 +1,14 @@
 -- Words that name types: a name in the table is no number, and a number is read as it is written.
-use Rattle.std.proofs.Common.{◌≡◌, ℕ, ◌^◌, ◌<◌, Bool, true, nat_lt, None, Some, List, [], ◌∷◌, ◌++◌, map, refl, sym, ap, ◌∙◌, arith, codes}
+use Rattle.std.proofs.Common.{◌≡◌, ℕ, ◌^◌, ◌<◌, None, Some, [], ◌∷◌, ◌++◌, map, refl, sym, ap, ◌∙◌, arith, codes}
 use Rattle.std.proofs.lemmas.Option.{none-some, same_Some}
 use Rattle.std.proofs.lemmas.Fmt.{decimal_is_IsNumeral, decimal_injective}
-use Rattle.std.proofs.lemmas.Bool.{lt-ltb, ltb-true, and_parts}
+use Rattle.std.proofs.lemmas.Bool.{lt-ltb}
 use Rattle.std.proofs.lemmas.Str.Parse.{digit_from_value}
-use Rattle.std.specs.Option.{option_map}
-use Rattle.std.specs.List.{find, list_all}
 use Rattle.std.specs.Fmt.{decimal}
 use Rattle.std.specs.Char.{to_ascii_lowercase, digit_value}
 use Rattle.std.specs.Str.Parse.{AllDigits}
 use Rattle.dns_spec.specs.Names.{Octets}
-use Rattle.dns_spec.specs.Data.{TypeRow}
 use Rattle.dns_spec.specs.TypeText.{text_in_lower_case, type_by_mnemonic, numbered_type, NamesType}
-use Rattle.dns_spec.proofs.Records.SortedOnce.{Each}
 
 digit_lowered : (c : ℕ) → digit_value c < 10 → to_ascii_lowercase c ≡ c
 digit_lowered c h = let range = digit_from_value c h in rw (lt-ltb c 65 (omega (arith, range))) refl
@@ -40,18 +36,3 @@ numbers_alike t u p q e = grind (arith, decimal_injective, decimal-lowered)
 
 pub one_type : (word : Octets) (t u : ℕ) → NamesType word t → NamesType word u → t ≡ u
 one_type word t u h h1 = grind (arith, same_Some, apart, numbers_alike)
-
--- a word names a type of 16 bits
-found_small : (p : TypeRow → Bool) (rows : List TypeRow) (t : ℕ) → Each (λ (row : TypeRow). row.number < 65536) rows
-    → option_map (λ (row : TypeRow). row.number) (find p rows) ≡ Some t → t < 65536
-found_small p [] t small e = absurd (none-some t e)
-found_small p (row ∷ rows) t small e = grind (arith, same_Some, (found_small p rows t small.1))
-
-rows_small : (rows : List TypeRow) → list_all (λ (row : TypeRow). nat_lt row.number 65536) rows ≡ true → Each (λ (row : TypeRow). row.number < 65536) rows
-rows_small [] ok = tt
-rows_small (row ∷ rows) ok =
-    let both = and_parts (nat_lt row.number 65536) (list_all (λ (r : TypeRow). nat_lt r.number 65536) rows) ok in
-    (ltb-true row.number 65536 both.0, rows_small rows both.1)
-
-pub named_type-small : (word : Octets) (t : ℕ) → NamesType word t → t < 65536
-named_type-small word t h = grind arith

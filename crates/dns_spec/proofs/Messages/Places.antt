@@ -9,8 +9,7 @@ use Rattle.std.specs.List.{list_all}
 use Rattle.dns_spec.specs.Names.{Octets, DomainName, wire, is_label, is_name}
 use Rattle.dns_spec.specs.Data.{number_of}
 use Rattle.dns_spec.specs.Reading.{RunAt, NameAt, OctetsAt, NumberAt}
-use Rattle.dns_spec.specs.Reading.RunAt.{ends, goes_on, jumps}
-use Rattle.dns_spec.specs.Layout.{pointer}
+use Rattle.dns_spec.specs.Reading.RunAt.{ends, goes_on}
 
 pub length-bytes_high_first : (k n : ℕ) → length (bytes_high_first k n) ≡ k
 length-bytes_high_first zero n = refl
@@ -98,8 +97,3 @@ run_written {b} {s} (l ∷ n) {i} h at =
 
 pub name_written : {b : Octets} {i : ℕ} (n : DomainName) → IsTrue (is_name n) → Stands b i (wire n) → NameAt b i n (i + length (wire n))
 name_written n h at = (run_written n (and_parts (list_all is_label n) _ h).0 at, h)
-
--- a name written as a pointer to place 12
-pub name_pointed : {b : Octets} {i e : ℕ} (n : DomainName) → 12 < i → NameAt b 12 n e → Stands b i (pointer 12) → NameAt b i n (i + 2)
-name_pointed {b} {i} {e} n h at s =
-    (jumps i 192 12 12 n e (stands_get 192 (12 ∷ []) s) (omega arith) (stands_get 12 [] (stands_after 1 (192 ∷ []) (12 ∷ []) refl s)) refl (omega arith) h at.0, at.1)

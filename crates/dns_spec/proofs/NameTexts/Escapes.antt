@@ -1,16 +1,12 @@
 -- Escapes: what one stands for is what it spells in a name, and how long one is.
-use Rattle.std.proofs.Common.{◌≡◌, ℕ, ◌-◌, ◌<◌, inl, inr, Bool, true, false, cond, ◌&&◌, nat_le, nat_lt, Option, Some, None, [], ◌∷◌, ◌++◌, length, refl, ap, subst, arith}
+use Rattle.std.proofs.Common.{◌≡◌, ℕ, ◌<◌, inl, inr, Bool, true, false, cond, ◌&&◌, nat_le, nat_lt, Option, Some, None, [], ◌∷◌, ◌++◌, refl, ap, subst, arith}
 use Rattle.std.specs.Prelude.{◌↔◌, ◌==◌, if◌then◌else◌}
-use Rattle.std.specs.Option.{option_map}
 use Rattle.std.proofs.lemmas.Bool.{and_parts, and_from, leb-true, le-leb, ltb-true, lt-ltb, cases_lt, cases_Bool, false≢true}
 use Rattle.std.proofs.lemmas.Option.{none-some, some_pair_parts}
 use Rattle.std.specs.Char.{is_ascii_digit, IsAsciiDigit, IsNotAsciiDigit}
 use Rattle.dns_spec.specs.Names.{Octets}
 use Rattle.dns_spec.specs.NameText.{three_digits_value, SpellsOctet, is_printable, digits_front, escape_front}
 use Rattle.dns_spec.specs.ZoneText.{escape_left}
-
-are_digits : ℕ → ℕ → ℕ → Bool
-are_digits a b c = is_ascii_digit a && is_ascii_digit b && is_ascii_digit c && nat_lt (three_digits_value a b c) 256
 
 -- how many octets the escape has, case by case
 abbrev pub counted_digits : Octets → ℕ
@@ -27,12 +23,6 @@ counted_escape (a ∷ text) = cond (is_ascii_digit a) (counted_digits (a ∷ tex
 -- how many octets of it are to come, where it has any
 abbrev pub left_by : ℕ → Option ℕ
 left_by k = if k == 0 then None else Some k
-
-abbrev front_left : Octets → Option (ℕ × Octets) → Option ℕ
-front_left text = option_map (λ r. length text - length r.1)
-
-digits-counted : (text : Octets) → front_left text (digits_front text) ≡ left_by (counted_digits text)
-digits-counted text = grind arith
 
 pub escape-counted : (text : Octets) → escape_left text ≡ left_by (counted_escape text)
 escape-counted text = grind arith

@@ -1,6 +1,6 @@
 -- A list sorted, with each element once, depends only on which elements there are.
 use Rattle.std.proofs.Common.{arith}
-use Rattle.std.proofs.Common.{◌≡◌, suc, Bool, true, false, not, cond, ◌⊎◌, inl, inr, List, [], ◌∷◌, length, refl, sym, ap, ap₂, ◌∙◌, subst, filter, is_lt, Ordering, Less, Equal, Greater}
+use Rattle.std.proofs.Common.{◌≡◌, suc, Bool, true, false, not, ◌⊎◌, inl, inr, List, [], ◌∷◌, length, refl, sym, ap, ap₂, ◌∙◌, subst, filter, is_lt, Ordering, Less, Equal, Greater}
 use Rattle.std.proofs.lemmas.Bool.{false≢true, not-true}
 use Rattle.std.proofs.lemmas.Cmp.{tied_itself}
 use Rattle.std.specs.Ordering.{ordering_reverse}
@@ -25,9 +25,6 @@ pub each_at : {X : Type 0} (P : X → Type 0) (a : X) (xs : List X) → Each P x
 each_at P a [] e m = absurd m
 each_at P a (x ∷ xs) e (inl p) = subst P (sym p) e.0
 each_at P a (x ∷ xs) e (inr m) = each_at P a xs e.1 m
-
-each_filter_one : {X : Type 0} (P : X → Type 0) (t : Bool) (x : X) (xs : List X) → P x → Each P xs → Each P (cond t (x ∷ xs) xs)
-each_filter_one P t x xs h h1 = grind arith
 
 pub each_filter : {X : Type 0} (P : X → Type 0) (p : X → Bool) (xs : List X) → Each P xs → Each P (filter p xs)
 each_filter P p [] e = tt

@@ -12,7 +12,7 @@ use Rattle.dns_spec.specs.Query.{field16, bit, head_of, reply_head, refusal_head
 use Rattle.dns_spec.specs.Layout.{Item, layout, message_of}
 use Rattle.dns_spec.specs.LayoutSize.{records_size, size}
 use Rattle.dns_spec.specs.Answer.{outcome, items, is_authoritative}
-use Rattle.dns_spec.specs.Reply.{truncated, Decision, silence, header_alone, question_alone, answered, refusal, decide_query, decide, Reply, answer_with, reply_of, reply_with, reply_octets, reply_message, keep_longest, reply, greatest}
+use Rattle.dns_spec.specs.Reply.{truncated, Decision, silence, header_alone, question_alone, answered, decide_query, decide, Reply, answer_with, reply_of, reply_with, reply_octets, reply_message, keep_longest, reply, greatest}
 use Rattle.dns_spec.specs.Laws.{sections_in_order, IsWritable, IsAskable, HasRoom}
 use Rattle.dns_spec.proofs.Records.SortedOnce.{Each}
 use Rattle.dns_spec.proofs.Messages.NameReading.{name_at_computes}
@@ -78,9 +78,6 @@ Decided d silence = Unit {0}
 Decided d (header_alone h) = Refuses d h
 Decided d (question_alone h q) = (question_at d ≡ Some q) × Refuses d h
 Decided d (answered h q) = (question_at d ≡ Some q) × (head_of d ≡ h)
-
-refusal_low : (z : ZoneContents) (q : MessageQuestion) (rcode : ℕ) → refusal z q ≡ Some rcode → rcode < 16
-refusal_low z q rcode = grind (arith, same_Some, none-some)
 
 decided_query : (z : ZoneContents) (d : Octets) (x : QueryRead) → IsReadAs d x → Decided d (decide_query z x)
 decided_query z d x h = grind arith

@@ -66,9 +66,6 @@ abbrev NamedPart : Part → Type 0
 NamedPart (octets o) = Unit {0}
 NamedPart (name n) = Named n
 
-octets_named : (o : Octets) (part : Part) → octets o ≡ part → NamedPart part
-octets_named o part e = subst NamedPart e tt
-
 named_front : (p : Piece) (os rest : Octets) (part : Part) → piece_front p os ≡ Some (part, rest) → NamedPart part
 named_front p os rest part h = grind arith
 

@@ -1,5 +1,5 @@
 -- A text that goes on begins with the tokens of its beginning, but for the last of them, which may go on too.
-use Rattle.std.proofs.Common.{◌≡◌, ℕ, zero, suc, ◌+◌, ◌⊎◌, inl, inr, Bool, true, false, cond, not, ◌&&◌, ◌||◌, ◌==◌, Option, Some, None, [], ◌∷◌, ◌++◌, length, take, drop, refl, sym, ◌∙◌, ap, ap₂, subst, arith}
+use Rattle.std.proofs.Common.{◌≡◌, ℕ, zero, suc, ◌+◌, ◌⊎◌, inl, inr, Bool, true, false, cond, not, ◌&&◌, ◌==◌, Option, Some, None, [], ◌∷◌, ◌++◌, length, take, drop, refl, sym, ◌∙◌, ap, ap₂, subst, arith}
 use Rattle.std.specs.Prelude.{if◌then◌else◌}
 use Rattle.std.proofs.lemmas.Bool.{and_parts, or_cases, eqb-true, true≢false, false≢true}
 use Rattle.std.proofs.lemmas.Option.{none-some}
@@ -10,20 +10,11 @@ use Rattle.dns_spec.specs.DataText.{is_word_octet}
 use Rattle.dns_spec.proofs.ZoneTexts.ReadWords.{front_taken}
 use Rattle.dns_spec.proofs.NameTexts.Escapes.{counted_escape, left_by, escape-counted}
 
-first_false : (x y : Bool) → (x || y) ≡ false → x ≡ false
-first_false x y h = grind arith
-
-and_false : (x y : Bool) → x ≡ false → (x && y) ≡ false
-and_false x y h = grind arith
-
 -- what is not cut short is not where the text goes on
 pub uncut : (place more : Octets) → is_cut_short place ≡ false → is_cut_short (place ++ more) ≡ false
 uncut place more h = grind arith
 
 -- an escape, or none, that no more octets can change
-one_digit : (d p : Bool) (n : ℕ) → (cond {A = ℕ} d 0 (cond p 1 0) ≡ 0 → d ≡ false) → cond {A = ℕ} d n (cond p 1 0) ≡ cond d 0 (cond p 1 0)
-one_digit d p n h = grind arith
-
 two_digits : (d e p x y : Bool) → (cond {A = ℕ} d 0 (cond p 1 0) ≡ 0 → (d && e) ≡ false)
     → cond {A = ℕ} d (cond (d && e && x && y) 3 0) (cond p 1 0) ≡ cond d 0 (cond p 1 0)
 two_digits d e p x y h = grind arith
@@ -117,9 +108,6 @@ module _ (more : Octets) where
   unfolding Keeps
   quoted_keeps text =
       grind (arith, run_more, ap₂, taken_more, dropped_more, eqb-true, mark_uncut, true≢false)
-
-  cr_cut : (o : ℕ) → (o == 13) ≡ true → (o == 92 || o == 13) ≡ true
-  cr_cut o e = ap (λ c. c == 92 || c == 13) (eqb-true o 13 e)
 
   line_feed_keeps : (o : ℕ) (text : Octets) → (o == 13) ≡ true → Keeps (o ∷ text) (line_feed_front text) (line_feed_front (text ++ more))
   unfolding Keeps

@@ -1,13 +1,13 @@
 -- The first fault of a beginning of a text is the fault of the text.
-use Rattle.std.proofs.Common.{◌≡◌, ℕ, zero, suc, ◌≤◌, ◌⊎◌, inl, inr, Bool, true, false, ◌&&◌, ◌||◌, not, ◌==◌, Option, Some, None, List, [], ◌∷◌, ◌++◌, map, length, take, drop, refl, sym, ◌∙◌, ap, subst, arith}
-use Rattle.std.proofs.lemmas.Bool.{false_from_ne_true, false≢true, true≢false, eqb-true}
+use Rattle.std.proofs.Common.{◌≡◌, ℕ, zero, suc, ◌≤◌, ◌⊎◌, inl, inr, Bool, true, false, ◌&&◌, not, Option, Some, None, List, [], ◌∷◌, ◌++◌, map, length, take, drop, refl, sym, ◌∙◌, ap, subst, arith}
+use Rattle.std.proofs.lemmas.Bool.{false≢true, true≢false}
 use Rattle.std.proofs.lemmas.Option.{none-some, same_Some}
 use Rattle.std.specs.List.{cons_option}
 use mathlib.Core.Bool.{xor}
 use Rattle.dns_spec.specs.Names.{Octets, DomainName}
 use Rattle.dns_spec.specs.Records.{ResourceRecord}
 use Rattle.dns_spec.specs.FileFaults.{FileFault, bad_parenthesis, too_long}
-use Rattle.dns_spec.specs.ZoneText.{most_octets, extent_of, Token, token_front, TokensThen, parenthesis, parentheses, is_line_end, open_after, before_first, cut_entries, take_turns, is_open_at_end, is_cut_short, begins_line_end, string_length, Extent, beginning, EntryStop, in_string, in_token, stop_at, token_fault, string_fault, stop_fault, Entry, ended, unended, with_end}
+use Rattle.dns_spec.specs.ZoneText.{most_octets, extent_of, Token, token_front, TokensThen, parenthesis, parentheses, is_line_end, open_after, before_first, cut_entries, take_turns, is_open_at_end, is_cut_short, string_length, Extent, beginning, in_string, in_token, stop_at, token_fault, string_fault, stop_fault, Entry, ended, unended, with_end}
 use Rattle.dns_spec.specs.Meaning.{faulty, gives, Meaning, records, fault_at, after, line_after, EntriesMean, Means}
 use Rattle.dns_spec.specs.Laws.{OctetsMean}
 use Rattle.dns_spec.proofs.ZoneTexts.TextTokens.{has_tokens}
@@ -114,14 +114,6 @@ after-fault : (rs : List ResourceRecord) (later : Meaning) (fault : FileFault) (
 unfolding fault_of
 after-fault rs later fault line h = grind arith
 
-line_of : Meaning → ℕ
-line_of (records rs) = 0
-line_of (fault_at fault line) = line
-
-same_fault : (f g : FileFault) (l n : ℕ) → fault_at f l ≡ fault_at g n → (f ≡ g) × (l ≡ n)
-unfolding fault_of line_of
-same_fault f g l n e = (same_Some f g (ap fault_of e), ap line_of e)
-
 -- a parenthesis that is misplaced stays so, whatever comes after
 and_later : (x y z : Bool) → (y ≡ false → z ≡ false) → (x && y) ≡ false → (x && z) ≡ false
 and_later x y z h h1 = grind arith
@@ -145,9 +137,6 @@ no_end [] = refl
 no_end (t ∷ ts) = ap (cons_option (parenthesis t)) (no_end ts)
 
 -- why a beginning can't go on, and why the text can't
-never_none : (is_open : Bool) (stop : EntryStop) → stop_fault beginning is_open stop ≡ None → ⊥
-never_none is_open stop h = grind arith
-
 uncut_string : (extent : Extent) (is_open : Bool) (place : Octets) → is_cut_short place ≡ false
     → stop_fault extent is_open (in_string place) ≡ Some (string_fault place)
 uncut_string extent is_open place h = grind arith
@@ -155,18 +144,6 @@ uncut_string extent is_open place h = grind arith
 uncut_token : (extent : Extent) (is_open : Bool) (place : Octets) → is_cut_short place ≡ false
     → stop_fault extent is_open (in_token place) ≡ Some (token_fault place)
 uncut_token extent is_open place h = grind arith
-
-no_cr : (x y : Bool) → (x || y) ≡ false → y ≡ false
-no_cr x y h = grind arith
-
-or_nothing : (x : Bool) → (x || false) ≡ x
-or_nothing x = grind arith
-
-line_end_more : (place more : Octets) → is_cut_short place ≡ false → begins_line_end (place ++ more) ≡ begins_line_end place
-line_end_more place more h = grind arith
-
-some_octets : (o : ℕ) (text : Octets) → (length (o ∷ text) == 0) ≡ false
-some_octets o text = false_from_ne_true (length (o ∷ text) == 0) (λ h. absurd (omega (arith, eqb-true (length (o ∷ text)) 0 h)))
 
 string_fault_more : (place more : Octets) → is_cut_short place ≡ false → string_fault (place ++ more) ≡ string_fault place
 string_fault_more place more h = grind arith

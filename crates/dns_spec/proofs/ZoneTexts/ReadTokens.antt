@@ -6,7 +6,6 @@ use Rattle.dns_spec.specs.Names.{Octets}
 use Rattle.dns_spec.specs.ZoneText.{Token, blank, comment, word, quoted_string, opening, closing, line_end, escape_left, unit_left, run_length, word_length, string_length, closed, quoted_front, unquoted_front, line_feed_front, token_front, TokensThen, is_line_end, open_after, before_first, cut_entries, Entry, with_end, Entries, word_of, entry_words, Extent}
 use Rattle.dns_spec.specs.DataText.{is_word_octet, is_string_octet}
 use Rattle.dns_spec.proofs.Records.SortedOnce.{Each}
-use Rattle.dns_spec.proofs.NameTexts.Escapes.{counted_digits, counted_escape}
 use Rattle.dns_spec.proofs.ZoneTexts.ReadOctets.{Octet, SmallWord}
 
 range_small : (low high o : ℕ) → high < 256 → (nat_le low o && nat_le o high) ≡ true → Octet o
@@ -17,13 +16,6 @@ word_octet_small o e = grind arith
 
 string_octet_small : (o : ℕ) → is_string_octet o ≡ true → Octet o
 string_octet_small o e = grind (arith, or_cases, and_parts, Octet, inl, range_small, inr, eqb-true)
-
--- the octets of an escape
-digits_small : (text : Octets) → Each Octet (take (counted_digits text) text)
-digits_small text = grind arith
-
-escape_small : (text : Octets) → Each Octet (take (counted_escape text) text)
-escape_small text = grind arith
 
 escape_left_small : (text : Octets) (k : ℕ) → escape_left text ≡ Some k → Each Octet (take k text)
 escape_left_small text k e = grind arith
