@@ -1,18 +1,10 @@
 -- Strings that are written in quotation marks are read as those strings again.
-use Rattle.std.proofs.Common.{◌≡◌, ◌≢◌, ℕ, ◌<◌, ◌≤◌, ◌⊎◌, inl, inr, [], ◌∷◌, length, refl, ap, arith}
-use Rattle.std.proofs.lemmas.Bool.{cases_eq}
+use Rattle.std.proofs.Common.{ℕ, ◌<◌, ◌≤◌, [], ◌∷◌, length, refl, arith}
 use Rattle.std.specs.List.{flat_map}
 use Rattle.dns_spec.specs.Names.{Octets}
 use Rattle.dns_spec.specs.DataText.{SpellsStringOctet, SpellsString, SaysString}
 use Rattle.dns_spec.specs.WrittenText.{string_octet_text}
 use Rattle.dns_spec.proofs.DomainNames.SmallOctets.{Small, small_head, small_tail}
-
-escaped : (o : ℕ) → (o ≡ 34) ⊎ (o ≡ 92) → SpellsStringOctet (92 ∷ o ∷ []) o
-escaped o h = grind arith
-
--- an octet as itself, a dot too
-itself : (o : ℕ) → o ≢ 92 → SpellsStringOctet (o ∷ []) o
-itself o h = elim (cases_eq o 46) [ inl dot ↦ inr (ap (λ c. c ∷ []) dot, dot) | inr other ↦ inl (refl, other, h) ]
 
 string_octet_said : (o : ℕ) → o < 256 → SpellsStringOctet (string_octet_text o) o
 string_octet_said o small = grind arith

@@ -27,9 +27,6 @@ greatest-first test zero h = refl
 greatest-first test (suc n) h = grind (arith, (greatest-first test n h))
 
 module _ (size_of : List Item → ℕ) (grows : (is js : List Item) → size_of is ≤ size_of (is ++ js)) (limit : ℕ) where
-  fits : List Item → Bool
-  fits is = nat_le (size_of is) limit
-
   fits_before : (is js : List Item) → nat_le (size_of (is ++ js)) limit ≡ true → nat_le (size_of is) limit ≡ true
   fits_before is js e = let h = leb-true (size_of (is ++ js)) limit e in let g = grows is js in le-leb (size_of is) limit (omega (arith, h, g))
 

@@ -2,8 +2,8 @@
 use Rattle.std.proofs.Common.{◌≡◌, ℕ, inl, inr, Bool, true, false, ◌==◌, [], ◌∷◌, ◌++◌, length, get_or, Option, Some, None, refl, sym, ◌∙◌, ap, ap₂, subst, arith, codes}
 use Rattle.std.specs.Prelude.{if◌then◌else◌}
 use Rattle.std.specs.List.{list_all}
-use Rattle.std.specs.Char.{is_ascii_digit, IsAsciiDigit}
-use Rattle.std.proofs.lemmas.Bool.{true≢false, false≢true, and_parts, and_from, le-leb}
+use Rattle.std.specs.Char.{is_ascii_digit}
+use Rattle.std.proofs.lemmas.Bool.{true≢false, false≢true, and_parts}
 use Rattle.std.proofs.lemmas.Option.{none-some}
 use Rattle.dns_spec.specs.Names.{Octets, DomainName, is_label}
 use Rattle.dns_spec.specs.NameText.{three_digits_value, SpellsOctet, LabelThen, TextSpells, SpellsName}
@@ -23,9 +23,6 @@ escaped_front (a ∷ text) = if is_ascii_digit a then digits_front (a ∷ text) 
 octet_front : Octets → Option (ℕ × Octets)
 octet_front [] = None
 octet_front (a ∷ text) = if a == 92 then escaped_front text else Some (a, text)
-
-digit : (a : ℕ) → IsAsciiDigit a → is_ascii_digit a ≡ true
-digit a h = and_from _ _ (le-leb _ _ h.0) (le-leb _ _ h.1)
 
 octet_front-is : (first : Octets) (x : ℕ) (others : Octets) → SpellsOctet first x → octet_front (first ++ others) ≡ Some (x, others)
 unfolding octet_front escaped_front digits_front

@@ -1,5 +1,5 @@
 -- A text that goes on begins with the tokens of its beginning, but for the last of them, which may go on too.
-use Rattle.std.proofs.Common.{◌≡◌, ℕ, zero, suc, ◌+◌, ◌⊎◌, inl, inr, Bool, true, false, cond, not, ◌&&◌, ◌==◌, Option, Some, None, [], ◌∷◌, ◌++◌, length, take, drop, refl, sym, ◌∙◌, ap, ap₂, subst, arith}
+use Rattle.std.proofs.Common.{◌≡◌, ℕ, zero, suc, ◌+◌, ◌⊎◌, inl, inr, Bool, true, false, not, ◌==◌, Option, Some, None, [], ◌∷◌, ◌++◌, length, take, drop, refl, sym, ◌∙◌, ap, ap₂, subst, arith}
 use Rattle.std.specs.Prelude.{if◌then◌else◌}
 use Rattle.std.proofs.lemmas.Bool.{and_parts, or_cases, eqb-true, true≢false, false≢true}
 use Rattle.std.proofs.lemmas.Option.{none-some}
@@ -13,11 +13,6 @@ use Rattle.dns_spec.proofs.NameTexts.Escapes.{counted_escape, left_by, escape-co
 -- what is not cut short is not where the text goes on
 pub uncut : (place more : Octets) → is_cut_short place ≡ false → is_cut_short (place ++ more) ≡ false
 uncut place more h = grind arith
-
--- an escape, or none, that no more octets can change
-two_digits : (d e p x y : Bool) → (cond {A = ℕ} d 0 (cond p 1 0) ≡ 0 → (d && e) ≡ false)
-    → cond {A = ℕ} d (cond (d && e && x && y) 3 0) (cond p 1 0) ≡ cond d 0 (cond p 1 0)
-two_digits d e p x y h = grind arith
 
 counted_more : (text more : Octets) → (counted_escape text ≡ 0 → is_cut_short (92 ∷ text) ≡ false)
     → counted_escape (text ++ more) ≡ counted_escape text

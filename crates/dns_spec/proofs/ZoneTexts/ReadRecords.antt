@@ -117,9 +117,6 @@ SmallSort (directive name ws) = Each SmallWord ws
 SmallSort (owned w ws) = SmallWord w × Each SmallWord ws
 SmallSort (unowned ws) = Each SmallWord ws
 
-sort_by : (b : Bool) (s s' : EntryKind) → SmallSort s → SmallSort s' → SmallSort (cond b s s')
-sort_by b s s' h h1 = grind arith
-
 words_kind : (blank : Bool) (ws : List Word) → Each SmallWord ws → SmallSort (kind_by_words blank ws)
 words_kind blank ws h = grind arith
 
