@@ -54,10 +54,6 @@ GroupSoFar-push text i value v so_far inside e small =
       bound = let step : 16 ^ (i + 1) ≡ 16 ^ i * 16 = rw (add-one i) (pow-suc 16 i) in omega (arith, so_far.bound, step);
     }
 
--- a group has at most 4 digits, and one at least
-pub group_of : (text : Octets) → 0 < length text → length text ≤ 4 → list_all is_ascii_hexdigit text ≡ true → is_group text ≡ true
-group_of text some_digit short hex = and_from _ _ (and_from _ _ (lt-ltb _ _ some_digit) (le-leb _ _ short)) hex
-
 -- eight groups one by one
 pub eight : (gs : List ℕ) → length gs ≡ 8 → gs ≡ get_or gs 0 0 ∷ get_or gs 1 0 ∷ get_or gs 2 0 ∷ get_or gs 3 0 ∷ get_or gs 4 0 ∷ get_or gs 5 0 ∷ get_or gs 6 0 ∷ get_or gs 7 0 ∷ []
 eight gs e = listed gs e
@@ -83,19 +79,10 @@ eight_octets gs a b c d f g h k four ea eb ec ed ef eg eh ek =
 abbrev pub with_front : Octets → Octets × Octets → Octets × Octets
 with_front front r = (front ++ r.0, r.1)
 
-abbrev with_octet : ℕ → Octets × Octets → Octets × Octets
-with_octet c r = (c ∷ r.0, r.1)
-
 -- what stands before a place has no gap
 pub record GapSoFar (text : Octets) (place : ℕ) : Type 0 where
   pub inside : place ≤ length text
   pub whole : around_gap text ≡ option_map (with_front (take place text)) (around_gap (drop place text))
-
--- the two octets at a place
-one_at : (text : Octets) (place : ℕ) → place < length text → drop place text ≡ get_or text place 0 ∷ drop (place + 1) text
-one_at text place inside =
-    let P : ℕ → Type 0 = λ k. drop place text ≡ get_or text place 0 ∷ drop k text in
-    subst P (suc-eq-add-one place) (drop-cons text place 0 inside)
 
 pub GapSoFar-end : (text : Octets) (place : ℕ) → GapSoFar text place → length text ≤ place + 1 → around_gap text ≡ None
 GapSoFar-end text place so_far end = so_far.whole ∙ ap (option_map (with_front (take place text))) (short (drop place text) (omega (arith, length-drop place text)))
