@@ -135,9 +135,6 @@ groups_again (g ∷ gs) small =
 abbrev before : Octets → Octets × Octets → Octets × Octets
 before w r = (w ++ r.0, r.1)
 
-past_colon : (c : ℕ) (x : Octets) → is_colon c ≡ false → around_gap (58 ∷ c ∷ x) ≡ option_map (before (58 ∷ [])) (around_gap (c ∷ x))
-past_colon c x other = rw other refl
-
 before-before : (v w : Octets) (o : Option (Octets × Octets)) → option_map (before v) (option_map (before w) o) ≡ option_map (before (v ++ w)) o
 before-before v w o = grind (arith, append_assoc)
 
@@ -152,10 +149,7 @@ past_groups g (h ∷ gs) x small =
     let text = groups_text (h ∷ gs) in
     let t = digit_first h gs small.1 in
     let colon : around_gap (58 ∷ (text ++ x)) ≡ option_map (before (58 ∷ [])) (around_gap (text ++ x)) =
-    ap (λ y. around_gap (58 ∷ (y ++ x))) t.whole
-    ∙ past_colon t.first (t.others ++ x) t.is_digit
-    ∙ ap (λ y. option_map (before (58 ∷ [])) (around_gap (y ++ x))) (sym t.whole)
-    in
+    grind arith in
     ap around_gap (append_assoc w (58 ∷ text) x)
     ∙ past_word w (58 ∷ (text ++ x)) (colonless g small.0)
     ∙ ap (option_map (before w)) (colon ∙ ap (option_map (before (58 ∷ []))) (past_groups h gs x small.1) ∙ before-before (58 ∷ []) text (around_gap x))

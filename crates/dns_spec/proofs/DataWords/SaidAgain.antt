@@ -172,9 +172,7 @@ formed t origin d made e ok small = by_cases (or_cases (list_all is_counted made
     pieces = ap (λ r. (unwrap_or r other_type).pieces) e
 
     by_cases : (list_all is_counted made.pieces ≡ true) ⊎ (are_strings_alone made.pieces ≡ true) → Formed t origin d
-    by_cases (inl counted) =
-        let c = cut_data t d ok in
-        counted_formed t origin d made c.cut_parts e counted (ap (λ ps. cut ps d) (sym pieces) ∙ c.is_cut) small
+    by_cases (inl counted) = grind (arith, cut_data, counted_formed, pieces)
     by_cases (inr alone) =
         let c = cut_data t d ok in
         let is = only_strings made.pieces alone in

@@ -131,22 +131,14 @@ at_or_below-cons l n a = by_length (cases_order (length a) (suc (length n)))
     other_length differ = false_from_ne_true _ (λ h. differ (same-length (l ∷ n) a h))
 
     by_length : (length a ≡ suc (length n)) ⊎ ((length a < suc (length n)) ⊎ (suc (length n) < length a)) → at_or_below (l ∷ n) a ≡ (same (l ∷ n) a || at_or_below n a)
-    by_length (inl e) =
-        let fits : nat_le (length a) (suc (length n)) ≡ true = le-leb _ _ (omega arith) in
-        let whole : suc (length n) - length a ≡ 0 = omega arith in
-        let longer : nat_le (length a) (length n) ≡ false = lt-leb _ _ (omega arith) in
-        rw (fits, whole, longer) (sym (or-false _))
+    by_length (inl e) = grind arith
     by_length (inr (inl h)) =
         let fits : nat_le (length a) (suc (length n)) ≡ true = le-leb _ _ (omega arith) in
         let fits_others : nat_le (length a) (length n) ≡ true = le-leb _ _ (omega arith) in
         let skipped : suc (length n) - length a ≡ suc (length n - length a) = omega arith in
         let differ : same (l ∷ n) a ≡ false = other_length (λ e. absurd (omega arith)) in
         rw (fits, skipped, differ, fits_others) refl
-    by_length (inr (inr h)) =
-        let longer : nat_le (length a) (suc (length n)) ≡ false = lt-leb _ _ (omega arith) in
-        let longer_still : nat_le (length a) (length n) ≡ false = lt-leb _ _ (omega arith) in
-        let differ : same (l ∷ n) a ≡ false = other_length (λ e. absurd (omega arith)) in
-        rw (longer, differ, longer_still) refl
+    by_length (inr (inr h)) = grind (arith, lt-leb, other_length)
 
 length-wire-drop : (k : ℕ) (n : DomainName) → length (wire (drop k n)) ≤ length (wire n)
 length-wire-drop zero n = omega arith

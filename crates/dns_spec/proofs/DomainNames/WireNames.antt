@@ -58,10 +58,7 @@ labels_read (suc k) (suc i ∷ os) n rest h =
         → option_map (with_label l) y ≡ Some (n, rest) → suc i ∷ os ≡ wire n ++ rest
     with_first again None e long f = absurd (none-some (n, rest) f)
     with_first again (Some (m, tail)) e long f =
-        let whole : os ≡ l ++ (wire m ++ tail) =
-        sym (take-append-drop (suc i) os) ∙ ap (λ z. l ++ z) (again m tail e) in
-        ap (λ z. z ∷ os) (sym long) ∙ ap (λ z. length l ∷ z) (whole ∙ sym (append_assoc l (wire m) tail))
-        ∙ ap (λ r. wire r.0 ++ r.1) (same_Some (l ∷ m, tail) (n, rest) f)
+        grind (arith, take-append-drop, append_assoc, same_Some, l)
 
     by_room : LabelsRead k (drop (suc i) os) → (b : Bool) → nat_le (suc i) (length os) ≡ b
         → ◌≡◌ {A = Option (DomainName × Octets)} (elim b [ true ↦ option_map (with_label l) (labels_from k (drop (suc i) os)) | false ↦ None ]) (Some (n, rest))
@@ -84,8 +81,7 @@ wire_fronts_agree [] (k ∷ m) rest tail p q e = grind (arith, IsLabel-is_label,
 wire_fronts_agree (l ∷ n) [] rest tail p q e = grind (arith, IsLabel-is_label, and_parts)
 wire_fronts_agree (l ∷ n) (k ∷ m) rest tail p q e =
     let as_long : length l ≡ length k = cc in
-    let after : l ++ (wire n ++ rest) ≡ k ++ (wire m ++ tail) =
-    sym (append_assoc l (wire n) rest) ∙ ap (drop 1) e ∙ append_assoc k (wire m) tail in
+    let after : l ++ (wire n ++ rest) ≡ k ++ (wire m ++ tail) = grind (arith, append_assoc) in
     let first : l ≡ k = sym (take_at l (wire n ++ rest) _ as_long) ∙ ap (take (length k)) after ∙ take_at k (wire m ++ tail) _ refl in
     let others : wire n ++ rest ≡ wire m ++ tail =
     sym (drop_at l (wire n ++ rest) _ as_long) ∙ ap (drop (length k)) after ∙ drop_at k (wire m ++ tail) _ refl in

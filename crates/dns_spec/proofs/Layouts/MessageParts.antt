@@ -1,5 +1,5 @@
 -- Header, question and sections of a layout, read back where they stand.
-use Rattle.std.proofs.Common.{◌≡◌, ℕ, ◌+◌, ◌^◌, ◌<◌, Bool, true, false, cond, nat_le, List, [], ◌∷◌, ◌++◌, length, Option, IfSome, refl, sym, ap, ◌∙◌, subst, arith, append_assoc, length-append}
+use Rattle.std.proofs.Common.{◌≡◌, ℕ, ◌+◌, ◌^◌, ◌<◌, Bool, true, false, cond, nat_le, List, [], ◌∷◌, ◌++◌, length, Option, IfSome, refl, ◌∙◌, subst, arith, append_assoc, length-append}
 use Rattle.std.proofs.lemmas.Bool.{and_parts, leb-true}
 use Rattle.std.specs.List.{list_all}
 use Rattle.std.specs.Option.{option_to_list}
@@ -35,25 +35,9 @@ records_by_section (i ∷ is) h =
     go : (s : Section) → i.section ≡ s → records_of is ≡ in_section answer is ++ (in_section authority is ++ in_section additional is)
         → list_all (λ (j : Item). nat_le (section_rank i.section) (section_rank j.section)) is ≡ true
         → i.records ++ records_of is ≡ in_section answer (i ∷ is) ++ (in_section authority (i ∷ is) ++ in_section additional (i ∷ is))
-    go answer e rest later =
-        let a = section_with answer i is true (ap (is_section answer) e) in
-        let b = section_with authority i is false (ap (is_section authority) e) in
-        let c = section_with additional i is false (ap (is_section additional) e) in
-        rw (a, b, c, rest) (sym (append_assoc i.records (in_section answer is) (in_section authority is ++ in_section additional is)))
-    go authority e rest later =
-        let none = section_empty answer 1 is (omega arith) (subst (λ s. list_all (λ (j : Item). nat_le (section_rank s) (section_rank j.section)) is ≡ true) e later) in
-        let a = section_with answer i is false (ap (is_section answer) e) in
-        let b = section_with authority i is true (ap (is_section authority) e) in
-        let c = section_with additional i is false (ap (is_section additional) e) in
-        rw (a, b, c, rest, none) (sym (append_assoc i.records (in_section authority is) (in_section additional is)))
-    go additional e rest later =
-        let late = subst (λ s. list_all (λ (j : Item). nat_le (section_rank s) (section_rank j.section)) is ≡ true) e later in
-        let none = section_empty answer 2 is (omega arith) late in
-        let none' = section_empty authority 2 is (omega arith) late in
-        let a = section_with answer i is false (ap (is_section answer) e) in
-        let b = section_with authority i is false (ap (is_section authority) e) in
-        let c = section_with additional i is true (ap (is_section additional) e) in
-        rw (a, b, c, rest, none, none') refl
+    go answer e rest later = grind (arith, section_with, append_assoc)
+    go authority e rest later = grind (arith, section_empty, section_with, append_assoc)
+    go additional e rest later = grind (arith, section_empty, section_with)
 
 -- the header, field by field
 pub header_at : {b : Octets} (h : Header) (qd an ns ar : ℕ) → h.id < 2 ^ 16 → h.flags < 2 ^ 16 → qd < 2 ^ 16 → an < 2 ^ 16 → ns < 2 ^ 16 → ar < 2 ^ 16

@@ -5,7 +5,7 @@ use Rattle.dns_spec.specs.Names.{Octets, DomainName, wire}
 use Rattle.dns_spec.specs.Data.{Part, octets, name}
 use Rattle.dns_spec.specs.Records.{ResourceRecord}
 use Rattle.dns_spec.specs.Reading.{Header, MessageQuestion}
-use Rattle.dns_spec.specs.Layout.{reach, Item, records_of, Placed, has_suffix, suffix_place, place_of, shared_place, shared_octets, Laid, laid_front, data_laid, record_laid, parts_of, record_tail, records_octets, asked_octets, asked_placed, reply_header, layout}
+use Rattle.dns_spec.specs.Layout.{reach, Item, Placed, has_suffix, suffix_place, place_of, shared_place, shared_octets, Laid, laid_front, data_laid, record_laid, parts_of, record_tail, records_octets, asked_octets, asked_placed, layout}
 use Rattle.dns_spec.specs.LayoutSize.{size}
 use Rattle.dns_spec.specs.UnboundedLayout.{unbounded_octets, unbounded_data, unbounded_record, unbounded_records, unbounded_layout, unbounded_size}
 use Rattle.dns_spec.proofs.Layouts.LayoutSize.{length-layout, length-record_tail}
@@ -161,14 +161,7 @@ same_layout h q items short = go (ends short)
     from = 12 + length (asked_octets q)
 
     go : Ends 0 (layout h q items) (unbounded_layout h q items) → layout h q items ≡ unbounded_layout h q items
-    go e =
-        let front = reply_header h q items ++ asked_octets q in
-        let rs = records_of items in
-        let ms = asked_placed q in
-        let place : ℕ = 12 + length (asked_octets q) in
-        let head_len : 0 + length front ≡ place = omega (arith, length-append (reply_header h q items) (asked_octets q)) in
-        let low = asked_low q (omega (arith, head_len, ends_front 0 front (records_octets ms place rs) (unbounded_records ms place rs) e)) in
-        ap (λ z. front ++ z) (same_records ms place rs low (ends_rest 0 place front (records_octets ms place rs) (unbounded_records ms place rs) head_len e))
+    go e = grind (arith, length-append, asked_low, ends_front, same_records, ends_rest)
 
     ends : (size q items ≤ reach) ⊎ (unbounded_size q items ≤ reach) → Ends 0 (layout h q items) (unbounded_layout h q items)
     ends (inl s) = inl (omega (arith, s, length-layout h q items))

@@ -1,5 +1,5 @@
 -- The canonical text of a zone is its own canonical text, and zones with one such text hold the same records.
-use Rattle.std.proofs.Common.{◌≡◌, ◌≤◌, ◌↔◌, ◌<◌, IsTrue, Bool, cond, All, List, [], ◌∷◌, length, refl, sym, ap, ◌∙◌, subst, arith, is_eq, filter, inl, inr}
+use Rattle.std.proofs.Common.{◌≡◌, ◌≤◌, ◌↔◌, ◌<◌, IsTrue, Bool, All, List, [], ◌∷◌, length, refl, sym, ap, ◌∙◌, subst, arith, is_eq, filter, inl, inr}
 use Rattle.std.proofs.lemmas.Bool.{false≢true}
 use Rattle.std.proofs.lemmas.List.Sorted.{IsPermutation-trans, IsPermutation-sym, Contains-permutation}
 use Rattle.std.specs.List.{Contains}
@@ -10,7 +10,7 @@ use Rattle.dns_spec.specs.ZoneText.{most_octets}
 use Rattle.dns_spec.specs.Meaning.{Meaning, records, fault_at, Means, most_records}
 use Rattle.dns_spec.specs.ZonePrinted.{IsReadRecord, HasZoneType, printed_records, zone_text}
 use Rattle.dns_spec.specs.Checks.{Fault, faults}
-use Rattle.dns_spec.specs.Report.{Options, Report, loaded_report, report_of_faults, Reports}
+use Rattle.dns_spec.specs.Report.{Options, Report, report_of_faults, Reports}
 use Rattle.dns_spec.proofs.Records.SortedOnce.{Each, Among, each_distinct, distinct_among, among_distinct}
 use Rattle.dns_spec.proofs.Records.RecordOrder.{record_order_total, record_ties, LowerOwner, one_record, contains_among, among_contains, each_all, all_each}
 use Rattle.dns_spec.proofs.ZoneTexts.OneMeaning.{meaning_once}
@@ -78,8 +78,7 @@ printed_reports o t options report from (records rs, means, e) printing passes s
   where
     printed_output : (options : Options) (z : ZoneContents) (fs : List Fault) (report : Report) → report ≡ report_of_faults options z fs → IsTrue options.is_printing
         → IsTrue report.passes → report.output ≡ zone_text z
-    printed_output options z [] report e printing passes =
-        ap (λ (r : Report). r.output) e ∙ ap (λ b. cond b (zone_text z) (cond options.is_quiet [] (loaded_report z))) printing
+    printed_output options z [] report e printing passes = grind arith
     printed_output options z (f ∷ fs) report e printing passes = absurd (false≢true (sym (ap (λ (r : Report). r.passes) e) ∙ passes))
 
 -- zones with one text

@@ -131,9 +131,7 @@ reply_spells z d limit r writable low from upto e = go (decide z d) (decided z d
     go : (x : Decision) → Decided d x → reply_of (keep_longest z limit) z x ≡ Some r → Spells (reply_octets r) (reply_message r)
     go silence ok e = absurd (none-some r e)
     go (header_alone h) ok e = replied (record { header = h; question = None; sets = [] }) (refusing h None ok tt (let small = bare_size in omega (arith, small))) e
-    go (question_alone h q) ok e =
-        let may = askable d q low ok.0 in
-        replied (record { header = h; question = Some q; sets = [] }) (refusing h (Some q) ok.1 may (let small = empty_size q may.qname in omega (arith, small))) e
+    go (question_alone h q) ok e = grind (arith, askable, empty_size, replied, refusing)
     go (answered h q) ok e =
         let may = askable d q low ok.0 in
         let o = outcome z q.qname q.qtype in

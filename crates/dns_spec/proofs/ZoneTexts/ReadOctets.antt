@@ -145,13 +145,7 @@ hex_small (h ∷ l ∷ text) d small e = go (is_ascii_hexdigit h && is_ascii_hex
         → ((y : Octets) → hex_octets text ≡ Some y → Each Octet y) → Each Octet d
     go false q x r e rest = absurd (none-some d e)
     go true q None r e rest = absurd (none-some d e)
-    go true q (Some y) r e rest =
-        let both = and_parts (is_ascii_hexdigit h) (is_ascii_hexdigit l) q in
-        let high = hex_value_small h small.0 both.0 in
-        let low = hex_value_small l small.1.0 both.1 in
-        let value : 16 * digit_value h + digit_value l < 256 = omega (arith, high, low) in
-        let whole : Each Octet ((16 * digit_value h + digit_value l) ∷ y) = (value, rest y r) in
-        subst (Each Octet) (same_Some ((16 * digit_value h + digit_value l) ∷ y) d e) whole
+    go true q (Some y) r e rest = grind (arith, and_parts, hex_value_small, same_Some)
 
 raws_small : (ws : List Word) → Each SmallWord ws → Each Octet (flat_map (λ (w : Word). w.raw) ws)
 raws_small [] small = tt

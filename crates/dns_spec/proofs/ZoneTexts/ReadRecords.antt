@@ -1,5 +1,5 @@
 -- The records that a text means are such as are read, of types that zones have, and few enough.
-use Rattle.std.proofs.Common.{◌≡◌, ℕ, ◌+◌, ◌<◌, ◌≤◌, ◌⊎◌, inl, inr, Bool, true, false, cond, nat_le, All, List, [], ◌∷◌, ◌++◌, length, drop, filter, Option, Some, None, refl, sym, ap, ◌∙◌, subst, arith, codes, IsTrue, length-append, rules}
+use Rattle.std.proofs.Common.{◌≡◌, ℕ, ◌+◌, ◌<◌, ◌≤◌, ◌⊎◌, inl, inr, Bool, true, false, cond, nat_le, All, List, [], ◌∷◌, ◌++◌, length, drop, filter, Option, Some, None, refl, sym, subst, arith, codes, IsTrue, length-append, rules}
 use Rattle.std.proofs.lemmas.Bool.{le-leb, cases_lt}
 use Rattle.std.proofs.lemmas.List.Elements.{All-weaker}
 use Rattle.std.specs.Prelude.{⊤, MatchOption}
@@ -278,9 +278,6 @@ entry_fits : (o : DomainName) (earlier : List Entry) (e : Entry) (answer : Entry
     → Fits (is_record e) (counted earlier) answer
 entry_fits o earlier e answer few = grind (arith, sort_fits)
 
-counted_more : (b : Bool) (e : Entry) (es : List Entry) → length (cond b (e ∷ es) es) ≡ cond b 1 0 + length es
-counted_more b e es = grind arith
-
 abbrev Few : ℕ → Meaning → Type 0
 Few count (records rs) = length rs + count ≤ most_records
 Few count (fault_at code line) = ⊤
@@ -293,9 +290,7 @@ entries_few o earlier [] m few h = let all : 0 + counted earlier ≤ most_record
 entries_few o earlier (e ∷ es) m few (faulty code, given, h) = subst (Few (counted earlier)) (sym h) tt
 entries_few o earlier (e ∷ es) m few (gives rs, given, (later, h, is)) =
     let fits = entry_fits o earlier e (gives rs) few given in
-    let more : counted (e ∷ earlier) ≡ length rs + counted earlier =
-    counted_more (is_record e) e (filter is_record earlier) ∙ ap (λ n. n + counted earlier) (sym fits.0)
-    in
+    let more : counted (e ∷ earlier) ≡ length rs + counted earlier = grind arith in
     subst (Few (counted earlier)) (sym is)
     (after_few rs later (counted earlier) (counted (e ∷ earlier)) more (entries_few o (e ∷ earlier) es later (omega (arith, more, fits.1)) h))
 
