@@ -239,8 +239,8 @@ refused_sum word front back gs hs new gap e f fills = around word front back gs 
     by_cases None h = refl
     by_cases (Some k) h = absurd (false≢true h.0)
 
-eight_filled : (front back : List ℕ) (zeros : ℕ) → zeros ≡ 8 - (length front + length back) → length front + length back < 8 → length ((front ++ replicate zeros 0) ++ back) ≡ 8
-eight_filled front back zeros count room = grind (arith, length-append, length-replicate)
+eight_filled : (front back : List ℕ) (filling : ℕ) → filling ≡ 8 - (length front + length back) → length front + length back < 8 → length ((front ++ replicate filling 0) ++ back) ≡ 8
+eight_filled front back filling count room = grind (arith, length-append, length-replicate)
 
 pub filled_word : (word front back : Octets) (gs hs new : List ℕ) (r : Option Octets) → around_gap word ≡ Some (front, back) → Some gs ≡ option_and_then few_groups (groups_said front) → Some hs ≡ option_and_then few_groups (groups_said back) → Fills gs hs true new → r ≡ octets_of (eight_groups new) → r ≡ ipv6_octets word
 filled_word word front back gs hs new r gap e f fills g =

@@ -86,16 +86,7 @@ special_graphic x small special = grind arith
 octet_unbroken : (x : ℕ) (rest : Octets) → x < 256 → is_unbroken is_word_octet rest ≡ true → is_unbroken is_word_octet (octet_text x ++ rest) ≡ true
 unfolding octet_text
 octet_unbroken x rest small after =
-    grind (
-      arith,
-      escaped_octet,
-      special_graphic,
-      graphic_bare,
-      plain_octet,
-      no_backslash,
-      digits_octet,
-      bare_below_10,
-    )
+    grind (arith, special_graphic, digits_octet, bare_below_10)
 
 label_unbroken : (l rest : Octets) → Small l → is_unbroken is_word_octet rest ≡ true → is_unbroken is_word_octet (label_text l ++ rest) ≡ true
 label_unbroken [] rest small after = after

@@ -106,14 +106,7 @@ is_name-folded n ok = grind (arith, IsName-is_name, is_name-IsName, all_folded, 
 -- two names are the same where their wire forms are, folded
 pub same-wire : (n m : DomainName) → is_name n ≡ true → is_name m ≡ true → (same n m ≡ true → map to_ascii_lowercase (wire n) ≡ map to_ascii_lowercase (wire m)) × (map to_ascii_lowercase (wire n) ≡ map to_ascii_lowercase (wire m) → same n m ≡ true)
 same-wire n m p q =
-    grind (
-      arith,
-      map-lowercase-wire,
-      IsName-is_name,
-      names_equal-decides,
-      wire-injective,
-      is_name-folded,
-    )
+    grind (arith, map-lowercase-wire, names_equal-decides, wire-injective, is_name-folded)
 
 pub same-length : (n m : DomainName) → same n m ≡ true → length n ≡ length m
 same-length n m h = grind (arith, names_equal-decides, length-map)

@@ -1,7 +1,7 @@
 -- Octets begin with a name's wire form exactly where `name_of` reads that name.
 use Rattle.std.proofs.Common.{◌≡◌, ℕ, zero, suc, ◌+◌, ◌<◌, ◌↔◌, Bool, true, false, nat_le, [], ◌∷◌, ◌++◌, length, take, drop, Option, None, Some, option_map, refl, sym, ap, ◌∙◌, arith, append_assoc, length-append, take-append-drop}
 use Rattle.std.specs.List.{list_all}
-use Rattle.std.proofs.lemmas.Bool.{and_parts, leb-true, le-leb}
+use Rattle.std.proofs.lemmas.Bool.{and_parts, leb-true}
 use Rattle.std.proofs.lemmas.Option.{none-some, same_Some, cond_some, option_and_then_some}
 use Rattle.std.proofs.lemmas.List.{take_at, drop_at, length-take-le}
 use Rattle.dns_spec.specs.Names.{Octets, DomainName, wire, is_label, is_name, with_label, labels_from, name_of}
@@ -15,16 +15,7 @@ labels_taken zero n rest ok few = absurd (omega arith)
 labels_taken (suc k) [] rest ok few = refl
 labels_taken (suc k) ([] ∷ n) rest ok few = cc
 labels_taken (suc k) ((x ∷ l) ∷ n) rest ok few =
-    grind (
-      arith,
-      le-leb,
-      length-append,
-      and_parts,
-      append_assoc,
-      take_at,
-      drop_at,
-      (labels_taken k n rest),
-    )
+    grind (arith, length-append, append_assoc, take_at, drop_at, (labels_taken k n rest))
 
 -- a label takes two octets or more
 few_labels : (n : DomainName) → list_all is_label n ≡ true → length n + length n < length (wire n)

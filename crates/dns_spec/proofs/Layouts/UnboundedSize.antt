@@ -12,7 +12,6 @@ use Rattle.dns_spec.specs.Sharing.NameSize.{whole, shared}
 use Rattle.dns_spec.specs.Sharing.DataSize.{no_parts, after_octets, after_name}
 use Rattle.dns_spec.specs.Sharing.RecordsSize.{no_records, after_record}
 use Rattle.dns_spec.specs.UnboundedLayout.{unbounded_octets, unbounded_data, unbounded_record, unbounded_records, unbounded_layout, unbounded_cost, unbounded_data_size, unbounded_record_size, unbounded_records_size, unbounded_size}
-use Rattle.dns_spec.proofs.Layouts.LayoutSize.{length-record_tail}
 
 -- a name has a place exactly where an earlier name has it as a suffix
 abbrev pub unplaced : List Placed → List DomainName
@@ -61,14 +60,7 @@ unplaced-unbounded_data ms p (name n ∷ ps) = ap (λ z. n ∷ z) (unplaced-unbo
 
 length-unbounded_record : (ms : List Placed) (p : ℕ) (r : ResourceRecord) → length (unbounded_record ms p r).written ≡ unbounded_record_size (unplaced ms) r
 length-unbounded_record ms p r =
-    grind (
-      arith,
-      length-unbounded_data,
-      unplaced-push,
-      length-append,
-      length-record_tail,
-      length-unbounded_octets,
-    )
+    grind (arith, length-unbounded_data, unplaced-push, length-append, length-unbounded_octets)
 
 unplaced-unbounded_record : (ms : List Placed) (p : ℕ) (r : ResourceRecord) → unplaced (ms ++ (unbounded_record ms p r).names) ≡ unplaced ms ++ names_of r
 unplaced-unbounded_record ms p r = grind (arith, map-append, unplaced-unbounded_data)

@@ -155,14 +155,4 @@ named_question d q h = go (name_at d 12) refl h
 pub reply_fits : (z : ZoneContents) (d : Octets) (limit : ℕ) (r : Reply) → 271 ≤ limit → reply z d limit ≡ Some r → length (reply_octets r) ≤ limit
 unfolding reply reply_with
 reply_fits z d limit r from e =
-    grind (
-      arith,
-      decided,
-      same_Some,
-      length-layout,
-      empty_size,
-      named_question,
-      none-some,
-      bare_size,
-      kept_fits,
-    )
+    grind (arith, decided, length-layout, empty_size, named_question, bare_size, kept_fits)

@@ -1,5 +1,5 @@
 -- The faults of a list of records do not depend on its order.
-use Rattle.std.proofs.Common.{◌≡◌, ℕ, Bool, true, ◌&&◌, ◌||◌, not, cond, eqb, nat_lt, ◌==◌, ◌⊎◌, inl, inr, List, [], ◌∷◌, map, reverse, length, refl, sym, ap, ap₂, ◌∙◌, arith, filter, flat_map, IsPermutation, is_eq, nat_cmp, Equal}
+use Rattle.std.proofs.Common.{◌≡◌, ℕ, Bool, true, ◌&&◌, ◌||◌, not, eqb, nat_lt, ◌==◌, ◌⊎◌, inl, inr, List, [], ◌∷◌, map, reverse, length, refl, sym, ap, ap₂, ◌∙◌, arith, filter, flat_map, IsPermutation, is_eq, nat_cmp, Equal}
 use Rattle.std.proofs.lemmas.Bool.{false≢true, lt-ltb, eqb-true, eq-eqb, ne_eqb, ltb-true}
 use Rattle.std.proofs.lemmas.List.{reverse-reverse}
 use Rattle.std.proofs.lemmas.List.Sums.{length-filter}
@@ -76,10 +76,6 @@ same_type_count xs ys c =
     ∙ ap length (same_sorted nat_cmp nat_cmp_total ◌==◌ nat_tie (λ _. Unit {0}) (λ x y d e t. eqb-true x y t) (map f xs) (map f ys) (each_any (map f xs)) (each_any (map f ys))
     (same_values f eqb eqb_decides xs ys c) (same_values f eqb eqb_decides ys xs back))
     ∙ length-sort_by nat_cmp (distinct ◌==◌ (map f ys))
-
-filter_alike : {X : Type 0} (p q : X → Bool) (xs : List X) → Each (λ x. p x ≡ q x) xs → filter p xs ≡ filter q xs
-filter_alike p q [] e = refl
-filter_alike p q (x ∷ xs) e = ap₂ (λ t zs. cond t (x ∷ zs) zs) e.0 (filter_alike p q xs e.1)
 
 -- names in lower case are told apart by their order
 lower_twice : (os : Octets) → map to_ascii_lowercase (map to_ascii_lowercase os) ≡ map to_ascii_lowercase os
@@ -213,7 +209,6 @@ module _ (o : DomainName) (xs ys : List ResourceRecord) (c : SameCounts xs ys) w
   faults_at_kept n =
       grind (
         arith,
-        filter_alike,
         no_soa_kept,
         many_soa_kept,
         soa_elsewhere_kept,
